@@ -1,0 +1,5 @@
+pub mod Outside
+pub mod Whole
+pub mod Script
+pub mod Files
+pub mod Sinks

@@ -1,0 +1,25 @@
+-- Bytes kept in memory.
+use Rattle.std.specs.Prelude.{ℕ, ◌-◌, List, ◌++◌, length, take, Bool, ◌&&◌, nat_le, Option, Some, None, if◌then◌else◌}
+use Rattle.rl_io.specs.Script.{Script}
+
+-- the first bytes that were written, up to some room, and whether that is all that was written
+pub record Kept : Type 0 where
+  pub bytes : List ℕ
+  pub room : ℕ
+  pub all : Bool
+
+-- the bytes are told while all of them are kept
+abbrev pub told : Kept → Option (List ℕ)
+told kept = if kept.all then Some kept.bytes else None
+
+-- one piece more: what doesn't fit is dropped
+abbrev pub kept_with : Kept → List ℕ → Kept
+kept_with kept piece =
+    let left = kept.room - length kept.bytes in
+    record { bytes = kept.bytes ++ take left piece; room = kept.room; all = kept.all && nat_le (length piece) left }
+
+-- bytes kept a piece at a time, and writes that are to fail
+pub record ScriptedKept : Type 0 where
+  pub kept : Kept
+  pub piece : ℕ
+  pub script : Script

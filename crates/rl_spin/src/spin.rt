@@ -1,0 +1,121 @@
+//! The spin lock's acts, and what a rank learns from them.
+
+ghost use Rattle.std.specs.Prelude.{◌≡◌, ◌<◌, length};
+ghost use Rattle.rl_step.specs.Lock.{no_more};
+ghost use Rattle.rl_spin.specs.Spin.{spin_table, SpinGood};
+ghost use Rattle.rl_spin.specs.SpinLaws.{spin_laws};
+
+use crate::view::{Phase, SpinView};
+use arrayvec::ArrayVec;
+use rl_step::{Algo, Event, Learnt, Standing};
+use rl_word::{Act, Class, Knobs, Mode, Shape, Spot};
+use std::alloc::{AllocError as OutOfMemory, Global};
+
+/// A spin lock: one card word on the shard's home.
+#[derive(Drop)]
+pub struct Spin {
+    home: u32,
+    node_of: Vec<u32>,
+    nodes: u32,
+    ghost homed: { home < nodes },
+}
+
+/// The view of a rank in a phase.
+fn at(rank: u32, phase: Phase) -> SpinView
+    ensures { result ≡ record { rank = rank; phase = phase } }
+{
+    SpinView { rank, phase }
+}
+
+impl Algo for Spin {
+    type View = SpinView;
+
+    ghost table = { λ s. spin_table s.home };
+
+    ghost good = { λ s. SpinGood (length s.node_of.items) };
+
+    ghost further = { λ s. no_more };
+
+    ghost layout = { λ s. record { node_of = s.node_of.items; nodes = s.nodes } };
+
+    ghost defined = { λ shape home knobs. spin_table home };
+
+    ghost promised = { λ shape home knobs. no_more };
+
+    ghost suits_knobs = { λ shape knobs. Unit {0} };
+
+    /// Makes the lock. It reads no setting.
+    fn make(alloc: Global, shape: &Shape, home: u32, _knobs: Knobs) -> Result<Self, OutOfMemory> {
+        Ok(Spin {
+            home,
+            node_of: shape.node_of.clone()?,
+            nodes: shape.nodes,
+        })
+    }
+
+    fn words(&self) -> u32 {
+        1
+    }
+
+    fn spot(&self, _word: u32) -> Spot {
+        Spot {
+            class: Class::Card,
+            home: self.home,
+        }
+    }
+
+    fn first(&self, rank: u32) -> SpinView {
+        at(rank, Phase::Out)
+    }
+
+    fn ask(&self, view: SpinView, _mode: Mode) -> SpinView {
+        at(view.rank, Phase::Trying)
+    }
+
+    fn plan(&self, view: SpinView) -> Option<Act> {
+        match view.phase {
+            Phase::Trying => Some(Act::CardCas {
+                word: 0,
+                old: 0,
+                new: view.rank as u64 + 1,
+            }),
+            Phase::Releasing => Some(Act::CardSwap { word: 0, value: 0 }),
+            Phase::Out | Phase::Inside => None,
+        }
+    }
+
+    fn learn(&self, view: SpinView, got: u64) -> Learnt<SpinView> {
+        let mut events = ArrayVec::new();
+        let mut phase = view.phase;
+        match view.phase {
+            Phase::Trying => {
+                if got == 0 {
+                    events.push(Event::EnterW { rank: view.rank });
+                    phase = Phase::Inside;
+                }
+            }
+            Phase::Releasing => phase = Phase::Out,
+            Phase::Out | Phase::Inside => {}
+        }
+        Learnt {
+            view: at(view.rank, phase),
+            events,
+            waits: false,
+        }
+    }
+
+    fn leave(&self, view: SpinView) -> SpinView {
+        at(view.rank, Phase::Releasing)
+    }
+
+    fn standing(&self, view: SpinView) -> Standing {
+        match view.phase {
+            Phase::Out => Standing::Out,
+            Phase::Trying => Standing::Asking,
+            Phase::Inside => Standing::Writer,
+            Phase::Releasing => Standing::Leaving,
+        }
+    }
+
+    ghost laws = { λ s. spin_laws s.home (record { node_of = s.node_of.items; nodes = s.nodes }) s.homed };
+}

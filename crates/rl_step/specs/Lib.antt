@@ -1,0 +1,12 @@
+pub mod Answers
+pub mod Core
+pub mod CoreLemmas
+pub mod Do
+pub mod Exclusion
+pub mod ExclusionLaws
+pub mod Flat
+pub mod Loader
+pub mod Lock
+pub mod LockLemmas
+pub mod QueueLemmas
+pub mod Queues

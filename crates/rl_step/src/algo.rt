@@ -1,0 +1,103 @@
+//! What a lock is: one shard's lock, as every layer above sees it.
+
+ghost use Rattle.std.specs.Prelude.{◌≡◌, ◌<◌, ℕ, length, List, IfOk};
+ghost use Rattle.rl_step.specs.declared.events.Event.{Event as TheEvent};
+ghost use Rattle.rl_word.specs.declared.shapes.Knobs.{Knobs as TheKnobs};
+ghost use Rattle.rl_word.specs.Acts.{Layout};
+ghost use Rattle.rl_word.specs.Shapes.{TheShape, IsProper, layout_of};
+ghost use Rattle.rl_step.specs.Lock.{LockTable, LockState, LockLaws, Deed, MayStep, MayLearn, IsHolder};
+
+use crate::events::{Event, Standing};
+use arrayvec::ArrayVec;
+use rl_word::{Act, Knobs, Mode, Shape, Spot};
+use std::alloc::{AllocError as OutOfMemory, Global};
+
+/// What a rank has learnt from an act: its view, what happened with the act, and whether the round has to be made again.
+#[derive(Drop)]
+pub struct Learnt<V> {
+    pub view: V,
+    pub events: ArrayVec<Event, 8>,
+    pub waits: bool,
+}
+
+/// One shard's lock, in words numbered from 0 that are all 0 at first.
+///
+/// A rank keeps a view of it, which is a value: it asks, makes the acts that its view plans and learns what each told,
+/// until it holds the lock; once its work is done it leaves, and makes acts again until it is out. A lock knows nothing
+/// of cards: an act through a card counts as one step, at the moment of its store, or of its load where it writes nothing.
+pub trait Algo: Sized + Drop {
+    type View: Copy;
+
+    /// The lock as plain functions, which the methods compute.
+    ghost table: { Self → LockTable Self.View };
+
+    /// Which states the lock can come to, and more that are as good.
+    ghost good: { Self → LockState Self.View → Type 0 };
+
+    /// What the lock says of all events and acts so far, beyond the laws of every lock.
+    ghost further: { Self → List TheEvent → List Deed → Type 0 };
+
+    /// Where the ranks sit.
+    ghost layout: { Self → Layout };
+
+    /// The lock as it is defined: by a shape, the home of the shard, and the settings.
+    ghost defined: { TheShape → ℕ → TheKnobs → LockTable Self.View };
+
+    /// What it says further, by the same three.
+    ghost promised: { TheShape → ℕ → TheKnobs → List TheEvent → List Deed → Type 0 };
+
+    /// The settings that the lock reads are in their ranges, and the shape has what it needs.
+    ghost suits_knobs: { TheShape → TheKnobs → Type 0 };
+
+    /// Makes the lock of a shard whose home is this node of a proper shape.
+    fn make(alloc: Global, shape: &Shape, home: u32, knobs: Knobs) -> Result<Self, OutOfMemory>
+        requires proper { IsProper shape.now }
+        requires home { home < shape.now.nodes }
+        requires knobs { suits_knobs shape.now knobs }
+        ensures defined { IfOk result (λ a. table a ≡ defined shape.now home knobs) }
+        ensures promised { IfOk result (λ a. (t : List TheEvent) (ds : List Deed) → further a t ds → promised shape.now home knobs t ds) }
+        ensures layout { IfOk result (λ a. layout a ≡ layout_of shape.now) };
+
+    /// How many words the lock has.
+    fn words(&self) -> u32
+        ensures { result ≡ (table self.now).size };
+
+    /// The class and home of a word, one of the lock's.
+    fn spot(&self, word: u32) -> Spot
+        requires { word < (table self.now).size }
+        ensures { result ≡ (table self.now).spot word };
+
+    /// The view of a rank, one of the shape's, before its first call.
+    fn first(&self, rank: u32) -> Self::View
+        requires { rank < length (layout self.now).node_of }
+        ensures { result ≡ (table self.now).first rank };
+
+    /// The view once the rank has asked for the lock. It stands Out.
+    fn ask(&self, view: Self::View, mode: Mode) -> Self::View
+        requires { (table self.now).standing view ≡ Standing.Out }
+        ensures { result ≡ (table self.now).ask view mode };
+
+    /// The act that the rank makes next; none exactly where it is out or holds the lock.
+    fn plan(&self, view: Self::View) -> Option<Act>
+        requires { MayStep (good self.now) view }
+        ensures { result ≡ (table self.now).plan view };
+
+    /// What the rank learns: `got` is what its planned act found before it wrote, and 0 for a store.
+    fn learn(&self, view: Self::View, got: u64) -> Learnt<Self::View>
+        requires { MayLearn (table self.now) (good self.now) view got }
+        ensures view { result.view ≡ ((table self.now).learn view got).view }
+        ensures events { result.events.items ≡ ((table self.now).learn view got).events }
+        ensures waits { result.waits ≡ ((table self.now).learn view got).waits };
+
+    /// The view once a holder's work is done.
+    fn leave(&self, view: Self::View) -> Self::View
+        requires { IsHolder ((table self.now).standing view) }
+        ensures { result ≡ (table self.now).leave view };
+
+    /// How the rank stands.
+    fn standing(&self, view: Self::View) -> Standing
+        ensures { result ≡ (table self.now).standing view };
+
+    /// The laws of a lock.
+    ghost laws: { (a : Self) → LockLaws (table a) (good a) (further a) (layout a) };
+}

@@ -1,0 +1,139 @@
+//! A whole machine in plain memory: one window, and the views of all ranks.
+
+ghost use Rattle.std.specs.Prelude.{◌≡◌, ◌≢◌, ◌<◌, length, slice_get, slice_set, Some, None, [], refl};
+ghost use Rattle.std.proofs.Common.{sym};
+ghost use Rattle.rl_word.specs.Places.{one_at, some_at, set_same_get};
+ghost use Rattle.rl_step.specs.Core.{card_word_of, Answers};
+ghost use Rattle.rl_step.specs.Do.{do_atom, do_got};
+
+use crate::cores::Core;
+use crate::events::{After, Stepped};
+use crate::port::{Port, advance};
+use crate::words::Words;
+use rl_word::Atom;
+
+/// A window and the views of all ranks. The core stays with the caller, who lends it to `advance`.
+#[derive(Drop)]
+pub struct Flat<C: Core> {
+    words: Words,
+    views: Vec<C::View>,
+}
+
+/// The port of one rank. It tells its words.
+#[derive(Drop)]
+pub struct FlatPort<'a, C: Core> {
+    pub flat: &'a mut Flat<C>,
+    pub rank: u32,
+}
+
+impl<C: Core> Flat<C> {
+    ghost use Rattle.std.specs.Borrow.{sem};
+    ghost use Rattle.rl_step.specs.Flat.{lends_view};
+
+    /// All words and views; rank n has view number n.
+    pub fn new(words: Words, views: Vec<C::View>) -> Flat<C>
+        ensures words { result.words ≡ words }
+        ensures views { result.views.items ≡ views.items }
+    {
+        Flat { words, views }
+    }
+
+    /// The port of a rank, one of those that have a view.
+    pub fn port(&mut self, rank: u32) -> FlatPort<'_, C>
+        requires { rank < length self.old.views.items }
+        ensures same_reference { result.flat.ghost_name ≡ self.entry.ghost_name }
+        ensures flat { result.flat.now ≡ self.old }
+        ensures rank { result.rank ≡ rank }
+    {
+        FlatPort { flat: self, rank }
+    }
+
+    /// Lends the view of a rank between atoms, to be changed.
+    pub fn view_mut(&mut self, rank: u32) -> &mut C::View
+        requires { rank < length self.old.views.items }
+        ensures* writes_back { sem 𝓛 (lends_view C.row C.View.row self.entry rank result) }
+        ensures value { slice_get self.old.views.items rank ≡ Some result.now }
+    {
+        &mut self.views[rank as usize]
+    }
+
+    /// Lends the view of a rank for reading.
+    pub fn view(&self, rank: u32) -> &C::View
+        requires { rank < length self.now.views.items }
+        ensures { slice_get self.now.views.items rank ≡ Some result.now }
+    {
+        &self.views[rank as usize]
+    }
+
+    /// Lends the window.
+    pub fn words(&self) -> &Words
+        ensures { result.now ≡ self.now.words }
+    {
+        &self.words
+    }
+}
+
+/// The word of a load or store through a card.
+fn card_word(atom: Atom) -> Option<u32>
+    ensures { result ≡ card_word_of atom }
+{
+    match atom {
+        Atom::CardLoad { word } | Atom::CardStore { word, .. } => Some(word),
+        _ => None,
+    }
+}
+
+impl<'a, C: Core> Port<C> for FlatPort<'a, C> {
+    ghost fits = { λ p c. C.rule c p.flat.now.words p.flat.now.views.items × (p.rank < length p.flat.now.views.items) };
+
+    ghost sees = { λ p v. slice_get p.flat.now.views.items p.rank ≡ Some v };
+
+    ghost rank_of = { λ p. p.rank };
+
+    ghost told = { λ p. Some p.flat.now.words };
+
+    ghost frame = { λ p q. (q.flat.ghost_name ≡ p.flat.ghost_name) × (q.rank ≡ p.rank) × ((w : C.View) → slice_get q.flat.now.views.items q.rank ≡ Some w → q.flat.now.views.items ≡ slice_set p.flat.now.views.items p.rank w) };
+
+    ghost moved = { λ p c q. Unit {0} };
+
+    fn view(&self) -> &C::View {
+        &self.flat.views[self.rank as usize]
+    }
+
+    fn perform(&mut self, core: &C, atom: Atom) -> After {
+        let home = match card_word(atom) {
+            Some(word) => core.home(word),
+            None => 0,
+        };
+        let got = self.flat.words.apply(home, self.rank, atom);
+        let view = &mut self.flat.views[self.rank as usize];
+        core.after(view, got)
+    }
+
+    ghost known = { λ p c v f s. record { held = p.flat.now.words; views = p.flat.now.views.items; rank = p.rank; is_ruled = f.0; has = s } };
+
+    ghost seen = { λ p c f. some_at p.flat.now.views.items p.rank f.1 };
+
+    ghost one = { λ p v w a b. one_at p.flat.now.views.items p.rank v w a b };
+
+    ghost still = { λ p. (refl, refl, λ w s. sym (set_same_get p.flat.now.views.items p.rank w s)) };
+}
+
+/// Makes one atom of a rank of a flat machine, if it has one to make: `advance` on the rank's port.
+///
+/// The answer is Finished exactly where the rank has no next atom, and then nothing changes. Otherwise the window is as
+/// the atom leaves it, the rank's view, the answer and the events are those of the core, and the other views stay.
+pub fn advance_flat<C: Core>(core: &C, flat: &mut Flat<C>, rank: u32) -> After
+    requires ruled { C.rule core.now flat.old.words flat.old.views.items }
+    requires there { rank < length flat.old.views.items }
+    ensures ruled { C.rule core.now flat.new.words flat.new.views.items }
+    ensures there { rank < length flat.new.views.items }
+    ensures finished { (v : C.View) → slice_get flat.old.views.items rank ≡ Some v → (C.table core.now).next v ≡ None → (result.stepped ≡ Stepped.Finished) × (result.events.items ≡ []) × (flat.new ≡ flat.old) }
+    ensures goes_on { (v : C.View) (at : _) → slice_get flat.old.views.items rank ≡ Some v → (C.table core.now).next v ≡ Some at → result.stepped ≢ Stepped.Finished }
+    ensures words { (v : C.View) (at : _) → slice_get flat.old.views.items rank ≡ Some v → (C.table core.now).next v ≡ Some at → flat.new.words ≡ do_atom rank at flat.old.words }
+    ensures views { (v : C.View) (at : _) → slice_get flat.old.views.items rank ≡ Some v → (C.table core.now).next v ≡ Some at → flat.new.views.items ≡ slice_set flat.old.views.items rank ((C.table core.now).after v (do_got at flat.old.words.words flat.old.words.cards)).view }
+    ensures answer { (v : C.View) (at : _) → slice_get flat.old.views.items rank ≡ Some v → (C.table core.now).next v ≡ Some at → Answers (C.table core.now) v (do_got at flat.old.words.words flat.old.words.cards) result.events.items result.stepped }
+{
+    let mut port = FlatPort { flat, rank };
+    advance(core, &mut port)
+}

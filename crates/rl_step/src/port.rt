@@ -1,0 +1,82 @@
+//! Where a rank makes its atoms, and one atom of any machine on any port.
+
+ghost use Rattle.std.specs.Prelude.{◌≡◌, ◌≢◌, ℕ, Option, None, Some, []};
+ghost use Rattle.rl_step.specs.declared.events.Stepped.TheVariants.{Finished as finished};
+ghost use Rattle.rl_step.specs.Do.{Held};
+ghost use Rattle.rl_step.specs.Core.{MayBe, Performs};
+
+use crate::cores::Core;
+use crate::events::{After, Stepped};
+use arrayvec::ArrayVec;
+use rl_word::Atom;
+
+/// Where one rank makes its atoms: on plain words, or on words that threads share.
+///
+/// A port may tell its words and cards; one over shared words can't, since others change them at any moment.
+pub trait Port<C: Core> {
+    /// The core is the one of the port's words and views.
+    ghost fits: { Self → C → Type 0 };
+
+    /// The view of the port's rank.
+    ghost sees: { Self → C.View → Type 0 };
+
+    /// The rank.
+    ghost rank_of: { Self → ℕ };
+
+    /// The words and cards, where the port tells them.
+    ghost told: { Self → Option Held };
+
+    /// The two are one port at two times.
+    ghost frame: { Self → Self → Type 0 };
+
+    /// What making an atom changes of the port beside its view and its words.
+    ghost moved: { Self → C → Self → Type 0 };
+
+    /// The view of the port's rank.
+    fn view(&self) -> &C::View
+        requires { (c : C) × fits self.now c }
+        ensures { sees self.now result.now };
+
+    /// Makes the view's next atom: the view becomes what `after` makes of it, and the answer is that of `after`.
+    fn perform(&mut self, core: &C, atom: Atom) -> After
+        requires fits { fits self.old core.now }
+        requires planned { (v : C.View) × sees self.old v × ((C.table core.now).next v ≡ Some atom) }
+        ensures fits { fits self.new core.now }
+        ensures frame { frame self.old self.new }
+        ensures moved { moved self.old core.now self.new }
+        ensures made { (v w : C.View) → sees self.old v → sees self.new w → Performs (C.table core.now) (C.rule core.now) (rank_of self.old) atom v w (told self.old) (told self.new) result.events.items result.stepped };
+
+    /// The view of a port that fits a core is one that some state under the rule has.
+    ghost known: { (p : Self) (c : C) (v : C.View) → fits p c → sees p v → MayBe (C.rule c) v };
+
+    /// A port that fits a core has a view.
+    ghost seen: { (p : Self) (c : C) → fits p c → (v : C.View) × sees p v };
+
+    /// And one alone.
+    ghost one: { (p : Self) (v w : C.View) → sees p v → sees p w → v ≡ w };
+
+    /// A port is itself while no atom is made.
+    ghost still: { (p : Self) → frame p p };
+}
+
+/// Makes one atom of the port's rank, if it has one to make.
+///
+/// The answer is Finished exactly where the rank has no next atom, and then nothing changes; otherwise it is that of the
+/// one atom made. Takes no memory.
+pub fn advance<C: Core, P: Port<C>>(core: &C, port: &mut P) -> After
+    requires { P.fits port.old core.now }
+    ensures fits { P.fits port.new core.now }
+    ensures frame { P.frame port.old port.new }
+    ensures finished { (v : C.View) → P.sees port.old v → (C.table core.now).next v ≡ None → (result.stepped ≡ Stepped.Finished) × (result.events.items ≡ []) × (port.new ≡ port.old) }
+    ensures goes_on { (v : C.View) (at : _) → P.sees port.old v → (C.table core.now).next v ≡ Some at → result.stepped ≢ Stepped.Finished }
+    ensures moved { (v : C.View) (at : _) → P.sees port.old v → (C.table core.now).next v ≡ Some at → P.moved port.old core.now port.new }
+    ensures made { (v w : C.View) (at : _) → P.sees port.old v → P.sees port.new w → (C.table core.now).next v ≡ Some at → Performs (C.table core.now) (C.rule core.now) (P.rank_of port.old) at v w (P.told port.old) (P.told port.new) result.events.items result.stepped }
+{
+    match core.next(port.view()) {
+        None => After {
+            stepped: Stepped::Finished,
+            events: ArrayVec::new(),
+        },
+        Some(atom) => port.perform(core, atom),
+    }
+}

@@ -1,0 +1,6 @@
+pub mod Causes
+pub mod Number
+pub mod Cut
+pub mod Rows
+pub mod Reading
+pub mod Spelling

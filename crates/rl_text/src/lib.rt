@@ -1,0 +1,34 @@
+//! Lines, words and numbers of a text file, and why a text is refused.
+//!
+//! A text is a list of lines, each ended by one newline byte. The words of a line stand between single spaces. Nothing is
+//! trimmed: two spaces make an empty word, and a carriage return is a byte of its word.
+//!
+//! - `Lines` hands out the lines of a text one after the other, and `Line` its words.
+//! - `number` reads a word as a number, exactly where the word is the number's one decimal spelling.
+//! - A reader takes a line word by word, and its first fault is a `Refusal`: a line, a word and a cause (`Why`).
+//! - The printers append to a text what the readers read.
+//!
+//! The promise: each reader equals a definition of `specs/Reading.antt`, which says what is read from the lines and which
+//! fault comes first. What a file format means is said by the crates above; they put their lines together from these.
+//! Reading takes no memory here.
+#![tactic(auto)]
+
+mod causes;
+mod cutting;
+mod failing;
+mod line;
+mod lines;
+mod numbers;
+mod printing;
+mod reading;
+
+pub use causes::{Refusal, Why};
+pub use cutting::cut;
+pub use failing::TextErr;
+pub use line::Line;
+pub use lines::Lines;
+pub use numbers::number;
+pub use printing::{put_number, put_refusal};
+
+#[cfg(test)]
+mod tests;

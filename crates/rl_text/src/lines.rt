@@ -1,0 +1,125 @@
+//! The lines of a text one after the other.
+ghost use Rattle.std.specs.Prelude.{◌≡◌, ◌<◌, ◌+◌, [], ◌∷◌, length, MatchResult, OnOk, Ok, Err};
+ghost use Rattle.std.specs.Option.{MatchOption};
+ghost use Rattle.rl_text.specs.Rows.{Left, row_of, rows_from};
+ghost use Rattle.rl_text.specs.Reading.{next_row, next_left, next_begins, end_at, seen, Leaves};
+
+use crate::causes::{Refusal, Why};
+use crate::cutting::cut;
+use crate::line::Line;
+use std::marker::Model;
+
+/// The lines of a text that are still to be read, and how many were read before them.
+#[derive(Drop)]
+pub struct Lines<'a> {
+    rest: &'a [u8],
+    read: u32,
+}
+
+impl<'a> Model for Lines<'a> {
+    ghost use Rattle.std.specs.Prelude.{◌+◌, ◌<◌, length};
+    ghost use Rattle.rl_text.specs.Rows.{Left, rows_from};
+
+    ghost Value = { Left };
+
+    ghost view = { λ l. record { rows = rows_from (l.read + 1) l.rest.now; read = l.read } };
+
+    ghost invariant = { λ l. l.read + length l.rest.now < 4294967295 };
+}
+
+impl<'a> Lines<'a> {
+    /// Stands before the first line. The text has fewer than 4294967295 bytes, so that each line has a number.
+    pub fn new(bytes: &'a [u8]) -> Lines<'a>
+        requires { length bytes.now < 4294967295 }
+        ensures { result ≡ record { rows = rows_from 1 bytes.now; read = 0 } }
+    {
+        Lines {
+            rest: bytes,
+            read: 0,
+        }
+    }
+
+    /// The next line without its newline; `None` exactly at the end of the text.
+    pub fn next_line(&mut self) -> Option<Line<'a>>
+        ensures next { MatchOption result (self.old.rows ≡ []) (λ line. self.old.rows ≡ row_of line ∷ self.new.rows) }
+        ensures read { MatchOption result (self.new ≡ self.old) (λ _. self.new.read ≡ self.old.read + 1) }
+    {
+        if self.rest.is_empty() {
+            return None;
+        }
+        self.read += 1;
+        let number = self.read;
+        match cut(self.rest, b'\n') {
+            Some((text, after)) => {
+                self.rest = after;
+                Some(Line {
+                    text,
+                    number,
+                    ended: true,
+                })
+            }
+            None => {
+                let text = self.rest;
+                self.rest = &[];
+                Some(Line {
+                    text,
+                    number,
+                    ended: false,
+                })
+            }
+        }
+    }
+
+    /// The next line, which has to be there and to be ended by a newline. NoEnd otherwise: of that line, or of the line
+    /// after the last one.
+    #[tactic(auto, unfolding(crate::specs::Reading::next_left, crate::specs::Reading::next_row, crate::specs::Reading::whole))]
+    pub fn next_whole(&mut self) -> Result<Line<'a>, Refusal>
+        ensures next { MatchResult result (λ line. next_row self.old.read self.old.rows ≡ Ok (row_of line, self.new.rows))
+            (λ refusal. next_row self.old.read self.old.rows ≡ Err refusal) }
+        ensures leaves { Leaves (seen row_of result) self.new (next_left self.old) }
+        ensures read { OnOk result (self.new.read ≡ self.old.read + 1) }
+        ensures fewer { OnOk result (length self.new.rows < length self.old.rows) }
+    {
+        let number = self.read + 1;
+        match self.next_line() {
+            None => Err(Refusal {
+                line: number,
+                word: 0,
+                why: Why::NoEnd,
+            }),
+            Some(line) => {
+                if line.ended {
+                    Ok(line)
+                } else {
+                    Err(line.refusal(0, Why::NoEnd))
+                }
+            }
+        }
+    }
+
+    /// Whether the next line is there and begins with this word. It isn't taken.
+    pub fn next_begins(&self, text: &[u8]) -> bool
+        ensures { result ≡ next_begins self.now.rows text.now }
+    {
+        let mut ahead = Lines {
+            rest: self.rest,
+            read: self.read,
+        };
+        match ahead.next_line() {
+            Some(line) => line.begins(text),
+            None => false,
+        }
+    }
+
+    /// `line` is the last line: it has no second word, and nothing follows it. Extra otherwise.
+    #[tactic(auto, unfolding(crate::specs::Reading::end_at, crate::specs::Reading::no_row))]
+    pub fn end(&mut self, line: &Line<'_>) -> Result<(), Refusal>
+        ensures { result ≡ end_at (row_of line.now) self.old.rows }
+    {
+        line.no_word(2)?;
+        match self.next_line() {
+            None => Ok(()),
+            Some(more) => Err(more.refusal(0, Why::Extra)),
+        }
+    }
+}

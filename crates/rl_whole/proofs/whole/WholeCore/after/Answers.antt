@@ -1,0 +1,81 @@
+-- What the calls of the lock ask follows from the rule, by the lock's laws.
+use Rattle.std.proofs.Common.{◌≡◌, ap, sym, ◌∙◌, subst}
+use Rattle.rl_whole.specs.Split.{plan_word, word_home, plan_home, effect_at, answer_of, HolderFits}
+use Rattle.rl_whole.specs.declared.effect.Effect.{Effect}
+use Rattle.rl_whole.specs.declared.effect.Effect.TheVariants.{Stay}
+use Rattle.rl_whole.specs.WholeOwes.{may_step, may_be, plan_word_there, holder_fits, may_learn, answer_fits}
+use Rattle.rl_whole.specs.AnswerLaws.{stays_answer}
+use Rattle.rl_whole.proofs.whole.WholeCore.after.Goals as goal
+use Rattle.rl_whole.proofs.whole.WholeCore.after.Goals.{in-Some, in-None, After-effect}
+use Rattle.rl_whole.proofs.whole.WholeCore.after.Given.{Over}
+use Rattle.rl_whole.specs.Whole.{after_of, effect_turned, after_effect, IsAnswerShiftable}
+
+pub plan-plan-requires : goal.plan-plan-requires
+plan-plan-requires g c =
+    let T = g.A.Algo.table c.args.self.now.algo in
+    let good = g.A.Algo.good c.args.self.now.algo in
+    let layout = g.A.Algo.layout c.args.self.now.algo in
+    let laws = g.met.A.Algo.laws c.args.self.now.algo in
+    may_step _ _ T good (g.A.Algo.further c.args.self.now.algo) layout laws c.args.self.now.base c.args.self.now.home c.args.view.now
+    (may_be _ _ T good (g.A.Algo.further c.args.self.now.algo) layout laws c.args.self.now.base c.args.self.now.home c.args.view.now c.args.got c.requires)
+
+pub spot-requires : goal.spot-requires
+spot-requires g c =
+    let T = g.A.Algo.table c.args.self.now.algo in
+    let good = g.A.Algo.good c.args.self.now.algo in
+    let layout = g.A.Algo.layout c.args.self.now.algo in
+    let laws = g.met.A.Algo.laws c.args.self.now.algo in
+    plan_word_there _ _ T good (g.A.Algo.further c.args.self.now.algo) layout laws c.args.self.now.base c.args.self.now.home c.args.view.now c.in-Some.word
+    (may_be _ _ T good (g.A.Algo.further c.args.self.now.algo) layout laws c.args.self.now.base c.args.self.now.home c.args.view.now c.args.got c.requires) (sym (c.in-Some.ensures ∙ ap plan_word c.plan-plan.ensures))
+
+pub effect-requires : goal.effect-requires
+effect-requires g c =
+    subst (λ p. HolderFits p c.args.view.now.card c.args.got) (sym c.plan-plan.ensures)
+    (holder_fits _ _ (g.A.Algo.table c.args.self.now.algo) (g.A.Algo.good c.args.self.now.algo) (g.A.Algo.further c.args.self.now.algo) (g.A.Algo.layout c.args.self.now.algo) (g.met.A.Algo.laws c.args.self.now.algo)
+    c.args.self.now.base c.args.self.now.home c.args.view.now c.args.got c.requires)
+
+pub learn-learnt-requires : goal.learn-learnt-requires
+learn-learnt-requires g c =
+    let T = g.A.Algo.table c.args.self.now.algo in
+    let home : c.match-word_planned.home ≡ plan_home T c.plan-plan.result =
+    elim c.match-word_planned.branch [ in-Some w ↦ w.home-is ∙ ap (λ z. z.home) w.spot.ensures ∙ ap (word_home T) w.in-Some.ensures | in-None w ↦ w.home-is ∙ ap (word_home T) w.in-None.ensures ] in
+    may_learn _ _ T (g.A.Algo.good c.args.self.now.algo) (g.A.Algo.further c.args.self.now.algo) (g.A.Algo.layout c.args.self.now.algo) (g.met.A.Algo.laws c.args.self.now.algo)
+    c.args.self.now.base c.args.self.now.home c.args.view.now c.args.got c.in-Learn.card c.in-Learn.told c.in-Learn.lost c.requires
+    (sym (c.in-Learn.ensures ∙ ap (λ z. effect_at z c.plan-plan.result c.args.view.now.card c.args.got) home ∙ ap (λ p. effect_at (plan_home T p) p c.args.view.now.card c.args.got) c.plan-plan.ensures))
+
+-- the effect is the table's
+the_effect : (g : Over) (c : After-effect g) → effect_at (plan_home (g.A.Algo.table c.args.self.now.algo) ((g.A.Algo.table c.args.self.now.algo).plan c.args.view.now.lock)) ((g.A.Algo.table c.args.self.now.algo).plan c.args.view.now.lock) c.args.view.now.card c.args.got ≡ c.effect.result
+the_effect g c =
+    let T = g.A.Algo.table c.args.self.now.algo in
+    let home : c.match-word_planned.home ≡ plan_home T c.plan-plan.result =
+    elim c.match-word_planned.branch [ in-Some w ↦ w.home-is ∙ ap (λ z. z.home) w.spot.ensures ∙ ap (word_home T) w.in-Some.ensures | in-None w ↦ w.home-is ∙ ap (word_home T) w.in-None.ensures ] in
+    sym (c.effect.ensures ∙ ap (λ z. effect_at z c.plan-plan.result c.args.view.now.card c.args.got) home ∙ ap (λ p. effect_at (plan_home T p) p c.args.view.now.card c.args.got) c.plan-plan.ensures)
+
+-- what the effect leaves is what the table says
+the_after : (g : Over) (c : After-effect g) (t : Effect) → c.effect.result ≡ t → effect_turned c.args.self.now.base (g.A.Algo.table c.args.self.now.algo) c.args.view.now t ≡ after_of c.args.self.now.base (g.A.Algo.table c.args.self.now.algo) c.args.view.now c.args.got
+the_after g c t e = sym (after_effect c.args.self.now.base (g.A.Algo.table c.args.self.now.algo) c.args.view.now c.args.got t (the_effect g c ∙ e))
+
+pub returns-in-Stay-clause-view : goal.returns-in-Stay-clause-view
+returns-in-Stay-clause-view g c = ap (λ z. z.view) (the_after g (goal.at.returns-in-Stay-clause-view g c).After-effect (Stay c.in-Stay.card c.in-Stay.stepped) c.in-Stay.is)
+
+pub returns-in-Stay-clause-events : goal.returns-in-Stay-clause-events
+returns-in-Stay-clause-events g c = c.new.ensures ∙ ap (λ z. z.events) (the_after g (goal.at.returns-in-Stay-clause-events g c).After-effect (Stay c.in-Stay.card c.in-Stay.stepped) c.in-Stay.is)
+
+pub returns-in-Stay-clause-stepped : goal.returns-in-Stay-clause-stepped
+returns-in-Stay-clause-stepped g c =
+    let d = (goal.at.returns-in-Stay-clause-stepped g c).After-effect in
+    sym (stays_answer c.args.self.now.base _ _ _ c.args.got c.in-Stay.card c.in-Stay.stepped (the_effect g d ∙ c.in-Stay.is)) ∙
+    ap (λ z. z.stepped) (the_after g (goal.at.returns-in-Stay-clause-stepped g c).After-effect (Stay c.in-Stay.card c.in-Stay.stepped) c.in-Stay.is)
+
+pub shift_answer-requires : goal.shift_answer-requires
+shift_answer-requires g c =
+    let T = g.A.Algo.table c.args.self.now.algo in
+    let good = g.A.Algo.good c.args.self.now.algo in
+    let layout = g.A.Algo.layout c.args.self.now.algo in
+    let laws = g.met.A.Algo.laws c.args.self.now.algo in
+    let told = c.in-Learn.told in
+    let lost = c.in-Learn.lost in
+    let waits = c.learn-learnt.result.waits in
+    subst (IsAnswerShiftable c.args.self.now.base) (sym (c.answer.ensures ∙ ap (λ p. answer_of p told lost waits) c.plan-plan.ensures))
+    (answer_fits _ _ T good (g.A.Algo.further c.args.self.now.algo) layout laws c.args.self.now.base c.args.self.now.home c.args.view.now told lost waits
+    (may_be _ _ T good (g.A.Algo.further c.args.self.now.algo) layout laws c.args.self.now.base c.args.self.now.home c.args.view.now c.args.got c.requires))

@@ -1,0 +1,66 @@
+-- What the answers of a rank's atoms can be.
+use Rattle.std.specs.Prelude.{◌≡◌, ◌⊎◌, ℕ, ◌+◌, ◌-◌, ◌^◌, ◌<◌, ◌==◌, Bool, true, false, if◌then◌else◌, Option, Some, None, refl}
+use Rattle.std.proofs.Common.{sym, ◌∙◌, subst, inl, inr, ⊎_elim}
+use Rattle.rl_word.specs.declared.acts.Act.{Act}
+use Rattle.rl_word.specs.Acts.{word_of, by_card}
+use Rattle.rl_step.specs.declared.events.Stepped.{Stepped}
+use Rattle.rl_step.specs.declared.events.Stepped.TheVariants.{Moved, Busy, Finished}
+use Rattle.rl_step.specs.Lock.{LockTable}
+use Rattle.rl_whole.specs.declared.card_state.CardState.{CardState}
+use Rattle.rl_whole.specs.declared.card_state.CardState.TheVariants.{Free, InCard, Loaded, ToLeave}
+use Rattle.rl_whole.specs.declared.effect.Effect.{Effect}
+use Rattle.rl_whole.specs.declared.effect.Effect.TheVariants.{Work, Stay, Learn}
+use Rattle.rl_whole.specs.declared.whole.WholeView.{WholeView}
+use Rattle.rl_whole.specs.Split.{skips, effect_at, answer_of, plan_home}
+use Rattle.rl_whole.specs.Whole.{shifted_answer, IsAnswerShiftable, effect_turned, after_of}
+
+-- while an act goes on, the answer is Moved, or Busy with the home of its word and the holder that the Take found
+first_stays : (a : Act) (home got : ℕ) (b z : Bool) (c : CardState) (s : Stepped) →
+    (if b then (if z then Stay InCard Moved else Stay Free (Busy home (got - 1))) else Learn Free got (skips a got)) ≡ Stay c s → (s ≡ Moved) ⊎ (s ≡ Busy home (got - 1))
+first_stays a home got true true c s e = inl cc
+first_stays a home got true false c s e = inr cc
+first_stays a home got false z c s e = cc
+
+load_stays : (home got : ℕ) (b : Bool) (c : CardState) (s : Stepped) → (if b then Learn (ToLeave home) got true else Stay (Loaded got) Moved) ≡ Stay c s → s ≡ Moved
+load_stays home got true c s e = cc
+load_stays home got false c s e = cc
+
+stays_as : (home : ℕ) (p : Option Act) (h : CardState) (got : ℕ) (c : CardState) (s : Stepped) → effect_at home p h got ≡ Stay c s → (s ≡ Moved) ⊎ (s ≡ Busy home (got - 1))
+stays_as home p (ToLeave n) got c s e = inl cc
+stays_as home None Free got c s e = cc
+stays_as home None InCard got c s e = cc
+stays_as home None (Loaded g) got c s e = cc
+stays_as home (Some a) Free got c s e = first_stays a home got (by_card a) (got == 0) c s e
+stays_as home (Some a) InCard got c s e = inl (load_stays home got (skips a got) c s e)
+stays_as home (Some a) (Loaded g) got c s e = cc
+
+-- such an answer names no word
+pub stays_answer : (base home : ℕ) (p : Option Act) (h : CardState) (got : ℕ) (c : CardState) (s : Stepped) → effect_at home p h got ≡ Stay c s → shifted_answer base s ≡ s
+stays_answer base home p h got c s e =
+    ⊎_elim (λ q. subst (λ k. shifted_answer base k ≡ k) (sym q) refl) (λ q. subst (λ k. shifted_answer base k ≡ k) (sym q) refl) (stays_as home p h got c s e)
+
+-- the word of an answer is that of the planned act
+pub answer_shifts : (base : ℕ) (p : Option Act) (got : ℕ) (lost waits : Bool) → ((a : Act) → p ≡ Some a → base + word_of a < 2 ^ 32) → IsAnswerShiftable base (answer_of p got lost waits)
+answer_shifts base None got lost waits k = tt
+answer_shifts base (Some a) got true waits k = tt
+answer_shifts base (Some a) got false true k = k a refl
+answer_shifts base (Some a) got false false k = tt
+
+-- no atom is answered by Finished
+learnt_goes_on : (base : ℕ) (p : Option Act) (got : ℕ) (lost waits : Bool) → shifted_answer base (answer_of p got lost waits) ≡ Finished → ⊥
+learnt_goes_on base None got lost waits e = cc
+learnt_goes_on base (Some a) got true waits e = cc
+learnt_goes_on base (Some a) got false true e = cc
+learnt_goes_on base (Some a) got false false e = cc
+
+effect_goes_on : {A V : Type 0} (base : ℕ) (T : LockTable V) (x : WholeView A V) (got : ℕ) (t : Effect) →
+    effect_at (plan_home T (T.plan x.lock)) (T.plan x.lock) x.card got ≡ t → (effect_turned base T x t).stepped ≡ Finished → ⊥
+effect_goes_on base T x got Work q e = cc
+effect_goes_on base T x got (Stay c s) q e =
+    let same : s ≡ Finished = sym (stays_answer base _ _ _ got c s q) ∙ e in
+    ⊎_elim (λ k. let bad : Moved ≡ Finished = sym k ∙ same in cc) (λ k. let bad : Busy (plan_home T (T.plan x.lock)) (got - 1) ≡ Finished = sym k ∙ same in cc)
+    (stays_as (plan_home T (T.plan x.lock)) (T.plan x.lock) x.card got c s q)
+effect_goes_on base T x got (Learn c t lost) q e = learnt_goes_on base (T.plan x.lock) t lost (T.learn x.lock t).waits e
+
+pub atom_goes_on : {A V : Type 0} (base : ℕ) (T : LockTable V) (x : WholeView A V) (got : ℕ) → (after_of base T x got).stepped ≡ Finished → ⊥
+atom_goes_on base T x got e = effect_goes_on base T x got (effect_at (plan_home T (T.plan x.lock)) (T.plan x.lock) x.card got) refl e

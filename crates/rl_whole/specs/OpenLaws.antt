@@ -1,0 +1,128 @@
+-- The start of a window, and a call that is opened in it: both meet the rule, for every lock.
+use Rattle.std.specs.Prelude.{◌≡◌, ℕ, zero, suc, ◌+◌, ◌-◌, ◌^◌, ◌<◌, List, [], ◌∷◌, ◌++◌, length, map, replicate, drop, slice_get, slice_set, Option, Some, None, refl}
+use Rattle.std.proofs.Common.{sym, ◌∙◌, ap, subst, arith, add-one, length-set, get_or-set_same, get_or-set_other}
+use Rattle.std.proofs.lemmas.List.{drop-replicate, drop-set-lt, length-replicate}
+use Rattle.std.proofs.lemmas.Option.{same_Some}
+use Rattle.rl_word.specs.Places.{get_map, get_map_back, map_set}
+use Rattle.rl_word.specs.Acts.{Layout}
+use Rattle.rl_word.specs.declared.classes.Mode.{Mode}
+use Rattle.rl_word.specs.declared.classes.Mode.TheVariants as mode
+use Rattle.rl_word.specs.declared.acts.Atom.{Atom}
+use Rattle.rl_step.specs.declared.events.Event.{Event}
+use Rattle.rl_step.specs.declared.events.Standing.{Standing}
+use Rattle.rl_step.specs.declared.events.Standing.TheVariants.{Out, Asking, Writer, Reader, Leaving}
+use Rattle.rl_step.specs.Lock.{LockTable, LockState, LockLaws, Deed, Rests, first_views}
+use Rattle.rl_step.specs.Do.{Held}
+use Rattle.rl_step.specs.Core.{MayBe}
+use Rattle.rl_whole.specs.declared.card_state.CardState.TheVariants.{Free}
+use Rattle.rl_whole.specs.declared.whole.WholeView.{WholeView}
+use Rattle.rl_whole.specs.Split.{Side, SplitState, side_atom, lock_of, view_of}
+use Rattle.rl_whole.specs.SplitActs.{zeros}
+use Rattle.rl_whole.specs.SplitLaws.{split_at, none_at}
+use Rattle.rl_whole.specs.CallLaws.{opening_good, ask_keeps}
+use Rattle.rl_whole.specs.Whole.{count_word, side_of, split_of, next_of, lock_or_work, Good}
+use Rattle.rl_whole.specs.WholeLaws.{own_after}
+use Rattle.rl_whole.specs.Run.{first_view, opening_views, opening_held, opened_in}
+
+module _ (A V : Type 0) (T : LockTable V) (good : LockState V → Type 0) (further : List Event → List Deed → Type 0) (layout : Layout) (laws : LockLaws T good further layout) (base home : ℕ) where
+  -- their lock views are the lock's first
+  opening_sides : (from n : ℕ) → map view_of (map side_of (opening_views {A = A} T from n)) ≡ first_views T.first from n
+  opening_sides from zero = refl
+  opening_sides from (suc n) = ap (λ z. T.first from ∷ z) (opening_sides (from + 1) n)
+
+  -- each is its rank's first view
+  pub opening_at : (from n r : ℕ) (x : WholeView A V) → slice_get (opening_views T from n) r ≡ Some x → x ≡ first_view T (from + r)
+  opening_at from zero r x e = cc
+  opening_at from (suc n) zero x e =
+      let here : from ≡ from + 0 = omega arith in sym (same_Some _ _ e) ∙ ap (first_view T) here
+  opening_at from (suc n) (suc r) x e =
+      let here : (from + 1) + r ≡ from + suc r = omega arith in opening_at (from + 1) n r x e ∙ ap (first_view T) here
+
+  pub length-opening : (from n : ℕ) → length (opening_views {A = A} T from n) ≡ n
+  length-opening from zero = refl
+  length-opening from (suc n) = ap suc (length-opening (from + 1) n)
+
+  -- nobody is in a card
+  free_side : (r : ℕ) (y : Side V) → slice_get (map side_of (opening_views {A = A} T 0 (length layout.node_of))) r ≡ Some y → y.card ≡ Free
+  free_side r y e =
+      let x = get_map_back side_of (opening_views {A = A} T 0 (length layout.node_of)) r y e in
+      ap (λ z. z.card) (sym x.2) ∙ ap (λ z. z.card) (opening_at 0 (length layout.node_of) r x.0 x.1)
+
+  -- the start meets the rule
+  pub opening_rule : base + T.size < 2 ^ 32 → count_word < base → length layout.node_of < 2 ^ 32 →
+      (q : Good {A = A} base T good layout (opening_held (base + T.size) layout.nodes) (opening_views T 0 (length layout.node_of))) × (q.past.trace ≡ [])
+  opening_rule f z n =
+      let s : SplitState V = record { words = replicate T.size 0; cards = replicate layout.nodes 0; sides = map side_of (opening_views {A = A} T 0 (length layout.node_of)); modes = replicate (length layout.node_of) mode.Write; past = record { trace = []; deeds = [] } } in
+      let zs : List ℕ = replicate (base + T.size) 0 in
+      let all : length zs ≡ base + T.size = length-replicate (base + T.size) 0 in
+      let gap : (base + T.size) - base ≡ T.size = omega arith in
+      let above : drop base (slice_set (replicate (base + T.size) 0) 0 1) ≡ replicate T.size 0 =
+      drop-set-lt base (replicate (base + T.size) 0) 0 1 (omega arith) ∙ drop-replicate base (base + T.size) 0 ∙ ap (λ k. replicate k 0) gap in (
+        record {
+          modes = replicate (length layout.node_of) mode.Write;
+          past = record { trace = []; deeds = [] };
+          lock_part = split_at V T good further layout laws s (split_of base (opening_held (base + T.size) layout.nodes) (opening_views T 0 (length layout.node_of)) (replicate (length layout.node_of) mode.Write) (record { trace = []; deeds = [] }))
+              (sym above) refl refl refl refl
+              (opening_good V T good further layout laws s.sides (opening_sides 0 (length layout.node_of)) free_side);
+          work_part = record {
+            all_words = length-set (replicate (base + T.size) 0) 0 1 ∙ all;
+            fixed = get_or-set_same (replicate (base + T.size) 0) 0 1 0 (omega (arith, all));
+            count = get_or-set_other (replicate (base + T.size) 0) 0 1 1 0 (λ e. cc) ∙ zeros (base + T.size) 1;
+            own = λ r x e. ap (λ v. v.rank) (opening_at 0 (length layout.node_of) r x e) ∙ omega arith;
+          };
+          starts = z;
+          fits = f;
+          few = subst (λ k. k < 2 ^ 32) (sym (length-opening 0 (length layout.node_of))) n;
+        },
+        refl,
+      )
+
+  -- the views of one rank more
+  pub opening_more : (from n : ℕ) → opening_views {A = A} T from (n + 1) ≡ opening_views T from n ++ first_view T (from + n) ∷ []
+  opening_more from n = rw add-one (more from n) where
+    more : (from n : ℕ) → opening_views {A = A} T from (suc n) ≡ opening_views T from n ++ first_view T (from + n) ∷ []
+    more from zero = let e : from ≡ from + 0 = omega arith in ap (λ k. first_view T k ∷ []) e
+    more from (suc n) =
+        let e : (from + 1) + n ≡ from + suc n = omega arith in
+        ap (λ z. first_view T from ∷ z) (more (from + 1) n ∙ ap (λ k. opening_views T (from + 1) n ++ first_view T k ∷ []) e)
+
+  -- where the machine has no atom, the lock has none, and a rank that plans no act is out
+  closed_out : (st : Standing) (o : Option Atom) → lock_or_work base st o ≡ None → (o ≡ None) × (Rests st → st ≡ Out)
+  closed_out st (Some at) e = cc
+  closed_out Out None e = (refl, λ r. refl)
+  closed_out Asking None e = (refl, λ r. absurd r)
+  closed_out Writer None e = cc
+  closed_out Reader None e = cc
+  closed_out Leaving None e = (refl, λ r. absurd r)
+
+  -- opening a call where none is open keeps the rule, and the rank was out
+  pub open_keeps : (h : Held) (vs : List (WholeView A V)) (r : ℕ) (x : WholeView A V) (m : Mode) (g : Good base T good layout h vs) → slice_get vs r ≡ Some x → next_of base T x ≡ None →
+      (q : Good base T good layout h (slice_set vs r (opened_in T m x))) × (q.past.trace ≡ g.past.trace) × (T.standing x.lock ≡ Out)
+  open_keeps h vs r x m g has e =
+      let s : SplitState V = split_of base h vs g.modes g.past in
+      let here : slice_get s.sides r ≡ Some (side_of x) = get_map side_of vs r x has in
+      let c = closed_out (T.standing x.lock) (side_atom T (side_of x)) e in
+      let away : (T.plan x.lock ≡ None) × (x.card ≡ Free) = none_at V T good further layout laws s.words (T.plan x.lock) x.card (g.lock_part.still r (side_of x) here) c.0 in
+      let out : T.standing x.lock ≡ Out = c.1 ((laws.rests (lock_of s) r x.lock g.lock_part.lock (get_map view_of s.sides r (side_of x) here)).0 away.0) in (
+        record {
+          modes = slice_set g.modes r m;
+          past = g.past;
+          lock_part = ask_keeps V T good further layout laws s (split_of base h (slice_set vs r (opened_in T m x)) (slice_set g.modes r m) g.past) r (side_of x) m g.lock_part here away.1 out
+              refl refl (map_set side_of vs r (opened_in T m x) ∙ ap (λ k. slice_set (map side_of vs) r (record { view = T.ask x.lock m; card = k })) away.1) refl refl;
+          work_part = record {
+            all_words = g.work_part.all_words;
+            fixed = g.work_part.fixed;
+            count = g.work_part.count;
+            own = own_after vs r x (opened_in T m x) g.work_part.own has refl;
+          };
+          starts = g.starts;
+          fits = g.fits;
+          few = subst (λ n. n < 2 ^ 32) (sym (length-set vs r (opened_in T m x))) g.few;
+        },
+        refl,
+        out,
+      )
+
+  -- the rank of some view under the rule is out where it has no atom
+  pub closed_is_out : (x : WholeView A V) → MayBe (Good base T good layout) x → next_of base T x ≡ None → T.standing x.lock ≡ Out
+  closed_is_out x m e = (open_keeps m.held m.views m.rank x mode.Write m.is_ruled m.has e).2

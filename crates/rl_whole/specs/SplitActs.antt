@@ -1,0 +1,143 @@
+-- What single acts and atoms do to words, cards and sides, before any law of a lock.
+use Rattle.std.specs.Prelude.{◌≡◌, ◌≢◌, ◌⊎◌, ℕ, zero, suc, ◌+◌, ◌<◌, ◌==◌, Bool, true, false, List, length, replicate, if◌then◌else◌, slice_index, slice_set, not, ◌-◌, Option, Some, None, refl}
+use Rattle.std.proofs.Common.{sym, ◌∙◌, ap, inl, inr, ⊎_elim, arith, get_or-set_other}
+use Rattle.std.proofs.lemmas.List.{set-get_or, get_or_past}
+use Rattle.std.proofs.lemmas.Bool.{cases_lt, true≢false}
+use Rattle.rl_word.specs.declared.classes.Spot.{Spot}
+use Rattle.rl_step.specs.declared.events.Stepped.TheVariants.{Moved, Busy}
+use Rattle.std.proofs.lemmas.Bool.Decides.{eqb_tells}
+use Rattle.rl_word.specs.Acts.{word_of, written, told, by_card, IsAllowed}
+use Rattle.rl_word.specs.declared.acts.Act.{Act}
+use Rattle.rl_word.specs.declared.acts.Act.TheVariants as act
+use Rattle.rl_word.specs.declared.classes.Class.TheVariants as class
+use Rattle.rl_word.specs.declared.acts.Atom.TheVariants as atom
+use Rattle.rl_step.specs.Lock.{LockTable}
+use Rattle.rl_step.specs.Do.{do_words, do_cards, do_got}
+use Rattle.rl_whole.specs.declared.card_state.CardState.{CardState}
+use Rattle.rl_whole.specs.declared.card_state.CardState.TheVariants.{Free, InCard, Loaded, ToLeave}
+use Rattle.rl_whole.specs.declared.effect.Effect.TheVariants.{Stay, Learn}
+use Rattle.rl_whole.specs.Split.{card_after, StandsStill, skips, home_of, turned_by, first_atom}
+
+pub plain_not_card : class.Plain ≡ class.Card → ⊥
+plain_not_card e = cc
+
+pub local_not_card : class.Local ≡ class.Card → ⊥
+local_not_card e = cc
+
+pub bool_cases : (b : Bool) → (b ≡ true) ⊎ (b ≡ false)
+bool_cases true = inl refl
+bool_cases false = inr refl
+
+-- a number that isn't 0 stands within the list
+pub in_range : (cs : List ℕ) (n k : ℕ) → slice_index cs n ≡ k + 1 → n < length cs
+in_range cs n k e = ⊎_elim (λ lt. lt) (λ past. let z : slice_index cs n ≡ 0 = get_or_past cs n 0 past in absurd (omega arith)) (cases_lt n (length cs))
+
+-- what was loaded still stands after a write elsewhere
+pub still_after_write : (ws : List ℕ) (w x : ℕ) (p : Option Act) (h : CardState) → StandsStill ws p h →
+    ((a : Act) (g : ℕ) → p ≡ Some a → h ≡ Loaded g → by_card a ≡ true → word_of a ≢ w) → StandsStill (slice_set ws w x) p h
+still_after_write ws w x p Free k ne = tt
+still_after_write ws w x p (ToLeave n) k ne = tt
+still_after_write ws w x None InCard k ne = k
+still_after_write ws w x None (Loaded g) k ne = k
+still_after_write ws w x (Some a) InCard k ne = k
+still_after_write ws w x (Some a) (Loaded g) k ne =
+    (k.0, k.1, get_or-set_other ws w (word_of a) x 0 (ne a g refl refl k.0) ∙ k.2)
+
+-- the local compare-and-swap writes what `written` says
+pub cas_writes : (ws : List ℕ) (w old new : ℕ) (b : Bool) →
+    (if b then slice_set ws w new else ws) ≡ slice_set ws w (if b then new else slice_index ws w)
+cas_writes ws w old new true = refl
+cas_writes ws w old new false = sym (set-get_or ws w 0)
+
+pub zeros : (m n : ℕ) → slice_index (replicate m 0) n ≡ 0
+zeros zero n = refl
+zeros (suc m) zero = refl
+zeros (suc m) (suc n) = zeros m n
+
+module _ (V : Type 0) (T : LockTable V) where
+  -- a card act begins with a take
+  pub first_card : (a : Act) → by_card a ≡ true → first_atom T a ≡ atom.Take (home_of T (word_of a))
+  first_card (act.Load w) e = cc
+  first_card (act.Store w v) e = cc
+  first_card (act.LocalCas w old new) e = cc
+  first_card (act.CardCas w old new) e = refl
+  first_card (act.CardSwap w v) e = refl
+  first_card (act.CardAdd w d) e = refl
+
+  -- any other act is one atom
+  pub plain_words : (a : Act) (ws : List ℕ) → by_card a ≡ false → do_words (first_atom T a) ws ≡ slice_set ws (word_of a) (written a (slice_index ws (word_of a)))
+  plain_words (act.Load w) ws e = sym (set-get_or ws w 0)
+  plain_words (act.Store w v) ws e = refl
+  plain_words (act.LocalCas w old new) ws e = cas_writes ws w old new (slice_index ws w == old)
+  plain_words (act.CardCas w old new) ws e = cc
+  plain_words (act.CardSwap w v) ws e = cc
+  plain_words (act.CardAdd w d) ws e = cc
+
+  pub plain_cards : (a : Act) (r : ℕ) (cs : List ℕ) → by_card a ≡ false → do_cards r (first_atom T a) cs ≡ cs
+  plain_cards (act.Load w) r cs e = refl
+  plain_cards (act.Store w v) r cs e = refl
+  plain_cards (act.LocalCas w old new) r cs e = refl
+  plain_cards (act.CardCas w old new) r cs e = cc
+  plain_cards (act.CardSwap w v) r cs e = cc
+  plain_cards (act.CardAdd w d) r cs e = cc
+
+  pub plain_got : (a : Act) (ws cs : List ℕ) → by_card a ≡ false → do_got (first_atom T a) ws cs ≡ told a (slice_index ws (word_of a))
+  plain_got (act.Load w) ws cs e = refl
+  plain_got (act.Store w v) ws cs e = refl
+  plain_got (act.LocalCas w old new) ws cs e = refl
+  plain_got (act.CardCas w old new) ws cs e = cc
+  plain_got (act.CardSwap w v) ws cs e = cc
+  plain_got (act.CardAdd w d) ws cs e = cc
+
+  -- a card act whose store is skipped writes nothing, and tells what it loads
+  pub skipped_words : (a : Act) (g : ℕ) → by_card a ≡ true → skips a g ≡ true → written a g ≡ g
+  skipped_words (act.Load w) g c e = cc
+  skipped_words (act.Store w v) g c e = cc
+  skipped_words (act.LocalCas w old new) g c e = cc
+  skipped_words (act.CardCas w old new) g c e =
+      ⊎_elim (λ q. absurd (true≢false (sym e ∙ ap not q.0))) (λ q. rw q.0) (eqb_tells g old)
+  skipped_words (act.CardSwap w v) g c e = cc
+  skipped_words (act.CardAdd w d) g c e = cc
+
+  pub told_card : (a : Act) (g : ℕ) → by_card a ≡ true → told a g ≡ g
+  told_card (act.Load w) g c = cc
+  told_card (act.Store w v) g c = cc
+  told_card (act.LocalCas w old new) g c = cc
+  told_card (act.CardCas w old new) g c = refl
+  told_card (act.CardSwap w v) g c = refl
+  told_card (act.CardAdd w d) g c = refl
+
+  -- the class of a word that a lawful act writes
+  pub card_class : (nodes : List ℕ) (r : ℕ) (spot : Spot) (a : Act) → by_card a ≡ true → IsAllowed nodes r spot a → spot.class ≡ class.Card
+  card_class nodes r spot (act.Load w) e l = cc
+  card_class nodes r spot (act.Store w v) e l = cc
+  card_class nodes r spot (act.LocalCas w old new) e l = cc
+  card_class nodes r spot (act.CardCas w old new) e l = l
+  card_class nodes r spot (act.CardSwap w v) e l = l
+  card_class nodes r spot (act.CardAdd w d) e l = l
+
+  -- an act of one atom writes nothing, or its word is of no Card class
+  pub plain_class : (nodes : List ℕ) (r : ℕ) (spot : Spot) (a : Act) → by_card a ≡ false → IsAllowed nodes r spot a → ((g : ℕ) → written a g ≡ g) ⊎ (spot.class ≢ class.Card)
+  plain_class nodes r spot (act.Load w) e l = inl (λ g. refl)
+  plain_class nodes r spot (act.Store w v) e l = inr (λ c. plain_not_card (sym l ∙ c))
+  plain_class nodes r spot (act.LocalCas w old new) e l = inr (λ c. local_not_card (sym l.0 ∙ c))
+  plain_class nodes r spot (act.CardCas w old new) e l = cc
+  plain_class nodes r spot (act.CardSwap w v) e l = cc
+  plain_class nodes r spot (act.CardAdd w d) e l = cc
+
+  -- what an atom leaves, by cases
+  pub after_plain : (r : ℕ) (v : V) (a : Act) (got : ℕ) → by_card a ≡ false → card_after T r v (Some a) Free got ≡ turned_by T r v (Some a) (Learn Free got (skips a got))
+  after_plain r v a got e = rw e
+
+  pub after_take : (r : ℕ) (v : V) (a : Act) (got : ℕ) → by_card a ≡ true → (got == 0) ≡ true → card_after T r v (Some a) Free got ≡ turned_by T r v (Some a) (Stay InCard Moved)
+  after_take r v a got e z = rw (e, z)
+
+  pub after_busy : (r : ℕ) (v : V) (a : Act) (got : ℕ) → by_card a ≡ true → (got == 0) ≡ false →
+      card_after T r v (Some a) Free got ≡ turned_by T r v (Some a) (Stay Free (Busy (home_of T (word_of a)) (got - 1)))
+  after_busy r v a got e z = rw (e, z)
+
+  pub after_load : (r : ℕ) (v : V) (a : Act) (got : ℕ) → skips a got ≡ false → card_after T r v (Some a) InCard got ≡ turned_by T r v (Some a) (Stay (Loaded got) Moved)
+  after_load r v a got e = rw e
+
+  pub after_skip : (r : ℕ) (v : V) (a : Act) (got : ℕ) → skips a got ≡ true → card_after T r v (Some a) InCard got ≡ turned_by T r v (Some a) (Learn (ToLeave (home_of T (word_of a))) got true)
+  after_skip r v a got e = rw e

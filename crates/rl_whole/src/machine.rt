@@ -1,0 +1,156 @@
+//! All of one shard in plain vectors, stepped one rank at a time.
+
+ghost use Rattle.std.specs.Prelude.{◌≡◌, ◌↔◌, ◌+◌, ◌-◌, ◌<◌, ◌^◌, ℕ, List, length, slice_index, IfOk, OnErr};
+ghost use Rattle.rl_word.specs.Shapes.{IsProper, layout_of};
+ghost use Rattle.rl_step.specs.Exclusion.{IsExclusive};
+ghost use Rattle.rl_step.specs.Answers.{steps_made};
+ghost use Rattle.rl_whole.specs.Whole.{count_word, lock_base};
+ghost use Rattle.rl_whole.specs.Causes.{StepCause, IsFinished};
+ghost use Rattle.rl_whole.specs.Run.{start, stepped, answer_of_step, events_of, done_of, has_open_call, run_of, call_opened, only_counted};
+
+use crate::state::{EVENTS, State, make_atom, open_next, opening, zeros};
+use crate::whole::{COUNT_WORD, Whole};
+use rl_step::{Algo, Event, Standing, Stepped, Steps};
+use rl_word::{Knobs, Shape};
+use std::alloc::{AllocError as OutOfMemory, Global};
+use std::marker::Model;
+
+/// All of one shard. Contracts see its core and its world: the record `World`, whose steps are those of the definition.
+#[derive(Drop)]
+pub struct Machine<A: Algo> {
+    core: Whole<A>,
+    state: State<A>,
+}
+
+impl<A: Algo> Model for Machine<A> {
+    ghost use Rattle.rl_whole.specs.RunGood.{RunGood};
+    ghost use Rattle.rl_whole.specs.State.{world_of};
+    ghost use Rattle.rl_whole.specs.Running.{Running};
+
+    ghost Value = { Running A A.View };
+
+    ghost view = { λ m. record { core = m.core; world = world_of m.state } };
+
+    ghost invariant = { λ m. RunGood m.core.base (A.table m.core.algo) (A.good m.core.algo) (A.layout m.core.algo) (world_of m.state) };
+}
+
+impl<A: Algo> Machine<A> {
+    /// The machine before its first step.
+    ///
+    /// `shape` and `home` say where the ranks, the cards and the shard's words are, `knobs` are the lock's settings, and
+    /// `given` says for each rank how many calls it has. Refused only for want of memory.
+    pub fn new(
+        alloc: Global,
+        shape: &Shape,
+        home: u32,
+        knobs: Knobs,
+        given: Vec<u32>,
+    ) -> Result<Machine<A>, OutOfMemory>
+        requires proper { IsProper shape.now }
+        requires home { home < shape.now.nodes }
+        requires knobs { A.suits_knobs shape.now knobs }
+        requires fits { lock_base + (A.defined shape.now home knobs).size < 2 ^ 32 }
+        requires given { length given.items ≡ length shape.now.node_of }
+        ensures base { IfOk result (λ m. m.core.base ≡ lock_base) }
+        ensures table { IfOk result (λ m. A.table m.core.algo ≡ A.defined shape.now home knobs) }
+        ensures world { IfOk result (λ m. m.world ≡ start A A.View lock_base (A.defined shape.now home knobs) (layout_of shape.now) given.items) }
+        ensures ranks { IfOk result (λ m. length m.world.views ≡ length shape.now.node_of) }
+    {
+        let core = Whole::new(alloc, shape, home, knobs)?;
+        let ranks = given.len() as u32;
+        let flat = opening(alloc, &core, ranks, shape.nodes)?;
+        let opened = zeros(alloc, ranks)?;
+        Ok(Machine {
+            core,
+            state: State {
+                flat,
+                given,
+                opened,
+                events: Vec::new(alloc),
+                steps: Steps::none(),
+            },
+        })
+    }
+
+    /// One step of a rank.
+    pub fn step(&mut self, rank: u32) -> Result<Stepped, OutOfMemory>
+        requires there { rank < length self.old.world.views }
+        requires few { steps_made self.old.world.steps < 2 ^ 32 - 1 }
+        ensures core { self.new.core ≡ self.old.core }
+        ensures stepped { IfOk result (λ _. self.new.world ≡ stepped self.old.core.base (A.table self.old.core.algo) self.old.world rank) }
+        ensures answer { IfOk result (λ answer. answer ≡ answer_of_step self.old.core.base (A.table self.old.core.algo) self.old.world rank) }
+        ensures cause { IfOk result (λ answer. StepCause self.old.core.base (A.table self.old.core.algo) self.old.world rank answer) }
+        ensures finished { IfOk result (λ answer. (answer ≡ Stepped.Finished) ↔ IsFinished self.old.core.base (A.table self.old.core.algo) self.old.world rank) }
+        ensures busy { IfOk result (λ answer. (node holder : ℕ) → answer ≡ Stepped.Busy node holder → self.new.world ≡ only_counted (call_opened self.old.core.base (A.table self.old.core.algo) self.old.world rank) answer) }
+        ensures kept { OnErr result (self.new ≡ self.old) }
+    {
+        self.state.events.reserve(EVENTS)?;
+        open_next(&self.core, &mut self.state, rank);
+        Ok(make_atom(&self.core, &mut self.state, rank))
+    }
+
+    /// The events so far.
+    pub fn events(&self) -> &[(u32, Event)]
+        ensures events { result.now ≡ self.now.world.trace }
+        ensures exclusive { IsExclusive (events_of result.now) }
+    {
+        self.state.events.as_slice()
+    }
+
+    /// How often each answer came.
+    pub fn steps(&self) -> Steps
+        ensures { result ≡ self.now.world.steps }
+    {
+        self.state.steps
+    }
+
+    /// How many ranks there are.
+    pub fn ranks(&self) -> u32
+        ensures { result ≡ length self.now.world.views }
+    {
+        self.state.given.len() as u32
+    }
+
+    /// How many calls the rank has.
+    pub fn given(&self, rank: u32) -> u32
+        requires { rank < length self.now.world.views }
+        ensures { result ≡ slice_index self.now.world.given rank }
+    {
+        self.state.given[rank as usize]
+    }
+
+    /// How many of them have ended their work: those that it has opened, less one that still asks for the lock or holds it.
+    pub fn done(&self, rank: u32) -> u32
+        requires { rank < length self.now.world.views }
+        ensures { result ≡ done_of (A.table self.now.core.algo) self.now.world rank }
+    {
+        let opened = self.state.opened[rank as usize];
+        match self.core.algo.standing(self.state.flat.view(rank).lock) {
+            Standing::Asking | Standing::Writer | Standing::Reader => opened.saturating_sub(1),
+            Standing::Out | Standing::Leaving => opened,
+        }
+    }
+
+    /// Whether the rank has an open call: it has until the call's last atom was made, a card's Leave among them.
+    pub fn is_open(&self, rank: u32) -> bool
+        requires { rank < length self.now.world.views }
+        ensures { result ≡ has_open_call self.now.core.base (A.table self.now.core.algo) self.now.world rank }
+    {
+        self.core.is_open(self.state.flat.view(rank))
+    }
+
+    /// How many updates were made: the count word.
+    pub fn updates(&self) -> u32
+        ensures { result ≡ slice_index self.now.world.held.words count_word }
+    {
+        self.state.flat.words().value(COUNT_WORD) as u32
+    }
+}
+
+/// Whatever steps follow, in whatever order of the ranks: at most one rank writes at any moment of the whole trace, none reads
+/// beside it, and who touches what the lock guards holds the lock. For every lock.
+pub fn exclusive<A: Algo>(machine: &Machine<A>)
+    ensures { (ks : List ℕ) → IsExclusive (events_of (run_of machine.now.core.base (A.table machine.now.core.algo) machine.now.world ks).trace) }
+{
+    let _ = &machine.core;
+}

@@ -1,0 +1,80 @@
+//! A whole replay: a machine is made and takes the steps of a schedule.
+
+ghost use Rattle.std.specs.Prelude.{◌≡◌, ◌+◌, ◌<◌, ◌^◌, length, replicate, IfOk};
+ghost use Rattle.rl_word.specs.Shapes.{IsProper, layout_of};
+ghost use Rattle.rl_step.specs.Exclusion.{IsExclusive};
+ghost use Rattle.rl_step.specs.Answers.{steps_made};
+ghost use Rattle.std.specs.List.{AllByRecursion};
+ghost use Rattle.rl_ops.specs.Schedule.{TurnFits, steps_of};
+ghost use Rattle.rl_whole.specs.Whole.{lock_base};
+ghost use Rattle.rl_whole.specs.Run.{start, run_of, turn_ranks, ranks_of, steps_in, events_of};
+
+use crate::machine::{Machine, exclusive};
+use rl_ops::Turn;
+use rl_step::Algo;
+use rl_word::{Knobs, Shape};
+use std::alloc::{AllocError as OutOfMemory, Global};
+
+/// Takes so many steps of one rank.
+fn take_steps<A: Algo>(machine: &mut Machine<A>, rank: u32, count: u32) -> Result<(), OutOfMemory>
+    requires there { rank < length machine.old.world.views }
+    requires few { steps_made machine.old.world.steps + count < 2 ^ 32 }
+    ensures core { machine.new.core ≡ machine.old.core }
+    ensures run { IfOk result (λ _. machine.new.world ≡ run_of machine.old.core.base (A.table machine.old.core.algo) machine.old.world (replicate count rank)) }
+    ensures steps { IfOk result (λ _. steps_made machine.new.world.steps ≡ steps_made machine.old.world.steps + count) }
+    ensures ranks { IfOk result (λ _. length machine.new.world.views ≡ length machine.old.world.views) }
+{
+    for _ in 0..count {
+        machine.step(rank)?;
+    }
+    Ok(())
+}
+
+/// Takes the steps of one turn. A stop has none.
+fn take_turn<A: Algo>(machine: &mut Machine<A>, turn: Turn) -> Result<(), OutOfMemory>
+    requires there { TurnFits (length machine.old.world.views) turn }
+    requires few { steps_made machine.old.world.steps + steps_of turn < 2 ^ 32 }
+    ensures core { machine.new.core ≡ machine.old.core }
+    ensures run { IfOk result (λ _. machine.new.world ≡ run_of machine.old.core.base (A.table machine.old.core.algo) machine.old.world (turn_ranks turn)) }
+    ensures steps { IfOk result (λ _. steps_made machine.new.world.steps ≡ steps_made machine.old.world.steps + steps_of turn) }
+    ensures ranks { IfOk result (λ _. length machine.new.world.views ≡ length machine.old.world.views) }
+{
+    match turn {
+        Turn::Steps { rank, count } => take_steps(machine, rank, count),
+        Turn::Stop { .. } => Ok(()),
+    }
+}
+
+/// The machine after exactly the steps of a schedule: `turns` are taken in order, each so many steps of its rank.
+///
+/// `shape` and `home` say where the ranks, the cards and the shard's words are, `knobs` are the lock's settings, and `given`
+/// says for each rank how many calls it has. Refused only for want of memory. Whatever the schedule, at most one rank writes
+/// at any moment of its trace, and none reads beside it.
+pub fn replay<A: Algo>(
+    alloc: Global,
+    shape: &Shape,
+    home: u32,
+    knobs: Knobs,
+    given: Vec<u32>,
+    turns: &[Turn],
+) -> Result<Machine<A>, OutOfMemory>
+    requires proper { IsProper shape.now }
+    requires home { home < shape.now.nodes }
+    requires knobs { A.suits_knobs shape.now knobs }
+    requires fits { lock_base + (A.defined shape.now home knobs).size < 2 ^ 32 }
+    requires given { length given.items ≡ length shape.now.node_of }
+    requires there { AllByRecursion (TurnFits (length shape.now.node_of)) turns.now }
+    requires few { steps_in turns.now < 2 ^ 32 }
+    ensures base { IfOk result (λ m. m.core.base ≡ lock_base) }
+    ensures table { IfOk result (λ m. A.table m.core.algo ≡ A.defined shape.now home knobs) }
+    ensures run { IfOk result (λ m. m.world ≡ run_of lock_base (A.defined shape.now home knobs) (start A A.View lock_base (A.defined shape.now home knobs) (layout_of shape.now) given.items) (ranks_of turns.now)) }
+    ensures ranks { IfOk result (λ m. length m.world.views ≡ length shape.now.node_of) }
+    ensures exclusive { IfOk result (λ m. IsExclusive (events_of m.world.trace)) }
+{
+    let mut machine = Machine::new(alloc, shape, home, knobs, given)?;
+    for turn in turns {
+        take_turn(&mut machine, *turn)?;
+    }
+    exclusive(&machine);
+    Ok(machine)
+}

@@ -1,0 +1,4 @@
+pub mod Acts
+pub mod OneNode
+pub mod Places
+pub mod Shapes

@@ -1,0 +1,6 @@
+pub mod Command
+pub mod Built
+pub mod Replay
+pub mod Report
+pub mod Reading
+pub mod Answer

@@ -1,0 +1,35 @@
+// The top call: what the program does that never waits.
+ghost use Rattle.std.specs.Prelude.{◌≡◌, ◌≢◌, ◌≤◌, ◌<◌, map, string_bytes, None};
+ghost use Rattle.rmalock.specs.Command.{form_of};
+ghost use Rattle.rmalock.specs.Answer.{MayRead, IsDone};
+
+use crate::answer::answer_words;
+use crate::complaint::Quit;
+use rl_io::{Failed, Sink, Source, write_all};
+use std::alloc::Global;
+
+/// Does what the words of the command line ask for, and gives the status.
+pub fn offline<S: Source, K: Sink>(
+    alloc: Global,
+    words: &[String],
+    source: &mut S,
+    out: &mut K,
+) -> u8
+    requires { MayRead (S.may_open source.old) (form_of (map string_bytes words.now)) }
+    ensures done { IsDone (S.file source.old) (form_of (map string_bytes words.now)) result (K.written out.old) (K.written out.new) }
+    ensures status { result ≤ 5 }
+    ensures read_fault { result ≡ 3 → S.faults source.old < S.faults source.new }
+    ensures read_quiet { result ≢ 3 → S.faults source.new ≡ S.faults source.old }
+    ensures write_fault { result ≡ 4 → K.faults out.old < K.faults out.new }
+    ensures write_quiet { result ≢ 4 → K.faults out.new ≡ K.faults out.old }
+    ensures unread { form_of (map string_bytes words.now) ≡ None → source.new ≡ source.old }
+{
+    match answer_words(alloc, words, source) {
+        Ok(answer) => match write_all(out, answer.text()) {
+            Ok(()) => answer.status(),
+            Err(Failed) => 4,
+        },
+        Err(Quit::Fault) => 3,
+        Err(Quit::Memory) => 5,
+    }
+}
