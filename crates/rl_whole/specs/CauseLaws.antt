@@ -1,5 +1,5 @@
 -- Each answer of a step has its cause, for every lock.
-use Rattle.std.specs.Prelude.{◌≡◌, ◌≢◌, ◌⊎◌, ℕ, ◌+◌, ◌-◌, ◌==◌, Bool, true, false, not, List, drop, slice_get, slice_index, Option, Some, None, refl}
+use Rattle.std.specs.Prelude.{◌≡◌, ◌≢◌, ℕ, ◌+◌, Bool, true, false, not, List, drop, slice_get, slice_index, Option, Some, None, refl}
 use Rattle.std.proofs.Common.{sym, ◌∙◌, ap, subst, ⊎_elim, arith, get_or-drop}
 use Rattle.std.proofs.lemmas.Option.{same_Some}
 use Rattle.std.proofs.lemmas.Bool.Decides.{eqb_tells}
@@ -11,20 +11,19 @@ use Rattle.rl_word.specs.declared.acts.Atom.TheVariants as atom
 use Rattle.rl_word.specs.Acts.{word_of, told, by_card, Layout}
 use Rattle.rl_step.specs.declared.events.Event.{Event}
 use Rattle.rl_step.specs.declared.events.Stepped.{Stepped}
-use Rattle.rl_step.specs.declared.events.Stepped.TheVariants.{Moved, Waiting, Lost, Busy, Finished}
 use Rattle.rl_step.specs.Lock.{LockTable, LockState, LockLaws, Deed}
 use Rattle.rl_step.specs.Do.{Held, do_got}
 use Rattle.rl_whole.specs.declared.card_state.CardState.{CardState}
 use Rattle.rl_whole.specs.declared.card_state.CardState.TheVariants.{Free, InCard, Loaded, ToLeave}
-use Rattle.rl_whole.specs.declared.effect.Effect.TheVariants.{Stay, Learn}
+use Rattle.rl_whole.specs.declared.effect.Effect.TheVariants.{Learn}
 use Rattle.rl_whole.specs.declared.whole.WholeView.{WholeView}
 use Rattle.rl_whole.specs.Split.{home_of, first_atom, card_atom, side_atom, skips, guess_of, answer_of, turned_by, card_after, StandsStill}
-use Rattle.rl_whole.specs.SplitActs.{bool_cases, first_card, plain_got, told_card, after_plain, after_take, after_busy, after_load, after_skip}
+use Rattle.rl_whole.specs.SplitActs.{bool_cases, first_card, plain_got, after_plain, after_take, after_busy, after_load, after_skip}
 use Rattle.rl_whole.specs.SplitLaws.{none_at}
-use Rattle.rl_whole.specs.Whole.{count_word, side_of, shifted, shifted_answer, next_of, after_of, Good}
+use Rattle.rl_whole.specs.Whole.{side_of, shifted, shifted_answer, next_of, after_of, Good}
 use Rattle.rl_whole.specs.ShiftLaws.{shift_got}
 use Rattle.rl_whole.specs.WholeLaws.{next_cases}
-use Rattle.rl_whole.specs.Causes.{atom_word, Compares, HasLost, HasToWait, Cause}
+use Rattle.rl_whole.specs.Causes.{atom_word, Compares, Cause}
 
 -- the first atom of a plain act is on the act's word
 plain_on : {V : Type 0} (base : ℕ) (T : LockTable V) (a : Act) → by_card a ≡ false → atom_word (shifted base (first_atom T a)) ≡ Some (base + word_of a)

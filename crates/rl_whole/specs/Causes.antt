@@ -1,5 +1,5 @@
 -- Why a step is answered as it is: by the atom that was made and by what it found.
-use Rattle.std.specs.Prelude.{◌≡◌, ◌≢◌, ℕ, ◌+◌, ◌≤◌, Bool, true, false, slice_get, slice_index, Option, Some, None}
+use Rattle.std.specs.Prelude.{◌≡◌, ◌≢◌, ℕ, ◌+◌, ◌≤◌, true, false, slice_get, slice_index, Option, Some, None}
 use Rattle.rl_word.specs.declared.acts.Act.{Act}
 use Rattle.rl_word.specs.declared.acts.Act.TheVariants as act
 use Rattle.rl_word.specs.declared.acts.Atom.{Atom}
@@ -63,6 +63,7 @@ Cause base T h v (Some at) (Lost guess seen) = HasLost base T h v at guess seen
 Cause base T h v (Some at) (Busy node holder) = (at ≡ atom.Take node) × (slice_index h.cards node ≡ holder + 1)
 Cause base T h v (Some at) Finished = ⊥
 
+-- the cause, for a rank that may not be there
 abbrev pub cause_at : {A V : Type 0} → ℕ → LockTable V → World A V → Option (WholeView A V) → Stepped → Type 0
 cause_at base T w None answer = ⊥
 cause_at base T w (Some x) answer = Cause base T w.held x.lock (next_of base T x) answer

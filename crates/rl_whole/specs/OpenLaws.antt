@@ -1,5 +1,5 @@
 -- The start of a window, and a call that is opened in it: both meet the rule, for every lock.
-use Rattle.std.specs.Prelude.{◌≡◌, ℕ, zero, suc, ◌+◌, ◌-◌, ◌^◌, ◌<◌, List, [], ◌∷◌, ◌++◌, length, map, replicate, drop, slice_get, slice_set, Option, Some, None, refl}
+use Rattle.std.specs.Prelude.{◌≡◌, ℕ, zero, suc, ◌+◌, ◌-◌, ◌^◌, ◌<◌, List, [], ◌∷◌, ◌++◌, length, map, replicate, drop, slice_get, slice_index, slice_set, Option, Some, None, is_some, refl}
 use Rattle.std.proofs.Common.{sym, ◌∙◌, ap, subst, arith, add-one, length-set, get_or-set_same, get_or-set_other}
 use Rattle.std.proofs.lemmas.List.{drop-replicate, drop-set-lt, length-replicate}
 use Rattle.std.proofs.lemmas.Option.{same_Some}
@@ -14,15 +14,32 @@ use Rattle.rl_step.specs.declared.events.Standing.TheVariants.{Out, Asking, Writ
 use Rattle.rl_step.specs.Lock.{LockTable, LockState, LockLaws, Deed, Rests, first_views}
 use Rattle.rl_step.specs.Do.{Held}
 use Rattle.rl_step.specs.Core.{MayBe}
-use Rattle.rl_whole.specs.declared.card_state.CardState.TheVariants.{Free}
+use Rattle.rl_whole.specs.declared.card_state.CardState.{CardState}
+use Rattle.rl_whole.specs.declared.card_state.CardState.TheVariants.{Free, InCard, Loaded, ToLeave}
 use Rattle.rl_whole.specs.declared.whole.WholeView.{WholeView}
-use Rattle.rl_whole.specs.Split.{Side, SplitState, side_atom, lock_of, view_of}
+use Rattle.rl_whole.specs.Split.{Side, SplitState, card_atom, side_atom, lock_of, view_of}
 use Rattle.rl_whole.specs.SplitActs.{zeros}
 use Rattle.rl_whole.specs.SplitLaws.{split_at, none_at}
 use Rattle.rl_whole.specs.CallLaws.{opening_good, ask_keeps}
-use Rattle.rl_whole.specs.Whole.{count_word, side_of, split_of, next_of, lock_or_work, Good}
+use Rattle.rl_whole.specs.Whole.{count_word, side_of, split_of, next_of, lock_or_work, is_at_work, Good}
 use Rattle.rl_whole.specs.WholeLaws.{own_after}
 use Rattle.rl_whole.specs.Run.{first_view, opening_views, opening_held, opened_in}
+
+-- the words of the opening window: as many as there are, word 0 is 1, the count is 0, and so are the lock's words
+opening_length : (n nodes : ℕ) → length (opening_held n nodes).words ≡ n
+opening_length n nodes = length-set (replicate n 0) 0 1 ∙ length-replicate n 0
+
+opening_fixed : (n nodes : ℕ) → 0 < n → slice_index (opening_held n nodes).words 0 ≡ 1
+opening_fixed n nodes h = get_or-set_same (replicate n 0) 0 1 0 (subst (λ k. 0 < k) (sym (length-replicate n 0)) h)
+
+opening_count : (n nodes : ℕ) → slice_index (opening_held n nodes).words count_word ≡ 0
+opening_count n nodes = get_or-set_other (replicate n 0) 0 1 1 0 (λ e. cc) ∙ zeros n 1
+
+opening_above : (base size nodes : ℕ) → count_word < base → drop base (opening_held (base + size) nodes).words ≡ replicate size 0
+opening_above base size nodes h =
+    let gap : (base + size) - base ≡ size = omega arith in
+    let some : 0 < base = omega arith in
+    drop-set-lt base (replicate (base + size) 0) 0 1 some ∙ drop-replicate base (base + size) 0 ∙ ap (λ k. replicate k 0) gap
 
 module _ (A V : Type 0) (T : LockTable V) (good : LockState V → Type 0) (further : List Event → List Deed → Type 0) (layout : Layout) (laws : LockLaws T good further layout) (base home : ℕ) where
   -- their lock views are the lock's first
@@ -52,22 +69,17 @@ module _ (A V : Type 0) (T : LockTable V) (good : LockState V → Type 0) (furth
   pub opening_rule : base + T.size < 2 ^ 32 → count_word < base → length layout.node_of < 2 ^ 32 →
       (q : Good {A = A} base T good layout (opening_held (base + T.size) layout.nodes) (opening_views T 0 (length layout.node_of))) × (q.past.trace ≡ [])
   opening_rule f z n =
-      let s : SplitState V = record { words = replicate T.size 0; cards = replicate layout.nodes 0; sides = map side_of (opening_views {A = A} T 0 (length layout.node_of)); modes = replicate (length layout.node_of) mode.Write; past = record { trace = []; deeds = [] } } in
-      let zs : List ℕ = replicate (base + T.size) 0 in
-      let all : length zs ≡ base + T.size = length-replicate (base + T.size) 0 in
-      let gap : (base + T.size) - base ≡ T.size = omega arith in
-      let above : drop base (slice_set (replicate (base + T.size) 0) 0 1) ≡ replicate T.size 0 =
-      drop-set-lt base (replicate (base + T.size) 0) 0 1 (omega arith) ∙ drop-replicate base (base + T.size) 0 ∙ ap (λ k. replicate k 0) gap in (
+      let s : SplitState V = record { words = replicate T.size 0; cards = replicate layout.nodes 0; sides = map side_of (opening_views {A = A} T 0 (length layout.node_of)); modes = replicate (length layout.node_of) mode.Write; past = record { trace = []; deeds = [] } } in (
         record {
           modes = replicate (length layout.node_of) mode.Write;
           past = record { trace = []; deeds = [] };
           lock_part = split_at V T good further layout laws s (split_of base (opening_held (base + T.size) layout.nodes) (opening_views T 0 (length layout.node_of)) (replicate (length layout.node_of) mode.Write) (record { trace = []; deeds = [] }))
-              (sym above) refl refl refl refl
+              (sym (opening_above base T.size layout.nodes z)) refl refl refl refl
               (opening_good V T good further layout laws s.sides (opening_sides 0 (length layout.node_of)) free_side);
           work_part = record {
-            all_words = length-set (replicate (base + T.size) 0) 0 1 ∙ all;
-            fixed = get_or-set_same (replicate (base + T.size) 0) 0 1 0 (omega (arith, all));
-            count = get_or-set_other (replicate (base + T.size) 0) 0 1 1 0 (λ e. cc) ∙ zeros (base + T.size) 1;
+            all_words = opening_length (base + T.size) layout.nodes;
+            fixed = opening_fixed (base + T.size) layout.nodes (omega arith);
+            count = opening_count (base + T.size) layout.nodes;
             own = λ r x e. ap (λ v. v.rank) (opening_at 0 (length layout.node_of) r x e) ∙ omega arith;
           };
           starts = z;
@@ -126,3 +138,36 @@ module _ (A V : Type 0) (T : LockTable V) (good : LockState V → Type 0) (furth
   -- the rank of some view under the rule is out where it has no atom
   pub closed_is_out : (x : WholeView A V) → MayBe (Good base T good layout) x → next_of base T x ≡ None → T.standing x.lock ≡ Out
   closed_is_out x m e = (open_keeps m.held m.views m.rank x mode.Write m.is_ruled m.has e).2
+
+  -- and in no card
+  closed_is_free : (x : WholeView A V) → MayBe (Good base T good layout) x → next_of base T x ≡ None → x.card ≡ Free
+  closed_is_free x m e =
+      let here : slice_get (map side_of m.views) m.rank ≡ Some (side_of x) = get_map side_of m.views m.rank x m.has in
+      let c = closed_out (T.standing x.lock) (side_atom T (side_of x)) e in
+      (none_at V T good further layout laws (drop base m.held.words) (T.plan x.lock) x.card (m.is_ruled.lock_part.still m.rank (side_of x) here) c.0).1
+
+  -- a rank that is out and in no card has no atom
+  out_is_closed : (x : WholeView A V) → MayBe (Good base T good layout) x → T.standing x.lock ≡ Out → x.card ≡ Free → next_of base T x ≡ None
+  out_is_closed x m out free =
+      let g = m.is_ruled in
+      let s : SplitState V = split_of base m.held m.views g.modes g.past in
+      let here : slice_get s.sides m.rank ≡ Some (side_of x) = get_map side_of m.views m.rank x m.has in
+      let plans : T.plan x.lock ≡ None =
+            (laws.rests (lock_of s) m.rank x.lock g.lock_part.lock (get_map view_of s.sides m.rank (side_of x) here)).1 (subst Rests (sym out) tt) in
+      ap (λ st. lock_or_work base st (side_atom T (side_of x))) out ∙ ap (λ p. lock_or_work base Out (card_atom T p x.card)) plans ∙ ap (λ c. lock_or_work base Out (card_atom T None c)) free
+
+  -- so a call is open exactly where the rank isn't out or is in a card
+  open_either : (st : Standing) (c : CardState) (o : Option Atom) → (o ≡ None → st ≡ Out) → (o ≡ None → c ≡ Free) → (st ≡ Out → c ≡ Free → o ≡ None) → is_at_work st c ≡ is_some o
+  open_either st c None out free closed = ap (λ z. is_at_work z c) (out refl) ∙ ap (λ z. is_at_work Out z) (free refl)
+  open_either Out Free (Some at) out free closed = absurd (let bad : Some at ≡ None = closed refl refl in cc)
+  open_either Out InCard (Some at) out free closed = refl
+  open_either Out (Loaded v) (Some at) out free closed = refl
+  open_either Out (ToLeave n) (Some at) out free closed = refl
+  open_either Asking c (Some at) out free closed = refl
+  open_either Writer c (Some at) out free closed = refl
+  open_either Reader c (Some at) out free closed = refl
+  open_either Leaving c (Some at) out free closed = refl
+
+  pub open_is : (x : WholeView A V) → MayBe (Good base T good layout) x → is_at_work (T.standing x.lock) x.card ≡ is_some (next_of base T x)
+  open_is x m =
+      open_either (T.standing x.lock) x.card (next_of base T x) (closed_is_out x m) (closed_is_free x m) (out_is_closed x m)

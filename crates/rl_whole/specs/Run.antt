@@ -88,6 +88,7 @@ opened_if T w k x true =
       steps = w.steps;
     }
 
+-- the same for a rank that may not be there
 abbrev pub opened_at : {A V : Type 0} → ℕ → LockTable V → World A V → ℕ → Option (WholeView A V) → World A V
 opened_at base T w k None = w
 opened_at base T w k (Some x) = opened_if T w k x (opens base T x (slice_index w.given k) (slice_index w.opened k))
@@ -114,6 +115,7 @@ makes base T w k x (Some at) =
       steps = counted (after_of base T x (do_got at w.held.words w.held.cards)).stepped w.steps;
     }
 
+-- the same with the view's own next atom, for a rank that may not be there
 abbrev pub made_at : {A V : Type 0} → ℕ → LockTable V → World A V → ℕ → Option (WholeView A V) → World A V
 made_at base T w k None = w
 made_at base T w k (Some x) = makes base T w k x (next_of base T x)
@@ -131,6 +133,7 @@ abbrev pub answer_to : {A V : Type 0} → ℕ → LockTable V → Held → Whole
 answer_to base T h x None = Finished
 answer_to base T h x (Some at) = (after_of base T x (do_got at h.words h.cards)).stepped
 
+-- the same with the view's own next atom, for a rank that may not be there
 abbrev pub answer_at : {A V : Type 0} → ℕ → LockTable V → World A V → Option (WholeView A V) → Stepped
 answer_at base T w None = Finished
 answer_at base T w (Some x) = answer_to base T w.held x (next_of base T x)
@@ -151,6 +154,7 @@ is_working standing.Writer = true
 is_working standing.Reader = true
 is_working standing.Leaving = false
 
+-- the calls that have ended their work, of so many that were opened
 abbrev pub done_with : {A V : Type 0} → LockTable V → ℕ → Option (WholeView A V) → ℕ
 done_with T opened None = opened
 done_with T opened (Some x) = if is_working (T.standing x.lock) then opened - 1 else opened
@@ -159,6 +163,7 @@ done_with T opened (Some x) = if is_working (T.standing x.lock) then opened - 1 
 abbrev pub done_of : {A V : Type 0} → LockTable V → World A V → ℕ → ℕ
 done_of T w k = done_with T (slice_index w.opened k) (slice_get w.views k)
 
+-- a call is open where the view has a next atom
 abbrev pub is_open_at : {A V : Type 0} → ℕ → LockTable V → Option (WholeView A V) → Bool
 is_open_at base T None = false
 is_open_at base T (Some x) = is_some (next_of base T x)

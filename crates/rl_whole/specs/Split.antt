@@ -168,6 +168,7 @@ pub record SplitState (V : Type 0) : Type 0 where
   pub modes : List Mode
   pub past : Past
 
+-- the lock view of a side
 abbrev pub view_of : {V : Type 0} → Side V → V
 view_of x = x.view
 
@@ -195,6 +196,7 @@ card_in T None (Loaded g) = None
 card_in T (Some a) InCard = Some (home_of T (word_of a))
 card_in T (Some a) (Loaded g) = Some (home_of T (word_of a))
 
+-- the card that a rank with this side is in
 abbrev pub card_of : {V : Type 0} → LockTable V → Side V → Option ℕ
 card_of T x = card_in T (T.plan x.view) x.card
 

@@ -2,5 +2,6 @@
 use Rattle.rl_whole.specs.declared.state.State.{State}
 use Rattle.rl_whole.specs.Run.{World}
 
+-- its vectors as lists
 abbrev pub world_of : {A V : Type 0} → State A V → World A V
 world_of s = record { held = s.flat.words; views = s.flat.views.items; given = s.given.items; opened = s.opened.items; trace = s.events.items; steps = s.steps }

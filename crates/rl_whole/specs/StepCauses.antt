@@ -1,5 +1,5 @@
 -- The causes of a step's answer, and a Take that finds the card held changes nothing.
-use Rattle.std.specs.Prelude.{◌≡◌, ◌≢◌, ◌↔◌, ◌⊎◌, ℕ, ◌+◌, ◌-◌, ◌<◌, ◌≤◌, ◌==◌, Bool, true, false, not, ◌&&◌, nat_lt, if◌then◌else◌, List, [], ◌++◌, length, slice_get, slice_index, slice_set, Option, Some, None, is_some, refl}
+use Rattle.std.specs.Prelude.{◌≡◌, ◌↔◌, ℕ, ◌+◌, ◌-◌, ◌<◌, ◌≤◌, ◌==◌, Bool, true, false, not, ◌&&◌, nat_lt, if◌then◌else◌, List, [], ◌++◌, length, slice_get, slice_index, slice_set, Option, Some, None, is_some, refl}
 use Rattle.std.proofs.Common.{sym, ◌∙◌, ap, subst, ⊎_elim, arith}
 use Rattle.std.proofs.lemmas.List.{append-nil}
 use Rattle.std.proofs.lemmas.Bool.Decides.{nat_tests, eqb_tells}
@@ -8,23 +8,21 @@ use Rattle.rl_word.specs.Acts.{Layout, by_card}
 use Rattle.rl_word.specs.declared.classes.Mode.TheVariants as mode
 use Rattle.rl_word.specs.declared.acts.Act.{Act}
 use Rattle.rl_word.specs.declared.acts.Atom.{Atom}
-use Rattle.rl_word.specs.declared.acts.Atom.TheVariants as atom
 use Rattle.rl_step.specs.declared.events.Event.{Event}
 use Rattle.rl_step.specs.declared.events.Standing.TheVariants.{Out, Asking}
 use Rattle.rl_step.specs.declared.events.Stepped.{Stepped}
 use Rattle.rl_step.specs.declared.events.Stepped.TheVariants.{Moved, Busy, Finished}
 use Rattle.rl_step.specs.Answers.{counted, steps_made}
 use Rattle.rl_step.specs.Lock.{LockTable, LockState, LockLaws, Deed}
-use Rattle.rl_step.specs.Do.{Held, do_atom, do_got, do_cards}
-use Rattle.rl_step.specs.Core.{MayBe}
+use Rattle.rl_step.specs.Do.{Held, do_atom, do_got}
 use Rattle.rl_whole.specs.declared.card_state.CardState.{CardState}
 use Rattle.rl_whole.specs.declared.card_state.CardState.TheVariants.{Free, InCard, Loaded, ToLeave}
 use Rattle.rl_whole.specs.declared.effect.Effect.{Effect}
 use Rattle.rl_whole.specs.declared.effect.Effect.TheVariants.{Work, Stay, Learn}
 use Rattle.rl_whole.specs.declared.whole.WholeView.{WholeView}
 use Rattle.rl_whole.specs.Split.{skips, effect_at, answer_of, plan_home}
-use Rattle.rl_whole.specs.Whole.{shifted_answer, next_of, after_of, effect_turned, Good}
-use Rattle.rl_whole.specs.Run.{World, numbered, opened_next, opens, opened_if, opened_at, call_opened, makes, made_at, atom_made, stepped, answer_to, answer_at, atom_answer, answer_of_step, only_counted, has_open_call, is_open_at}
+use Rattle.rl_whole.specs.Whole.{shifted_answer, next_of, after_of, effect_turned}
+use Rattle.rl_whole.specs.Run.{World, numbered, opened_next, opens, opened_if, opened_at, call_opened, makes, made_at, stepped, answer_to, answer_at, answer_of_step, only_counted, is_open_at}
 use Rattle.rl_whole.specs.RunGood.{RunGood}
 use Rattle.rl_whole.specs.RunLaws.{call_opened_good, none_open}
 use Rattle.rl_whole.specs.OpenLaws.{open_keeps, closed_is_out}

@@ -1,5 +1,5 @@
 -- A rank's whole machine over any lock: the lock's atoms, and one load of the count while it holds; and the rule of its window.
-use Rattle.std.specs.Prelude.{◌≡◌, ℕ, ◌+◌, ◌-◌, ◌^◌, ◌<◌, List, length, map, drop, if◌then◌else◌, nat_lt, slice_get, slice_index, Option, Some, None}
+use Rattle.std.specs.Prelude.{◌≡◌, ℕ, ◌+◌, ◌-◌, ◌^◌, ◌<◌, List, Bool, true, false, length, map, drop, if◌then◌else◌, nat_lt, slice_get, slice_index, Option, Some, None}
 use Rattle.std.proofs.Common.{ap}
 use Rattle.rl_word.specs.declared.classes.Mode.{Mode}
 use Rattle.rl_word.specs.declared.acts.Atom.{Atom}
@@ -12,6 +12,8 @@ use Rattle.rl_step.specs.declared.events.Stepped.TheVariants.{Moved, Waiting, Lo
 use Rattle.rl_step.specs.Lock.{LockTable, LockState}
 use Rattle.rl_step.specs.Do.{Held}
 use Rattle.rl_step.specs.Core.{CoreTable, Turned}
+use Rattle.rl_whole.specs.declared.card_state.CardState.{CardState}
+use Rattle.rl_whole.specs.declared.card_state.CardState.TheVariants.{Free, InCard, Loaded, ToLeave}
 use Rattle.rl_whole.specs.declared.effect.Effect.{Effect}
 use Rattle.rl_whole.specs.declared.whole.WholeView.{WholeView}
 use Rattle.rl_whole.specs.Split.{Side, SplitState, LockGood, Past, SideTurned, side_atom, side_after, home_of, turned_by, effect_at, plan_home}
@@ -62,6 +64,17 @@ lock_or_work base st None = work_atom st
 -- the next atom of a rank; none where no call of it is open
 abbrev pub next_of : {A V : Type 0} → ℕ → LockTable V → WholeView A V → Option Atom
 next_of base T x = lock_or_work base (T.standing x.lock) (side_atom T (side_of x))
+
+-- a rank is in a call: it isn't out, or it is still in a card or about to leave one
+abbrev pub is_at_work : Standing → CardState → Bool
+is_at_work standing.Out Free = false
+is_at_work standing.Out InCard = true
+is_at_work standing.Out (Loaded g) = true
+is_at_work standing.Out (ToLeave n) = true
+is_at_work standing.Asking c = true
+is_at_work standing.Writer c = true
+is_at_work standing.Reader c = true
+is_at_work standing.Leaving c = true
 
 -- the view, the events and the answer, by what is left of the lock's side
 abbrev pub whole_turned : {A V : Type 0} → ℕ → WholeView A V → SideTurned V → Turned (WholeView A V)

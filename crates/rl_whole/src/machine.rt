@@ -15,7 +15,10 @@ use rl_word::{Knobs, Shape};
 use std::alloc::{AllocError as OutOfMemory, Global};
 use std::marker::Model;
 
-/// All of one shard. Contracts see its core and its world: the record `World`, whose steps are those of the definition.
+/// All of one shard, with the steps of its ranks one after the other.
+///
+/// Contracts see its core, which never changes, and its world (`World` of `specs/Run.antt`): words and cards, views, calls, the
+/// trace and the counts of answers. Whatever steps it has taken, its trace is exclusive.
 #[derive(Drop)]
 pub struct Machine<A: Algo> {
     core: Whole<A>,
@@ -37,8 +40,9 @@ impl<A: Algo> Model for Machine<A> {
 impl<A: Algo> Machine<A> {
     /// The machine before its first step.
     ///
-    /// `shape` and `home` say where the ranks, the cards and the shard's words are, `knobs` are the lock's settings, and
-    /// `given` says for each rank how many calls it has. Refused only for want of memory.
+    /// `shape` says where the ranks sit, `home` is the node that the shard's own words live on, `knobs` are the lock's
+    /// settings, and `given` says for each rank how many calls it has; each call holds the lock, to write. Refused only for
+    /// want of memory.
     pub fn new(
         alloc: Global,
         shape: &Shape,
@@ -72,7 +76,16 @@ impl<A: Algo> Machine<A> {
         })
     }
 
-    /// One step of a rank.
+    /// One step of a rank: its next call is opened, where none is open and one is left; then, where a call is open, one atom
+    /// is made.
+    ///
+    /// The answer is `Busy` where the atom was a Take and another rank was in the card of that node, which changes nothing;
+    /// `Lost` where it was the compare of a compare-and-swap, which saw another value than its guess; `Waiting` where it was
+    /// the last of a waiting round, whose test isn't met; `Finished` exactly where the rank has no open call and none left,
+    /// and no atom was made; and else `Moved`. Every answer counts as a step. The events are kept with the number of the
+    /// step, from 0; fewer than 4,294,967,295 steps were made so far. That a card's compare-and-swap is several atoms,
+    /// between which the home's own ranks may act, is what remote memory of today does. Refused only for want of memory,
+    /// and then nothing has changed.
     pub fn step(&mut self, rank: u32) -> Result<Stepped, OutOfMemory>
         requires there { rank < length self.old.world.views }
         requires few { steps_made self.old.world.steps < 2 ^ 32 - 1 }
@@ -89,7 +102,7 @@ impl<A: Algo> Machine<A> {
         Ok(make_atom(&self.core, &mut self.state, rank))
     }
 
-    /// The events so far.
+    /// The events so far, in the order of the steps, each with the number of its step.
     pub fn events(&self) -> &[(u32, Event)]
         ensures events { result.now ≡ self.now.world.trace }
         ensures exclusive { IsExclusive (events_of result.now) }
@@ -119,7 +132,8 @@ impl<A: Algo> Machine<A> {
         self.state.given[rank as usize]
     }
 
-    /// How many of them have ended their work: those that it has opened, less one that still asks for the lock or holds it.
+    /// How many of the rank's calls have ended their work: those that it has opened, less one that still asks for the lock or
+    /// holds it.
     pub fn done(&self, rank: u32) -> u32
         requires { rank < length self.now.world.views }
         ensures { result ≡ done_of (A.table self.now.core.algo) self.now.world rank }
@@ -139,7 +153,7 @@ impl<A: Algo> Machine<A> {
         self.core.is_open(self.state.flat.view(rank))
     }
 
-    /// How many updates were made: the count word.
+    /// How many updates were made, by the count word. No call of today makes one.
     pub fn updates(&self) -> u32
         ensures { result ≡ slice_index self.now.world.held.words count_word }
     {

@@ -47,9 +47,11 @@ fn take_turn<A: Algo>(machine: &mut Machine<A>, turn: Turn) -> Result<(), OutOfM
 
 /// The machine after exactly the steps of a schedule: `turns` are taken in order, each so many steps of its rank.
 ///
-/// `shape` and `home` say where the ranks, the cards and the shard's words are, `knobs` are the lock's settings, and `given`
-/// says for each rank how many calls it has. Refused only for want of memory. Whatever the schedule, at most one rank writes
-/// at any moment of its trace, and none reads beside it.
+/// `shape` says where the ranks sit, `home` is the node that the shard's own words live on, `knobs` are the lock's settings,
+/// and `given` says for each rank how many calls it has; the ranks of the turns are the shape's, and there are fewer than 2^32
+/// steps in all. Refused only for want of memory. Whatever the schedule, at most one rank writes at any moment of its trace,
+/// none reads beside it, and who touches what the lock guards holds the lock. The contract speaks of the run by its
+/// definition (`run_of` of `specs/Run.antt`), which knows no vectors.
 pub fn replay<A: Algo>(
     alloc: Global,
     shape: &Shape,

@@ -223,7 +223,10 @@ fn second_rank_finds_the_card_busy_or_loses_the_compare(rt: HostRuntime) -> Resu
         finished: 0,
     };
     assert_eq!(rt; machine.steps(), want);
-    assert_eq!(rt; machine.events(), [(2, Event::EnterW { rank: 0 })].as_slice());
+    assert_eq!(rt;
+        machine.events(),
+        [(2, Event::EnterW { rank: 0 })].as_slice()
+    );
     assert_eq!(rt; (machine.done(0), machine.given(1)), (0, 1));
     assert!(rt; machine.is_open(0) && machine.is_open(1));
     Ok(())

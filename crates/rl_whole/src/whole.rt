@@ -5,7 +5,7 @@ ghost use Rattle.rl_step.specs.Core.{MayBe};
 ghost use Rattle.rl_step.specs.declared.events.Event.TheVariants.{Touch as touched_by};
 ghost use Rattle.rl_whole.specs.Split.{departure};
 ghost use Rattle.rl_word.specs.Shapes.{IsProper, layout_of};
-ghost use Rattle.rl_whole.specs.Whole.{whole_table, lock_base, next_of, Good};
+ghost use Rattle.rl_whole.specs.Whole.{whole_table, lock_base, next_of, is_at_work, Good};
 ghost use Rattle.rl_whole.specs.Run.{first_view, opened_in};
 ghost use Rattle.rl_whole.specs.WholeLaws.{whole_laws};
 
@@ -58,6 +58,19 @@ fn work_events(rank: u32, standing: Standing) -> ArrayVec<Event, 8>
         _ => {}
     }
     events
+}
+
+/// Whether a rank that stands so, and is there in a split act, is in a call.
+fn at_work(standing: Standing, card: CardState) -> bool
+    ensures { result ≡ is_at_work standing card }
+{
+    match standing {
+        Standing::Out => match card {
+            CardState::Free => false,
+            CardState::InCard | CardState::Loaded { .. } | CardState::ToLeave { .. } => true,
+        },
+        Standing::Asking | Standing::Writer | Standing::Reader | Standing::Leaving => true,
+    }
 }
 
 impl<A: Algo> Core for Whole<A> {
@@ -168,7 +181,7 @@ impl<A: Algo> Whole<A> {
         requires { MayBe (Good self.now.base (A.table self.now.algo) (A.good self.now.algo) (A.layout self.now.algo)) view.now }
         ensures { result ≡ is_some (next_of self.now.base (A.table self.now.algo) view.now) }
     {
-        self.next(view).is_some()
+        at_work(self.algo.standing(view.lock), view.card)
     }
 
     /// Opens a call, where none is open: the lock is asked for in the call's mode.

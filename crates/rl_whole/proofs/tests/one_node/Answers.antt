@@ -1,6 +1,6 @@
 -- The smallest shapes are proper.
-use Rattle.std.proofs.Common.{◌≡◌, sym, subst, rules, ap, ◌∙◌}
-use Rattle.rl_word.specs.Shapes.{TheShape, IsProper}
+use Rattle.std.proofs.Common.{◌≡◌, sym, subst, rules}
+use Rattle.rl_word.specs.Shapes.{IsProper}
 use Rattle.rl_word.specs.OneNode.{one_node, one_node_proper}
 use Rattle.rl_whole.proofs.tests.one_node.Goals as goal
 
