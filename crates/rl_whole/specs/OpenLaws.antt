@@ -153,7 +153,7 @@ module _ (A V : Type 0) (T : LockTable V) (good : LockState V → Type 0) (furth
       let s : SplitState V = split_of base m.held m.views g.modes g.past in
       let here : slice_get s.sides m.rank ≡ Some (side_of x) = get_map side_of m.views m.rank x m.has in
       let plans : T.plan x.lock ≡ None =
-            (laws.rests (lock_of s) m.rank x.lock g.lock_part.lock (get_map view_of s.sides m.rank (side_of x) here)).1 (subst Rests (sym out) tt) in
+      (laws.rests (lock_of s) m.rank x.lock g.lock_part.lock (get_map view_of s.sides m.rank (side_of x) here)).1 (subst Rests (sym out) tt) in
       ap (λ st. lock_or_work base st (side_atom T (side_of x))) out ∙ ap (λ p. lock_or_work base Out (card_atom T p x.card)) plans ∙ ap (λ c. lock_or_work base Out (card_atom T None c)) free
 
   -- so a call is open exactly where the rank isn't out or is in a card

@@ -169,7 +169,10 @@ fn small_schedules(rt: HostRuntime) -> Result<(), Fail> {
 fn finished_steps_are_counted(rt: HostRuntime) -> Result<(), Fail> {
     let shape = one_node(rt.alloc(), 1)?;
     let given = vec![in rt.alloc(); 1]?;
-    let turns = [Turn::Steps { rank: 0, count: 9 }, Turn::Steps { rank: 0, count: 5 }];
+    let turns = [
+        Turn::Steps { rank: 0, count: 9 },
+        Turn::Steps { rank: 0, count: 5 },
+    ];
     let machine: Machine<Spin> = replay(rt.alloc(), &shape, 0, KNOBS, given, &turns)?;
     let want = Steps {
         moved: 9,
@@ -201,7 +204,10 @@ fn finished_steps_are_counted(rt: HostRuntime) -> Result<(), Fail> {
 fn second_rank_finds_the_card_busy_or_loses_the_compare(rt: HostRuntime) -> Result<(), Fail> {
     let shape = one_node(rt.alloc(), 2)?;
     let given = vec![in rt.alloc(); 1, 1]?;
-    let turns = [Turn::Steps { rank: 0, count: 2 }, Turn::Steps { rank: 1, count: 1 }];
+    let turns = [
+        Turn::Steps { rank: 0, count: 2 },
+        Turn::Steps { rank: 1, count: 1 },
+    ];
     let machine: Machine<Spin> = replay(rt.alloc(), &shape, 0, KNOBS, given, &turns)?;
     let want = Steps {
         moved: 2,
@@ -213,7 +219,10 @@ fn second_rank_finds_the_card_busy_or_loses_the_compare(rt: HostRuntime) -> Resu
     assert_eq!(rt; machine.steps(), want);
     assert_eq!(rt; machine.events().len(), 0);
     let given = vec![in rt.alloc(); 1, 1]?;
-    let turns = [Turn::Steps { rank: 0, count: 4 }, Turn::Steps { rank: 1, count: 3 }];
+    let turns = [
+        Turn::Steps { rank: 0, count: 4 },
+        Turn::Steps { rank: 1, count: 3 },
+    ];
     let machine: Machine<Spin> = replay(rt.alloc(), &shape, 0, KNOBS, given, &turns)?;
     let want = Steps {
         moved: 6,

@@ -36,13 +36,13 @@ module _ {A V : Type 0} (w : World A V) (T : LockTable V) where
     more rank i [] e = cc
     more rank zero (x ∷ xs) e =
         append-nil (entries_of (slice_index w.held.words count_word) rank 0 (take (done_of T w rank) x))
-          ∙ ap (λ c. entries_of (slice_index w.held.words count_word) rank 0 (take (done_of T w rank) c)) (same_Some _ _ e)
-          ∙ ap (λ n. entries_of (slice_index w.held.words count_word) n 0 (take (done_of T w n) calls)) (omega arith)
+        ∙ ap (λ c. entries_of (slice_index w.held.words count_word) rank 0 (take (done_of T w rank) c)) (same_Some _ _ e)
+        ∙ ap (λ n. entries_of (slice_index w.held.words count_word) n 0 (take (done_of T w n) calls)) (omega arith)
     more rank (suc i) (x ∷ xs) e =
         let mine = entries_of (slice_index w.held.words count_word) rank 0 (take (done_of T w rank) x) in
         let theirs = λ (n : ℕ). entries_of (slice_index w.held.words count_word) n 0 (take (done_of T w n) calls) in
         ap (λ es. mine ++ es) (more (rank + 1) i xs e) ∙ sym (append_assoc mine (entries_from w T (rank + 1) (take i xs)) (theirs (rank + 1 + i)))
-          ∙ ap (λ n. (mine ++ entries_from w T (rank + 1) (take i xs)) ++ theirs n) (omega arith)
+        ∙ ap (λ n. (mine ++ entries_from w T (rank + 1) (take i xs)) ++ theirs n) (omega arith)
 
   pub dones_ranks : (i : ℕ) (lists : List (List Call)) (calls : List Call) → slice_get lists i ≡ Some calls →
       rank_lines 0 (dones_from w T 0 (take (i + 1) lists)) ≡ rank_lines 0 (dones_from w T 0 (take i lists)) ++ rank_words i (record { done = done_of T w i; given = length calls }) ∷ []
@@ -52,10 +52,10 @@ module _ {A V : Type 0} (w : World A V) (T : LockTable V) where
     more rank i [] e = cc
     more rank zero (x ∷ xs) e =
         ap (λ c. rank_words rank (record { done = done_of T w rank; given = length c }) ∷ []) (same_Some _ _ e)
-          ∙ ap (λ n. rank_words n (record { done = done_of T w n; given = length calls }) ∷ []) (omega arith)
+        ∙ ap (λ n. rank_words n (record { done = done_of T w n; given = length calls }) ∷ []) (omega arith)
     more rank (suc i) (x ∷ xs) e =
         ap (λ ls. rank_words rank (record { done = done_of T w rank; given = length x }) ∷ ls)
-          (more (rank + 1) i xs e ∙ ap (λ n. rank_lines (rank + 1) (dones_from w T (rank + 1) (take i xs)) ++ rank_words n (record { done = done_of T w n; given = length calls }) ∷ []) (omega arith))
+        (more (rank + 1) i xs e ∙ ap (λ n. rank_lines (rank + 1) (dones_from w T (rank + 1) (take i xs)) ++ rank_words n (record { done = done_of T w n; given = length calls }) ∷ []) (omega arith))
 
 -- one line more at the end of a text
 pub text_of-end : (lines : List (List (List ℕ))) (line : List (List ℕ)) → text_of (lines ++ line ∷ []) ≡ text_of lines ++ line_text line

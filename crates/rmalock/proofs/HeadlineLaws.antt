@@ -46,7 +46,7 @@ replay_exclusive place ops schedule proper one ranks =
     let most = proper.most_ranks in
     let few : length layout.node_of < 2 ^ 32 = omega (arith, count, most) in
     run_exclusive Spin SpinView (spin_table (home_of place)) (SpinGood (length layout.node_of)) no_more layout (spin_laws (home_of place) layout homed) lock_base (home_of place)
-      (given_of ops.by_rank) (lit< tt) (lit< tt) few given (ranks_of schedule.turns)
+    (given_of ops.by_rank) (lit< tt) (lit< tt) few given (ranks_of schedule.turns)
 
 -- texts that are replayed
 pub is_replay : (texts : Texts) (report : List ℕ) → replayed texts ≡ Ok report → IsReplay texts report

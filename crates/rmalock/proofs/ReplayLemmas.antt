@@ -20,7 +20,6 @@ stops_at stop.Fault told next e = tt
 stops_at stop.Memory told next e = tt
 
 module _ (file : List ℕ → Option (List ℕ)) (names : Names) where
-
   -- texts that fit, and what the replay came to for them
   replay_was : (place calls schedule : List ℕ) (result : Result (Vec ℕ Global) Stop) → Fits (file names.place) place → Fits (file names.calls) calls → Fits (file names.schedule) schedule →
       Ends (λ text. text.items) result (replayed (record { place = place; calls = calls; schedule = schedule })) → WasReplayed file names result
@@ -31,14 +30,14 @@ module _ (file : List ℕ → Option (List ℕ)) (names : Names) where
   unfolding replayed
   place_stops why r =
       replay_was r.bytes (unwrap_or (file names.calls) []) (unwrap_or (file names.schedule) []) (Err why) r.fits (fits_told (file names.calls)) (fits_told (file names.schedule))
-        (stops_at why (placed r.bytes) _ r.ends)
+      (stops_at why (placed r.bytes) _ r.ends)
 
   pub calls_stop : (place : ThePlace) (why : Stop) → WasRead {X = ThePlace} (file names.place) (λ place. place) placed (Ok place) →
       WasRead {X = Ops} (file names.calls) (λ ops. ops) (called place) (Err why) → WasReplayed file names (Err why)
   unfolding replayed
   calls_stop place why r c =
       replay_was r.bytes c.bytes (unwrap_or (file names.schedule) []) (Err why) r.fits c.fits (fits_told (file names.schedule))
-        (rw r.ends (stops_at why (called place c.bytes) _ c.ends))
+      (rw r.ends (stops_at why (called place c.bytes) _ c.ends))
 
   pub schedule_stops : (place : ThePlace) (ops : Ops) (why : Stop) → WasRead {X = ThePlace} (file names.place) (λ place. place) placed (Ok place) →
       WasRead {X = Ops} (file names.calls) (λ ops. ops) (called place) (Ok ops) →

@@ -60,11 +60,11 @@ built_place_ok : (bytes : List ℕ) (place : ThePlace) → built_place bytes ≡
 unfolding built_place
 built_place_ok bytes place e =
     from_bind (place_at bytes) _ place e (λ p is rest.
-      from_bind (unless 3 2 (is_built p.lock)) _ place rest (λ u built rest2.
-        from_bind (unless 0 0 (p.geom.shards == 1)) _ place rest2 (λ v alone rest3.
-          let taken = place-takes bytes p is in
-          let one : p.geom.shards ≡ 1 = eqb-true p.geom.shards 1 (passed_with (p.geom.shards == 1) tt v _ alone).0 in
-          subst (λ q. PlaceRead bytes q) (ok_is p place rest3) (record { proper = taken.proper; spelled = taken.spelled; one_shard = one }))))
+    from_bind (unless 3 2 (is_built p.lock)) _ place rest (λ u built rest2.
+    from_bind (unless 0 0 (p.geom.shards == 1)) _ place rest2 (λ v alone rest3.
+    let taken = place-takes bytes p is in
+    let one : p.geom.shards ≡ 1 = eqb-true p.geom.shards 1 (passed_with (p.geom.shards == 1) tt v _ alone).0 in
+    subst (λ q. PlaceRead bytes q) (ok_is p place rest3) (record { proper = taken.proper; spelled = taken.spelled; one_shard = one }))))
 
 pub place_read : (bytes : List ℕ) (place : ThePlace) → placed bytes ≡ Ok place → PlaceRead bytes place
 unfolding placed
@@ -74,8 +74,8 @@ built_calls_ok : (place : ThePlace) (bytes : List ℕ) (ops : Ops) → length pl
 unfolding built_calls
 built_calls_ok place bytes ops ranks shards e =
     from_bind (ops_at (length place.paths) place.geom.shards bytes) _ ops e (λ o is rest.
-      from_bind (unless 0 0 (only_holds o.by_rank)) _ ops rest (λ u hold rest2.
-        subst (λ q. SpellsOps (length place.paths) place.geom.shards q bytes) (ok_is o ops rest2) (ops-takes (length place.paths) place.geom.shards bytes o ranks shards is)))
+    from_bind (unless 0 0 (only_holds o.by_rank)) _ ops rest (λ u hold rest2.
+    subst (λ q. SpellsOps (length place.paths) place.geom.shards q bytes) (ok_is o ops rest2) (ops-takes (length place.paths) place.geom.shards bytes o ranks shards is)))
 
 pub calls_read : (place : ThePlace) (bytes : List ℕ) (ops : Ops) → length place.paths < 2 ^ 32 → place.geom.shards < 2 ^ 32 → called place bytes ≡ Ok ops → SpellsOps (length place.paths) place.geom.shards ops bytes
 unfolding called

@@ -22,22 +22,22 @@ pub report_made : (o1 o2 o3 o4 o5 : List ℕ) (h e v r s : List (List (List ℕ)
     o5 ≡ text_of (h ++ (e ++ (v ++ (r ++ s))))
 report_made o1 o2 o3 o4 o5 h e v r s e1 e2 e3 e4 e5 =
     e5 ∙ ap (λ t. t ++ text_of s) (e4 ∙ ap (λ t. t ++ text_of r) (e3 ∙ ap (λ t. t ++ text_of v) (e2 ∙ ap (λ t. t ++ text_of e) e1)))
-      ∙ append_assoc ((text_of h ++ text_of e) ++ text_of v) (text_of r) (text_of s)
-      ∙ append_assoc (text_of h ++ text_of e) (text_of v) (text_of r ++ text_of s)
-      ∙ append_assoc (text_of h) (text_of e) (text_of v ++ (text_of r ++ text_of s))
-      ∙ ap (λ t. text_of h ++ (text_of e ++ (text_of v ++ t))) (sym (text_of-append r s))
-      ∙ ap (λ t. text_of h ++ (text_of e ++ t)) (sym (text_of-append v (r ++ s)))
-      ∙ ap (λ t. text_of h ++ t) (sym (text_of-append e (v ++ (r ++ s))))
-      ∙ sym (text_of-append h (e ++ (v ++ (r ++ s))))
+    ∙ append_assoc ((text_of h ++ text_of e) ++ text_of v) (text_of r) (text_of s)
+    ∙ append_assoc (text_of h ++ text_of e) (text_of v) (text_of r ++ text_of s)
+    ∙ append_assoc (text_of h) (text_of e) (text_of v ++ (text_of r ++ text_of s))
+    ∙ ap (λ t. text_of h ++ (text_of e ++ (text_of v ++ t))) (sym (text_of-append r s))
+    ∙ ap (λ t. text_of h ++ (text_of e ++ t)) (sym (text_of-append v (r ++ s)))
+    ∙ ap (λ t. text_of h ++ t) (sym (text_of-append e (v ++ (r ++ s))))
+    ∙ sym (text_of-append h (e ++ (v ++ (r ++ s))))
 
 -- four lines, written one after the other behind what stands
 pub four_lines : (o0 o1 o2 o3 o4 : List ℕ) (a b c d : List (List ℕ)) → o1 ≡ o0 ++ line_text a → o2 ≡ o1 ++ line_text b → o3 ≡ o2 ++ line_text c → o4 ≡ o3 ++ line_text d → o4 ≡ o0 ++ text_of (a ∷ b ∷ c ∷ d ∷ [])
 four_lines o0 o1 o2 o3 o4 a b c d e1 e2 e3 e4 =
     e4 ∙ ap (λ t. t ++ line_text d) (e3 ∙ ap (λ t. t ++ line_text c) (e2 ∙ ap (λ t. t ++ line_text b) e1))
-      ∙ append_assoc ((o0 ++ line_text a) ++ line_text b) (line_text c) (line_text d)
-      ∙ append_assoc (o0 ++ line_text a) (line_text b) (line_text c ++ line_text d)
-      ∙ append_assoc o0 (line_text a) (line_text b ++ (line_text c ++ line_text d))
-      ∙ ap (λ t. o0 ++ (line_text a ++ (line_text b ++ (line_text c ++ t)))) (sym (append-nil (line_text d)))
+    ∙ append_assoc ((o0 ++ line_text a) ++ line_text b) (line_text c) (line_text d)
+    ∙ append_assoc (o0 ++ line_text a) (line_text b) (line_text c ++ line_text d)
+    ∙ append_assoc o0 (line_text a) (line_text b ++ (line_text c ++ line_text d))
+    ∙ ap (λ t. o0 ++ (line_text a ++ (line_text b ++ (line_text c ++ t)))) (sym (append-nil (line_text d)))
 
 -- there is a line for each rank
 pub length-dones : {A V X : Type 0} (w : World A V) (T : LockTable V) (rank : ℕ) (f : X → List Call) (lists : List X) → length (dones_from w T rank (map f lists)) ≡ length lists

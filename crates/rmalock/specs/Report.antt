@@ -80,18 +80,18 @@ last_steps_words s =
 abbrev pub steps_words : Steps → List (List ℕ)
 steps_words s =
     codes "steps" ∷ decimal (steps_made s) ∷ codes "moved" ∷ decimal s.moved ∷ codes "waiting" ∷ decimal s.waiting
-      ∷ last_steps_words s
+    ∷ last_steps_words s
 
 -- the report's lines up to the entries
 abbrev pub heading_lines : List ℕ → ℕ → ℕ → ℕ → List (List (List ℕ))
 heading_lines lock ranks updates entries =
     (codes "rmalock-report" ∷ codes "1" ∷ []) ∷ (codes "replay" ∷ lock ∷ [])
-      ∷ (codes "ranks" ∷ decimal ranks ∷ codes "shards" ∷ codes "1" ∷ []) ∷ shard_words updates entries ∷ []
+    ∷ (codes "ranks" ∷ decimal ranks ∷ codes "shards" ∷ codes "1" ∷ []) ∷ shard_words updates entries ∷ []
 
 abbrev pub report_lines : TheReport → List (List (List ℕ))
 report_lines r =
     heading_lines r.lock (length r.ranks) r.updates (length r.entries)
-      ++ (map entry_words r.entries ++ (event_lines r.events ++ (rank_lines 0 r.ranks ++ steps_words r.steps ∷ (codes "end" ∷ []) ∷ [])))
+    ++ (map entry_words r.entries ++ (event_lines r.events ++ (rank_lines 0 r.ranks ++ steps_words r.steps ∷ (codes "end" ∷ []) ∷ [])))
 
 -- the one spelling of a report
 abbrev pub report_spelling : TheReport → List ℕ

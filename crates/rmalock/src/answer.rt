@@ -83,11 +83,7 @@ fn refused(alloc: Global, name: &str, trouble: Trouble) -> Result<Vec<u8>, Alloc
 }
 
 /// The answer to a replay of these files.
-fn answer_replay<S: Source>(
-    alloc: Global,
-    source: &mut S,
-    files: Files<'_>,
-) -> Result<Answer, Quit>
+fn answer_replay<S: Source>(alloc: Global, source: &mut S, files: Files<'_>) -> Result<Answer, Quit>
     requires { MayRead (S.may_open source.old) (Some (named files)) }
     ensures answered { WasAnswered (S.file source.old) (Some (named files.entry)) result }
     ensures faults { RisesWithFault result (S.faults source.old) (S.faults source.new) }

@@ -10,6 +10,8 @@ mod printing;
 mod reading;
 mod replaying;
 mod reporting;
+#[cfg(test)]
+mod tests;
 
 use crate::offline::offline;
 use rl_io::{RealFiles, RealOut};

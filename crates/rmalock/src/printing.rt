@@ -6,8 +6,8 @@ ghost use Rattle.std.specs.List.{join_with_byte};
 ghost use Rattle.rmalock.specs.Report.{reply_words, entry_words, event_words, event_line, event_lines, is_printed, last_steps_words, steps_words};
 ghost use Rattle.rl_ops.specs.CallSpelling.{call_words};
 
-use rl_ops::call_text;
 use rl_model::{Call, Entry, Reply};
+use rl_ops::call_text;
 use rl_step::{Event, Steps};
 use rl_text::put_number;
 use std::alloc::AllocError as OutOfMemory;

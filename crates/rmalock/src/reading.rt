@@ -6,13 +6,13 @@ ghost use Rattle.rl_ops.specs.Ops.{OpsFit};
 ghost use Rattle.rl_ops.specs.Schedule.{ScheduleFits};
 ghost use Rattle.rmalock.specs.Reading.{WasRead, Ends, RisesWithFault, stopped_in, within, placed, called, scheduled};
 
+use crate::built::{built_calls, built_place};
 use crate::complaint::{Complaint, Stop, Trouble, Which};
 use rl_io::{ReadErr, Source, read_file};
-use rl_text::TextErr;
-use std::alloc::Global;
-use crate::built::{built_calls, built_place};
 use rl_ops::{Ops, Schedule, read_schedule};
 use rl_place::Place;
+use rl_text::TextErr;
+use std::alloc::Global;
 
 /// A placement or a calls file has at most this many bytes.
 pub const MOST_WORDS: u32 = 4_194_304;
@@ -44,7 +44,6 @@ fn read_within<S: Source>(
         Err(ReadErr::Memory) => Err(Stop::Memory),
     }
 }
-
 
 /// What reading a file ended with, as what ends the replay.
 fn stopped(which: Which, error: TextErr) -> Stop

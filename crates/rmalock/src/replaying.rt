@@ -67,11 +67,7 @@ pub fn replay_text(
 
 /// The report of a replay of these files.
 #[tactic(auto, unfolding(crate::specs::Answer::replayed))]
-pub fn replayed<S: Source>(
-    alloc: Global,
-    source: &mut S,
-    files: Files<'_>,
-) -> Result<Vec<u8>, Stop>
+pub fn replayed<S: Source>(alloc: Global, source: &mut S, files: Files<'_>) -> Result<Vec<u8>, Stop>
     requires { MayRead (S.may_open source.old) (Some (named files)) }
     ensures replayed { WasReplayed (S.file source.old) (named files.entry) result }
     ensures faults { RisesWithFault result (S.faults source.old) (S.faults source.new) }

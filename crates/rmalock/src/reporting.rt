@@ -16,7 +16,12 @@ use rl_whole::Machine;
 use std::alloc::{AllocError as OutOfMemory, Global};
 
 /// Appends the entries of the calls that a rank has done: each is a hold, which found this count.
-fn list_calls(entries: &mut Vec<Entry>, at: u32, rank: u32, calls: &[Call]) -> Result<(), OutOfMemory>
+fn list_calls(
+    entries: &mut Vec<Entry>,
+    at: u32,
+    rank: u32,
+    calls: &[Call],
+) -> Result<(), OutOfMemory>
     requires { length calls.now < 2 ^ 32 }
     ensures { OnOk result (entries.new.items ≡ entries.old.items ++ entries_of at rank 0 calls.now) }
 {
@@ -47,7 +52,11 @@ fn put_entries(out: &mut Vec<u8>, entries: &[Entry]) -> Result<(), OutOfMemory>
 fn first(calls: &[Call], most: usize) -> &[Call]
     ensures { result.now ≡ take most calls.now }
 {
-    if most < calls.len() { &calls[..most] } else { calls }
+    if most < calls.len() {
+        &calls[..most]
+    } else {
+        calls
+    }
 }
 
 /// The entries of the calls that the ranks have done.

@@ -24,9 +24,9 @@ lengths-requires c = short_lists c.as_slice-lists.result.now (subst (λ lists. t
 pub replay-requires-clause-there : goal.replay-requires-clause-there
 replay-requires-clause-there c =
     let ranks : length c.in_ok-shape.shape.node_of ≡ length c.args.place.now.paths =
-          ap (λ s. length s.node_of) c.in_ok-shape.ensures.exact ∙ length-map c.args.place.now.paths (number_in (node_paths c.args.place.now.paths)) in
+    ap (λ s. length s.node_of) c.in_ok-shape.ensures.exact ∙ length-map c.args.place.now.paths (number_in (node_paths c.args.place.now.paths)) in
     subst (λ n. AllByRecursion (TurnFits n) c.as_slice-turns.result.now) (sym ranks)
-      (subst (λ ts. AllByRecursion (TurnFits (length c.args.place.now.paths)) ts) (sym c.as_slice-turns.ensures) c.requires.schedule.fit)
+    (subst (λ ts. AllByRecursion (TurnFits (length c.args.place.now.paths)) ts) (sym c.as_slice-turns.ensures) c.requires.schedule.fit)
 
 pub replay-requires-clause-few : goal.replay-requires-clause-few
 replay-requires-clause-few c =
@@ -38,19 +38,19 @@ pub returns : goal.returns
 returns c =
     let made = c.in_ok-machine.ensures in
     let run : ℕ → TheShape → List ℕ → List Turn → World Spin SpinView =
-          λ home shape given turns. run_of lock_base (spin_table home) (start Spin SpinView lock_base (spin_table home) (layout_of shape) given) (ranks_of turns) in
+    λ home shape given turns. run_of lock_base (spin_table home) (start Spin SpinView lock_base (spin_table home) (layout_of shape) given) (ranks_of turns) in
     let given : c.in_ok-given.given.items ≡ given_of c.args.ops.now.by_rank =
-          c.in_ok-given.ensures ∙ given_is c.as_slice-lists.result.now ∙ ap given_of c.as_slice-lists.ensures in
+    c.in_ok-given.ensures ∙ given_is c.as_slice-lists.result.now ∙ ap given_of c.as_slice-lists.ensures in
     let home : c.first_home-home.result ≡ home_of c.args.place.now = c.first_home-home.ensures ∙ ap (λ homes. slice_index homes 0) c.as_slice-homes.ensures.value ∙ ap (λ p. slice_index p.homes 0) c.place.view_is in
     let shape = c.in_ok-shape.ensures.exact in
     let turns = c.as_slice-turns.ensures in
     let table : spin_table c.in_ok-machine.machine.core.algo.home ≡ spin_table (home_of c.args.place.now) = made.table ∙ ap spin_table home in
     let world : c.in_ok-machine.machine.world ≡ replay_of c.args.place.now c.args.ops.now c.args.schedule.now =
-          made.run ∙ ap (λ h. run h c.in_ok-shape.shape c.in_ok-given.given.items c.as_slice-turns.result.now) home
-            ∙ ap (λ s. run (home_of c.args.place.now) s c.in_ok-given.given.items c.as_slice-turns.result.now) shape
-            ∙ ap (λ ns. run (home_of c.args.place.now) (shape_of c.args.place.now) ns c.as_slice-turns.result.now) given
-            ∙ ap (λ ts. run (home_of c.args.place.now) (shape_of c.args.place.now) (given_of c.args.ops.now.by_rank) ts) turns in
+    made.run ∙ ap (λ h. run h c.in_ok-shape.shape c.in_ok-given.given.items c.as_slice-turns.result.now) home
+    ∙ ap (λ s. run (home_of c.args.place.now) s c.in_ok-given.given.items c.as_slice-turns.result.now) shape
+    ∙ ap (λ ns. run (home_of c.args.place.now) (shape_of c.args.place.now) ns c.as_slice-turns.result.now) given
+    ∙ ap (λ ts. run (home_of c.args.place.now) (shape_of c.args.place.now) (given_of c.args.ops.now.by_rank) ts) turns in
     let Says : World Spin SpinView → LockTable SpinView → Type 0 =
-          λ w T. IfOk c.report_text.result (λ text. text.items ≡ report_spelling (report_in (codes "spin") w T c.args.ops.now.by_rank)) in
+    λ w T. IfOk c.report_text.result (λ text. text.items ≡ report_spelling (report_in (codes "spin") w T c.args.ops.now.by_rank)) in
     subst (λ T. Says (replay_of c.args.place.now c.args.ops.now c.args.schedule.now) T) table
-      (subst (λ w. Says w (spin_table c.in_ok-machine.machine.core.algo.home)) world c.report_text.ensures)
+    (subst (λ w. Says w (spin_table c.in_ok-machine.machine.core.algo.home)) world c.report_text.ensures)

@@ -14,35 +14,35 @@ pub returns-in_err-ops-clause-replayed : goal.returns-in_err-ops-clause-replayed
 returns-in_err-ops-clause-replayed g c =
     let p = err_from_is_err_and c.from_residual-in_err-ops.result c.from_residual-in_err-ops.ensures.1 in
     rw (p.1, p.2)
-      (calls_stop _ _ _ _ c.in_ok-place.ensures.read
-        (subst (λ told. WasRead told (λ ops. ops) (called c.in_ok-place.place) (Err c.in_err-ops.field-0.0)) (c.in_ok-place.ensures.same.files c.args.files.calls.now) c.in_err-ops.ensures.read))
+    (calls_stop _ _ _ _ c.in_ok-place.ensures.read
+    (subst (λ told. WasRead told (λ ops. ops) (called c.in_ok-place.place) (Err c.in_err-ops.field-0.0)) (c.in_ok-place.ensures.same.files c.args.files.calls.now) c.in_err-ops.ensures.read))
 
 pub returns-in_err-schedule-clause-replayed : goal.returns-in_err-schedule-clause-replayed
 returns-in_err-schedule-clause-replayed g c =
     let p = err_from_is_err_and c.from_residual-in_err-schedule.result c.from_residual-in_err-schedule.ensures.1 in
     let name = c.args.files.schedule.now in
     rw (p.1, p.2)
-      (schedule_stops _ _ _ _ _ c.in_ok-place.ensures.read
-        (subst (λ told. WasRead told (λ ops. ops) (called c.in_ok-place.place) (Ok c.in_ok-ops.ops)) (c.in_ok-place.ensures.same.files c.args.files.calls.now) c.in_ok-ops.ensures.read)
-        (subst (λ told. WasRead told (λ schedule. schedule) (scheduled c.in_ok-place.place) (Err c.in_err-schedule.field-0.0))
-          (c.in_ok-ops.ensures.same.files name ∙ c.in_ok-place.ensures.same.files name) c.in_err-schedule.ensures.read))
+    (schedule_stops _ _ _ _ _ c.in_ok-place.ensures.read
+    (subst (λ told. WasRead told (λ ops. ops) (called c.in_ok-place.place) (Ok c.in_ok-ops.ops)) (c.in_ok-place.ensures.same.files c.args.files.calls.now) c.in_ok-ops.ensures.read)
+    (subst (λ told. WasRead told (λ schedule. schedule) (scheduled c.in_ok-place.place) (Err c.in_err-schedule.field-0.0))
+    (c.in_ok-ops.ensures.same.files name ∙ c.in_ok-place.ensures.same.files name) c.in_err-schedule.ensures.read))
 
 pub returns-in_err-replay_text-clause-replayed : goal.returns-in_err-replay_text-clause-replayed
 returns-in_err-replay_text-clause-replayed g c =
     let p = err_from_is_err_and c.from_residual-in_err-replay_text.result c.from_residual-in_err-replay_text.ensures.1 in
     let name = c.args.files.schedule.now in
     rw (p.1, p.2)
-      (all_read _ _ _ _ _ _ c.in_ok-place.ensures.read
-        (subst (λ told. WasRead told (λ ops. ops) (called c.in_ok-place.place) (Ok c.in_ok-ops.ops)) (c.in_ok-place.ensures.same.files c.args.files.calls.now) c.in_ok-ops.ensures.read)
-        (subst (λ told. WasRead told (λ schedule. schedule) (scheduled c.in_ok-place.place) (Ok c.in_ok-schedule.schedule))
-          (c.in_ok-ops.ensures.same.files name ∙ c.in_ok-place.ensures.same.files name) c.in_ok-schedule.ensures.read)
-        tt)
+    (all_read _ _ _ _ _ _ c.in_ok-place.ensures.read
+    (subst (λ told. WasRead told (λ ops. ops) (called c.in_ok-place.place) (Ok c.in_ok-ops.ops)) (c.in_ok-place.ensures.same.files c.args.files.calls.now) c.in_ok-ops.ensures.read)
+    (subst (λ told. WasRead told (λ schedule. schedule) (scheduled c.in_ok-place.place) (Ok c.in_ok-schedule.schedule))
+    (c.in_ok-ops.ensures.same.files name ∙ c.in_ok-place.ensures.same.files name) c.in_ok-schedule.ensures.read)
+    tt)
 
 pub returns-clause-replayed : goal.returns-clause-replayed
 returns-clause-replayed g c =
     let name = c.args.files.schedule.now in
     all_read _ _ _ _ _ _ c.in_ok-place.ensures.read
-        (subst (λ told. WasRead told (λ ops. ops) (called c.in_ok-place.place) (Ok c.in_ok-ops.ops)) (c.in_ok-place.ensures.same.files c.args.files.calls.now) c.in_ok-ops.ensures.read)
-        (subst (λ told. WasRead told (λ schedule. schedule) (scheduled c.in_ok-place.place) (Ok c.in_ok-schedule.schedule))
-          (c.in_ok-ops.ensures.same.files name ∙ c.in_ok-place.ensures.same.files name) c.in_ok-schedule.ensures.read)
-        (ap (λ text. Ok text) (sym c.in_ok-replay_text.ensures))
+    (subst (λ told. WasRead told (λ ops. ops) (called c.in_ok-place.place) (Ok c.in_ok-ops.ops)) (c.in_ok-place.ensures.same.files c.args.files.calls.now) c.in_ok-ops.ensures.read)
+    (subst (λ told. WasRead told (λ schedule. schedule) (scheduled c.in_ok-place.place) (Ok c.in_ok-schedule.schedule))
+    (c.in_ok-ops.ensures.same.files name ∙ c.in_ok-place.ensures.same.files name) c.in_ok-schedule.ensures.read)
+    (ap (λ text. Ok text) (sym c.in_ok-replay_text.ensures))

@@ -14,14 +14,14 @@ loop-rank-preserved g c =
     let i = c.loop-rank.rank in
     let calls = c.index-lists-rank.result in
     let lists = map (λ calls. calls.items) c.args.lists.now in
-    let there : slice_get lists i ≡ Some calls.items = 
+    let there : slice_get lists i ≡ Some calls.items =
     get_map (λ calls. calls.items) c.args.lists.now i calls (slice_get-get_or c.args.lists.now i calls c.loop-rank-test.true ∙ ap (λ v. Some v) (sym c.index-lists-rank.is)) in
     let before = entries_from w T 0 (take i lists) in
     let taken = take (done_of T w i) calls.items in (
       c.loop-rank.invariant.0,
       c.in_ok-list_calls.ensures ∙ ap (λ es. es ++ entries_of c.updates-at.result i 0 c.first-calls.result.now) c.loop-rank.invariant.1
-        ∙ ap (λ cs. before ++ entries_of c.updates-at.result i 0 cs)
-            (c.first-calls.ensures ∙ ap (λ cs. take c.done-done.result cs) c.as_slice.ensures.value ∙ ap (λ n. take n calls.items) c.done-done.ensures)
-        ∙ ap (λ n. before ++ entries_of n i 0 taken) c.loop-rank.invariant.0
-        ∙ sym (entries_ranks w T i lists calls.items there),
+          ∙ ap (λ cs. before ++ entries_of c.updates-at.result i 0 cs)
+          (c.first-calls.ensures ∙ ap (λ cs. take c.done-done.result cs) c.as_slice.ensures.value ∙ ap (λ n. take n calls.items) c.done-done.ensures)
+          ∙ ap (λ n. before ++ entries_of n i 0 taken) c.loop-rank.invariant.0
+          ∙ sym (entries_ranks w T i lists calls.items there),
     )

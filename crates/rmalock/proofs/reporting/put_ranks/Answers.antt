@@ -15,12 +15,12 @@ loop-rank-preserved g c =
     let i = c.loop-rank.rank in
     let calls = c.index-lists-rank.result in
     let lists = map (λ calls. calls.items) c.args.lists.now in
-    let there : slice_get lists i ≡ Some calls.items = 
+    let there : slice_get lists i ≡ Some calls.items =
     get_map (λ calls. calls.items) c.args.lists.now i calls (slice_get-get_or c.args.lists.now i calls c.loop-rank-test.true ∙ ap (λ v. Some v) (sym c.index-lists-rank.is)) in
     let before = rank_lines 0 (dones_from w T 0 (take i lists)) in
     let line = rank_words i (record { done = done_of T w i; given = length calls.items }) in
     c.in_ok-put_rank.ensures ∙ ap (λ t. t ++ line_text (rank_words i (record { done = c.done-done.result; given = length c.as_slice-calls.result.now }))) c.loop-rank.invariant
-      ∙ ap (λ n. (c.args.out.now.items ++ text_of before) ++ line_text (rank_words i (record { done = n; given = length c.as_slice-calls.result.now }))) c.done-done.ensures
-      ∙ ap (λ n. (c.args.out.now.items ++ text_of before) ++ line_text (rank_words i (record { done = done_of T w i; given = n }))) (ap (λ cs. length cs) c.as_slice-calls.ensures.value)
-      ∙ append_assoc c.args.out.now.items (text_of before) (line_text line)
-      ∙ ap (λ t. c.args.out.now.items ++ t) (sym (text_of-end before line) ∙ sym (ap text_of (dones_ranks w T i lists calls.items there)))
+    ∙ ap (λ n. (c.args.out.now.items ++ text_of before) ++ line_text (rank_words i (record { done = n; given = length c.as_slice-calls.result.now }))) c.done-done.ensures
+    ∙ ap (λ n. (c.args.out.now.items ++ text_of before) ++ line_text (rank_words i (record { done = done_of T w i; given = n }))) (ap (λ cs. length cs) c.as_slice-calls.ensures.value)
+    ∙ append_assoc c.args.out.now.items (text_of before) (line_text line)
+    ∙ ap (λ t. c.args.out.now.items ++ t) (sym (text_of-end before line) ∙ sym (ap text_of (dones_ranks w T i lists calls.items there)))

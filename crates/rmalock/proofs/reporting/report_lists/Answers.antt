@@ -15,12 +15,12 @@ returns g c =
     let entries_are = c.as_slice-listed.ensures.value ∙ c.in_ok-entries.ensures in
     let heading : ℕ → ℕ → ℕ → List ℕ = λ ranks updates entries. text_of (heading_lines r.lock ranks updates entries) in
     report_made c.put_heading.new.out.items c.put_entries.new.out.items c.put_events.new.out.items c.put_ranks.new.out.items c.put_end.new.out.items
-      (heading_lines r.lock (length r.ranks) r.updates (length r.entries)) (map entry_words r.entries) (event_lines r.events) (rank_lines 0 r.ranks) (steps_words r.steps ∷ (codes "end" ∷ []) ∷ [])
-      (c.in_ok-put_heading.ensures ∙ ap (λ t. t ++ heading (length c.args.lists.now) c.updates.result (length listed)) c.new-out.ensures.items
-        ∙ ap (λ n. heading n c.updates.result (length listed)) (sym (length-dones w T 0 (λ calls. calls.items) c.args.lists.now))
-        ∙ ap (λ n. heading (length r.ranks) n (length listed)) c.updates.ensures
-        ∙ ap (λ es. heading (length r.ranks) r.updates (length es)) entries_are)
-      (c.in_ok-put_entries.ensures ∙ ap (λ es. c.put_heading.new.out.items ++ text_of (map entry_words es)) entries_are)
-      (c.in_ok-put_events.ensures ∙ ap (λ t. c.put_entries.new.out.items ++ text_of (event_lines t)) c.events.ensures.events)
-      c.in_ok-put_ranks.ensures
-      (c.in_ok-put_end.ensures ∙ ap (λ s. c.put_ranks.new.out.items ++ text_of (steps_words s ∷ (codes "end" ∷ []) ∷ [])) c.steps.ensures)
+    (heading_lines r.lock (length r.ranks) r.updates (length r.entries)) (map entry_words r.entries) (event_lines r.events) (rank_lines 0 r.ranks) (steps_words r.steps ∷ (codes "end" ∷ []) ∷ [])
+    (c.in_ok-put_heading.ensures ∙ ap (λ t. t ++ heading (length c.args.lists.now) c.updates.result (length listed)) c.new-out.ensures.items
+    ∙ ap (λ n. heading n c.updates.result (length listed)) (sym (length-dones w T 0 (λ calls. calls.items) c.args.lists.now))
+    ∙ ap (λ n. heading (length r.ranks) n (length listed)) c.updates.ensures
+    ∙ ap (λ es. heading (length r.ranks) r.updates (length es)) entries_are)
+    (c.in_ok-put_entries.ensures ∙ ap (λ es. c.put_heading.new.out.items ++ text_of (map entry_words es)) entries_are)
+    (c.in_ok-put_events.ensures ∙ ap (λ t. c.put_entries.new.out.items ++ text_of (event_lines t)) c.events.ensures.events)
+    c.in_ok-put_ranks.ensures
+    (c.in_ok-put_end.ensures ∙ ap (λ s. c.put_ranks.new.out.items ++ text_of (steps_words s ∷ (codes "end" ∷ []) ∷ [])) c.steps.ensures)

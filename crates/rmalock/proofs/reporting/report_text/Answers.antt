@@ -11,4 +11,4 @@ report_lists-requires-clause-short g c = short_lists c.as_slice.result.now (subs
 pub returns : goal.returns
 returns g c =
     subst (λ lists. IfOk c.report_lists.result (λ text. text.items ≡ report_spelling (report_in c.args.lock.now c.args.machine.now.world (g.A.Algo.table c.args.machine.now.core.algo) lists)))
-      c.as_slice.ensures c.report_lists.ensures
+    c.as_slice.ensures c.report_lists.ensures
