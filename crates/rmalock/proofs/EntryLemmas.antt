@@ -1,5 +1,5 @@
 -- The entries of a rank's calls, one more at the end.
-use Rattle.std.proofs.Common.{◌≡◌, ℕ, zero, suc, ◌+◌, List, [], ◌∷◌, ◌++◌, Some, slice_get, take, refl, ap, subst, sym, ◌∙◌, arith, add-one, append-nil, append_assoc, length, slice_index}
+use Rattle.std.proofs.Common.{◌≡◌, ℕ, zero, suc, ◌+◌, List, [], ◌∷◌, ◌++◌, Some, slice_get, take, ap, sym, ◌∙◌, arith, add-one, append-nil, append_assoc, length, slice_index}
 use Rattle.std.proofs.lemmas.Option.{same_Some}
 use Rattle.rl_model.specs.declared.call.Call.{Call}
 use Rattle.rl_model.specs.declared.entry.Entry.{Entry}

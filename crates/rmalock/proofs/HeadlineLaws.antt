@@ -1,5 +1,5 @@
 -- What the program writes with status 0 is the report of a replay, and the replay's trace is exclusive.
-use Rattle.std.proofs.Common.{lit<, lit≤, inl, inr, ◌⊎◌, ◌∷◌, ◌≡◌, ◌≢◌, ◌+◌, ◌<◌, ◌≤◌, ◌^◌, ℕ, List, [], length, map, slice_index, true, false, Option, Some, None, Result, Ok, Err, refl, sym, ap, subst, ◌∙◌, arith, if◌then◌else◌, nat_le}
+use Rattle.std.proofs.Common.{lit<, lit≤, inl, inr, ◌∷◌, ◌≡◌, ◌<◌, ◌≤◌, ◌^◌, ℕ, List, [], length, slice_index, Option, Some, None, Result, Ok, Err, refl, sym, ap, subst, ◌∙◌, arith}
 use Rattle.std.proofs.lemmas.List.{length-map}
 use Rattle.std.specs.List.{AllByRecursion}
 use Rattle.rl_word.specs.Shapes.{layout_of}
@@ -14,7 +14,6 @@ use Rattle.rl_place.specs.Places.{ThePlace, IsProper}
 use Rattle.rl_place.specs.Shapes.{shape_of, number_in}
 use Rattle.rl_ops.specs.declared.ops.Ops.{Ops}
 use Rattle.rl_ops.specs.declared.schedule.Schedule.{Schedule}
-use Rattle.rl_ops.specs.Ops.{OpsFit}
 use Rattle.rl_whole.specs.Whole.{lock_base}
 use Rattle.rl_whole.specs.Run.{ranks_of, events_of}
 use Rattle.rl_whole.specs.RunLaws.{run_exclusive}

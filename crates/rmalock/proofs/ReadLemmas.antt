@@ -1,5 +1,5 @@
 -- What is known of a file that wasn't read to its end.
-use Rattle.std.proofs.Common.{◌≡◌, ℕ, ◌+◌, ◌<◌, ◌≤◌, List, [], length, Option, Some, None, Result, Ok, Err, true, false, nat_le, replicate, unwrap_or, arith, refl, sym, ap, subst, if◌then◌else◌, Vec, Global}
+use Rattle.std.proofs.Common.{◌≡◌, ℕ, ◌+◌, ◌<◌, List, [], length, Option, Some, None, Result, Ok, Err, false, nat_le, replicate, unwrap_or, arith, refl, sym, ap, subst, Vec, Global}
 use Rattle.std.proofs.lemmas.List.{length-replicate}
 use Rattle.rl_io.specs.Outside.{IsLonger}
 use Rattle.rmalock.specs.declared.complaint.Which.{Which}

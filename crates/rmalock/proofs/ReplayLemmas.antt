@@ -1,5 +1,5 @@
 -- A replay, from what its three files came to.
-use Rattle.std.proofs.Common.{◌≡◌, ℕ, List, [], Option, Some, None, Result, Ok, Err, unwrap_or, refl, sym, ap, subst, ◌∙◌, Vec, Global}
+use Rattle.std.proofs.Common.{ℕ, List, [], Option, Result, Ok, Err, unwrap_or, ap, Vec, Global}
 use Rattle.rl_place.specs.Places.{ThePlace}
 use Rattle.rl_ops.specs.declared.ops.Ops.{Ops}
 use Rattle.rl_ops.specs.declared.schedule.Schedule.{Schedule}
@@ -10,7 +10,7 @@ use Rattle.rmalock.specs.declared.complaint.Stop.{Stop}
 use Rattle.rmalock.specs.declared.complaint.Stop.TheVariants as stop
 use Rattle.rmalock.specs.Command.{Names}
 use Rattle.rmalock.specs.Reading.{◌>>=◌, Fits, EndsEarly, Ends, WasRead, placed, called, scheduled}
-use Rattle.rmalock.specs.Answer.{Texts, WasReplayed, replayed}
+use Rattle.rmalock.specs.Answer.{WasReplayed, replayed}
 use Rattle.rmalock.proofs.ReadLemmas.{fits_told}
 
 -- a step that ends early ends all that follows

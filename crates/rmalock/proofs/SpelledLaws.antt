@@ -1,5 +1,5 @@
 -- Files that are read spell what was read.
-use Rattle.std.proofs.Common.{◌≡◌, ℕ, ◌+◌, ◌<◌, ◌≤◌, ◌^◌, List, length, Bool, true, false, nat_le, ◌==◌, Option, Some, None, Result, Ok, Err, refl, sym, ap, subst, ◌∙◌, arith, if◌then◌else◌}
+use Rattle.std.proofs.Common.{◌≡◌, ℕ, ◌<◌, ◌^◌, List, length, Bool, true, false, nat_le, ◌==◌, Result, Ok, Err, refl, sym, ap, subst, if◌then◌else◌}
 use Rattle.std.proofs.lemmas.Bool.{eqb-true}
 use Rattle.rl_text.specs.declared.causes.Refusal.{Refusal}
 use Rattle.rl_text.proofs.WordLaws.{ok_is}
@@ -14,7 +14,7 @@ use Rattle.rl_ops.specs.Ops.{SpellsOps}
 use Rattle.rl_ops.specs.OpsReading.{ops_at}
 use Rattle.rl_ops.specs.Schedule.{schedule_spelling}
 use Rattle.rl_ops.specs.ScheduleReading.{schedule_at}
-use Rattle.rl_ops.proofs.OpsLaws.{ops-takes, spelled-fits}
+use Rattle.rl_ops.proofs.OpsLaws.{ops-takes}
 use Rattle.rl_ops.proofs.ScheduleLaws.{schedule-takes}
 use Rattle.rmalock.specs.declared.complaint.Which.{Which}
 use Rattle.rmalock.specs.declared.complaint.Which.TheVariants as which

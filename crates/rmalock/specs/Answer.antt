@@ -1,5 +1,5 @@
 -- What the program answers to the words of its command line, for the bytes of the files that they name.
-use Rattle.std.specs.Prelude.{◌≡◌, ◌≢◌, ◌≤◌, ◌<◌, ◌⊎◌, ℕ, List, [], ◌∷◌, ◌++◌, take, length, codes, Bool, IsTrue, Option, Some, None, Result, Ok, Err}
+use Rattle.std.specs.Prelude.{◌≡◌, ◌≢◌, ◌≤◌, ◌<◌, ◌⊎◌, ℕ, List, [], ◌∷◌, take, length, codes, Bool, IsTrue, Option, Some, None, Result, Ok, Err}
 use Rattle.rl_text.specs.Spelling.{line_text, refusal_words}
 use Rattle.rl_step.specs.Exclusion.{IsExclusive}
 use Rattle.rl_place.specs.Places.{ThePlace}
@@ -11,7 +11,7 @@ use Rattle.rl_ops.specs.Schedule.{schedule_spelling}
 use Rattle.rl_whole.specs.Run.{events_of}
 use Rattle.rmalock.specs.Replay.{replay_of, report_of}
 use Rattle.rmalock.specs.Report.{report_spelling}
-use Rattle.std.specs.Global.{Global, Vec}
+use Rattle.std.specs.Global.{Vec}
 use Rattle.rl_io.specs.Outside.{Appends}
 use Rattle.rmalock.specs.declared.complaint.Which.{Which}
 use Rattle.rmalock.specs.declared.complaint.Which.TheVariants as which

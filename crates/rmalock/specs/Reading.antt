@@ -1,5 +1,5 @@
 -- How the files of a replay are read, one after the other: the first that is too long or refused ends it.
-use Rattle.std.specs.Prelude.{◌≡◌, ℕ, ◌<◌, List, [], length, Bool, nat_le, ◌==◌, Option, Some, None, Result, Ok, Err, if◌then◌else◌}
+use Rattle.std.specs.Prelude.{◌≡◌, ℕ, ◌<◌, List, length, nat_le, Option, Some, None, Result, Ok, Err, if◌then◌else◌}
 use Rattle.rl_text.specs.declared.causes.Refusal.{Refusal}
 use Rattle.rl_text.specs.declared.failing.TextErr.{TextErr}
 use Rattle.rl_text.specs.declared.failing.TextErr.TheVariants as text

@@ -1,6 +1,5 @@
 -- The spelling of a report, line by line.
-use Rattle.std.specs.Prelude.{ℕ, ◌+◌, List, [], ◌∷◌, ◌++◌, length, map, filter, take, Bool, true, false, codes, decimal}
-use Rattle.rl_model.specs.declared.call.Call.{Call}
+use Rattle.std.specs.Prelude.{ℕ, ◌+◌, List, [], ◌∷◌, ◌++◌, length, map, filter, Bool, true, false, codes, decimal}
 use Rattle.rl_model.specs.declared.entry.Entry.{Entry}
 use Rattle.rl_model.specs.declared.entry.Reply.{Reply}
 use Rattle.rl_model.specs.declared.entry.Reply.TheVariants as reply

@@ -1,4 +1,4 @@
-use Rattle.std.proofs.Common.{◌≡◌, ◌<◌, ◌≤◌, ◌^◌, ℕ, List, length, map, sum_by, IfOk, codes, slice_index, ap, sym, subst, ◌∙◌, arith}
+use Rattle.std.proofs.Common.{◌≡◌, ◌≤◌, ℕ, List, length, sum_by, IfOk, codes, slice_index, ap, sym, subst, ◌∙◌, arith}
 use Rattle.std.specs.List.{AllByRecursion}
 use Rattle.std.proofs.lemmas.List.{length-map}
 use Rattle.rl_word.specs.Shapes.{TheShape, layout_of}
@@ -12,7 +12,7 @@ use Rattle.rl_ops.specs.declared.schedule.Turn.{Turn}
 use Rattle.rl_ops.specs.Ops.{total_calls}
 use Rattle.rl_ops.specs.Schedule.{TurnFits, steps_of}
 use Rattle.rl_whole.specs.Whole.{lock_base}
-use Rattle.rl_whole.specs.Run.{World, start, run_of, ranks_of, steps_in}
+use Rattle.rl_whole.specs.Run.{World, start, run_of, ranks_of}
 use Rattle.rmalock.specs.Replay.{report_in, replay_of, home_of, given_of}
 use Rattle.rmalock.specs.Report.{report_spelling}
 use Rattle.rmalock.proofs.TextPieces.{short_lists, steps_are, given_is}

@@ -1,6 +1,5 @@
-use Rattle.std.proofs.Common.{◌∙◌, sym, subst, Ok, Err, refl, ap}
+use Rattle.std.proofs.Common.{◌∙◌, sym, subst, Ok, Err, ap}
 use Rattle.std.proofs.lemmas.Result.{err_from_is_err_and}
-use Rattle.rmalock.specs.declared.complaint.Stop.TheVariants.{Memory}
 use Rattle.rmalock.specs.Reading.{WasRead, called, scheduled}
 use Rattle.rmalock.proofs.ReplayLemmas.{place_stops, calls_stop, schedule_stops, all_read}
 use Rattle.rmalock.proofs.replaying.replayed.Goals as goal

@@ -1,7 +1,6 @@
-use Rattle.std.proofs.Common.{◌≡◌, ◌++◌, Some, map, slice_get, slice_index, take, ap, sym, ◌∙◌}
+use Rattle.std.proofs.Common.{◌≡◌, ◌++◌, Some, map, slice_get, take, ap, sym, ◌∙◌}
 use Rattle.std.proofs.lemmas.Option.{slice_get-get_or}
 use Rattle.rl_word.specs.Places.{get_map}
-use Rattle.rl_whole.specs.Whole.{count_word}
 use Rattle.rl_whole.specs.Run.{done_of}
 use Rattle.rmalock.specs.Replay.{entries_of, entries_from}
 use Rattle.rmalock.proofs.EntryLemmas.{entries_ranks}

@@ -1,4 +1,4 @@
-use Rattle.std.proofs.Common.{◌≡◌, ◌++◌, ◌∷◌, [], Some, length, map, slice_get, take, ap, sym, ◌∙◌, append_assoc}
+use Rattle.std.proofs.Common.{◌≡◌, ◌++◌, Some, length, map, slice_get, take, ap, sym, ◌∙◌, append_assoc}
 use Rattle.rl_text.specs.Spelling.{line_text, text_of}
 use Rattle.std.proofs.lemmas.Option.{slice_get-get_or}
 use Rattle.rl_word.specs.Places.{get_map}
