@@ -1,36 +1,30 @@
 //! Words that are numbers.
-ghost use Rattle.std.specs.Prelude.{◌≡◌, ◌≢◌, ℕ, ◌<◌, ◌^◌, decimal, IfSome, IfNone, IsTrue, ◌↔◌};
-ghost use Rattle.rl_text.specs.Number.{number_of, BeginsAsNumber, IsNumberOf};
+ghost use Rattle.std.specs.Prelude.{◌≡◌, ◌≢◌, ℕ, ◌<◌, ◌^◌, decimal, IfSome, IfNone};
+ghost use Rattle.rl_text.specs.Number.{number_of, IsNumberOf, IsValueOf};
 
-use std::str;
-
-fn begins_as_number(word: &[u8]) -> bool
-    ensures { IsTrue result ↔ BeginsAsNumber word.now }
+fn digits_value(word: &[u8]) -> Option<u64>
+    ensures { IsValueOf word.now result }
 {
-    if word.is_empty() {
-        return true;
+    let mut value: u64 = 0;
+    for byte in word {
+        if !byte.is_ascii_digit() {
+            return None;
+        }
+        value = value.checked_mul(10)?.checked_add(u64::from(*byte - b'0'))?;
     }
-    word[0] != b'+' && (word[0] != b'0' || word.len() == 1)
-}
-
-fn parsed(word: &[u8]) -> Option<u64>
-    requires { BeginsAsNumber word.now }
-    ensures { IsNumberOf word.now result }
-{
-    match str::from_utf8(word) {
-        Ok(text) => text.parse().ok(),
-        Err(_) => None,
-    }
+    Some(value)
 }
 
 fn spelled(word: &[u8]) -> Option<u64>
     ensures { IsNumberOf word.now result }
 {
-    if begins_as_number(word) {
-        parsed(word)
-    } else {
-        None
+    if word.is_empty() {
+        return None;
     }
+    if word[0] == b'0' && word.len() > 1 {
+        return None;
+    }
+    digits_value(word)
 }
 
 /// The number that a word spells: decimal digits with no sign, no leading zero but that of `0` itself, and a value of at
