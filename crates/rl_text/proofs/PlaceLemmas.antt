@@ -1,8 +1,9 @@
 -- The words of a line one after the other.
-use Rattle.std.proofs.Common.{◌≡◌, ℕ, zero, suc, ◌+◌, ◌-◌, ◌≤◌, List, [], ◌∷◌, drop, Some, None, refl, ◌∙◌, arith}
+use Rattle.std.proofs.Common.{◌≡◌, ℕ, zero, suc, ◌+◌, ◌-◌, ◌≤◌, Bool, List, [], ◌∷◌, drop, Some, None, refl, sym, ◌∙◌, arith}
 use Rattle.rl_text.specs.Cut.{pieces}
 use Rattle.rl_text.specs.Rows.{Row, words, word_at}
-use Rattle.rl_text.specs.Words.{words_from}
+use Rattle.rl_text.specs.Reading.{begins, starts_with_word}
+use Rattle.rl_text.specs.Words.{Place, words_from}
 use Rattle.rl_text.proofs.RowLemmas.{first_piece}
 use Rattle.rl_text.proofs.FromLaws.{word_at-rest}
 
@@ -41,3 +42,8 @@ pub some_word-there : (row : Row) (n : ℕ) (rest : List ℕ) → 1 ≤ n → wo
 some_word-there row n rest one e =
     let p = first_piece 32 rest in
     (p.0, word-there row n p.0 p.1 one (e ∙ p.2))
+
+-- what comes next at the first word is what the line begins with
+pub begins-next : (row : Row) (text : List ℕ) (place : Place) (answer : Bool) → place ≡ record { row = row; next = 1 } → answer ≡ starts_with_word text (word_at place.row place.next) → begins row text ≡ answer
+unfolding begins
+begins-next row text place answer first e = sym (rw first at e)
