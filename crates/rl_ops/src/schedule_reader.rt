@@ -1,27 +1,26 @@
 //! Reading a schedule file.
 ghost use Rattle.std.specs.Prelude.{◌≡◌, ◌≤◌, ◌<◌, ◌+◌, ◌^◌, ◌↔◌, ℕ, List, None, Ok, length, IfOk};
-ghost use Rattle.rl_text.specs.Rows.{row_of};
 ghost use Rattle.rl_text.specs.Reading.{Gives};
 ghost use Rattle.rl_ops.specs.Schedule.{steps_of, schedule_spelling, ScheduleFits};
 ghost use Rattle.rl_ops.specs.ScheduleReading.{turn_after, turns_at, schedule_at, schedule_fault};
 
 use crate::schedule::{Schedule, Turn, Turns};
-use rl_text::{Line, Lines, Refusal, TextErr};
+use rl_text::{Lines, Refusal, TextErr, Words};
 use std::alloc::Global;
 
 // The most steps of all turns.
 const MOST_STEPS: u32 = 2_000_000;
 
-// RANK COUNT after so many steps.
+// RANK COUNT after so many steps, from the first word of its line on.
 #[tactic(auto, unfolding(crate::specs::ScheduleReading::turn_after))]
-fn turn_of(line: &Line<'_>, ranks: u32, steps: u32) -> Result<Turn, Refusal>
-    requires { steps ≤ 2000000 }
-    ensures value { result ≡ turn_after ranks steps (row_of line.now) }
+fn turn_of(words: &mut Words<'_>, ranks: u32, steps: u32) -> Result<Turn, Refusal>
+    requires { (words.old.next ≡ 1) × (steps ≤ 2000000) }
+    ensures value { result ≡ turn_after ranks steps words.old.row }
     ensures most { IfOk result (λ turn. steps + steps_of turn ≤ 2000000) }
 {
-    let rank = line.below(1, u64::from(ranks))?;
-    let count = line.below(2, u64::from(MOST_STEPS + 1 - steps))?;
-    line.no_word(3)?;
+    let rank = words.below(u64::from(ranks))?;
+    let count = words.below(u64::from(MOST_STEPS + 1 - steps))?;
+    words.no_more()?;
     Ok(Turn::Steps {
         rank: rank as u32,
         count: count as u32,
@@ -36,11 +35,12 @@ fn turns_of(alloc: Global, lines: &mut Lines<'_>, ranks: u32) -> Result<Turns, T
     let mut steps = 0;
     loop {
         let line = lines.next_whole()?;
-        if line.begins(b"end") {
+        let mut words = line.words();
+        if words.is_next(b"end") {
             lines.end(&line)?;
             return Ok(turns);
         }
-        let turn = turn_of(&line, ranks, steps)?;
+        let turn = turn_of(&mut words, ranks, steps)?;
         turns.push(turn)?;
         steps += turn.steps();
     }

@@ -3,7 +3,8 @@
 //! A text is a list of lines, each ended by one newline byte. The words of a line stand between single spaces. Nothing is
 //! trimmed: two spaces make an empty word, and a carriage return is a byte of its word.
 //!
-//! - `Lines` hands out the lines of a text one after the other, and `Line` its words.
+//! - `Lines` hands out the lines of a text one after the other, and `Line` its words: any one by its number, or, by
+//!   `Words`, one after the other.
 //! - `number` reads a word as a number, exactly where the word is the number's one decimal spelling.
 //! - A reader takes a line word by word, and its first fault is a `Refusal`: a line, a word and a cause (`Why`).
 //! - The printers append to a text what the readers read.
@@ -21,6 +22,7 @@ mod lines;
 mod numbers;
 mod printing;
 mod reading;
+mod words;
 
 pub use causes::{Refusal, Why};
 pub use cutting::cut;
@@ -29,6 +31,7 @@ pub use line::Line;
 pub use lines::Lines;
 pub use numbers::number;
 pub use printing::{put_number, put_refusal};
+pub use words::Words;
 
 #[cfg(test)]
 mod tests;
