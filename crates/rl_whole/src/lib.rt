@@ -16,6 +16,8 @@
 #![tactic(auto)]
 
 mod card_state;
+#[cfg(test)]
+mod dmcs_tests;
 mod effect;
 mod machine;
 mod runs;
@@ -24,6 +26,8 @@ mod split;
 mod state;
 #[cfg(test)]
 mod tests;
+#[cfg(test)]
+mod trials;
 mod whole;
 
 pub use card_state::CardState;

@@ -1,110 +1,11 @@
 //! Small schedules over the spin lock, with their answers and events worked out by hand.
 
-ghost use Rattle.std.specs.Prelude.{◌≡◌, ◌-◌, ◌<◌, ◌≤◌, ◌^◌, true, length, IfOk};
-ghost use Rattle.rl_word.specs.OneNode.{one_node as one_node_shape};
-ghost use Rattle.rl_word.specs.Shapes.{IsProper};
-ghost use Rattle.rl_step.specs.Answers.{steps_made};
-
-use crate::state::zeros;
+use crate::trials::{KNOBS, one_node, run};
 use crate::{Machine, replay};
 use rl_ops::Turn;
 use rl_spin::Spin;
-use rl_step::{Event, Stepped, Steps};
-use rl_word::{Element, Knobs, Shape};
-use std::alloc::{AllocError as OutOfMemory, Global};
+use rl_step::{Event, Steps};
 use std::test::Fail;
-
-const KNOBS: Knobs = Knobs {
-    local: 0,
-    remote: 0,
-    writers: 0,
-    readers: 0,
-    group: 0,
-};
-
-/// So many ranks on node 0.
-fn one_node(alloc: Global, ranks: u32) -> Result<Shape, OutOfMemory>
-    requires some { 0 < ranks }
-    requires few { ranks ≤ 32 }
-    ensures shape { IfOk result (λ s. s ≡ one_node_shape ranks) }
-    ensures proper { IfOk result IsProper }
-{
-    Ok(Shape {
-        node_of: zeros(alloc, ranks)?,
-        nodes: 1,
-        leaf_of: vec![in alloc; 1]?,
-        elements: vec![in alloc;
-            Element {
-                parent: None,
-                first_node: 0,
-                budget: None
-            },
-            Element {
-                parent: Some(0),
-                first_node: 0,
-                budget: None
-            },
-        ]?,
-    })
-}
-
-/// Whether so few steps were made that one more can be.
-fn has_room(steps: Steps) -> bool
-    ensures { result ≡ true → steps_made steps < 2 ^ 32 - 1 }
-{
-    steps.moved < 1000
-        && steps.waiting < 1000
-        && steps.lost < 1000
-        && steps.busy < 1000
-        && steps.finished < 1000
-}
-
-/// An answer and the events of its step: `m` moved, `l0.1` lost with guess 0 and 1 seen, `b0.1` busy with rank 1 in the card of
-/// node 0, `f` finished; `+0` rank 0 enters to write, `*0` it touches the count, `-0` it leaves.
-fn told(
-    alloc: Global,
-    step: u32,
-    answer: Stepped,
-    events: &[(u32, Event)],
-) -> Result<String, OutOfMemory> {
-    let mut text = match answer {
-        Stepped::Moved => format!(in alloc; "m")?,
-        Stepped::Waiting { word, value } => format!(in alloc; "w{word}.{value}")?,
-        Stepped::Lost { guess, seen } => format!(in alloc; "l{guess}.{seen}")?,
-        Stepped::Busy { node, holder } => format!(in alloc; "b{node}.{holder}")?,
-        Stepped::Finished => format!(in alloc; "f")?,
-    };
-    for (number, event) in events {
-        if *number == step {
-            let sign = match event {
-                Event::EnterW { rank } => format!(in alloc; "+{rank}")?,
-                Event::LeaveW { rank } => format!(in alloc; "-{rank}")?,
-                Event::Touch { rank, write: false } => format!(in alloc; "*{rank}")?,
-                _ => format!(in alloc; "?")?,
-            };
-            text.push_str(&sign)?;
-        }
-    }
-    Ok(text)
-}
-
-/// What the steps of these ranks tell, one after the other.
-fn run(alloc: Global, machine: &mut Machine<Spin>, ranks: &[u8]) -> Result<String, OutOfMemory> {
-    let mut text = String::new(alloc);
-    let mut step = 0u32;
-    for digit in ranks {
-        let rank = u32::from(digit.saturating_sub(b'0'));
-        if rank < machine.ranks() && has_room(machine.steps()) {
-            let answer = machine.step(rank)?;
-            if step > 0 {
-                text.push_str(" ")?;
-            }
-            text.push_str(&told(alloc, step, answer, machine.events())?)?;
-        }
-        step = step.saturating_add(1);
-    }
-    Ok(text)
-}
 
 #[test]
 fn small_schedules(rt: HostRuntime) -> Result<(), Fail> {
@@ -158,7 +59,7 @@ fn small_schedules(rt: HostRuntime) -> Result<(), Fail> {
         }
         assert!(rt; 0 < given.len() && given.len() <= 32);
         let shape = one_node(rt.alloc(), given.len() as u32)?;
-        let mut machine = Machine::new(rt.alloc(), &shape, 0, KNOBS, given)?;
+        let mut machine: Machine<Spin> = Machine::new(rt.alloc(), &shape, 0, KNOBS, given)?;
         let text = run(rt.alloc(), &mut machine, ranks.as_bytes())?;
         assert_eq!(rt; text.as_str(), want, "{calls} {ranks}");
     }

@@ -2,7 +2,7 @@
 use Rattle.std.proofs.Common.{◌≡◌, sym, subst, rules}
 use Rattle.rl_word.specs.Shapes.{IsProper}
 use Rattle.rl_word.specs.OneNode.{one_node, one_node_proper}
-use Rattle.rl_whole.proofs.tests.one_node.Goals as goal
+use Rattle.rl_whole.proofs.trials.one_node.Goals as goal
 
 pub returns-clause-proper : goal.returns-clause-proper
 returns-clause-proper c =

@@ -1,0 +1,107 @@
+-- D-MCS as plain functions: one queue of all ranks, without limit; and which of its states are good.
+use Rattle.std.specs.Prelude.{◌≡◌, ℕ, zero, suc, ◌+◌, ◌-◌, ◌*◌, ◌/◌, ◌<◌, ◌==◌, Bool, true, false, List, [], ◌∷◌, ◌++◌, length, nat_lt, if◌then◌else◌, slice_get, slice_index, Some, None}
+use Rattle.rl_word.specs.declared.classes.Spot.{Spot}
+use Rattle.rl_word.specs.declared.classes.Class.TheVariants as class
+use Rattle.rl_step.specs.declared.events.Event.{Event}
+use Rattle.rl_step.specs.declared.events.Event.TheVariants as event
+use Rattle.rl_step.specs.declared.events.Standing.{Standing}
+use Rattle.rl_step.specs.declared.events.Standing.TheVariants as standing
+use Rattle.rl_step.specs.Lock.{LockTable, LockState, Told, no_local}
+use Rattle.rl_step.specs.Queues.{QueueOf, tenures}
+use Rattle.rl_queue.specs.declared.view.Phase.{Phase}
+use Rattle.rl_queue.specs.declared.view.Phase.TheVariants.{Idle, Clear, Reset, Swing, Link, Wait, Settle, Granted, Look, Close, Await, Hand, Above}
+use Rattle.rl_queue.specs.declared.view.QueueView.{QueueView}
+use Rattle.rl_queue.specs.Queue.{TheNames, Turn, at_phase, plan_at, turn_at, settled_at, leave_at}
+use Rattle.rl_queue.specs.QueueLaws.{QueueGood}
+
+-- n numbers from one on, each 2 more than the one before
+abbrev pub every_second : ℕ → ℕ → List ℕ
+every_second from zero = []
+every_second from (suc n) = from ∷ every_second (from + 2) n
+
+-- the words of the queue of n ranks: word 0 is the tail, a card word; then come the next word and the status word of each rank
+abbrev pub dmcs_names : ℕ → TheNames
+dmcs_names n = record { queue = 0; tail = 0; tail_class = class.Card; next = every_second 1 n; status = every_second 2 n; budget = None }
+
+-- the tail lives on the shard's home; a rank's words are plain and live on its node
+abbrev pub dmcs_spot : ℕ → List ℕ → ℕ → Spot
+dmcs_spot home node_of w =
+    if w == 0 then record { class = class.Card; home = home } else record { class = class.Plain; home = slice_index node_of ((w - 1) / 2) }
+
+-- what rank m, come to a phase, learns of the lock: a head settles at once, and who has the queue is inside
+abbrev pub dmcs_enter : ℕ → Phase → List Event → Bool → Told QueueView
+dmcs_enter m Settle es w = record { view = at_phase m (settled_at None); events = es ++ event.Settle 0 m ∷ event.EnterW m ∷ []; waits = w }
+dmcs_enter m (Granted left) es w = record { view = at_phase m (Granted left); events = es ++ event.EnterW m ∷ []; waits = w }
+dmcs_enter m p es w = record { view = at_phase m p; events = es; waits = w }
+
+abbrev pub dmcs_turn : ℕ → Turn → Told QueueView
+dmcs_turn m t = dmcs_enter m t.phase t.events t.waits
+
+-- what rank m of n learns where its act told got
+abbrev pub dmcs_learn : ℕ → ℕ → Phase → ℕ → Told QueueView
+dmcs_learn n m p got = dmcs_turn m (turn_at (dmcs_names n) m p got)
+
+abbrev pub dmcs_standing : Phase → Standing
+dmcs_standing Idle = standing.Out
+dmcs_standing Clear = standing.Asking
+dmcs_standing Reset = standing.Asking
+dmcs_standing (Swing guess) = standing.Asking
+dmcs_standing (Link guess) = standing.Asking
+dmcs_standing Wait = standing.Asking
+dmcs_standing Settle = standing.Asking
+dmcs_standing (Granted left) = standing.Writer
+dmcs_standing (Look left upper) = standing.Leaving
+dmcs_standing (Close left) = standing.Leaving
+dmcs_standing (Await left) = standing.Leaving
+dmcs_standing (Hand succ left) = standing.Leaving
+dmcs_standing (Above succ) = standing.Leaving
+
+-- one queue of all n ranks, without limit
+abbrev pub dmcs_queue : ℕ → QueueOf
+dmcs_queue n = record { members = λ m. nat_lt m n; of_ranks = true; budget = None }
+
+-- The lock of a shard with this home, of ranks on these nodes: a rank joins the queue when it asks, and leaves it by the leave of
+-- a queue that has nothing above it. No cohort, no readers that share, and no local compare-and-swap.
+abbrev pub dmcs_table : ℕ → List ℕ → LockTable QueueView
+dmcs_table home node_of =
+    record {
+      size = 1 + 2 * length node_of;
+      spot = dmcs_spot home node_of;
+      first = λ r. at_phase r Idle;
+      ask = λ v m. at_phase v.member Clear;
+      plan = λ v. plan_at (dmcs_names (length node_of)) v.member v.phase;
+      learn = λ v got. dmcs_learn (length node_of) v.member v.phase got;
+      leave = λ v. at_phase v.member (leave_at v.phase false);
+      standing = λ v. dmcs_standing v.phase;
+      queues = dmcs_queue (length node_of) ∷ [];
+      cohort = λ c. false;
+      shares = false;
+      may_make = no_local;
+    }
+
+-- the phase of each rank, by its number
+abbrev pub phase_in : List QueueView → ℕ → Phase
+phase_in [] m = Idle
+phase_in (v ∷ vs) zero = v.phase
+phase_in (v ∷ vs) (suc m) = phase_in vs m
+
+-- between acts no rank is left where it must settle, or where something is above
+abbrev pub Calm : Phase → Type 0
+Calm Settle = ⊥
+Calm (Look left true) = ⊥
+Calm (Above succ) = ⊥
+Calm p = Unit {0}
+
+-- the ranks are the numbers below n
+abbrev pub Below : ℕ → ℕ → Type 0
+Below n m = m < n
+
+-- A state is good where its queue is, with some line, and its ended tenures are the departures of ranks.
+pub record DmcsGood (n : ℕ) (s : LockState QueueView) : Type 0 where
+  pub all_words : length s.words ≡ 1 + 2 * n
+  pub all_views : length s.views ≡ n
+  pub all_modes : length s.modes ≡ n
+  pub named : (r : ℕ) (v : QueueView) → slice_get s.views r ≡ Some v → v.member ≡ r
+  pub calm : (r : ℕ) (v : QueueView) → slice_get s.views r ≡ Some v → Calm v.phase
+  pub line : List ℕ
+  pub queue : QueueGood (dmcs_names n) (Below n) s.words (phase_in s.views) line s.trace (tenures (dmcs_queue n) s.trace)
