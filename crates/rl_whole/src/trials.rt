@@ -96,7 +96,11 @@ fn told(
 }
 
 /// What the steps of these ranks tell, one after the other.
-pub(crate) fn run<L: Algo>(alloc: Global, machine: &mut Machine<L>, ranks: &[u8]) -> Result<String, OutOfMemory> {
+pub(crate) fn run<L: Algo>(
+    alloc: Global,
+    machine: &mut Machine<L>,
+    ranks: &[u8],
+) -> Result<String, OutOfMemory> {
     let mut text = String::new(alloc);
     let mut step = 0u32;
     for digit in ranks {
