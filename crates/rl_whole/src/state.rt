@@ -73,22 +73,23 @@ pub fn open_next<A: Algo>(core: &Whole<A>, state: &mut State<A>, rank: u32)
     }
 }
 
-/// Appends an atom's events with the number of its step.
-fn note(events: &mut Vec<(u32, Event)>, number: u32, noted: &ArrayVec<Event, EVENTS>)
-    requires { vec_len events.old + length noted.now.items ≤ vec_capacity events.old }
-    ensures { events.new.items ≡ events.old.items ++ numbered number noted.now.items }
-{
-    for event in noted.as_slice() {
-        events.push_reserved((number, *event));
-    }
-}
-
 /// How many steps were made.
 fn made(steps: Steps) -> u32
     requires { steps_made steps < 2 ^ 32 }
     ensures { result ≡ steps_made steps }
 {
     steps.moved + steps.waiting + steps.lost + steps.busy + steps.finished
+}
+
+/// Appends an atom's events with the number of its step. Most atoms have none, and then the steps aren't added up.
+fn note(events: &mut Vec<(u32, Event)>, steps: Steps, noted: &ArrayVec<Event, EVENTS>)
+    requires few { steps_made steps < 2 ^ 32 }
+    requires room { vec_len events.old + length noted.now.items ≤ vec_capacity events.old }
+    ensures { events.new.items ≡ events.old.items ++ numbered (steps_made steps) noted.now.items }
+{
+    for event in noted.as_slice() {
+        events.push_reserved((made(steps), *event));
+    }
 }
 
 /// Makes the next atom of the rank, if it has one, and counts the step.
@@ -100,9 +101,8 @@ pub fn make_atom<A: Algo>(core: &Whole<A>, state: &mut State<A>, rank: u32) -> S
     ensures made { world_of state.new ≡ atom_made core.now.base (A.table core.now.algo) (world_of state.old) rank }
     ensures answer { result ≡ atom_answer core.now.base (A.table core.now.algo) (world_of state.old) rank }
 {
-    let number = made(state.steps);
     let after = advance_flat(core, &mut state.flat, rank);
-    note(&mut state.events, number, &after.events);
+    note(&mut state.events, state.steps, &after.events);
     state.steps.count(after.stepped);
     after.stepped
 }

@@ -26,7 +26,7 @@ returns-clause-made g c =
     let vs = c.advance_flat-after.new.flat.views.items in
     let es = c.advance_flat-after.result.events.items in
     let answer = c.advance_flat-after.result.stepped in
-    let t : c.note.new.events.items ≡ w.trace ++ numbered (steps_made w.steps) es = c.note.ensures ∙ ap (λ n. w.trace ++ numbered n es) c.made-number.ensures in
+    let t : c.note.new.events.items ≡ w.trace ++ numbered (steps_made w.steps) es = c.note.ensures in
     ap (λ z. world_with w h vs z c.count.new.self) t ∙
     ap (λ z. world_with w h vs (w.trace ++ numbered (steps_made w.steps) es) z) c.count.ensures ∙
     (advanced_world c.args.core.now.base (g.A.Algo.table c.args.core.now.algo) w c.args.rank h vs es answer (advances g (goal.at.returns-clause-made g c).After-advance_flat-after)).0
