@@ -1,8 +1,8 @@
 -- Writes one after the other, and reads one after the other.
-use Rattle.std.proofs.Common.{◌≡◌, ℕ, ◌+◌, ◌-◌, List, [], ◌++◌, length, take, drop, Option, Some, None, refl, sym, ap, ◌∙◌, append_assoc, arith}
+use Rattle.std.proofs.Common.{◌≡◌, ℕ, ◌+◌, ◌-◌, ◌≤◌, List, [], ◌++◌, length, take, drop, Option, Some, None, refl, sym, ap, ◌∙◌, append_assoc, add_assoc, arith}
 use Rattle.std.proofs.lemmas.List.{append-nil, take-append-drop, take_all, length-drop, length-append, drop_at, nil_from_length}
 use Rattle.std.proofs.Math.Seq.{take-add}
-use Rattle.rl_io.specs.Outside.{Appends, Reads, IsRead, Gave, IsTail, IsWhole, IsLonger}
+use Rattle.rl_io.specs.Outside.{Appends, GoesOn, Reads, IsRead, Gave, IsTail, IsWhole, IsLonger}
 
 -- ---- writing
 
@@ -29,6 +29,17 @@ pub front_more : (at n : ℕ) (text : List ℕ) → take (at + n) text ≡ take 
 front_more at n text =
     let rest : take (length text - at) (drop at text) ≡ drop at text = take_all _ _ (omega (arith, length-drop at text)) in
     rw (rest, take-add) refl
+
+-- n bytes more
+pub GoesOn-then : {S : Type 0} (tells_on : S → ℕ → Type 0) (old now new : S) (at n : ℕ) → GoesOn tells_on old at now → GoesOn tells_on now n new → GoesOn tells_on old (at + n) new
+GoesOn-then tells_on old now new at n so_far more m told = more m (so_far (n + m) (rw add_assoc at told))
+
+-- what would have told through more
+pub GoesOn-more : {S : Type 0} (tells_on : S → ℕ → Type 0) → ((sink : S) (n m : ℕ) → tells_on sink (n + m) → tells_on sink m)
+    → (old new : S) (n most : ℕ) → n ≤ most → GoesOn tells_on old n new → GoesOn tells_on old most new
+GoesOn-more tells_on fewer old new n most within so_far m told =
+    let split : most + m ≡ n + ((most - n) + m) = omega arith in
+    fewer new (most - n) m (so_far ((most - n) + m) (rw split at told))
 
 -- ---- reading
 

@@ -3,7 +3,7 @@ use Rattle.std.specs.Prelude.{ℕ, List, [], Option, Some, None, slice_get, Stri
 use Rattle.std.specs.Global.{Global, Vec}
 use Rattle.std.specs.List.{position}
 use Rattle.std.specs.Str.{bytes_eq}
-use Rattle.rl_io.specs.Script.{Script}
+use Rattle.rl_io.specs.Script.{TheFailing}
 
 -- a file has a name and bytes
 abbrev pub File : Type 0
@@ -27,13 +27,13 @@ abbrev pub bytes_of : List File → List ℕ → List ℕ
 bytes_of files name = bytes_at files (unwrap_or (place_of files name) (length files))
 
 -- files, and what is left of the open one
-pub record Shelf : Type 0 where
+pub record TheSureFiles : Type 0 where
   pub files : List File
   pub left : List ℕ
 
 -- files that give a piece at a time, and calls that are to fail
-pub record ScriptedShelf : Type 0 where
+pub record TheMemFiles : Type 0 where
   pub files : List File
   pub left : List ℕ
   pub piece : ℕ
-  pub script : Script
+  pub script : TheFailing

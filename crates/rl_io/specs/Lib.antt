@@ -1,5 +1,8 @@
+-- to be believed, in reading order
 pub mod Outside
 pub mod Whole
 pub mod Script
 pub mod Files
 pub mod Sinks
+-- proved; skip at first
+pub mod SinkLaws

@@ -17,6 +17,10 @@ abbrev pub Appends : Option (List ℕ) → List ℕ → Option (List ℕ) → Ty
 Appends before piece None = Unit {0}
 Appends before piece (Some after) = (written : List ℕ) × (before ≡ Some written) × (after ≡ written ++ piece)
 
+-- a sink that would tell its bytes through n more and then m tells them through m, now that the n are written
+abbrev pub GoesOn : {S : Type 0} → (S → ℕ → Type 0) → S → ℕ → S → Type 0
+GoesOn tells_on old n new = (m : ℕ) → tells_on old (n + m) → tells_on new m
+
 -- the file, where told, is the bytes read so far and what is left
 abbrev pub IsRead : Option (List ℕ) → List ℕ → Option (List ℕ) → Type 0
 IsRead None bytes left = left ≡ None

@@ -2,16 +2,16 @@
 use Rattle.std.specs.Prelude.{◌≡◌, ℕ, ◌+◌, ◌-◌, ◌^◌, ◌<◌, List, Contains}
 
 -- the numbers of the calls that are to fail, how many calls were made, and how many failed
-pub record Script : Type 0 where
+pub record TheFailing : Type 0 where
   pub numbers : List ℕ
   pub calls : ℕ
   pub faults : ℕ
 
 -- the next call is one of those that are to fail
-abbrev pub FailsNext : Script → Type 0
+abbrev pub FailsNext : TheFailing → Type 0
 FailsNext script = Contains script.numbers script.calls
 
 -- one more call, which failed or not
-pub record Counts (old new : Script) : Type 0 where
+pub record Counts (old new : TheFailing) : Type 0 where
   pub numbers : new.numbers ≡ old.numbers
   pub calls : old.calls < 2 ^ 64 - 1 → new.calls ≡ old.calls + 1

@@ -15,9 +15,9 @@ pub struct Failing {
 
 impl Model for Failing {
     ghost use Rattle.std.specs.Prelude.{◌≤◌};
-    ghost use Rattle.rl_io.specs.Script.{Script};
+    ghost use Rattle.rl_io.specs.Script.{TheFailing};
 
-    ghost Value = { Script };
+    ghost Value = { TheFailing };
 
     ghost view = { λ f. record { numbers = f.numbers.items; calls = f.calls; faults = f.faults } };
 

@@ -20,9 +20,9 @@ pub struct SureFiles {
 
 impl Model for SureFiles {
     ghost use Rattle.std.specs.Prelude.{◌≤◌, drop, length};
-    ghost use Rattle.rl_io.specs.Files.{Shelf, bytes_at};
+    ghost use Rattle.rl_io.specs.Files.{TheSureFiles, bytes_at};
 
-    ghost Value = { Shelf };
+    ghost Value = { TheSureFiles };
 
     ghost view = { λ s. record { files = s.files.items; left = drop s.at (bytes_at s.files.items s.chosen) } };
 
@@ -140,9 +140,9 @@ pub struct MemFiles {
 
 impl Model for MemFiles {
     ghost use Rattle.std.specs.Prelude.{◌≤◌};
-    ghost use Rattle.rl_io.specs.Files.{ScriptedShelf};
+    ghost use Rattle.rl_io.specs.Files.{TheMemFiles};
 
-    ghost Value = { ScriptedShelf };
+    ghost Value = { TheMemFiles };
 
     ghost view = { λ s. record { files = s.shelf.files; left = s.shelf.left; piece = s.piece; script = s.failing } };
 

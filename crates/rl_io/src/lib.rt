@@ -8,7 +8,8 @@
 //! Promised here: [`read_file`] gives a file whole, or says why not; [`write_all`] writes a text whole,
 //! or a front of it. Both are proved for every source and every sink, and blame the outside only where
 //! its count rose. A source and a sink say which bytes they have, where they can know them: files and
-//! sinks in memory tell theirs, the real ones tell none.
+//! sinks in memory tell theirs, the real ones tell none. A sink that tells its bytes also says for how
+//! many more it goes on telling them, so that who writes less than that knows what the sink then has.
 //!
 //! Not said here: what a real file or a terminal gives or takes. [`RealFiles`] and [`RealOut`] are the
 //! few lines where the program trusts the system.

@@ -1,6 +1,6 @@
 // What a source of files and a sink of bytes are.
-ghost use Rattle.std.specs.Prelude.{◌≡◌, ◌≤◌, ◌<◌, ℕ, List, [], Option, Some, length, take, IfOk, OnOk, OnErr, Bool, IsTrue};
-ghost use Rattle.rl_io.specs.Outside.{Reads, Appends, SameFiles};
+ghost use Rattle.std.specs.Prelude.{◌≡◌, ◌≤◌, ◌<◌, ℕ, ◌+◌, List, [], Option, Some, length, take, IfOk, OnOk, OnErr, IsSome, Bool, IsTrue};
+ghost use Rattle.rl_io.specs.Outside.{Reads, Appends, GoesOn, SameFiles};
 
 /// The outside failed: a file couldn't be opened or read, or bytes couldn't be written.
 #[derive(Clone, Copy, Debug, PartialEq, Eq)]
@@ -49,6 +49,9 @@ pub trait Sink {
     /// The bytes written so far, where the sink tells them.
     ghost written: { Self → Option (List ℕ) };
 
+    /// The sink tells its bytes, and goes on telling them for so many bytes more.
+    ghost tells_on: { Self → ℕ → Type 0 };
+
     /// How often the sink has failed.
     ghost faults: { Self → ℕ };
 
@@ -58,7 +61,15 @@ pub trait Sink {
         ensures count { IfOk result (λ n. n ≤ length piece.now) }
         ensures some { IfOk result (λ n. 0 < length piece.now → 0 < n) }
         ensures appends { IfOk result (λ n. Appends (written self.old) (take n piece.now) (written self.new)) }
+        ensures goes_on { IfOk result (λ n. GoesOn tells_on self.old n self.new) }
         ensures nothing { OnErr result (written self.new ≡ written self.old) }
+        ensures still { OnErr result (GoesOn tells_on self.old 0 self.new) }
         ensures quiet { OnOk result (faults self.new ≡ faults self.old) }
         ensures risen { OnErr result (faults self.old < faults self.new) };
+
+    /// A sink that goes on telling its bytes tells them now.
+    ghost tells: { (sink : Self) (n : ℕ) → tells_on sink n → IsSome (written sink) };
+
+    /// A sink that goes on telling its bytes goes on for fewer.
+    ghost fewer: { (sink : Self) (n m : ℕ) → tells_on sink (n + m) → tells_on sink m };
 }

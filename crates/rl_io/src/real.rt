@@ -10,7 +10,7 @@ use std::rt::Files;
 fn count_fault(faults: &mut u64) -> Result<(), Failed>
     ensures quiet { OnOk result (faults.new ≡ faults.old) }
     ensures risen { OnErr result (faults.old < faults.new) }
-    ensures end { OnOk result (faults.old ≡ 18446744073709551615) }
+    ensures end { OnOk result (faults.old ≡ u64.MAX) }
 {
     if *faults == u64::MAX {
         return Ok(());
@@ -101,7 +101,13 @@ impl<P: Print + Drop> Sink for RealOut<P> {
 
     ghost written = { λ _. None };
 
+    ghost tells_on = { λ _ _. ⊥ };
+
     ghost faults = { λ s. s.faults };
+
+    ghost tells = { λ _ _ never. absurd never };
+
+    ghost fewer = { λ _ _ _ never. never };
 
     fn write(&mut self, piece: &[u8]) -> Result<usize, Failed> {
         if let Ok(n) = self.rt.write_some(piece)

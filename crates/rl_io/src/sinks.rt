@@ -1,8 +1,8 @@
 // Sinks in memory: one that never fails, and one that fails on call.
-ghost use Rattle.std.specs.Prelude.{◌≡◌, ◌≤◌, ◌<◌, ◌-◌, ◌^◌, [], true, length, take, min, IfOk, IsErr, OnOk, OnErr};
+ghost use Rattle.std.specs.Prelude.{◌≡◌, ◌≤◌, ◌<◌, ◌-◌, ◌^◌, [], true, length, take, min, IfOk, IsErr, OnOk, OnErr, Ok as ok};
 ghost use Rattle.rl_io.specs.Script.{FailsNext, Counts};
-ghost use Rattle.rl_io.specs.Outside.{Appends};
-ghost use Rattle.rl_io.specs.Sinks.{kept_with, told};
+ghost use Rattle.rl_io.specs.Outside.{Appends, GoesOn};
+ghost use Rattle.rl_io.specs.Sinks.{kept_with, told, HasRoom};
 
 use crate::failing::Failing;
 use crate::outside::{Failed, Sink};
@@ -21,9 +21,9 @@ pub struct FixedSink {
 
 impl Model for FixedSink {
     ghost use Rattle.std.specs.Prelude.{◌≤◌, vec_len, vec_capacity};
-    ghost use Rattle.rl_io.specs.Sinks.{Kept};
+    ghost use Rattle.rl_io.specs.Sinks.{TheFixedSink};
 
-    ghost Value = { Kept };
+    ghost Value = { TheFixedSink };
 
     ghost view = { λ s. record { bytes = s.bytes.items; room = s.room; all = s.all } };
 
@@ -66,13 +66,31 @@ impl FixedSink {
 }
 
 impl Sink for FixedSink {
-    ghost use Rattle.rl_io.specs.Sinks.{told};
+    ghost use Rattle.rl_io.specs.Sinks.{told, HasRoom};
+    ghost use Rattle.rl_io.specs.SinkLaws.{told-HasRoom, HasRoom-fewer};
 
     ghost written = { told };
 
+    ghost tells_on = { HasRoom };
+
     ghost faults = { λ _. 0 };
 
-    fn write(&mut self, piece: &[u8]) -> Result<usize, Failed> {
+    ghost tells = { told-HasRoom };
+
+    ghost fewer = { HasRoom-fewer };
+
+    /// Keeps the first bytes while there is room, drops the others, and never fails.
+    fn write(&mut self, piece: &[u8]) -> Result<usize, Failed>
+        ensures kept { self.new ≡ kept_with self.old piece.now }
+        ensures took { result ≡ ok (length piece.now) }
+        // As every sink.
+        ensures count { IfOk result (λ n. n ≤ length piece.now) }
+        ensures some { IfOk result (λ n. 0 < length piece.now → 0 < n) }
+        ensures appends { IfOk result (λ n. Appends (told self.old) (take n piece.now) (told self.new)) }
+        ensures goes_on { IfOk result (λ n. GoesOn HasRoom self.old n self.new) }
+        ensures nothing { OnErr result (told self.new ≡ told self.old) }
+        ensures still { OnErr result (GoesOn HasRoom self.old 0 self.new) }
+    {
         self.keep(piece);
         Ok(piece.len())
     }
@@ -91,9 +109,9 @@ pub struct MemSink {
 
 impl Model for MemSink {
     ghost use Rattle.std.specs.Prelude.{◌≤◌};
-    ghost use Rattle.rl_io.specs.Sinks.{ScriptedKept};
+    ghost use Rattle.rl_io.specs.Sinks.{TheMemSink};
 
-    ghost Value = { ScriptedKept };
+    ghost Value = { TheMemSink };
 
     ghost view = { λ s. record { kept = s.kept; piece = s.piece; script = s.failing } };
 
@@ -131,23 +149,34 @@ impl MemSink {
 }
 
 impl Sink for MemSink {
-    ghost use Rattle.rl_io.specs.Sinks.{told};
+    ghost use Rattle.rl_io.specs.Sinks.{told, HasRoom};
+    ghost use Rattle.rl_io.specs.SinkLaws.{told-HasRoom, HasRoom-fewer};
 
     ghost written = { λ s. told s.kept };
 
+    ghost tells_on = { λ s n. HasRoom s.kept n };
+
     ghost faults = { λ s. s.script.faults };
+
+    ghost tells = { λ s. told-HasRoom s.kept };
+
+    ghost fewer = { λ s. HasRoom-fewer s.kept };
 
     /// Fails exactly where the number of the write is to fail, and else takes as much as a piece.
     fn write(&mut self, piece: &[u8]) -> Result<usize, Failed>
         ensures fails { self.old.script.calls < 2 ^ 64 - 1 → FailsNext self.old.script → IsErr result }
         ensures cause { IsErr result → FailsNext self.old.script }
         ensures took { IfOk result (λ n. n ≡ min (length piece.now) self.old.piece) }
+        ensures kept { IfOk result (λ n. self.new.kept ≡ kept_with self.old.kept (take n piece.now)) }
+        ensures unkept { OnErr result (self.new.kept ≡ self.old.kept) }
         ensures counts { Counts self.old.script self.new.script }
         // As every sink.
         ensures count { IfOk result (λ n. n ≤ length piece.now) }
         ensures some { IfOk result (λ n. 0 < length piece.now → 0 < n) }
         ensures appends { IfOk result (λ n. Appends (told self.old.kept) (take n piece.now) (told self.new.kept)) }
+        ensures goes_on { IfOk result (λ n. GoesOn HasRoom self.old.kept n self.new.kept) }
         ensures nothing { OnErr result (told self.new.kept ≡ told self.old.kept) }
+        ensures still { OnErr result (GoesOn HasRoom self.old.kept 0 self.new.kept) }
         ensures quiet { OnOk result (self.new.script.faults ≡ self.old.script.faults) }
         ensures risen { OnErr result (self.old.script.faults < self.new.script.faults) }
     {

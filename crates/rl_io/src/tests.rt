@@ -1,4 +1,7 @@
 // Files and sinks that fail at a given call, files at the edge of a limit, and the real ones.
+ghost use Rattle.std.specs.Prelude.{◌≡◌, ◌++◌, ◌+◌, length, OnOk};
+ghost use Rattle.rl_io.specs.Sinks.{HasRoom};
+
 use crate::*;
 use std::alloc::AllocError as OutOfMemory;
 use std::test::*;
@@ -97,10 +100,18 @@ fn a_failed_write_leaves_a_front(rt: HostRuntime) -> Result<(), Fail> {
     Ok(())
 }
 
+// What a caller over any sink may conclude, here at a sink of a fixed size: where there is room, it has the whole text.
+fn write_whole(sink: &mut FixedSink, text: &[u8]) -> Result<(), Failed>
+    requires { HasRoom sink.old (length text.now) }
+    ensures whole { OnOk result (sink.new.bytes ≡ sink.old.bytes ++ text.now) }
+{
+    write_all(sink, text)
+}
+
 #[test]
 fn a_fixed_sink_keeps_the_first_bytes(rt: HostRuntime) -> Result<(), Fail> {
     let mut sink = FixedSink::new(rt.alloc(), 20)?;
-    assert!(rt; write_all(&mut sink, REPORT).is_ok());
+    assert!(rt; write_whole(&mut sink, REPORT).is_ok());
     assert_eq!(rt; sink.bytes(), REPORT);
     assert!(rt; write_all(&mut sink, REPORT).is_ok());
     assert_eq!(rt; sink.bytes(), b"rmalock-report 1\nrma".as_slice());

@@ -1,7 +1,7 @@
 // Files that are read whole, and texts that are written whole.
 ghost use Rattle.std.specs.Prelude.{◌≡◌, ◌≤◌, ◌<◌, ◌+◌, ℕ, List, [], ◌++◌, ◌⊎◌, Some, length, take, IfOk, OnOk, OnErr, IsErrOf, IsTrue};
-ghost use Rattle.rl_io.specs.Outside.{Appends, IsRead, Gave, IsTail, IsWhole, IsLonger, SameFiles};
-ghost use Rattle.rl_io.specs.Whole.{RisesWithFault};
+ghost use Rattle.rl_io.specs.Outside.{Appends, GoesOn, IsRead, Gave, IsTail, IsWhole, IsLonger, SameFiles};
+ghost use Rattle.rl_io.specs.Whole.{RisesWithFault, is_fault};
 
 use crate::outside::{Failed, Sink, Source};
 use std::alloc::{AllocError, Global};
@@ -42,10 +42,11 @@ impl From<AllocError> for ReadErr {
 }
 
 /// Writes all of a text, piece by piece, and takes no memory. After a fault a front of the text was
-/// written.
+/// written. A sink that would tell its bytes through the text and some more still tells them, either way.
 pub fn write_all<K: Sink>(sink: &mut K, text: &[u8]) -> Result<(), Failed>
     ensures all { OnOk result (Appends (K.written sink.old) text.now (K.written sink.new)) }
     ensures front { OnErr result ((n : ℕ) × (n ≤ length text.now) × Appends (K.written sink.old) (take n text.now) (K.written sink.new)) }
+    ensures goes_on { GoesOn K.tells_on sink.old (length text.now) sink.new }
     ensures quiet { OnOk result (K.faults sink.new ≡ K.faults sink.old) }
     ensures risen { OnErr result (K.faults sink.old < K.faults sink.new) }
 {
@@ -61,11 +62,11 @@ const MOST_AT_ONCE: usize = 4096;
 
 // Reads at most `room` bytes, and appends them.
 fn read_piece<S: Source>(source: &mut S, bytes: &mut Vec<u8>, room: usize) -> Result<usize, ReadErr>
-    requires { (0 < room) × (room ≤ 4096) }
+    requires { (0 < room) × (room ≤ MOST_AT_ONCE) }
     ensures ok { IfOk result (λ n. (n ≤ room) × ((piece : List ℕ) × (length piece ≡ n) × (bytes.new.items ≡ bytes.old.items ++ piece)
         × Gave (S.left source.old) piece (S.left source.new))) }
     ensures tail { OnErr result (IsTail (S.left source.old) (S.left source.new)) }
-    ensures faults { RisesWithFault result (S.faults source.old) (S.faults source.new) }
+    ensures faults { RisesWithFault is_fault result (S.faults source.old) (S.faults source.new) }
     ensures no_limit { (max : ℕ) → IsErrOf result (ReadErr.TooLong max) → ⊥ }
     ensures same { SameFiles S.file S.may_open source.old source.new }
 {
@@ -89,7 +90,7 @@ pub fn read_file<S: Source>(
     requires { IsTrue (S.may_open source.old name.now) }
     ensures whole { IfOk result (λ bytes. (length bytes.items ≤ max) × IsWhole (S.file source.old name.now) bytes.items (S.left source.new)) }
     ensures too_long { (limit : ℕ) → IsErrOf result (ReadErr.TooLong limit) → (limit ≡ max) × IsLonger (S.file source.old name.now) max (S.left source.new) }
-    ensures faults { RisesWithFault result (S.faults source.old) (S.faults source.new) }
+    ensures faults { RisesWithFault is_fault result (S.faults source.old) (S.faults source.new) }
     // After an error the rest of the file is left, or no file is open.
     ensures tail { OnErr result (IsTail (S.file source.old name.now) (S.left source.new) ⊎ (S.left source.new ≡ Some [])) }
     ensures same { SameFiles S.file S.may_open source.old source.new }

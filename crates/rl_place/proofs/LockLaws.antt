@@ -8,49 +8,34 @@ use Rattle.rl_text.specs.Rows.{Row, words, word_at}
 use Rattle.rl_text.specs.Reading.{needed_at, fixed_at, between_at, no_word_at}
 use Rattle.rl_text.proofs.FromLaws.{from_bind, rest_from, rest_from-word, word_at-rest}
 use Rattle.rl_text.proofs.WordLaws.{ok_is, words-cons, words-nil, needed-takes, needed-again, fixed-takes, fixed-again, between-takes, between-again, no_word-takes, no_word-again}
-use Rattle.rl_place.specs.declared.lock.Lock.{Lock}
-use Rattle.rl_place.specs.declared.lock.Lock.TheVariants.{Spin, Dmcs, Alock, Mcs, Rw}
-use Rattle.rl_place.specs.declared.settings.LockName.{LockName}
-use Rattle.rl_place.specs.declared.settings.LockName.TheVariants as named
+use Rattle.rl_word.specs.declared.locks.LockName.{LockName}
+use Rattle.rl_word.specs.declared.locks.LockName.TheVariants as named
+use Rattle.rl_place.specs.declared.limits.TheConstants.{MOST_BUDGET}
 use Rattle.rl_place.specs.Places.{BudgetsFit}
-use Rattle.rl_place.specs.Reading.{lock_named, or_no_lock, lock_name_at, budgets_from, budgets_at, cohorts_at}
+use Rattle.rl_place.specs.Reading.{or_no_lock, lock_name_at, budgets_from, budgets_at, cohorts_at}
+use Rattle.rl_place.specs.LockWords.{lock_word, lock_named}
 use Rattle.rl_place.specs.Spelling.{budget_words}
 
 -- ---- the name
-
--- the word of a name
-abbrev pub name_word : LockName → List ℕ
-name_word named.Spin = codes "spin"
-name_word named.Dmcs = codes "dmcs"
-name_word named.Alock = codes "alock"
-name_word named.Mcs = codes "mcs"
-name_word named.Rw = codes "rw"
-
--- the name of a lock
-abbrev pub name_of : Lock → LockName
-name_of Spin = named.Spin
-name_of Dmcs = named.Dmcs
-name_of (Alock local remote) = named.Alock
-name_of (Mcs budgets) = named.Mcs
-name_of (Rw budgets writers readers group) = named.Rw
 
 -- a test of a name: it is met, or the others are asked
 asked : {P : Type 0} (b : Bool) (x name : LockName) (others : Option LockName) → cond b (Some x) others ≡ Some name → (b ≡ true → x ≡ name → P) → (others ≡ Some name → P) → P
 asked true x name others e met not_met = met refl cc
 asked false x name others e met not_met = not_met e
 
-is_named : (word : List ℕ) (name : LockName) → lock_named word ≡ Some name → word ≡ name_word name
+is_named : (word : List ℕ) (name : LockName) → lock_named word ≡ Some name → word ≡ lock_word name
+unfolding lock_named
 is_named word name e =
-    asked (bytes_eq word (codes "spin")) named.Spin name _ e (met named.Spin) (λ e1.
-    asked (bytes_eq word (codes "dmcs")) named.Dmcs name _ e1 (met named.Dmcs) (λ e2.
-    asked (bytes_eq word (codes "alock")) named.Alock name _ e2 (met named.Alock) (λ e3.
-    asked (bytes_eq word (codes "mcs")) named.Mcs name _ e3 (met named.Mcs) (λ e4.
-    asked (bytes_eq word (codes "rw")) named.Rw name _ e4 (met named.Rw) (λ e5. absurd cc)))))
+    asked (bytes_eq (lock_word named.Spin) word) named.Spin name _ e (met named.Spin) (λ e1.
+    asked (bytes_eq (lock_word named.Dmcs) word) named.Dmcs name _ e1 (met named.Dmcs) (λ e2.
+    asked (bytes_eq (lock_word named.Alock) word) named.Alock name _ e2 (met named.Alock) (λ e3.
+    asked (bytes_eq (lock_word named.Mcs) word) named.Mcs name _ e3 (met named.Mcs) (λ e4.
+    asked (bytes_eq (lock_word named.Rw) word) named.Rw name _ e4 (met named.Rw) (λ e5. absurd cc)))))
   where
-    met : (x : LockName) → bytes_eq word (name_word x) ≡ true → x ≡ name → word ≡ name_word name
-    met x is same = (bytes_eq-Decides word (name_word x)).0 is ∙ ap name_word same
+    met : (x : LockName) → bytes_eq (lock_word x) word ≡ true → x ≡ name → word ≡ lock_word name
+    met x is same = sym ((bytes_eq-Decides (lock_word x) word).0 is) ∙ ap lock_word same
 
-pub lock_name-takes : (row : Row) (name : LockName) → lock_name_at row ≡ Ok name → words row ≡ codes "lock" ∷ name_word name ∷ []
+pub lock_name-takes : (row : Row) (name : LockName) → lock_name_at row ≡ Ok name → words row ≡ codes "lock" ∷ lock_word name ∷ []
 unfolding lock_name_at
 lock_name-takes row name e =
     from_bind (fixed_at row 1 (codes "lock") Word) _ name e (λ u first e1.
@@ -64,11 +49,11 @@ lock_name-takes row name e =
     found None x e = absurd cc
     found (Some y) x e = cc
 
-pub lock_name-again : (row : Row) (name : LockName) → words row ≡ codes "lock" ∷ name_word name ∷ [] → lock_name_at row ≡ Ok name
-unfolding lock_name_at
-lock_name-again row name e = rw (fixed-again row 1 (codes "lock") Word (rw e refl), needed-again row 2 (name_word name) (rw e refl), known name, no_word-again row 3 (rw e refl)) refl
+pub lock_name-again : (row : Row) (name : LockName) → words row ≡ codes "lock" ∷ lock_word name ∷ [] → lock_name_at row ≡ Ok name
+unfolding lock_name_at lock_named
+lock_name-again row name e = rw (fixed-again row 1 (codes "lock") Word (rw e refl), needed-again row 2 (lock_word name) (rw e refl), known name, no_word-again row 3 (rw e refl)) refl
   where
-    known : (x : LockName) → lock_named (name_word x) ≡ Some x
+    known : (x : LockName) → lock_named (lock_word x) ≡ Some x
     known named.Spin = refl
     known named.Dmcs = refl
     known named.Alock = refl
@@ -88,9 +73,9 @@ budgets-take row n zero m budgets one last e =
     let same : m ≡ n = omega (arith, last) in
     subst (λ (bs : List ℕ). BudgetsTaken row n 0 m bs) (ok_is [] budgets e) (record { fit = record { each_level = refl; small = tt }; are = rw same refl })
 budgets-take row n (suc count) m budgets one last e =
-    from_bind (between_at row n 0 1000) _ budgets e (λ budget first e1.
+    from_bind (between_at row n 0 MOST_BUDGET) _ budgets e (λ budget first e1.
     from_bind (budgets_from row (n + 1) count) _ budgets e1 (λ others more e2.
-    let a = between-takes row n 0 1000 budget first in
+    let a = between-takes row n 0 MOST_BUDGET budget first in
     let b = budgets-take row (n + 1) count m others (omega arith) (omega (arith, last)) more in
     subst (λ (bs : List ℕ). BudgetsTaken row n (suc count) m bs) (ok_is (budget ∷ others) budgets e2) (record {
       fit = record { each_level = ap suc b.fit.each_level; small = (a.2, b.fit.small) };
@@ -116,7 +101,7 @@ budgets-again row n (suc count) m (budget ∷ budgets) more one last fit e =
     let next : rest_from row (n + 1) ≡ map decimal budgets ++ more = tails (decimal budget) (decimal budget) _ _ (sym (rest_from-word row n (n + 1) (decimal budget) one refl word) ∙ e) in
     let others = budgets-again row (n + 1) count m budgets more (omega arith) (omega (arith, last)) (record { each_level = omega (arith, fit.each_level); small = fit.small.1 }) next in
     record {
-      read = rw (between-again row n 0 1000 budget (record { word = word; fits = omega (arith, fit.small.0) }) (omega arith) fit.small.0, others.read) refl;
+      read = rw (between-again row n 0 MOST_BUDGET budget (record { word = word; fits = omega (arith, fit.small.0) }) (omega arith) fit.small.0, others.read) refl;
       rest = others.rest;
     }
 
@@ -148,28 +133,28 @@ budget_line-again row count budgets fit e =
 
 pub record CohortsTaken (row : Row) (p : ℕ × ℕ) : Type 0 where
   pub are : words row ≡ budget_words (p.0 ∷ p.1 ∷ [])
-  pub local : p.0 ≤ 1000
-  pub remote : p.1 ≤ 1000
+  pub local : p.0 ≤ MOST_BUDGET
+  pub remote : p.1 ≤ MOST_BUDGET
 
 pub cohorts-take : (row : Row) (p : ℕ × ℕ) → cohorts_at row ≡ Ok p → CohortsTaken row p
 unfolding cohorts_at
 cohorts-take row p e =
     from_bind (fixed_at row 1 (codes "budget") Word) _ p e (λ u first e1.
-    from_bind (between_at row 2 0 1000) _ p e1 (λ local second e2.
-    from_bind (between_at row 3 0 1000) _ p e2 (λ remote third e3.
+    from_bind (between_at row 2 0 MOST_BUDGET) _ p e1 (λ local second e2.
+    from_bind (between_at row 3 0 MOST_BUDGET) _ p e2 (λ remote third e3.
     from_bind (no_word_at row 4) _ p e3 (λ v alone e4.
-    let a = between-takes row 2 0 1000 local second in
-    let b = between-takes row 3 0 1000 remote third in
+    let a = between-takes row 2 0 MOST_BUDGET local second in
+    let b = between-takes row 3 0 MOST_BUDGET remote third in
     let all : words row ≡ budget_words (local ∷ remote ∷ []) = words-cons (words row) 0 _ _ (fixed-takes row 1 (codes "budget") Word u first)
     (words-cons (words row) 1 _ _ a.0.word (words-cons (words row) 2 _ _ b.0.word (words-nil (words row) 3 (no_word-takes row 4 v alone)))) in
     subst (λ (q : ℕ × ℕ). CohortsTaken row q) (ok_is (local, remote) p e4) (record { are = all; local = a.2; remote = b.2 })))))
 
-pub cohorts-again : (row : Row) (local remote : ℕ) → local ≤ 1000 → remote ≤ 1000 → words row ≡ budget_words (local ∷ remote ∷ []) → cohorts_at row ≡ Ok (local, remote)
+pub cohorts-again : (row : Row) (local remote : ℕ) → local ≤ MOST_BUDGET → remote ≤ MOST_BUDGET → words row ≡ budget_words (local ∷ remote ∷ []) → cohorts_at row ≡ Ok (local, remote)
 unfolding cohorts_at
 cohorts-again row local remote few small e =
     rw (
       fixed-again row 1 (codes "budget") Word (rw e refl),
-      between-again row 2 0 1000 local (record { word = rw e refl; fits = omega arith }) (omega arith) few,
-      between-again row 3 0 1000 remote (record { word = rw e refl; fits = omega arith }) (omega arith) small,
+      between-again row 2 0 MOST_BUDGET local (record { word = rw e refl; fits = omega arith }) (omega arith) few,
+      between-again row 3 0 MOST_BUDGET remote (record { word = rw e refl; fits = omega arith }) (omega arith) small,
       no_word-again row 4 (rw e refl),
     ) refl

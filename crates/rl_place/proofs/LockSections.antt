@@ -6,31 +6,17 @@ use Rattle.rl_text.specs.Reading.{next_left}
 use Rattle.rl_text.proofs.FromLaws.{from_bind}
 use Rattle.rl_text.proofs.WordLaws.{ok_is}
 use Rattle.rl_text.proofs.SectionLaws.{Followed, Followed-head, Followed-then, Followed-split, line-takes, line-again, one_line, line_then, left_of}
+use Rattle.rl_place.specs.declared.limits.TheConstants.{MOST_BUDGET, MOST_RANKS}
 use Rattle.rl_place.specs.declared.lock.Lock.{Lock}
 use Rattle.rl_place.specs.declared.lock.Lock.TheVariants.{Spin, Dmcs, Alock, Mcs, Rw}
-use Rattle.rl_place.specs.declared.settings.LockName.{LockName}
-use Rattle.rl_place.specs.declared.settings.LockName.TheVariants as named
+use Rattle.rl_word.specs.declared.locks.LockName.{LockName}
+use Rattle.rl_word.specs.declared.locks.LockName.TheVariants as named
 use Rattle.rl_place.specs.Places.{LockFits, BudgetsFit, RwFits}
 use Rattle.rl_place.specs.Reading.{lock_name_at, budgets_at, cohorts_at, setting_next, alock_next, mcs_next, rw_next, settings_next, lock_next}
-use Rattle.rl_place.specs.Spelling.{setting_words, budget_words, lock_lines}
+use Rattle.rl_place.specs.LockWords.{lock_word, name_of}
+use Rattle.rl_place.specs.Spelling.{setting_words, budget_words, settings_lines, lock_lines}
 use Rattle.rl_place.proofs.SettingLaws.{ReadsTo, setting_next-takes, setting_next-again}
-use Rattle.rl_place.proofs.LockLaws.{name_word, name_of, lock_name-takes, lock_name-again, budget_line-takes, budget_line-again, cohorts-take, cohorts-again}
-
--- the lines after the lock's name
-abbrev pub settings_lines : Lock → List (List (List ℕ))
-settings_lines Spin = []
-settings_lines Dmcs = []
-settings_lines (Alock local remote) = budget_words (local ∷ remote ∷ []) ∷ []
-settings_lines (Mcs budgets) = budget_words budgets ∷ []
-settings_lines (Rw budgets writers readers group) =
-    budget_words budgets ∷ setting_words (codes "writers") writers ∷ setting_words (codes "readers") readers ∷ setting_words (codes "group") group ∷ []
-
-lock_lines_are : (lock : Lock) → lock_lines lock ≡ (codes "lock" ∷ name_word (name_of lock) ∷ []) ∷ settings_lines lock
-lock_lines_are Spin = refl
-lock_lines_are Dmcs = refl
-lock_lines_are (Alock local remote) = refl
-lock_lines_are (Mcs budgets) = refl
-lock_lines_are (Rw budgets writers readers group) = refl
+use Rattle.rl_place.proofs.LockLaws.{lock_name-takes, lock_name-again, budget_line-takes, budget_line-again, cohorts-take, cohorts-again}
 
 -- ---- what is read is spelled so
 
@@ -73,13 +59,13 @@ unfolding rw_next
 rw-takes levels left p e =
     from_bind (next_left left) _ p e (λ line taken e1.
     from_bind (budgets_at line.0 levels) _ p e1 (λ budgets numbers e2.
-    from_bind (setting_next (codes "writers") 0 1000 line.1) _ p e2 (λ writers second e3.
-    from_bind (setting_next (codes "readers") 1 1000 writers.1) _ p e3 (λ readers third e4.
-    from_bind (setting_next (codes "group") 1 32 readers.1) _ p e4 (λ group fourth e5.
+    from_bind (setting_next (codes "writers") 0 MOST_BUDGET line.1) _ p e2 (λ writers second e3.
+    from_bind (setting_next (codes "readers") 1 MOST_BUDGET writers.1) _ p e3 (λ readers third e4.
+    from_bind (setting_next (codes "group") 1 MOST_RANKS readers.1) _ p e4 (λ group fourth e5.
     let t = budget_line-takes line.0 levels budgets numbers in
-    let a = setting_next-takes (codes "writers") 0 1000 line.1 writers second in
-    let b = setting_next-takes (codes "readers") 1 1000 writers.1 readers third in
-    let c = setting_next-takes (codes "group") 1 32 readers.1 group fourth in
+    let a = setting_next-takes (codes "writers") 0 MOST_BUDGET line.1 writers second in
+    let b = setting_next-takes (codes "readers") 1 MOST_BUDGET writers.1 readers third in
+    let c = setting_next-takes (codes "group") 1 MOST_RANKS readers.1 group fourth in
     let last = setting_words (codes "group") group.0 ∷ [] in
     let two = setting_words (codes "readers") readers.0 ∷ last in
     let three = setting_words (codes "writers") writers.0 ∷ two in
@@ -109,15 +95,15 @@ lock-takes levels left p e =
     from_bind (next_left left) _ p e (λ line taken e1.
     from_bind (lock_name_at line.0) _ p e1 (λ name is_name settings.
     let t = settings-take levels name line.1 p settings in
-    let w : words line.0 ≡ codes "lock" ∷ name_word (name_of p.0) ∷ [] = lock_name-takes line.0 name is_name ∙ ap (λ (x : LockName). codes "lock" ∷ name_word x ∷ []) (sym t.is) in
+    let w : words line.0 ≡ codes "lock" ∷ lock_word (name_of p.0) ∷ [] = lock_name-takes line.0 name is_name ∙ ap (λ (x : LockName). codes "lock" ∷ lock_word x ∷ []) (sym t.is) in
     record {
       fits = t.fits;
-      lines = subst (λ (ls : List (List (List ℕ))). Followed left.rows ls p.1.rows) (sym (lock_lines_are p.0)) (line_then left line _ (settings_lines p.0) p.1.rows (line-takes left line taken) w t.lines);
+      lines = line_then left line _ (settings_lines p.0) p.1.rows (line-takes left line taken) w t.lines;
     }))
 
 -- ---- what is spelled so is read
 
-alock-again : (local remote : ℕ) (left : Left) (rest : List Row) → local ≤ 1000 → remote ≤ 1000 → Followed left.rows (budget_words (local ∷ remote ∷ []) ∷ []) rest → ReadsTo (alock_next left) (Alock local remote) rest
+alock-again : (local remote : ℕ) (left : Left) (rest : List Row) → local ≤ MOST_BUDGET → remote ≤ MOST_BUDGET → Followed left.rows (budget_words (local ∷ remote ∷ []) ∷ []) rest → ReadsTo (alock_next left) (Alock local remote) rest
 unfolding alock_next
 alock-again local remote left rest few small f =
     let h = Followed-head left.rows (budget_words (local ∷ remote ∷ [])) [] rest f in
@@ -140,9 +126,9 @@ rw-again levels budgets writers readers group left rest fits f =
     let h = Followed-head left.rows (budget_words budgets) (setting_words (codes "writers") writers ∷ two) rest f in
     let x = Followed-split h.more rest (setting_words (codes "writers") writers ∷ []) two h.others in
     let y = Followed-split x.0 rest (setting_words (codes "readers") readers ∷ []) last x.2 in
-    let a = setting_next-again (codes "writers") 0 1000 (left_of h.more (left.read + 1)) writers x.0 (omega arith) (omega arith) fits.most_writers x.1 in
-    let b = setting_next-again (codes "readers") 1 1000 (left_of x.0 a.0) readers y.0 (omega arith) fits.some_readers fits.most_readers y.1 in
-    let c = setting_next-again (codes "group") 1 32 (left_of y.0 b.0) group rest (omega arith) fits.some_group fits.most_group y.2 in
+    let a = setting_next-again (codes "writers") 0 MOST_BUDGET (left_of h.more (left.read + 1)) writers x.0 (omega arith) (omega arith) fits.most_writers x.1 in
+    let b = setting_next-again (codes "readers") 1 MOST_BUDGET (left_of x.0 a.0) readers y.0 (omega arith) fits.some_readers fits.most_readers y.1 in
+    let c = setting_next-again (codes "group") 1 MOST_RANKS (left_of y.0 b.0) group rest (omega arith) fits.some_group fits.most_group y.2 in
     (c.0, rw (line-again left h.row h.more h.are h.line.ended, budget_line-again h.row levels budgets fits.each h.line.words, a.1, b.1, c.1) refl)
 
 settings-again : (levels : ℕ) (lock : Lock) (left : Left) (rest : List Row) → LockFits levels lock → Followed left.rows (settings_lines lock) rest → ReadsTo (settings_next levels (name_of lock) left) lock rest
@@ -156,6 +142,6 @@ settings-again levels (Rw budgets writers readers group) left rest fits f = rw-a
 pub lock-again : (levels : ℕ) (lock : Lock) (left : Left) (rest : List Row) → LockFits levels lock → Followed left.rows (lock_lines lock) rest → ReadsTo (lock_next levels left) lock rest
 unfolding lock_next
 lock-again levels lock left rest fits f =
-    let h = Followed-head left.rows (codes "lock" ∷ name_word (name_of lock) ∷ []) (settings_lines lock) rest (subst (λ (ls : List (List (List ℕ))). Followed left.rows ls rest) (lock_lines_are lock) f) in
+    let h = Followed-head left.rows (codes "lock" ∷ lock_word (name_of lock) ∷ []) (settings_lines lock) rest f in
     let s = settings-again levels lock (left_of h.more (left.read + 1)) rest fits h.others in
     (s.0, rw (line-again left h.row h.more h.are h.line.ended, lock_name-again h.row (name_of lock) h.line.words, s.1) refl)

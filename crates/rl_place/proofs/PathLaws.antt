@@ -17,6 +17,7 @@ use Rattle.rl_text.proofs.Decimals.{own}
 use Rattle.rl_text.proofs.FromLaws.{from_bind}
 use Rattle.rl_text.proofs.TextLaws.{HasNo, pieces-join, is_plain}
 use Rattle.rl_text.proofs.WordLaws.{test_ok, needed-takes, needed-again, plain-decimal}
+use Rattle.rl_place.specs.declared.limits.TheConstants.{MOST_PART}
 use Rattle.rl_place.specs.declared.path.Path.{Path}
 use Rattle.rl_place.specs.Paths.{IsPath, path_of, path_word, numbers_in, numbers_of, filled, parts_of, or_wrong, path_at}
 use Rattle.rl_place.proofs.PathParts.{numbers-spelled, numbers-decimal}
@@ -46,26 +47,26 @@ first_numbers levels numbers count = subst (λ (n : ℕ). take n (numbers ++ rep
 -- ---- the limit of the numbers
 
 within : (part : ℕ) → Bool
-within part = leb part 999
+within part = leb part MOST_PART
 
-small-numbers : (numbers zeros : List ℕ) → list_all (λ part. leb part 999) (numbers ++ zeros) ≡ true → AllByRecursion (λ part. part ≤ 999) numbers
+small-numbers : (numbers zeros : List ℕ) → list_all (λ part. leb part MOST_PART) (numbers ++ zeros) ≡ true → AllByRecursion (λ part. part ≤ MOST_PART) numbers
 small-numbers [] zeros e = tt
-small-numbers (n ∷ numbers) zeros e = let p = both (leb n 999) (list_all (λ part. leb part 999) (numbers ++ zeros)) e in (leb-true n 999 p.0, small-numbers numbers zeros p.1)
+small-numbers (n ∷ numbers) zeros e = let p = both (leb n MOST_PART) (list_all (λ part. leb part MOST_PART) (numbers ++ zeros)) e in (leb-true n MOST_PART p.0, small-numbers numbers zeros p.1)
   where
     both : (a b : Bool) → (a && b) ≡ true → (a ≡ true) × (b ≡ true)
     both true true e = (refl, refl)
     both true false e = absurd cc
     both false b e = absurd cc
 
-small-zeros : (k : ℕ) → list_all (λ part. leb part 999) (replicate k 0) ≡ true
+small-zeros : (k : ℕ) → list_all (λ part. leb part MOST_PART) (replicate k 0) ≡ true
 small-zeros zero = refl
 small-zeros (suc k) = small-zeros k
 
-numbers-small : (numbers : List ℕ) (k : ℕ) → AllByRecursion (λ part. part ≤ 999) numbers → list_all (λ part. leb part 999) (numbers ++ replicate k 0) ≡ true
+numbers-small : (numbers : List ℕ) (k : ℕ) → AllByRecursion (λ part. part ≤ MOST_PART) numbers → list_all (λ part. leb part MOST_PART) (numbers ++ replicate k 0) ≡ true
 numbers-small [] k h = small-zeros k
-numbers-small (n ∷ numbers) k h = rw (le-leb n 999 h.0) (numbers-small numbers k h.1)
+numbers-small (n ∷ numbers) k h = rw (le-leb n MOST_PART h.0) (numbers-small numbers k h.1)
 
-pub all-fit : (numbers : List ℕ) → AllByRecursion (λ part. part ≤ 999) numbers → AllByRecursion (λ n. n < 2 ^ 64) numbers
+pub all-fit : (numbers : List ℕ) → AllByRecursion (λ part. part ≤ MOST_PART) numbers → AllByRecursion (λ n. n < 2 ^ 64) numbers
 all-fit [] h = tt
 all-fit (n ∷ numbers) h = (omega (arith, h.0), all-fit numbers h.1)
 
@@ -83,7 +84,7 @@ unfolding path_at parts_of
 path-takes row n levels path e =
     from_bind (needed_at row n) _ path e (λ word there e1. by word (parts_of levels word) there refl e1)
   where
-    made : (word : List ℕ) (parts : List ℕ) → needed_at row n ≡ Ok word → parts_of levels word ≡ Some parts → list_all (λ part. leb part 999) parts ≡ true → PathTaken row n levels (record { len = levels; parts = parts })
+    made : (word : List ℕ) (parts : List ℕ) → needed_at row n ≡ Ok word → parts_of levels word ≡ Some parts → list_all (λ part. leb part MOST_PART) parts ≡ true → PathTaken row n levels (record { len = levels; parts = parts })
     made word parts there is small =
         let f = filled-is levels (numbers_of (pieces 46 word)) parts is in
         let s = numbers-spelled (pieces 46 word) f.numbers f.are in
@@ -98,7 +99,7 @@ path-takes row n levels path e =
     by : (word : List ℕ) (read : Option (List ℕ)) → needed_at row n ≡ Ok word → parts_of levels word ≡ read → or_wrong row n levels read ≡ Ok path → PathTaken row n levels path
     by word None there is e = absurd cc
     by word (Some parts) there is e =
-        let t = test_ok (list_all (λ part. leb part 999) parts) (refusal_at row n Range) (record { len = levels; parts = parts }) path e in
+        let t = test_ok (list_all (λ part. leb part MOST_PART) parts) (refusal_at row n Range) (record { len = levels; parts = parts }) path e in
         subst (λ (p : Path). PathTaken row n levels p) t.1 (made word parts there is t.0)
 
 -- ---- and back

@@ -13,6 +13,7 @@ use Rattle.rl_text.proofs.WordLaws.{ok_is, begins-is, fixed-takes, fixed-again, 
 use Rattle.rl_text.proofs.SectionLaws.{Followed, Followed-head, Followed-then, Followed-split, Followed-lines, Lines-followed, line-takes, line-again, one_line, left_of}
 use Rattle.rl_model.specs.declared.geom.Geom.{Geom}
 use Rattle.rl_model.specs.Geom.{GeomFits}
+use Rattle.rl_place.specs.declared.limits.TheConstants.{MOST_BUDGET, MOST_RANKS}
 use Rattle.rl_place.specs.declared.path.Path.{Path}
 use Rattle.rl_place.specs.declared.lock.Lock.{Lock}
 use Rattle.rl_place.specs.declared.lock.Lock.TheVariants.{Spin, Dmcs, Alock, Mcs, Rw}
@@ -123,11 +124,11 @@ place-takes text place e =
 plain-setting : (name : List ℕ) (n : ℕ) → is_plain name ≡ true → n < 2 ^ 64 → IsPlain (setting_words name n)
 plain-setting name n named fits = (omega arith, (named, (plain-decimal n fits, tt)))
 
-fit : (budgets : List ℕ) → AllByRecursion (λ budget. budget ≤ 1000) budgets → AllByRecursion (λ n. n < 2 ^ 64) budgets
+fit : (budgets : List ℕ) → AllByRecursion (λ budget. budget ≤ MOST_BUDGET) budgets → AllByRecursion (λ n. n < 2 ^ 64) budgets
 fit [] h = tt
 fit (budget ∷ budgets) h = (omega (arith, h.0), fit budgets h.1)
 
-plain-budgets : (budgets : List ℕ) → AllByRecursion (λ budget. budget ≤ 1000) budgets → IsPlain (budget_words budgets)
+plain-budgets : (budgets : List ℕ) → AllByRecursion (λ budget. budget ≤ MOST_BUDGET) budgets → IsPlain (budget_words budgets)
 plain-budgets budgets small = (omega arith, (refl, plain-numbers budgets (fit budgets small)))
 
 plain-lock : (levels : ℕ) (lock : Lock) → LockFits levels lock → AllByRecursion IsPlain (lock_lines lock)
@@ -158,7 +159,7 @@ plain-geom geom fits = (
   ),
 )
 
-plain-ranks : (levels next : ℕ) (paths : List Path) → next + length paths ≤ 32 → AllByRecursion (λ path. IsPath levels path) paths → AllByRecursion IsPlain (rank_lines next paths)
+plain-ranks : (levels next : ℕ) (paths : List Path) → next + length paths ≤ MOST_RANKS → AllByRecursion (λ path. IsPath levels path) paths → AllByRecursion IsPlain (rank_lines next paths)
 plain-ranks levels next [] few proper = tt
 plain-ranks levels next (path ∷ paths) few proper =
     ((omega arith, (refl, (plain-decimal next (omega (arith, few)), (refl, (plain-path levels path proper.0, tt))))), plain-ranks levels (next + 1) paths (omega (arith, few)) proper.1)
@@ -174,7 +175,7 @@ plain-place : (place : ThePlace) → IsProper place → AllByRecursion IsPlain (
 plain-place place proper =
     let nodes = all_nodes (λ p. IsPath place.levels p) place.paths proper.paths in
     let few_homes : 0 + length place.homes ≤ 16 = omega (arith, proper.each_shard, proper.geom.shards) in
-    let few_ranks : 0 + length place.paths ≤ 32 = omega (arith, proper.most_ranks) in
+    let few_ranks : 0 + length place.paths ≤ MOST_RANKS = omega (arith, proper.most_ranks) in
     let homes_on = home_lines (node_paths place.paths) 0 place.homes ++ closing in
     let ranks_on = rank_lines 0 place.paths ++ homes_on in
     let geom_on = geom_lines place.geom ++ ranks_on in (
@@ -208,7 +209,7 @@ read-again text place proper all =
     let start = left_of (rows_from 1 text) 0 in
     let nodes = node_paths place.paths in
     let nodes_proper = all_nodes (λ p. IsPath place.levels p) place.paths proper.paths in
-    let few_ranks : 0 + length place.paths ≤ 32 = omega (arith, proper.most_ranks) in
+    let few_ranks : 0 + length place.paths ≤ MOST_RANKS = omega (arith, proper.most_ranks) in
     let homes_on = home_lines nodes 0 place.homes ++ closing in
     let ranks_on = rank_lines 0 place.paths ++ homes_on in
     let geom_on = geom_lines place.geom ++ ranks_on in

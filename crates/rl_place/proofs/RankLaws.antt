@@ -7,6 +7,7 @@ use Rattle.rl_text.specs.Reading.{fixed_at, below_at, next_at, no_word_at, whole
 use Rattle.rl_text.proofs.FromLaws.{from_bind}
 use Rattle.rl_text.proofs.WordLaws.{ok_is, chosen, begins-is, words-cons, words-nil, fixed-takes, fixed-again, below-takes, below-again, in_order-takes, in_order-again, no_word-takes, no_word-again, whole-takes, whole-again}
 use Rattle.rl_text.proofs.SectionLaws.{Followed, Followed-head, left_of}
+use Rattle.rl_place.specs.declared.limits.TheConstants.{MOST_RANKS}
 use Rattle.rl_place.specs.declared.path.Path.{Path}
 use Rattle.rl_place.specs.Paths.{IsPath, path_at, path_word}
 use Rattle.rl_place.specs.Reading.{rank_at, ranks_from}
@@ -19,18 +20,18 @@ use Rattle.rl_place.proofs.SettingLaws.{ReadsTo}
 pub record RankTaken (row : Row) (levels next : ℕ) (path : Path) : Type 0 where
   pub are : words row ≡ rank_words next path
   pub proper : IsPath levels path
-  pub few : next < 32
+  pub few : next < MOST_RANKS
 
 pub rank-takes : (row : Row) (levels next : ℕ) (path : Path) → rank_at row levels next ≡ Ok path → RankTaken row levels next path
 unfolding rank_at
 rank-takes row levels next path e =
     from_bind (fixed_at row 1 (codes "rank") Word) _ path e (λ u named e1.
-    from_bind (below_at row 2 32) _ path e1 (λ k number e2.
+    from_bind (below_at row 2 MOST_RANKS) _ path e1 (λ k number e2.
     from_bind (next_at row 2 k next) _ path e2 (λ v in_order e3.
     from_bind (fixed_at row 3 (codes "at") Word) _ path e3 (λ w at_there e4.
     from_bind (path_at row 4 levels) _ path e4 (λ found is_path e5.
     from_bind (no_word_at row 5) _ path e5 (λ x alone e6.
-    let rank = below-takes row 2 32 k number in
+    let rank = below-takes row 2 MOST_RANKS k number in
     let same : k ≡ next = in_order-takes row 2 k next v in_order in
     let taken = path-takes row 4 levels found is_path in
     let all : words row ≡ codes "rank" ∷ decimal k ∷ codes "at" ∷ path_word found ∷ [] = words-cons (words row) 0 _ _ (fixed-takes row 1 (codes "rank") Word u named)
@@ -42,12 +43,12 @@ rank-takes row levels next path e =
       few = omega (arith, rank.1, same);
     })))))))
 
-pub rank-again : (row : Row) (levels next : ℕ) (path : Path) → 1 ≤ levels → IsPath levels path → next < 32 → words row ≡ rank_words next path → rank_at row levels next ≡ Ok path
+pub rank-again : (row : Row) (levels next : ℕ) (path : Path) → 1 ≤ levels → IsPath levels path → next < MOST_RANKS → words row ≡ rank_words next path → rank_at row levels next ≡ Ok path
 unfolding rank_at
 rank-again row levels next path some proper few e =
     rw (
       fixed-again row 1 (codes "rank") Word (rw e refl),
-      below-again row 2 32 next (record { word = rw e refl; fits = omega arith }) few,
+      below-again row 2 MOST_RANKS next (record { word = rw e refl; fits = omega arith }) few,
       in_order-again row 2 next,
       fixed-again row 3 (codes "at") Word (rw e refl),
       path-again row 4 levels path some proper (rw e refl),
@@ -60,7 +61,7 @@ pub record RanksTaken (levels next : ℕ) (rows : List Row) (p : List Path × Le
   pub lines : Followed rows (rank_lines next p.0) p.1.rows
   pub proper : AllByRecursion (λ path. IsPath levels path) p.0
   pub some : 1 ≤ length p.0
-  pub few : next + length p.0 ≤ 32
+  pub few : next + length p.0 ≤ MOST_RANKS
 
 pub ranks-take : (levels next read : ℕ) (rows : List Row) (p : List Path × Left) → ranks_from levels next read rows ≡ Ok p → RanksTaken levels next rows p
 unfolding ranks_from
@@ -92,7 +93,7 @@ ranks-take levels next read (row ∷ rows) p e =
 not_home : (row : Row) (next : ℕ) (path : Path) → words row ≡ rank_words next path → begins row (codes "home") ≡ false
 not_home row next path e = begins-is row (codes "rank") (codes "home") (rw e refl)
 
-pub ranks-again : (levels next read : ℕ) (rows : List Row) (paths : List Path) (rest : List Row) → 1 ≤ levels → AllByRecursion (λ path. IsPath levels path) paths → 1 ≤ length paths → next + length paths ≤ 32
+pub ranks-again : (levels next read : ℕ) (rows : List Row) (paths : List Path) (rest : List Row) → 1 ≤ levels → AllByRecursion (λ path. IsPath levels path) paths → 1 ≤ length paths → next + length paths ≤ MOST_RANKS
     → next_begins rest (codes "home") ≡ true → Followed rows (rank_lines next paths) rest → ReadsTo (ranks_from levels next read rows) paths rest
 unfolding ranks_from
 ranks-again levels next read rows [] rest level proper some few home f = absurd (omega (arith, some))

@@ -9,6 +9,7 @@ use Rattle.rl_text.proofs.WordLaws.{ok_is, words-cons, words-nil, fixed-takes, f
 use Rattle.rl_text.proofs.SectionLaws.{Followed, Followed-head, Followed-then, Followed-split, line-takes, line-again, one_line, left_of}
 use Rattle.rl_model.specs.declared.geom.Geom.{Geom}
 use Rattle.rl_model.specs.Geom.{GeomFits}
+use Rattle.rl_place.specs.declared.limits.TheConstants.{MOST_BUCKETS, MOST_CELLS, MOST_SHARDS}
 use Rattle.rl_place.specs.Reading.{setting_at, setting_next, geom_next}
 use Rattle.rl_place.specs.Spelling.{setting_words, geom_lines}
 
@@ -75,12 +76,12 @@ pub record GeomSection (left : Left) (p : Geom × Left) : Type 0 where
 pub geom-takes : (left : Left) (p : Geom × Left) → geom_next left ≡ Ok p → GeomSection left p
 unfolding geom_next
 geom-takes left p e =
-    from_bind (setting_next (codes "shards") 1 16 left) _ p e (λ shards first e1.
-    from_bind (setting_next (codes "buckets") 1 64 shards.1) _ p e1 (λ buckets second e2.
-    from_bind (setting_next (codes "overflow") 0 64 buckets.1) _ p e2 (λ overflow third e3.
-    let a = setting_next-takes (codes "shards") 1 16 left shards first in
-    let b = setting_next-takes (codes "buckets") 1 64 shards.1 buckets second in
-    let c = setting_next-takes (codes "overflow") 0 64 buckets.1 overflow third in
+    from_bind (setting_next (codes "shards") 1 MOST_SHARDS left) _ p e (λ shards first e1.
+    from_bind (setting_next (codes "buckets") 1 MOST_BUCKETS shards.1) _ p e1 (λ buckets second e2.
+    from_bind (setting_next (codes "overflow") 0 MOST_CELLS buckets.1) _ p e2 (λ overflow third e3.
+    let a = setting_next-takes (codes "shards") 1 MOST_SHARDS left shards first in
+    let b = setting_next-takes (codes "buckets") 1 MOST_BUCKETS shards.1 buckets second in
+    let c = setting_next-takes (codes "overflow") 0 MOST_CELLS buckets.1 overflow third in
     let geom : Geom = record { shards = shards.0; buckets = buckets.0; overflow = overflow.0 } in
     let last = setting_words (codes "overflow") overflow.0 ∷ [] in
     let others = setting_words (codes "buckets") buckets.0 ∷ last in
@@ -97,7 +98,7 @@ geom-again left geom rest fits f =
     let last = setting_words (codes "overflow") geom.overflow ∷ [] in
     let one = Followed-split left.rows rest (setting_words (codes "shards") geom.shards ∷ []) (setting_words (codes "buckets") geom.buckets ∷ last) f in
     let two = Followed-split one.0 rest (setting_words (codes "buckets") geom.buckets ∷ []) last one.2 in
-    let a = setting_next-again (codes "shards") 1 16 left geom.shards one.0 (omega arith) fits.some_shards fits.shards one.1 in
-    let b = setting_next-again (codes "buckets") 1 64 (left_of one.0 a.0) geom.buckets two.0 (omega arith) fits.some_buckets fits.buckets two.1 in
-    let c = setting_next-again (codes "overflow") 0 64 (left_of two.0 b.0) geom.overflow rest (omega arith) (omega arith) fits.overflow two.2 in
+    let a = setting_next-again (codes "shards") 1 MOST_SHARDS left geom.shards one.0 (omega arith) fits.some_shards fits.shards one.1 in
+    let b = setting_next-again (codes "buckets") 1 MOST_BUCKETS (left_of one.0 a.0) geom.buckets two.0 (omega arith) fits.some_buckets fits.buckets two.1 in
+    let c = setting_next-again (codes "overflow") 0 MOST_CELLS (left_of two.0 b.0) geom.overflow rest (omega arith) (omega arith) fits.overflow two.2 in
     (c.0, rw (a.1, b.1, c.1) refl)

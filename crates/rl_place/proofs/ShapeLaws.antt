@@ -10,6 +10,7 @@ use Rattle.std.proofs.lemmas.Option.{same_Some, slice_get_within, get_or_from_sl
 use Rattle.rl_word.specs.declared.shapes.Element.{Element}
 use Rattle.rl_word.specs.Places.{get_map, get_map_back, some_at}
 use Rattle.rl_word.specs.Shapes.{TheShape, IsParent, IsUnder, IsLeaf, IsNodeUnder, IsProper as IsProperShape}
+use Rattle.rl_place.specs.declared.limits.TheConstants.{MOST_BUDGET, MOST_RANKS}
 use Rattle.rl_place.specs.declared.path.Path.{Path}
 use Rattle.rl_place.specs.declared.lock.Lock.{Lock}
 use Rattle.rl_place.specs.declared.lock.Lock.TheVariants.{Spin, Dmcs, Alock, Mcs, Rw}
@@ -299,30 +300,30 @@ module _ (levels : ℕ) (lock : Lock) (paths nodes names : List Path) (s : Setti
 
   -- ---- budgets
 
-  level-small : (budgets : List ℕ) (n b : ℕ) → AllByRecursion (λ budget. budget ≤ 1000) budgets → level_budget budgets n ≡ Some b → b ≤ 1000
+  level-small : (budgets : List ℕ) (n b : ℕ) → AllByRecursion (λ budget. budget ≤ MOST_BUDGET) budgets → level_budget budgets n ≡ Some b → b ≤ MOST_BUDGET
   level-small budgets n b small h = by (eqb n 0) h
     where
-      by : (c : Bool) → cond c None (slice_get budgets (n - 1)) ≡ Some b → b ≤ 1000
+      by : (c : Bool) → cond c None (slice_get budgets (n - 1)) ≡ Some b → b ≤ MOST_BUDGET
       by true e = absurd cc
-      by false e = all-at (λ budget. budget ≤ 1000) budgets (n - 1) b small e
+      by false e = all-at (λ budget. budget ≤ MOST_BUDGET) budgets (n - 1) b small e
 
-  budget-small : (l : Lock) (n b : ℕ) → LockFits levels l → budget_of l n ≡ Some b → b ≤ 1000
+  budget-small : (l : Lock) (n b : ℕ) → LockFits levels l → budget_of l n ≡ Some b → b ≤ MOST_BUDGET
   budget-small Spin n b fits h = absurd cc
   budget-small Dmcs n b fits h = absurd cc
   budget-small (Alock local remote) n b fits h = absurd cc
   budget-small (Mcs budgets) n b fits h = level-small budgets n b fits.small h
   budget-small (Rw budgets writers readers group) n b fits h = by (eqb n 0) h
     where
-      by : (c : Bool) → cond c (Some writers) (level_budget budgets n) ≡ Some b → b ≤ 1000
+      by : (c : Bool) → cond c (Some writers) (level_budget budgets n) ≡ Some b → b ≤ MOST_BUDGET
       by true e = omega (arith, fits.most_writers, same_Some writers b e)
       by false e = level-small budgets n b fits.each.small e
 
-  small : (e b : ℕ) (x : Element) → slice_get elements e ≡ Some x → x.budget ≡ Some b → b ≤ 1000
+  small : (e b : ℕ) (x : Element) → slice_get elements e ≡ Some x → x.budget ≡ Some b → b ≤ MOST_BUDGET
   small e b x h is =
       let back = get_map_back (element_of lock nodes names) names e x h in
       budget-small lock back.0.len b s.fits (ap (λ (y : Element). y.budget) back.2 ∙ is)
 
-  pub shape-proper : 0 < length paths → length paths ≤ 32 → IsProperShape shape
+  pub shape-proper : 0 < length paths → length paths ≤ MOST_RANKS → IsProperShape shape
   shape-proper some few = record {
     some = omega (arith, some, length-map paths (number_in nodes));
     few = omega (arith, few, length-map paths (number_in nodes));

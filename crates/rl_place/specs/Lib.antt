@@ -1,6 +1,10 @@
+-- to be believed, in reading order
 pub mod Paths
 pub mod Numbering
+pub mod LockWords
 pub mod Places
-pub mod Reading
 pub mod Spelling
+pub mod Reading
 pub mod Shapes
+
+-- proved; skip at first: nothing

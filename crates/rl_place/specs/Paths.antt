@@ -7,6 +7,7 @@ use Rattle.rl_text.specs.Cut.{pieces}
 use Rattle.rl_text.specs.Number.{number_of}
 use Rattle.rl_text.specs.Rows.{Row}
 use Rattle.rl_text.specs.Reading.{◌>>=◌, refusal_at, needed_at}
+use Rattle.rl_place.specs.declared.limits.TheConstants.{MOST_PART}
 use Rattle.rl_place.specs.declared.path.Path.{Path}
 
 -- ---- what a path is
@@ -19,11 +20,11 @@ path_of numbers = record { len = length numbers; parts = numbers ++ replicate (3
 abbrev pub root_path : Path
 root_path = path_of []
 
--- the path has so many numbers, each at most 999, and 0 past them
+-- the path has so many numbers, each within its limit, and 0 past them
 pub record IsPath (levels : ℕ) (path : Path) : Type 0 where
   pub numbers : List ℕ
   pub count : length numbers ≡ levels
-  pub small : AllByRecursion (λ part. part ≤ 999) numbers
+  pub small : AllByRecursion (λ part. part ≤ MOST_PART) numbers
   pub is : path ≡ path_of numbers
 
 -- the numbers of a path
@@ -62,7 +63,7 @@ parts_of levels word = filled levels (numbers_of (pieces 46 word))
 abbrev pub or_wrong : Row → ℕ → ℕ → Option (List ℕ) → Result Path Refusal
 or_wrong row n levels None = Err (refusal_at row n Word)
 or_wrong row n levels (Some parts) =
-    if list_all (λ part. nat_le part 999) parts then Ok (record { len = levels; parts = parts }) else Err (refusal_at row n Range)
+    if list_all (λ part. nat_le part MOST_PART) parts then Ok (record { len = levels; parts = parts }) else Err (refusal_at row n Range)
 
 -- word n is a path of so many numbers: the form of the whole word is tested before the range of any number
 unfoldable pub path_at : Row → ℕ → ℕ → Result Path Refusal

@@ -1,6 +1,5 @@
 -- The grammar of a placement, line by line and word by word, with its first fault.
 use Rattle.std.specs.Prelude.{ℕ, zero, suc, ◌+◌, List, [], ◌∷◌, codes, Option, Some, None, Result, Ok, Err, position, if◌then◌else◌}
-use Rattle.std.specs.Str.{bytes_eq}
 use Rattle.rl_text.specs.declared.causes.Refusal.{Refusal}
 use Rattle.rl_text.specs.declared.causes.Why.TheVariants.{Word, Range}
 use Rattle.rl_text.specs.Rows.{Row, Left, rows_from}
@@ -9,8 +8,10 @@ use Rattle.rl_model.specs.declared.geom.Geom.{Geom}
 use Rattle.rl_place.specs.declared.path.Path.{Path}
 use Rattle.rl_place.specs.declared.lock.Lock.{Lock}
 use Rattle.rl_place.specs.declared.lock.Lock.TheVariants.{Spin, Dmcs, Alock, Mcs, Rw}
-use Rattle.rl_place.specs.declared.settings.LockName.{LockName}
-use Rattle.rl_place.specs.declared.settings.LockName.TheVariants as named
+use Rattle.rl_word.specs.declared.locks.LockName.{LockName}
+use Rattle.rl_word.specs.declared.locks.LockName.TheVariants as named
+use Rattle.rl_place.specs.declared.limits.TheConstants.{MOST_BUDGET, MOST_RANKS, MOST_SHARDS, MOST_BUCKETS, MOST_CELLS}
+use Rattle.rl_place.specs.LockWords.{lock_named}
 use Rattle.rl_place.specs.Paths.{path_at}
 use Rattle.rl_place.specs.Numbering.{node_paths, same_path}
 use Rattle.rl_place.specs.Places.{ThePlace}
@@ -35,22 +36,12 @@ setting_next name low high left = do
 -- shards S, buckets B, overflow O
 unfoldable pub geom_next : Left → Result (Geom × Left) Refusal
 geom_next left = do
-  shards ← setting_next (codes "shards") 1 16 left
-  buckets ← setting_next (codes "buckets") 1 64 shards.1
-  overflow ← setting_next (codes "overflow") 0 64 buckets.1
+  shards ← setting_next (codes "shards") 1 MOST_SHARDS left
+  buckets ← setting_next (codes "buckets") 1 MOST_BUCKETS shards.1
+  overflow ← setting_next (codes "overflow") 0 MOST_CELLS buckets.1
   Ok (record { shards = shards.0; buckets = buckets.0; overflow = overflow.0 }, overflow.1)
 
 -- ---- the lock and its settings
-
--- the five names
-abbrev pub lock_named : List ℕ → Option LockName
-lock_named name =
-    if bytes_eq name (codes "spin") then Some named.Spin
-    else (if bytes_eq name (codes "dmcs") then Some named.Dmcs
-    else (if bytes_eq name (codes "alock") then Some named.Alock
-    else (if bytes_eq name (codes "mcs") then Some named.Mcs
-    else (if bytes_eq name (codes "rw") then Some named.Rw
-    else None))))
 
 abbrev pub or_no_lock : Row → Option LockName → Result LockName Refusal
 or_no_lock row None = Err (refusal_at row 2 Word)
@@ -65,11 +56,11 @@ lock_name_at row = do
   alone ← no_word_at row 3
   Ok name
 
--- so many budgets from word n on, each at most 1000
+-- so many budgets from word n on, each within its limit
 unfoldable pub budgets_from : Row → ℕ → ℕ → Result (List ℕ) Refusal
 budgets_from row n zero = Ok []
 budgets_from row n (suc more) = do
-  budget ← between_at row n 0 1000
+  budget ← between_at row n 0 MOST_BUDGET
   budgets ← budgets_from row (n + 1) more
   Ok (budget ∷ budgets)
 
@@ -85,8 +76,8 @@ budgets_at row count = do
 unfoldable pub cohorts_at : Row → Result (ℕ × ℕ) Refusal
 cohorts_at row = do
   name_there ← fixed_at row 1 (codes "budget") Word
-  local ← between_at row 2 0 1000
-  remote ← between_at row 3 0 1000
+  local ← between_at row 2 0 MOST_BUDGET
+  remote ← between_at row 3 0 MOST_BUDGET
   alone ← no_word_at row 4
   Ok (local, remote)
 
@@ -109,9 +100,9 @@ unfoldable pub rw_next : ℕ → Left → Result (Lock × Left) Refusal
 rw_next levels left = do
   line ← next_left left
   budgets ← budgets_at line.0 levels
-  writers ← setting_next (codes "writers") 0 1000 line.1
-  readers ← setting_next (codes "readers") 1 1000 writers.1
-  group ← setting_next (codes "group") 1 32 readers.1
+  writers ← setting_next (codes "writers") 0 MOST_BUDGET line.1
+  readers ← setting_next (codes "readers") 1 MOST_BUDGET writers.1
+  group ← setting_next (codes "group") 1 MOST_RANKS readers.1
   Ok (Rw budgets writers.0 readers.0 group.0, group.1)
 
 -- the lines of the settings of the lock of this name
@@ -135,7 +126,7 @@ lock_next levels left = do
 unfoldable pub rank_at : Row → ℕ → ℕ → Result Path Refusal
 rank_at row levels next = do
   name_there ← fixed_at row 1 (codes "rank") Word
-  rank ← below_at row 2 32
+  rank ← below_at row 2 MOST_RANKS
   in_order ← next_at row 2 rank next
   at_there ← fixed_at row 3 (codes "at") Word
   path ← path_at row 4 levels

@@ -6,7 +6,7 @@ use Rattle.rl_word.specs.declared.shapes.Knobs.{Knobs}
 use Rattle.rl_word.specs.Shapes.{TheShape}
 use Rattle.rl_place.specs.declared.path.Path.{Path}
 use Rattle.rl_place.specs.declared.lock.Lock.{Lock}
-use Rattle.rl_place.specs.declared.lock.Lock.TheVariants.{Spin, Dmcs, Alock, Mcs, Rw}
+use Rattle.rl_place.specs.declared.lock.Lock.TheVariants.{Alock, Mcs, Rw}
 use Rattle.rl_place.specs.Paths.{prefix}
 use Rattle.rl_place.specs.Numbering.{same_path, node_paths, element_paths}
 use Rattle.rl_place.specs.Places.{ThePlace}
@@ -29,11 +29,9 @@ level_budget budgets n = if n == 0 then None else slice_get budgets (n - 1)
 
 -- the budget of the elements that are named by n numbers; the root is named by none
 abbrev pub budget_of : Lock → ℕ → Option ℕ
-budget_of Spin n = None
-budget_of Dmcs n = None
-budget_of (Alock local remote) n = None
 budget_of (Mcs budgets) n = level_budget budgets n
 budget_of (Rw budgets writers readers group) n = if n == 0 then Some writers else level_budget budgets n
+budget_of _ n = None
 
 -- the element of a name
 abbrev pub element_of : Lock → List Path → List Path → Path → Element
@@ -54,8 +52,6 @@ shape_of place = record {
 
 -- the settings that a lock reads, with 0 for those that it doesn't have
 abbrev pub knobs_of : Lock → Knobs
-knobs_of Spin = record { local = 0; remote = 0; writers = 0; readers = 0; group = 0 }
-knobs_of Dmcs = record { local = 0; remote = 0; writers = 0; readers = 0; group = 0 }
 knobs_of (Alock local remote) = record { local = local; remote = remote; writers = 0; readers = 0; group = 0 }
-knobs_of (Mcs budgets) = record { local = 0; remote = 0; writers = 0; readers = 0; group = 0 }
 knobs_of (Rw budgets writers readers group) = record { local = 0; remote = 0; writers = writers; readers = readers; group = group }
+knobs_of _ = record { local = 0; remote = 0; writers = 0; readers = 0; group = 0 }

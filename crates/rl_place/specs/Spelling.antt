@@ -6,6 +6,7 @@ use Rattle.rl_place.specs.declared.path.Path.{Path}
 use Rattle.rl_place.specs.declared.lock.Lock.{Lock}
 use Rattle.rl_place.specs.declared.lock.Lock.TheVariants.{Spin, Dmcs, Alock, Mcs, Rw}
 use Rattle.rl_place.specs.Paths.{path_word, root_path}
+use Rattle.rl_place.specs.LockWords.{lock_word, name_of}
 use Rattle.rl_place.specs.Numbering.{node_paths}
 use Rattle.rl_place.specs.Places.{ThePlace}
 
@@ -17,19 +18,22 @@ setting_words name n = name ∷ decimal n ∷ []
 abbrev pub budget_words : List ℕ → List (List ℕ)
 budget_words budgets = codes "budget" ∷ map decimal budgets
 
--- lock NAME, and the lines of the lock's settings
-abbrev pub lock_lines : Lock → List (List (List ℕ))
-lock_lines Spin = (codes "lock" ∷ codes "spin" ∷ []) ∷ []
-lock_lines Dmcs = (codes "lock" ∷ codes "dmcs" ∷ []) ∷ []
-lock_lines (Alock local remote) = (codes "lock" ∷ codes "alock" ∷ []) ∷ budget_words (local ∷ remote ∷ []) ∷ []
-lock_lines (Mcs budgets) = (codes "lock" ∷ codes "mcs" ∷ []) ∷ budget_words budgets ∷ []
-lock_lines (Rw budgets writers readers group) =
-    (codes "lock" ∷ codes "rw" ∷ [])
-    ∷ budget_words budgets
+-- the lines of the lock's settings
+abbrev pub settings_lines : Lock → List (List (List ℕ))
+settings_lines Spin = []
+settings_lines Dmcs = []
+settings_lines (Alock local remote) = budget_words (local ∷ remote ∷ []) ∷ []
+settings_lines (Mcs budgets) = budget_words budgets ∷ []
+settings_lines (Rw budgets writers readers group) =
+    budget_words budgets
     ∷ setting_words (codes "writers") writers
     ∷ setting_words (codes "readers") readers
     ∷ setting_words (codes "group") group
     ∷ []
+
+-- lock NAME, and the lines of the lock's settings
+abbrev pub lock_lines : Lock → List (List (List ℕ))
+lock_lines lock = (codes "lock" ∷ lock_word (name_of lock) ∷ []) ∷ settings_lines lock
 
 -- shards S, buckets B, overflow O
 abbrev pub geom_lines : Geom → List (List (List ℕ))

@@ -18,7 +18,10 @@
 #![tactic(auto)]
 
 mod knobs;
+mod laws;
+mod limits;
 mod lock;
+mod lock_words;
 mod names;
 mod path;
 mod path_word;
@@ -29,12 +32,15 @@ mod sections;
 mod settings;
 mod shape;
 
+pub use laws::no_fault;
+pub use limits::{MOST_BUCKETS, MOST_BUDGET, MOST_CELLS, MOST_PART, MOST_RANKS, MOST_SHARDS};
 pub use lock::{Budgets, Lock};
+pub use lock_words::{lock_named, lock_word};
 pub use path::Path;
 pub use path_word::path_text;
 pub use place::Place;
 pub use printer::place_text;
-pub use reader::{no_fault, read_place};
+pub use reader::read_place;
 
 #[cfg(test)]
 mod tests;

@@ -1,6 +1,7 @@
 //! The lock of a placement and its settings.
-ghost use Rattle.std.specs.Prelude.{◌≡◌, ◌++◌, ◌∷◌, [], OnOk};
+ghost use Rattle.std.specs.Prelude.{◌≡◌, ◌++◌, ◌∷◌, [], OnOk, OnErr};
 
+use rl_word::LockName;
 use std::alloc::{AllocError as OutOfMemory, Global};
 use std::marker::Model;
 
@@ -28,9 +29,10 @@ impl Budgets {
         }
     }
 
-    /// One budget more, after the others.
+    /// One budget more, after the others. After want of memory the budgets are as before.
     pub fn push(&mut self, budget: u32) -> Result<(), OutOfMemory>
-        ensures { OnOk result (self.new ≡ self.old ++ budget ∷ []) }
+        ensures ok { OnOk result (self.new ≡ self.old ++ budget ∷ []) }
+        ensures err { OnErr result (self.new ≡ self.old) }
     {
         self.list.push(budget)?;
         Ok(())
@@ -60,8 +62,11 @@ impl From<Vec<u32>> for Budgets {
     }
 }
 
-/// The lock that guards each shard, with its settings. Budgets and `writers` are 0 to 1000, `readers` 1 to 1000, `group`
-/// 1 to 32.
+/// The lock that guards each shard, with its settings. Budgets and `writers` are 0 to [`MOST_BUDGET`], `readers` 1 to
+/// [`MOST_BUDGET`], `group` 1 to [`MOST_RANKS`].
+///
+/// [`MOST_BUDGET`]: crate::MOST_BUDGET
+/// [`MOST_RANKS`]: crate::MOST_RANKS
 #[derive(Drop)]
 pub enum Lock {
     /// A spin lock: one word that a rank takes by compare-and-swap.
@@ -86,4 +91,21 @@ pub enum Lock {
         readers: u32,
         group: u32,
     },
+}
+
+impl Lock {
+    ghost use Rattle.rl_place.specs.LockWords.{name_of};
+
+    /// The name of the lock, without its settings.
+    pub fn name(&self) -> LockName
+        ensures { result ≡ name_of self.now }
+    {
+        match self {
+            Lock::Spin => LockName::Spin,
+            Lock::Dmcs => LockName::Dmcs,
+            Lock::Alock { .. } => LockName::Alock,
+            Lock::Mcs { .. } => LockName::Mcs,
+            Lock::Rw { .. } => LockName::Rw,
+        }
+    }
 }

@@ -1,10 +1,12 @@
 //! The spelling of a path: its numbers between single dots.
-ghost use Rattle.std.specs.Prelude.{◌≡◌, ◌≤◌, ◌++◌, ◌∷◌, [], OnOk, IfOk};
-ghost use Rattle.rl_text.specs.Rows.{row_of};
+ghost use Rattle.std.specs.Prelude.{◌≡◌, ◌≤◌, ◌<◌, ◌∷◌, [], OnErr};
+ghost use Rattle.rl_text.specs.Printing.{Puts, StandsBefore};
+ghost use Rattle.rl_text.specs.LineWords.{stepped};
 ghost use Rattle.rl_place.specs.Paths.{IsPath, path_word, path_at, parts_of, filled, numbers_of};
 
+use crate::limits::MOST_PART;
 use crate::path::Path;
-use rl_text::{Line, Refusal, Why, cut, number, put_number};
+use rl_text::{LineWords, Refusal, TEXT_LIMIT, Why, cut, number, put_number};
 use std::alloc::AllocError as OutOfMemory;
 
 fn one_part(a: &[u8]) -> Option<[u64; 3]>
@@ -58,18 +60,22 @@ fn parts_in(word: &[u8], levels: u32) -> Option<[u64; 3]>
     }
 }
 
-/// Word n as a path of so many numbers. Missing, Word where it has another form, Range where a number is over 999.
+/// The next word as a path of so many numbers. Missing, Word where it has another form, Range where a number is over
+/// [`MOST_PART`].
 #[tactic(auto, unfolding(crate::specs::Paths::path_at))]
-pub fn path_of(line: &Line<'_>, n: u32, levels: u32) -> Result<Path, Refusal>
-    requires { (1 ≤ n) × (1 ≤ levels) × (levels ≤ 3) }
-    ensures { result ≡ path_at (row_of line.now) n levels }
+pub fn path_of(words: &mut LineWords<'_>, levels: u32) -> Result<Path, Refusal>
+    requires there { words.old.next < TEXT_LIMIT }
+    requires levels { (1 ≤ levels) × (levels ≤ 3) }
+    ensures value { result ≡ path_at words.old.row words.old.next levels }
+    ensures steps { words.new ≡ stepped words.old }
 {
-    let word = line.needed(n)?;
+    let word = words.needed()?;
     let Some(parts) = parts_in(word, levels) else {
-        return Err(line.refusal(n, Why::Word));
+        return Err(words.refusal(Why::Word));
     };
-    if parts[0] > 999 || parts[1] > 999 || parts[2] > 999 {
-        return Err(line.refusal(n, Why::Range));
+    let most = u64::from(MOST_PART);
+    if parts[0] > most || parts[1] > most || parts[2] > most {
+        return Err(words.refusal(Why::Range));
     }
     Ok(Path {
         len: levels,
@@ -77,10 +83,10 @@ pub fn path_of(line: &Line<'_>, n: u32, levels: u32) -> Result<Path, Refusal>
     })
 }
 
-/// Appends the spelling of a path: its numbers between single dots; of the root nothing. After want of memory nothing is
-/// said of the text.
-pub fn path_text(path: Path, text: &mut Vec<u8>) -> Result<(), OutOfMemory>
-    ensures { OnOk result (text.new.items ≡ text.old.items ++ path_word path) }
+// Appends the numbers of a path. After want of memory some of them may stand there.
+fn put_parts(path: Path, text: &mut Vec<u8>) -> Result<(), OutOfMemory>
+    ensures puts { Puts result text.old text.new (path_word path) }
+    ensures err { OnErr result (StandsBefore text.old text.new) }
 {
     let [first, second, third] = path.parts;
     if path.len == 0 {
@@ -98,4 +104,18 @@ pub fn path_text(path: Path, text: &mut Vec<u8>) -> Result<(), OutOfMemory>
     text.push(b'.')?;
     put_number(text, u64::from(third))?;
     Ok(())
+}
+
+/// Appends the spelling of a path: its numbers between single dots; of the root nothing. After want of memory the text is
+/// as before.
+pub fn path_text(path: Path, text: &mut Vec<u8>) -> Result<(), OutOfMemory>
+    ensures puts { Puts result text.old text.new (path_word path) }
+    ensures err { OnErr result (text.new.items ≡ text.old.items) }
+{
+    let before = text.len();
+    let put = put_parts(path, text);
+    if put.is_err() {
+        text.truncate(before);
+    }
+    put
 }

@@ -7,9 +7,15 @@ use std::marker::Model;
 
 /// Where ranks and shards live, and which lock guards the shards.
 ///
-/// Which placements are proper is said by `IsProper` of `specs/Places.antt`: 1 to 3 levels, 1 to 32 ranks, 1 to 16 shards,
-/// 1 to 64 buckets, 0 to 64 overflow cells, each path of `levels` numbers of at most 999, and a home with a rank for each
-/// shard.
+/// Which placements are proper is said by `IsProper` of `specs/Places.antt`: 1 to 3 levels, 1 to [`MOST_RANKS`] ranks, 1 to
+/// [`MOST_SHARDS`] shards, 1 to [`MOST_BUCKETS`] buckets, 0 to [`MOST_CELLS`] overflow cells, each path of `levels` numbers
+/// of at most [`MOST_PART`], and a home with a rank for each shard.
+///
+/// [`MOST_RANKS`]: crate::MOST_RANKS
+/// [`MOST_SHARDS`]: crate::MOST_SHARDS
+/// [`MOST_BUCKETS`]: crate::MOST_BUCKETS
+/// [`MOST_CELLS`]: crate::MOST_CELLS
+/// [`MOST_PART`]: crate::MOST_PART
 #[derive(Drop)]
 pub struct Place {
     /// How many numbers a path has.

@@ -1,10 +1,12 @@
 //! The printer of a placement.
-ghost use Rattle.std.specs.Prelude.{◌≡◌, ◌++◌, ◌∷◌, [], ℕ, codes, get_or, OnOk, IfOk};
+ghost use Rattle.std.specs.Prelude.{◌≡◌, ◌∷◌, [], codes, get_or, IfOk};
+ghost use Rattle.rl_text.specs.Printing.{Puts};
 ghost use Rattle.rl_text.specs.Spelling.{line_text, text_of};
 ghost use Rattle.rl_place.specs.Paths.{root_path};
-ghost use Rattle.rl_place.specs.Spelling.{setting_words, budget_words, lock_lines, geom_lines, rank_words, rank_lines, home_words, home_lines, place_spelling};
+ghost use Rattle.rl_place.specs.Spelling.{setting_words, budget_words, settings_lines, lock_lines, geom_lines, rank_words, rank_lines, home_words, home_lines, place_spelling};
 
 use crate::lock::Lock;
+use crate::lock_words::lock_word;
 use crate::names::nodes_of;
 use crate::path::Path;
 use crate::path_word::path_text;
@@ -15,7 +17,7 @@ use std::alloc::{AllocError as OutOfMemory, Global};
 
 /// `NAME NUMBER`.
 fn put_setting(out: &mut Vec<u8>, name: &[u8], n: u32) -> Result<(), OutOfMemory>
-    ensures { OnOk result (out.new.items ≡ out.old.items ++ line_text (setting_words name.now n)) }
+    ensures { Puts result out.old out.new (line_text (setting_words name.now n)) }
 {
     out.extend_from_slice(name)?;
     out.push(b' ')?;
@@ -26,7 +28,7 @@ fn put_setting(out: &mut Vec<u8>, name: &[u8], n: u32) -> Result<(), OutOfMemory
 
 /// `budget B1 .. BN`.
 fn put_budgets(out: &mut Vec<u8>, budgets: &[u32]) -> Result<(), OutOfMemory>
-    ensures { OnOk result (out.new.items ≡ out.old.items ++ line_text (budget_words budgets.now)) }
+    ensures { Puts result out.old out.new (line_text (budget_words budgets.now)) }
 {
     out.extend_from_slice(b"budget")?;
     for budget in budgets {
@@ -44,35 +46,27 @@ fn put_counters(
     readers: u32,
     group: u32,
 ) -> Result<(), OutOfMemory>
-    ensures { OnOk result (out.new.items ≡ out.old.items ++ text_of (setting_words (codes "writers") writers ∷ setting_words (codes "readers") readers ∷ setting_words (codes "group") group ∷ [])) }
+    ensures { Puts result out.old out.new (text_of (setting_words (codes "writers") writers ∷ setting_words (codes "readers") readers ∷ setting_words (codes "group") group ∷ [])) }
 {
     put_setting(out, b"writers", writers)?;
     put_setting(out, b"readers", readers)?;
     put_setting(out, b"group", group)
 }
 
-/// `lock NAME`, and the lines of the lock's settings.
-fn put_lock(out: &mut Vec<u8>, lock: &Lock) -> Result<(), OutOfMemory>
-    ensures { OnOk result (out.new.items ≡ out.old.items ++ text_of (lock_lines lock.now)) }
+/// The lines of the lock's settings.
+fn put_settings(out: &mut Vec<u8>, lock: &Lock) -> Result<(), OutOfMemory>
+    ensures { Puts result out.old out.new (text_of (settings_lines lock.now)) }
 {
     match lock {
-        Lock::Spin => out.extend_from_slice(b"lock spin\n")?,
-        Lock::Dmcs => out.extend_from_slice(b"lock dmcs\n")?,
-        Lock::Alock { local, remote } => {
-            out.extend_from_slice(b"lock alock\n")?;
-            put_budgets(out, &[*local, *remote])?;
-        }
-        Lock::Mcs { budgets } => {
-            out.extend_from_slice(b"lock mcs\n")?;
-            put_budgets(out, budgets.as_slice())?;
-        }
+        Lock::Spin | Lock::Dmcs => {}
+        Lock::Alock { local, remote } => put_budgets(out, &[*local, *remote])?,
+        Lock::Mcs { budgets } => put_budgets(out, budgets.as_slice())?,
         Lock::Rw {
             budgets,
             writers,
             readers,
             group,
         } => {
-            out.extend_from_slice(b"lock rw\n")?;
             put_budgets(out, budgets.as_slice())?;
             put_counters(out, *writers, *readers, *group)?;
         }
@@ -80,9 +74,19 @@ fn put_lock(out: &mut Vec<u8>, lock: &Lock) -> Result<(), OutOfMemory>
     Ok(())
 }
 
+/// `lock NAME`, and the lines of the lock's settings.
+fn put_lock(out: &mut Vec<u8>, lock: &Lock) -> Result<(), OutOfMemory>
+    ensures { Puts result out.old out.new (text_of (lock_lines lock.now)) }
+{
+    out.extend_from_slice(b"lock ")?;
+    out.extend_from_slice(lock_word(lock.name()).as_bytes())?;
+    out.push(b'\n')?;
+    put_settings(out, lock)
+}
+
 /// `shards S`, `buckets B`, `overflow O`.
 fn put_geom(out: &mut Vec<u8>, geom: Geom) -> Result<(), OutOfMemory>
-    ensures { OnOk result (out.new.items ≡ out.old.items ++ text_of (geom_lines geom)) }
+    ensures { Puts result out.old out.new (text_of (geom_lines geom)) }
 {
     put_setting(out, b"shards", geom.shards)?;
     put_setting(out, b"buckets", geom.buckets)?;
@@ -91,7 +95,7 @@ fn put_geom(out: &mut Vec<u8>, geom: Geom) -> Result<(), OutOfMemory>
 
 /// `rank K at PATH`.
 fn put_rank(out: &mut Vec<u8>, rank: usize, path: Path) -> Result<(), OutOfMemory>
-    ensures { OnOk result (out.new.items ≡ out.old.items ++ line_text (rank_words rank path)) }
+    ensures { Puts result out.old out.new (line_text (rank_words rank path)) }
 {
     out.extend_from_slice(b"rank ")?;
     put_number(out, rank as u64)?;
@@ -103,7 +107,7 @@ fn put_rank(out: &mut Vec<u8>, rank: usize, path: Path) -> Result<(), OutOfMemor
 
 /// The lines of all ranks.
 fn put_ranks(out: &mut Vec<u8>, paths: &[Path]) -> Result<(), OutOfMemory>
-    ensures { OnOk result (out.new.items ≡ out.old.items ++ text_of (rank_lines 0 paths.now)) }
+    ensures { Puts result out.old out.new (text_of (rank_lines 0 paths.now)) }
 {
     for (rank, path) in paths.iter().enumerate() {
         put_rank(out, rank, *path)?;
@@ -113,7 +117,7 @@ fn put_ranks(out: &mut Vec<u8>, paths: &[Path]) -> Result<(), OutOfMemory>
 
 /// `home I PATH`, with the path of a node by its number.
 fn put_home(out: &mut Vec<u8>, nodes: &[Path], shard: usize, home: u32) -> Result<(), OutOfMemory>
-    ensures { OnOk result (out.new.items ≡ out.old.items ++ line_text (home_words shard (get_or nodes.now home root_path))) }
+    ensures { Puts result out.old out.new (line_text (home_words shard (get_or nodes.now home root_path))) }
 {
     let path = match nodes.get(home as usize) {
         Some(path) => *path,
@@ -129,7 +133,7 @@ fn put_home(out: &mut Vec<u8>, nodes: &[Path], shard: usize, home: u32) -> Resul
 
 /// The home lines of all shards.
 fn put_homes(out: &mut Vec<u8>, nodes: &[Path], homes: &[u32]) -> Result<(), OutOfMemory>
-    ensures { OnOk result (out.new.items ≡ out.old.items ++ text_of (home_lines nodes.now 0 homes.now)) }
+    ensures { Puts result out.old out.new (text_of (home_lines nodes.now 0 homes.now)) }
 {
     for (shard, home) in homes.iter().enumerate() {
         put_home(out, nodes, shard, *home)?;

@@ -1,15 +1,15 @@
 //! The reader of a placement.
-ghost use Rattle.std.specs.Prelude.{◌≡◌, ◌<◌, ◌↔◌, ℕ, List, None, length, IfOk, Ok};
+ghost use Rattle.std.specs.Prelude.{◌≡◌, ◌<◌, length, IfOk, Ok};
 ghost use Rattle.rl_text.specs.Reading.{Gives, Leaves};
 ghost use Rattle.rl_place.specs.Places.{ThePlace, IsProper};
-ghost use Rattle.rl_place.specs.Reading.{opening_next, closing_at, place_at, place_fault};
+ghost use Rattle.rl_place.specs.Reading.{opening_next, closing_at, place_at};
 ghost use Rattle.rl_place.specs.Spelling.{place_spelling};
 
 use crate::names::nodes_of;
 use crate::place::Place;
 use crate::sections::{homes_of, ranks_of};
 use crate::settings::{geom_of, lock_of, setting};
-use rl_text::{Lines, Refusal, TextErr, Why};
+use rl_text::{Lines, Refusal, TEXT_LIMIT, TextErr, Why};
 use std::alloc::Global;
 
 /// The first line: `rmalock-place 1`.
@@ -27,13 +27,13 @@ fn closing_of(lines: &mut Lines<'_>) -> Result<(), Refusal>
     ensures { result ≡ closing_at lines.old }
 {
     let line = lines.next_whole()?;
-    line.fixed(1, b"end", Why::Word)?;
+    line.words().fixed(b"end", Why::Word)?;
     lines.end(&line)
 }
 
 #[tactic(auto, unfolding(crate::specs::Reading::place_at))]
 fn place_of(alloc: Global, bytes: &[u8]) -> Result<Place, TextErr>
-    requires { length bytes.now < 4294967295 }
+    requires { length bytes.now < TEXT_LIMIT }
     ensures { Gives result (place_at bytes.now) }
 {
     let mut lines = Lines::new(bytes);
@@ -56,10 +56,10 @@ fn place_of(alloc: Global, bytes: &[u8]) -> Result<Place, TextErr>
 
 /// The placement that a text spells.
 ///
-/// The text has fewer than 4294967295 bytes. `Refused` comes exactly where the text spells no placement, with the text's
+/// The text has fewer than [`TEXT_LIMIT`] bytes. `Refused` comes exactly where the text spells no placement, with the text's
 /// first fault: its line and word from 1 (word 0 is the whole line) and its cause. `Memory` comes where memory ran out.
 pub fn read_place(alloc: Global, bytes: &[u8]) -> Result<Place, TextErr>
-    requires { length bytes.now < 4294967295 }
+    requires { length bytes.now < TEXT_LIMIT }
     // What is read is spelled so.
     ensures found { IfOk result (λ place. IsProper place × (bytes.now ≡ place_spelling place)) }
     // What is spelled so is read, unless memory runs out.
@@ -69,10 +69,3 @@ pub fn read_place(alloc: Global, bytes: &[u8]) -> Result<Place, TextErr>
 {
     place_of(alloc, bytes)
 }
-
-/// Two facts of the grammar: a text has no fault exactly where it is the spelling of a placement, and a placement has one
-/// spelling and no other placement has it. There is nothing to run.
-pub fn no_fault()
-    ensures spelled { (text : List ℕ) → (place_fault text ≡ None) ↔ ((place : ThePlace) × IsProper place × (text ≡ place_spelling place)) }
-    ensures one { (a b : ThePlace) → IsProper a → IsProper b → place_spelling a ≡ place_spelling b → a ≡ b }
-{}

@@ -4,36 +4,35 @@ ghost use Rattle.rl_text.specs.Rows.{row_of};
 ghost use Rattle.rl_text.specs.Reading.{GivesLeaving, seen};
 ghost use Rattle.rl_place.specs.Reading.{rank_at, ranks_next, home_at, homes_next};
 
+use crate::limits::MOST_RANKS;
 use crate::path::Path;
 use crate::path_word::path_of;
 use indexmap::IndexSet;
 use rl_text::{Line, Lines, Refusal, TextErr, Why};
 use std::alloc::Global;
 
-const MOST_RANKS: u64 = 32;
-
 /// `rank K at PATH`, where K is the next rank.
 #[tactic(auto, unfolding(crate::specs::Reading::rank_at))]
 fn rank_of(line: &Line<'_>, levels: u32, next: u64) -> Result<Path, Refusal>
     requires { (1 ≤ levels) × (levels ≤ 3) }
     ensures value { result ≡ rank_at (row_of line.now) levels next }
-    ensures few { IfOk result (λ _. next < 32) }
+    ensures few { IfOk result (λ _. next < MOST_RANKS) }
 {
-    line.fixed(1, b"rank", Why::Word)?;
-    let rank = line.below(2, MOST_RANKS)?;
-    line.next_in_order(2, rank, next)?;
-    line.fixed(3, b"at", Why::Word)?;
-    let path = path_of(line, 4, levels)?;
-    line.no_word(5)?;
+    let mut words = line.words();
+    words.fixed(b"rank", Why::Word)?;
+    let rank = words.below(u64::from(MOST_RANKS))?;
+    words.next_in_order(rank, next)?;
+    words.fixed(b"at", Why::Word)?;
+    let path = path_of(&mut words, levels)?;
+    words.no_more()?;
     Ok(path)
 }
 
 /// The lines of the ranks, up to the first line that begins with `home`: the path of each rank.
-
 pub fn ranks_of(alloc: Global, lines: &mut Lines<'_>, levels: u32) -> Result<Vec<Path>, TextErr>
     requires { (1 ≤ levels) × (levels ≤ 3) }
     ensures value { GivesLeaving (seen (λ paths. paths.items) result) lines.new (ranks_next levels lines.old) }
-    ensures few { IfOk result (λ paths. length paths.items ≤ 32) }
+    ensures few { IfOk result (λ paths. length paths.items ≤ MOST_RANKS) }
 {
     let mut paths = Vec::new(alloc);
     loop {
@@ -55,22 +54,22 @@ fn home_of(
     shards: u32,
     next: u32,
 ) -> Result<u32, Refusal>
-    requires { (1 ≤ levels) × (levels ≤ 3) × (length nodes.now.keys ≤ 32) }
+    requires { (1 ≤ levels) × (levels ≤ 3) × (length nodes.now.keys ≤ MOST_RANKS) }
     ensures value { result ≡ home_at (row_of line.now) levels nodes.now.keys shards next }
 {
-    line.fixed(1, b"home", Why::Word)?;
-    let shard = line.below(2, u64::from(shards))?;
-    line.next_in_order(2, shard, u64::from(next))?;
-    let path = path_of(line, 3, levels)?;
+    let mut words = line.words();
+    words.fixed(b"home", Why::Word)?;
+    let shard = words.below(u64::from(shards))?;
+    words.next_in_order(shard, u64::from(next))?;
+    let path = path_of(&mut words, levels)?;
     let Some(node) = nodes.get_index_of(&path) else {
-        return Err(line.refusal(3, Why::Range));
+        return Err(words.refusal(Why::Range));
     };
-    line.no_word(4)?;
+    words.no_more()?;
     Ok(node as u32)
 }
 
 /// The home lines of all shards: the node of each shard.
-
 pub fn homes_of(
     alloc: Global,
     lines: &mut Lines<'_>,
@@ -78,7 +77,7 @@ pub fn homes_of(
     nodes: &IndexSet<Path>,
     shards: u32,
 ) -> Result<Vec<u32>, TextErr>
-    requires { (1 ≤ levels) × (levels ≤ 3) × (length nodes.now.keys ≤ 32) }
+    requires { (1 ≤ levels) × (levels ≤ 3) × (length nodes.now.keys ≤ MOST_RANKS) }
     ensures { GivesLeaving (seen (λ homes. homes.items) result) lines.new (homes_next levels nodes.now.keys shards lines.old) }
 {
     let mut homes = Vec::new(alloc);

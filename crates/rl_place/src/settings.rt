@@ -1,33 +1,33 @@
 //! Readers of the lines before the ranks: names with numbers, and the lock with its settings.
-ghost use Rattle.std.specs.Prelude.{◌≡◌, ◌≤◌, ◌<◌, ◌+◌, ◌++◌, IfOk};
+ghost use Rattle.std.specs.Prelude.{◌≡◌, ◌≤◌, ◌+◌, IfOk, OnOk};
 ghost use Rattle.rl_text.specs.Rows.{row_of};
 ghost use Rattle.rl_text.specs.Reading.{Gives, Leaves, GivesLeaving};
-ghost use Rattle.rl_place.specs.Reading.{setting_at, setting_next, geom_next, lock_named, lock_name_at, budgets_from, budgets_at, cohorts_at, alock_next, mcs_next, rw_next, settings_next, lock_next};
+ghost use Rattle.rl_place.specs.Reading.{setting_at, setting_next, geom_next, lock_name_at, budgets_from, budgets_at, cohorts_at, alock_next, mcs_next, rw_next, settings_next, lock_next};
 
+use crate::limits::{MOST_BUCKETS, MOST_BUDGET, MOST_CELLS, MOST_RANKS, MOST_SHARDS};
 use crate::lock::{Budgets, Lock};
+use crate::lock_words::lock_named;
 use rl_model::Geom;
-use rl_text::{Line, Lines, Refusal, TextErr, Why};
+use rl_text::{Line, LineWords, Lines, Refusal, TextErr, Why};
+use rl_word::LockName;
 use std::alloc::Global;
-
-const MOST_BUDGET: u64 = 1000;
 
 /// `NAME NUMBER`, with the number from `low` to `high`.
 #[tactic(auto, unfolding(crate::specs::Reading::setting_at))]
-fn setting_of(line: &Line<'_>, name: &[u8], low: u64, high: u64) -> Result<u32, Refusal>
-    requires { high < 4294967295 }
+fn setting_of(line: &Line<'_>, name: &[u8], low: u32, high: u32) -> Result<u32, Refusal>
     ensures value { result ≡ setting_at (row_of line.now) name.now low high }
     ensures between { IfOk result (λ n. (low ≤ n) × (n ≤ high)) }
 {
-    line.fixed(1, name, Why::Word)?;
-    let n = line.between(2, low, high)?;
-    line.no_word(3)?;
+    let mut words = line.words();
+    words.fixed(name, Why::Word)?;
+    let n = words.between(u64::from(low), u64::from(high))?;
+    words.no_more()?;
     Ok(n as u32)
 }
 
 /// The next line is `NAME NUMBER`, with the number from `low` to `high`.
 #[tactic(auto, unfolding(crate::specs::Reading::setting_next))]
-pub fn setting(lines: &mut Lines<'_>, name: &[u8], low: u64, high: u64) -> Result<u32, Refusal>
-    requires { high < 4294967295 }
+pub fn setting(lines: &mut Lines<'_>, name: &[u8], low: u32, high: u32) -> Result<u32, Refusal>
     ensures value { Leaves result lines.new (setting_next name.now low high lines.old) }
     ensures between { IfOk result (λ n. (low ≤ n) × (n ≤ high)) }
 {
@@ -40,9 +40,9 @@ pub fn setting(lines: &mut Lines<'_>, name: &[u8], low: u64, high: u64) -> Resul
 pub fn geom_of(lines: &mut Lines<'_>) -> Result<Geom, Refusal>
     ensures { Leaves result lines.new (geom_next lines.old) }
 {
-    let shards = setting(lines, b"shards", 1, 16)?;
-    let buckets = setting(lines, b"buckets", 1, 64)?;
-    let overflow = setting(lines, b"overflow", 0, 64)?;
+    let shards = setting(lines, b"shards", 1, MOST_SHARDS)?;
+    let buckets = setting(lines, b"buckets", 1, MOST_BUCKETS)?;
+    let overflow = setting(lines, b"overflow", 0, MOST_CELLS)?;
     Ok(Geom {
         shards,
         buckets,
@@ -50,51 +50,30 @@ pub fn geom_of(lines: &mut Lines<'_>) -> Result<Geom, Refusal>
     })
 }
 
-/// The name of a lock.
-#[derive(Clone, Copy)]
-enum LockName {
-    Spin,
-    Dmcs,
-    Alock,
-    Mcs,
-    Rw,
-}
-
-fn lock_named(word: &[u8]) -> Option<LockName>
-    ensures { result ≡ lock_named word.now }
-{
-    match word {
-        b"spin" => Some(LockName::Spin),
-        b"dmcs" => Some(LockName::Dmcs),
-        b"alock" => Some(LockName::Alock),
-        b"mcs" => Some(LockName::Mcs),
-        b"rw" => Some(LockName::Rw),
-        _ => None,
-    }
-}
-
 /// `lock NAME`.
 #[tactic(auto, unfolding(crate::specs::Reading::lock_name_at))]
 fn lock_name_of(line: &Line<'_>) -> Result<LockName, Refusal>
     ensures { result ≡ lock_name_at (row_of line.now) }
 {
-    line.fixed(1, b"lock", Why::Word)?;
-    let word = line.needed(2)?;
+    let mut words = line.words();
+    words.fixed(b"lock", Why::Word)?;
+    let word = words.needed()?;
     let Some(name) = lock_named(word) else {
-        return Err(line.refusal(2, Why::Word));
+        return Err(words.refusal(Why::Word));
     };
-    line.no_word(3)?;
+    words.no_more()?;
     Ok(name)
 }
 
 /// So many budgets from word 2 on.
-fn budget_words(alloc: Global, line: &Line<'_>, count: u32) -> Result<Budgets, TextErr>
-    requires { count ≤ 3 }
-    ensures { Gives result (budgets_from (row_of line.now) 2 count) }
+fn budget_words(alloc: Global, words: &mut LineWords<'_>, count: u32) -> Result<Budgets, TextErr>
+    requires { (words.old.next ≡ 2) × (count ≤ 3) }
+    ensures value { Gives result (budgets_from words.old.row 2 count) }
+    ensures row { OnOk result (words.new ≡ record { row = words.old.row; next = count + 2 }) }
 {
     let mut budgets = Budgets::new(alloc);
-    for i in 0..count {
-        let budget = line.between(2 + i, 0, MOST_BUDGET)?;
+    for _ in 0..count {
+        let budget = words.between(0, u64::from(MOST_BUDGET))?;
         budgets.push(budget as u32)?;
     }
     Ok(budgets)
@@ -106,9 +85,10 @@ fn budgets_of(alloc: Global, line: &Line<'_>, count: u32) -> Result<Budgets, Tex
     requires { count ≤ 3 }
     ensures { Gives result (budgets_at (row_of line.now) count) }
 {
-    line.fixed(1, b"budget", Why::Word)?;
-    let budgets = budget_words(alloc, line, count)?;
-    line.no_word(count + 2)?;
+    let mut words = line.words();
+    words.fixed(b"budget", Why::Word)?;
+    let budgets = budget_words(alloc, &mut words, count)?;
+    words.no_more()?;
     Ok(budgets)
 }
 
@@ -117,10 +97,11 @@ fn budgets_of(alloc: Global, line: &Line<'_>, count: u32) -> Result<Budgets, Tex
 fn cohorts_of(line: &Line<'_>) -> Result<(u32, u32), Refusal>
     ensures { result ≡ cohorts_at (row_of line.now) }
 {
-    line.fixed(1, b"budget", Why::Word)?;
-    let local = line.between(2, 0, MOST_BUDGET)?;
-    let remote = line.between(3, 0, MOST_BUDGET)?;
-    line.no_word(4)?;
+    let mut words = line.words();
+    words.fixed(b"budget", Why::Word)?;
+    let local = words.between(0, u64::from(MOST_BUDGET))?;
+    let remote = words.between(0, u64::from(MOST_BUDGET))?;
+    words.no_more()?;
     Ok((local as u32, remote as u32))
 }
 
@@ -150,9 +131,9 @@ fn rw_of(alloc: Global, lines: &mut Lines<'_>, levels: u32) -> Result<Lock, Text
 {
     let line = lines.next_whole()?;
     let budgets = budgets_of(alloc, &line, levels)?;
-    let writers = setting(lines, b"writers", 0, 1000)?;
-    let readers = setting(lines, b"readers", 1, 1000)?;
-    let group = setting(lines, b"group", 1, 32)?;
+    let writers = setting(lines, b"writers", 0, MOST_BUDGET)?;
+    let readers = setting(lines, b"readers", 1, MOST_BUDGET)?;
+    let group = setting(lines, b"group", 1, MOST_RANKS)?;
     Ok(Lock::Rw {
         budgets,
         writers,

@@ -2,9 +2,9 @@
 ghost use Rattle.std.specs.Prelude.{IfOk};
 ghost use Rattle.rl_place.specs.Places.{IsProper};
 
-use crate::{Lock, Path, Place, path_text, place_text, read_place};
-use rl_text::{Refusal, TextErr, Why, put_number};
-use rl_word::Element;
+use crate::{Lock, Path, Place, lock_named, lock_word, path_text, place_text, read_place};
+use rl_text::{Refusal, TEXT_LIMIT, TextErr, Why, put_number};
+use rl_word::{Element, LockName};
 use std::alloc::{AllocError, Global};
 use std::test::*;
 
@@ -33,7 +33,7 @@ const THREE_LEVELS: &[u8] =
 fn read(alloc: Global, text: &[u8]) -> Result<Place, TextErr>
     ensures { IfOk result (λ place. IsProper place) }
 {
-    if text.len() >= 4294967295 {
+    if text.len() >= TEXT_LIMIT as usize {
         return Err(TextErr::Memory);
     }
     read_place(alloc, text)
@@ -289,6 +289,14 @@ fn shape_of_two_nodes(rt: HostRuntime) {
     };
     let elements = [root, element(Some(0), 0, 1), element(Some(0), 1, 1)];
     assert_eq!(rt; shape.elements.as_slice(), elements.as_slice());
+}
+
+#[test]
+fn names_of_locks(rt: HostRuntime) {
+    assert_eq!(rt; lock_word(LockName::Alock), "alock");
+    assert_eq!(rt; lock_named(b"rw"), Some(LockName::Rw));
+    assert_eq!(rt; lock_named(b"spin "), None);
+    assert_eq!(rt; Lock::Dmcs.name(), LockName::Dmcs);
 }
 
 #[test]

@@ -1,13 +1,12 @@
 -- The words of a line from one of them on.
 use Rattle.std.proofs.Common.{◌≡◌, ℕ, zero, suc, ◌+◌, ◌-◌, ◌≤◌, List, [], ◌∷◌, drop, Some, Result, Ok, Err, refl, zero-add, suc-add, arith}
 use Rattle.std.specs.List.{slice_get}
-use Rattle.rl_text.specs.declared.causes.Refusal.{Refusal}
 use Rattle.rl_text.specs.Rows.{Row, words, word_at}
 use Rattle.rl_text.specs.Reading.{◌>>=◌}
 use Rattle.rl_text.proofs.WordLaws.{words-cons}
 
 -- what follows a step that did not fail
-pub from_bind : {A B : Type 0} {P : Type 0} (r : Result A Refusal) (f : A → Result B Refusal) (y : B) → (r >>= f) ≡ Ok y → ((x : A) → r ≡ Ok x → f x ≡ Ok y → P) → P
+pub from_bind : {A B E P : Type 0} (r : Result A E) (f : A → Result B E) (y : B) → (r >>= f) ≡ Ok y → ((x : A) → r ≡ Ok x → f x ≡ Ok y → P) → P
 from_bind (Ok x) f y e then = then x refl e
 from_bind (Err d) f y e then = absurd cc
 
@@ -32,10 +31,10 @@ word_at-rest row n m k ws one is e =
     rw (i, ← slice_get-drop (words row) (n - 1) k, e) refl
 
 -- steps in a row
-pub bind_assoc : {A B C : Type 0} (r : Result A Refusal) (f : A → Result B Refusal) (g : B → Result C Refusal) → ((r >>= f) >>= g) ≡ (r >>= λ x. f x >>= g)
+pub bind_assoc : {A B C E : Type 0} (r : Result A E) (f : A → Result B E) (g : B → Result C E) → ((r >>= f) >>= g) ≡ (r >>= λ x. f x >>= g)
 bind_assoc (Ok x) f g = refl
 bind_assoc (Err e) f g = refl
 
-pub bind_congr : {A B : Type 0} (r : Result A Refusal) (f g : A → Result B Refusal) → ((x : A) → f x ≡ g x) → (r >>= f) ≡ (r >>= g)
+pub bind_congr : {A B E : Type 0} (r : Result A E) (f g : A → Result B E) → ((x : A) → f x ≡ g x) → (r >>= f) ≡ (r >>= g)
 bind_congr (Ok x) f g h = h x
 bind_congr (Err e) f g h = refl

@@ -5,4 +5,4 @@ pub mod TextLaws
 pub mod WordLaws
 pub mod FromLaws
 pub mod SectionLaws
-pub mod PlaceLemmas
+pub mod LineWordLemmas

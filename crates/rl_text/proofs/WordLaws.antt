@@ -17,7 +17,7 @@ use Rattle.rl_text.proofs.Decimals.{own, number_of-spelled, number_of-decimal}
 use Rattle.rl_text.proofs.TextLaws.{AreLines, is_plain, IsPlain, words-join}
 
 -- the value of a step that did not fail
-pub bind_ok : {A B : Type 0} (r : Result A Refusal) (f : A → Result B Refusal) (y : B) → (r >>= f) ≡ Ok y → (x : A) × (r ≡ Ok x) × (f x ≡ Ok y)
+pub bind_ok : {A B E : Type 0} (r : Result A E) (f : A → Result B E) (y : B) → (r >>= f) ≡ Ok y → (x : A) × (r ≡ Ok x) × (f x ≡ Ok y)
 bind_ok (Ok x) f y e = (x, refl, e)
 bind_ok (Err d) f y e = absurd cc
 

@@ -1,7 +1,11 @@
-pub mod Causes
-pub mod Number
+-- to be believed, in reading order
 pub mod Cut
 pub mod Rows
-pub mod Words
+pub mod Number
+pub mod Causes
 pub mod Reading
+pub mod LineWords
 pub mod Spelling
+pub mod Printing
+
+-- proved; skip at first: nothing

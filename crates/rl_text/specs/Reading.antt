@@ -9,9 +9,9 @@ use Rattle.rl_text.specs.declared.failing.TextErr.TheVariants.{Refused, Memory}
 use Rattle.rl_text.specs.Number.{number_of}
 use Rattle.rl_text.specs.Rows.{Row, Left, word_at}
 
--- one step of reading after the other: the first refusal ends the reading
+-- one step of reading after the other: the first error ends the reading
 infixl 10 ◌>>=◌
-abbrev pub ◌>>=◌ : {A B : Type 0} → Result A Refusal → (A → Result B Refusal) → Result B Refusal
+abbrev pub ◌>>=◌ : {A B E : Type 0} → Result A E → (A → Result B E) → Result B E
 (Ok x) >>= f = f x
 (Err e) >>= f = Err e
 
@@ -129,13 +129,13 @@ abbrev pub next_begins : List Row → List ℕ → Bool
 next_begins [] text = false
 next_begins (row ∷ rows) text = begins row text
 
--- what a reader of lines returned, and the lines that it left, are what reading gives
-abbrev pub Leaves : {X : Type 0} → Result X Refusal → Left → Result (X × Left) Refusal → Type 0
+-- what a reader returned, and what it left to be read, as lines or the number of a word, are what reading gives
+abbrev pub Leaves : {X L : Type 0} → Result X Refusal → L → Result (X × L) Refusal → Type 0
 Leaves (Ok x) left read = read ≡ Ok (x, left)
 Leaves (Err refusal) left read = read ≡ Err refusal
 
 -- the same of a reader that takes memory, unless memory ran out
-abbrev pub GivesLeaving : {X : Type 0} → Result X TextErr → Left → Result (X × Left) Refusal → Type 0
+abbrev pub GivesLeaving : {X L : Type 0} → Result X TextErr → L → Result (X × L) Refusal → Type 0
 GivesLeaving (Ok x) left read = read ≡ Ok (x, left)
 GivesLeaving (Err (Refused refusal)) left read = read ≡ Err refusal
 GivesLeaving (Err Memory) left read = Unit {0}

@@ -3,10 +3,10 @@
 //! A text is a list of lines, each ended by one newline byte. The words of a line stand between single spaces. Nothing is
 //! trimmed: two spaces make an empty word, and a carriage return is a byte of its word.
 //!
-//! - `Lines` hands out the lines of a text one after the other, and `Line` its words: any one by its number, or, by
-//!   `Words`, one after the other.
+//! - `Lines` hands out the lines of a text one after the other, and `LineWords` the words of a `Line`.
 //! - `number` reads a word as a number, exactly where the word is the number's one decimal spelling.
-//! - A reader takes a line word by word, and its first fault is a `Refusal`: a line, a word and a cause (`Why`).
+//! - A reader takes a line word by word by `LineWords`, and its first fault is a `Refusal`: a line, a word and a cause
+//!   (`Why`).
 //! - The printers append to a text what the readers read.
 //!
 //! The promise: each reader equals a definition of `specs/Reading.antt`, which says what is read from the lines and which
@@ -18,20 +18,19 @@ mod causes;
 mod cutting;
 mod failing;
 mod line;
+mod line_words;
 mod lines;
 mod numbers;
 mod printing;
-mod reading;
-mod words;
 
 pub use causes::{Refusal, Why};
 pub use cutting::cut;
 pub use failing::TextErr;
 pub use line::Line;
-pub use lines::Lines;
+pub use line_words::LineWords;
+pub use lines::{Lines, TEXT_LIMIT};
 pub use numbers::number;
 pub use printing::{put_number, put_refusal};
-pub use words::Words;
 
 #[cfg(test)]
 mod tests;

@@ -1,9 +1,9 @@
-//! A line of a text and its words.
-ghost use Rattle.std.specs.Prelude.{◌≡◌, ◌≤◌};
-ghost use Rattle.std.specs.Option.{option_map};
-ghost use Rattle.rl_text.specs.Rows.{row_of, word_at};
+//! A line of a text.
+ghost use Rattle.std.specs.Prelude.{◌≡◌};
+ghost use Rattle.rl_text.specs.Rows.{row_of};
+ghost use Rattle.rl_text.specs.Reading.{refusal_at};
 
-use crate::cutting::cut;
+use crate::causes::{Refusal, Why};
 
 /// A line of a text, without its newline. Lines are counted from 1; `ended` says whether a newline ends the line.
 #[derive(Clone, Copy)]
@@ -14,19 +14,14 @@ pub struct Line<'a> {
 }
 
 impl Line<'_> {
-    /// The n-th piece between single spaces, counted from 1. `None` exactly where the line has fewer words.
-    pub fn word(&self, n: u32) -> Option<&[u8]>
-        requires { 1 ≤ n }
-        ensures { option_map (λ word. word.now) result ≡ word_at (row_of self.now) n }
+    /// The refusal of word n of this line, or of the whole line at 0.
+    pub fn refusal(&self, n: u32, why: Why) -> Refusal
+        ensures { result ≡ refusal_at (row_of self.now) n why }
     {
-        let mut rest = self.text;
-        for _ in 1..n {
-            let (_, after) = cut(rest, b' ')?;
-            rest = after;
-        }
-        match cut(rest, b' ') {
-            Some((word, _)) => Some(word),
-            None => Some(rest),
+        Refusal {
+            line: self.number,
+            word: n,
+            why,
         }
     }
 }

@@ -9,6 +9,9 @@ use crate::cutting::cut;
 use crate::line::Line;
 use std::marker::Model;
 
+/// A text has fewer bytes than this, so that each of its lines and each word of a line has a number.
+pub const TEXT_LIMIT: u32 = u32::MAX;
+
 /// The lines of a text that are still to be read, and how many were read before them.
 #[derive(Drop)]
 pub struct Lines<'a> {
@@ -19,18 +22,19 @@ pub struct Lines<'a> {
 impl<'a> Model for Lines<'a> {
     ghost use Rattle.std.specs.Prelude.{◌+◌, ◌<◌, length};
     ghost use Rattle.rl_text.specs.Rows.{Left, rows_from};
+    ghost use Rattle.rl_text.specs.declared.lines.TheConstants.{TEXT_LIMIT};
 
     ghost Value = { Left };
 
     ghost view = { λ l. record { rows = rows_from (l.read + 1) l.rest.now; read = l.read } };
 
-    ghost invariant = { λ l. l.read + length l.rest.now < 4294967295 };
+    ghost invariant = { λ l. l.read + length l.rest.now < TEXT_LIMIT };
 }
 
 impl<'a> Lines<'a> {
-    /// Stands before the first line. The text has fewer than 4294967295 bytes, so that each line has a number.
+    /// Stands before the first line. The text has fewer than [`TEXT_LIMIT`] bytes.
     pub fn new(bytes: &'a [u8]) -> Lines<'a>
-        requires { length bytes.now < 4294967295 }
+        requires { length bytes.now < TEXT_LIMIT }
         ensures { result ≡ record { rows = rows_from 1 bytes.now; read = 0 } }
     {
         Lines {
@@ -116,7 +120,7 @@ impl<'a> Lines<'a> {
     pub fn end(&mut self, line: &Line<'_>) -> Result<(), Refusal>
         ensures { result ≡ end_at (row_of line.now) self.old.rows }
     {
-        line.no_word(2)?;
+        line.words_from(2).no_more()?;
         match self.next_line() {
             None => Ok(()),
             Some(more) => Err(more.refusal(0, Why::Extra)),

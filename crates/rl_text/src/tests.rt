@@ -1,6 +1,4 @@
 //! Numbers, lines and words worked out by hand.
-ghost use Rattle.std.specs.Prelude.{◌≤◌};
-
 use crate::{Line, Lines, Refusal, TextErr, Why, number, put_refusal};
 use std::alloc::AllocError;
 use std::test::*;
@@ -34,31 +32,25 @@ fn is_line(line: Option<Line<'_>>, text: &[u8], number: u32, ended: bool) -> boo
     }
 }
 
-fn is_word(line: &Line<'_>, n: u32, text: &[u8]) -> bool
-    requires { 1 ≤ n }
-{
-    match line.word(n) {
-        Some(word) => word == text,
-        None => false,
-    }
-}
-
 #[test]
 fn lines_and_their_words(rt: HostRuntime) {
     let mut lines = Lines::new(b"rank  0\n\nend\r\nlast");
     let first = lines.next_line();
     assert!(rt; is_line(first, b"rank  0", 1, true));
     if let Some(line) = first {
-        assert!(rt; is_word(&line, 1, b"rank"));
-        assert!(rt; is_word(&line, 2, b""));
-        assert!(rt; is_word(&line, 3, b"0"));
-        assert!(rt; line.word(4).is_none());
+        let mut words = line.words();
+        assert_eq!(rt; words.next_word(), Some(b"rank".as_slice()));
+        assert!(rt; words.is_next(b""));
+        assert_eq!(rt; words.next_word(), Some(b"".as_slice()));
+        assert_eq!(rt; words.below(1), Ok(0));
+        assert_eq!(rt; words.next_word(), None);
     }
     let second = lines.next_line();
     assert!(rt; is_line(second, b"", 2, true));
     if let Some(line) = second {
-        assert!(rt; is_word(&line, 1, b""));
-        assert!(rt; line.word(2).is_none());
+        let mut words = line.words();
+        assert_eq!(rt; words.next_word(), Some(b"".as_slice()));
+        assert_eq!(rt; words.next_word(), None);
     }
     assert!(rt; lines.next_begins(b"end\r"));
     assert!(rt; is_line(lines.next_line(), b"end\r", 3, true));

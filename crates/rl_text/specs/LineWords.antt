@@ -4,14 +4,14 @@ use Rattle.std.specs.Borrow.{Bor}
 use Rattle.rl_text.specs.Cut.{pieces}
 use Rattle.rl_text.specs.Rows.{Row, words}
 
--- a place in a line: before word `next`, counted from 1
-pub record Place : Type 0 where
+-- the words of a line that are still to be read: it stands before word `next`, counted from 1
+pub record TheLineWords : Type 0 where
   pub row : Row
   pub next : ℕ
 
--- the place after the next word
-abbrev pub stepped : Place → Place
-stepped place = record { row = place.row; next = place.next + 1 }
+-- past the next word
+abbrev pub stepped : TheLineWords → TheLineWords
+stepped w = record { row = w.row; next = w.next + 1 }
 
 -- the words from word n on
 abbrev pub words_from : Row → ℕ → List (List ℕ)

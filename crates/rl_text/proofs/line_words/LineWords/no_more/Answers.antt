@@ -1,8 +1,8 @@
 use Rattle.std.proofs.Common.{refl}
 use Rattle.rl_text.specs.Rows.{row_of}
 use Rattle.rl_text.specs.Reading.{no_word_at}
-use Rattle.rl_text.proofs.PlaceLemmas.{some_word-there, no_word-there}
-use Rattle.rl_text.proofs.words.Words.no_more.Goals as goal
+use Rattle.rl_text.proofs.LineWordLemmas.{some_word-there, no_word-there}
+use Rattle.rl_text.proofs.line_words.LineWords.no_more.Goals as goal
 
 pub returns-in-Some : goal.returns-in-Some
 unfolding no_word_at

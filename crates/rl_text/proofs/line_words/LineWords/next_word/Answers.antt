@@ -1,8 +1,8 @@
 use Rattle.std.proofs.Common.{sym, ◌∙◌, [], arith}
 use Rattle.rl_text.specs.Cut.{pieces}
 use Rattle.rl_text.specs.Rows.{row_of}
-use Rattle.rl_text.proofs.PlaceLemmas.{past-word, past-end, word-there, no_word-there}
-use Rattle.rl_text.proofs.words.Words.next_word.Goals as goal
+use Rattle.rl_text.proofs.LineWordLemmas.{past-word, past-end, word-there, no_word-there}
+use Rattle.rl_text.proofs.line_words.LineWords.next_word.Goals as goal
 
 pub invariant_of-self : goal.invariant_of-self
 invariant_of-self c = (omega arith, rw c.in_err-rest.was (past-end (row_of c.self.inside.line) c.self.inside.next c.self.invariant.0 (rw c.in_err-rest.was at c.self.invariant.1)))

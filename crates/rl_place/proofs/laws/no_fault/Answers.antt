@@ -1,5 +1,5 @@
 use Rattle.rl_place.proofs.PlaceLaws.{no_fault-value, value-no_fault, one_place}
-use Rattle.rl_place.proofs.reader.no_fault.Goals as goal
+use Rattle.rl_place.proofs.laws.no_fault.Goals as goal
 
 pub returns-clause-spelled : goal.returns-clause-spelled
 returns-clause-spelled c = λ text. (no_fault-value text, value-no_fault text)

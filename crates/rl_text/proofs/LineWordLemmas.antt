@@ -3,7 +3,7 @@ use Rattle.std.proofs.Common.{◌≡◌, ℕ, zero, suc, ◌+◌, ◌-◌, ◌�
 use Rattle.rl_text.specs.Cut.{pieces}
 use Rattle.rl_text.specs.Rows.{Row, words, word_at}
 use Rattle.rl_text.specs.Reading.{begins, starts_with_word}
-use Rattle.rl_text.specs.Words.{Place, words_from}
+use Rattle.rl_text.specs.LineWords.{TheLineWords, words_from}
 use Rattle.rl_text.proofs.RowLemmas.{first_piece}
 use Rattle.rl_text.proofs.FromLaws.{word_at-rest}
 
@@ -44,6 +44,6 @@ some_word-there row n rest one e =
     (p.0, word-there row n p.0 p.1 one (e ∙ p.2))
 
 -- what comes next at the first word is what the line begins with
-pub begins-next : (row : Row) (text : List ℕ) (place : Place) (answer : Bool) → place ≡ record { row = row; next = 1 } → answer ≡ starts_with_word text (word_at place.row place.next) → begins row text ≡ answer
+pub begins-next : (row : Row) (text : List ℕ) (w : TheLineWords) (answer : Bool) → w ≡ record { row = row; next = 1 } → answer ≡ starts_with_word text (word_at w.row w.next) → begins row text ≡ answer
 unfolding begins
-begins-next row text place answer first e = sym (rw first at e)
+begins-next row text w answer first e = sym (rw first at e)
