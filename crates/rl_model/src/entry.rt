@@ -1,4 +1,6 @@
 // What the table answered, and calls that were done.
+ghost use Rattle.std.specs.Prelude.{◌≡◌};
+
 use crate::call::Call;
 
 /// The answer to a call.
@@ -22,10 +24,12 @@ pub enum Reply {
     No(u64),
     /// A hold had the lock.
     Held,
+    /// Another call of its batch was full or over. Nothing changed.
+    Undone,
 }
 
 /// A call that was done.
-#[derive(Clone, Copy, PartialEq, Eq, Debug)]
+#[derive(Clone, Copy, PartialEq, Eq, Debug, Default)]
 pub struct Entry {
     /// The shard that it was done on, from 0.
     pub shard: u32,
@@ -37,4 +41,19 @@ pub struct Entry {
     /// How many updates the shard had before it, which is the place of an update in the journal.
     pub at: u32,
     pub reply: Reply,
+    /// How many calls its batch has, and 0 for a call alone.
+    pub batch: u32,
+    /// Which call of its batch it is, from 0, and 0 for a call alone.
+    pub part: u32,
+}
+
+/// The reply of a hold, for what fills a vector before it has replies.
+impl Default for Reply {
+    ghost use Rattle.rl_model.specs.declared.entry.Reply.TheVariants.{Held};
+
+    ghost is_default = { λ reply. reply ≡ Held };
+
+    fn default() -> Reply {
+        Reply::Held
+    }
 }

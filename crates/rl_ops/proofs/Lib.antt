@@ -3,6 +3,8 @@ pub mod BodyLaws
 pub mod RankLemmas
 pub mod CallLaws
 pub mod LineLaws
+pub mod BlockLaws
 pub mod OpsLaws
-pub mod PrintLemmas
 pub mod ScheduleLaws
+pub mod PrintLemmas
+pub mod AskedLaws

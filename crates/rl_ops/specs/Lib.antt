@@ -1,7 +1,11 @@
+-- to be believed, in reading order
 pub mod CallSpelling
-pub mod CallReading
+pub mod ByRank
+pub mod Blocks
 pub mod Body
 pub mod Ops
+pub mod Asked
+pub mod CallReading
 pub mod OpsReading
 pub mod Schedule
 pub mod ScheduleReading

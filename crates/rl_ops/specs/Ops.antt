@@ -1,83 +1,103 @@
 -- The calls of each rank, and the calls file.
-use Rattle.std.specs.Prelude.{◌≡◌, ℕ, zero, suc, ◌+◌, ◌≤◌, ◌<◌, List, [], ◌∷◌, ◌++◌, ◌==◌, length, map, sum_by, codes, decimal, if◌then◌else◌}
-use Rattle.std.specs.List.{AllByRecursion}
+use Rattle.std.specs.Prelude.{◌≡◌, ℕ, ◌+◌, ◌≤◌, List, [], ◌∷◌, ◌++◌, length, map, flat_map, sum_by, codes, decimal, Bool, nat_lt, if◌then◌else◌}
+use Rattle.std.specs.List.{AllByRecursion, list_any, zip}
 use Rattle.rl_text.specs.Spelling.{text_of}
 use Rattle.rl_model.specs.declared.call.Call.{Call}
 use Rattle.rl_ops.specs.declared.ops.Ops.{Ops}
-use Rattle.rl_ops.specs.CallSpelling.{call_words, CallFits}
+use Rattle.rl_ops.specs.declared.ops.TheConstants.{MOST_CALLS}
+use Rattle.rl_ops.specs.declared.calls_line.CallsVersion.{CallsVersion}
+use Rattle.rl_ops.specs.declared.calls_line.CallsVersion.TheVariants.{One, Two}
+use Rattle.rl_ops.specs.CallSpelling.{call_words}
+use Rattle.rl_ops.specs.ByRank.{by_rank}
 use Rattle.rl_ops.specs.Body.{body_lines}
+use Rattle.rl_ops.specs.Blocks.{Block, block_calls, block_sizes, sizes_of, AreOneBlock, BlockFits}
 
--- ---- calls by rank
-
--- a call line: a rank and its call
-abbrev pub CallLine : Type 0
-CallLine = ℕ × Call
-
--- the calls of one rank, in their order
-abbrev pub calls_of : ℕ → List CallLine → List Call
-calls_of rank [] = []
-calls_of rank (line ∷ lines) = if line.0 == rank then line.1 ∷ calls_of rank lines else calls_of rank lines
-
--- the calls of n ranks from one on
-abbrev pub lists_from : ℕ → ℕ → List CallLine → List (List Call)
-lists_from rank zero lines = []
-lists_from rank (suc n) lines = calls_of rank lines ∷ lists_from (rank + 1) n lines
-
--- the calls of each rank
-abbrev pub by_rank : ℕ → List CallLine → List (List Call)
-by_rank ranks lines = lists_from 0 ranks lines
-
--- one more call of a rank
-abbrev pub with_call : List (List Call) → ℕ → Call → List (List Call)
-with_call [] rank call = []
-with_call (calls ∷ lists) zero call = (calls ++ call ∷ []) ∷ lists
-with_call (calls ∷ lists) (suc rank) call = calls ∷ with_call lists rank call
-
--- one more call line
-abbrev pub with_line : List (List Call) → CallLine → List (List Call)
-with_line lists line = with_call lists line.0 line.1
-
--- the lines of each rank after those of the ranks before it
-abbrev pub rank_after_rank : ℕ → List (List Call) → List CallLine
-rank_after_rank rank [] = []
-rank_after_rank rank (calls ∷ lists) = map (λ call. (rank, call)) calls ++ rank_after_rank (rank + 1) lists
-
--- ---- the limits
+-- ---- proper calls
 
 -- the number of calls of all ranks
 abbrev pub total_calls : List (List Call) → ℕ
 total_calls lists = sum_by (λ calls. length calls) lists
 
--- a list for each rank, at most 20000 calls in all, and each call fits
+-- a rank's calls and their sizes are those of blocks
+pub record AreBlocks (shards : ℕ) (calls : List Call) (sizes : List ℕ) : Type 0 where
+  pub blocks : List (List Call)
+  pub fit : AllByRecursion (AreOneBlock shards) blocks
+  pub calls_are : calls ≡ flat_map (λ block. block) blocks
+  pub sizes_are : sizes ≡ flat_map sizes_of blocks
+
+abbrev pub EachOfBlocks : ℕ → List (List Call) → List (List ℕ) → Type 0
+EachOfBlocks shards [] [] = Unit {0}
+EachOfBlocks shards [] (sizes ∷ more) = ⊥
+EachOfBlocks shards (calls ∷ lists) [] = ⊥
+EachOfBlocks shards (calls ∷ lists) (sizes ∷ more) = AreBlocks shards calls sizes × EachOfBlocks shards lists more
+
+-- a list for each rank, not too many calls in all, and each rank's are blocks
 pub record OpsFit (ranks shards : ℕ) (ops : Ops) : Type 0 where
   pub ranks_there : length ops.by_rank ≡ ranks
-  pub few : total_calls ops.by_rank ≤ 20000
-  pub fit : AllByRecursion (λ calls. AllByRecursion (CallFits shards) calls) ops.by_rank
+  pub few : total_calls ops.by_rank ≤ MOST_CALLS
+  pub blocks : EachOfBlocks shards ops.by_rank ops.sizes
 
 -- ---- the spelling
 
 -- RANK CALL
-abbrev pub line_words : CallLine → List (List ℕ)
-line_words line = decimal line.0 ∷ call_words line.1
+abbrev pub line_words : ℕ → Call → List (List ℕ)
+line_words rank call = decimal rank ∷ call_words call
 
-abbrev pub ops_lines : List CallLine → List (List (List ℕ))
-ops_lines lines = (codes "rmalock-calls" ∷ codes "1" ∷ []) ∷ body_lines line_words lines
+-- RANK batch SIZE
+abbrev pub batch_words : ℕ → ℕ → List (List ℕ)
+batch_words rank size = decimal rank ∷ codes "batch" ∷ decimal size ∷ []
 
--- the rank is there, and the call fits
-abbrev pub LineFits : ℕ → ℕ → CallLine → Type 0
-LineFits ranks shards line = (line.0 < ranks) × CallFits shards line.1
+-- a line for each call, and before those of a batch the line of the batch
+abbrev pub block_lines : Block → List (List (List ℕ))
+block_lines block =
+    let lines = map (line_words block.rank) block.calls in
+    if nat_lt 1 (length block.calls) then batch_words block.rank (length block.calls) ∷ lines else lines
 
--- call lines in any order of the ranks spell the calls that each rank has among them
-pub record SpelledBy (ranks shards : ℕ) (ops : Ops) (text : List ℕ) (lines : List CallLine) : Type 0 where
-  pub fit : AllByRecursion (LineFits ranks shards) lines
-  pub few : length lines ≤ 20000
-  pub text_is : text ≡ text_of (ops_lines lines)
-  pub ops_is : ops.by_rank ≡ by_rank ranks lines
+abbrev pub version_word : CallsVersion → List ℕ
+version_word One = codes "1"
+version_word Two = codes "2"
 
--- the text spells the calls, by some order of the ranks
+-- the first line, lines of blocks, and the line `end`
+abbrev pub file_lines : CallsVersion → List (List (List ℕ)) → List (List (List ℕ))
+file_lines version lines = (codes "rmalock-calls" ∷ version_word version ∷ []) ∷ body_lines lines
+
+-- the blocks of a file of the first version are calls alone
+abbrev pub Allows : CallsVersion → List Block → Type 0
+Allows One blocks = AllByRecursion (λ block. length block.calls ≡ 1) blocks
+Allows Two blocks = Unit {0}
+
+-- blocks in any order of the ranks spell the calls that each rank has among them
+pub record SpelledBy (ranks shards : ℕ) (ops : Ops) (text : List ℕ) (version : CallsVersion) (blocks : List Block) : Type 0 where
+  pub allowed : Allows version blocks
+  pub fit : AllByRecursion (BlockFits ranks shards) blocks
+  pub few : sum_by (λ block. length block.calls) blocks ≤ MOST_CALLS
+  pub text_is : text ≡ text_of (file_lines version (flat_map block_lines blocks))
+  pub calls_are : ops.by_rank ≡ by_rank ranks (flat_map block_calls blocks)
+  pub sizes_are : ops.sizes ≡ by_rank ranks (flat_map block_sizes blocks)
+
+-- the text spells the calls, in one of the versions and by some order of the ranks
 abbrev pub SpellsOps : ℕ → ℕ → Ops → List ℕ → Type 0
-SpellsOps ranks shards ops text = (lines : List CallLine) × SpelledBy ranks shards ops text lines
+SpellsOps ranks shards ops text = (version : CallsVersion) × (blocks : List Block) × SpelledBy ranks shards ops text version blocks
 
--- the spelling that is printed: rank by rank
+-- ---- the spelling that is printed
+
+-- a call's line, and before it the line of the batch that it begins
+abbrev pub sized_lines : ℕ → Call × ℕ → List (List (List ℕ))
+sized_lines rank sized = if nat_lt 1 sized.1 then batch_words rank sized.1 ∷ line_words rank sized.0 ∷ [] else line_words rank sized.0 ∷ []
+
+-- the lines of each rank after those of the ranks before it
+abbrev pub rank_after_rank : ℕ → List (List Call) → List (List ℕ) → List (List (List ℕ))
+rank_after_rank rank [] sizes = []
+rank_after_rank rank (calls ∷ lists) [] = []
+rank_after_rank rank (calls ∷ lists) (sizes ∷ more) = flat_map (sized_lines rank) (zip calls sizes) ++ rank_after_rank (rank + 1) lists more
+
+-- a batch begins at one of these sizes
+abbrev pub begins_batch : List ℕ → Bool
+begins_batch sizes = list_any (λ size. nat_lt 1 size) sizes
+
+abbrev pub printed_version : Bool → CallsVersion
+printed_version batches = if batches then Two else One
+
+-- the first version where no batch is there, and rank by rank
 abbrev pub ops_spelling : Ops → List ℕ
-ops_spelling ops = text_of (ops_lines (rank_after_rank 0 ops.by_rank))
+ops_spelling ops = text_of (file_lines (printed_version (list_any begins_batch ops.sizes)) (rank_after_rank 0 ops.by_rank ops.sizes))

@@ -1,73 +1,53 @@
 //! The calls of each rank.
-ghost use Rattle.std.specs.Prelude.{◌≡◌, ◌<◌, [], Some, slice_get, replicate, length, map, IfOk, OnOk, OnErr};
-ghost use Rattle.rl_ops.specs.Ops.{with_call};
+ghost use Rattle.std.specs.Prelude.{◌≡◌, ◌<◌, [], replicate, length, IfOk, OnOk};
+ghost use Rattle.rl_ops.specs.OpsReading.{with_line, IsLineOf};
 
+use crate::by_rank::ByRank;
+use crate::calls_line::CallsLine;
 use rl_model::Call;
 use std::alloc::{AllocError as OutOfMemory, Global};
-use std::marker::Model;
 
-/// A list of calls for each rank. Contracts see lists of calls.
-#[derive(Drop)]
-pub struct CallLists {
-    lists: Vec<Vec<Call>>,
-}
+/// The most calls of all ranks together.
+pub const MOST_CALLS: u32 = 20_000;
 
-impl Model for CallLists {
-    ghost use Rattle.std.specs.Prelude.{List, map};
-    ghost use Rattle.rl_model.specs.declared.call.Call.{Call};
-
-    ghost Value = { List (List Call) };
-
-    ghost view = { λ c. map (λ calls. calls.items) c.lists.items };
-}
-
-impl CallLists {
-    /// No calls yet, of so many ranks.
-    pub fn new(alloc: Global, ranks: u32) -> Result<CallLists, OutOfMemory>
-        ensures { IfOk result (λ lists. lists ≡ replicate ranks []) }
-    {
-        let mut lists = Vec::new(alloc);
-        for _ in 0..ranks {
-            lists.push(Vec::new(alloc))?;
-        }
-        Ok(CallLists { lists })
-    }
-
-    /// These lists, rank by rank. It takes no memory.
-    pub fn from_vec(lists: Vec<Vec<Call>>) -> CallLists
-        ensures { result ≡ map (λ calls. calls.items) lists.items }
-    {
-        CallLists { lists }
-    }
-
-    /// Gives the lists back, rank by rank.
-    pub fn into_vec(self) -> Vec<Vec<Call>>
-        ensures { map (λ calls. calls.items) result.items ≡ self }
-    {
-        self.lists
-    }
-
-    /// The lists, rank by rank.
-    pub fn as_slice(&self) -> &[Vec<Call>]
-        ensures { map (λ calls. calls.items) result.now ≡ self.now }
-    {
-        self.lists.as_slice()
-    }
-
-    /// One more call of a rank, after those that it has.
-    pub fn push(&mut self, rank: u32, call: Call) -> Result<(), OutOfMemory>
-        requires { rank < length self.old }
-        ensures ok { OnOk result (self.new ≡ with_call self.old rank call) }
-        ensures err { OnErr result (self.new ≡ self.old) }
-    {
-        let list = &mut self.lists[rank as usize];
-        list.push(call)?;
-        Ok(())
-    }
-}
+/// The most calls of a batch.
+pub const MOST_IN_BATCH: u32 = 8;
 
 /// The calls of each rank, in the rank's order. A rank without calls has an empty list.
+///
+/// A rank asks for a call alone, or for the 2 to 8 calls of a batch in one go, which are updates of one shard. Each call
+/// has a size: 1 where it stands alone, the number of its batch's calls where it is the first of them, and 0 where it is
+/// a later one.
 #[derive(Drop)]
 pub struct Ops {
-    pub by_rank: CallLists,
+    /// The calls, rank by rank.
+    pub by_rank: ByRank<Call>,
+    /// The size of each call, in the same order.
+    pub sizes: ByRank<u32>,
+}
+
+impl Ops {
+    // No calls yet, of so many ranks.
+    pub(crate) fn new(alloc: Global, ranks: u32) -> Result<Ops, OutOfMemory>
+        ensures calls { IfOk result (λ ops. ops.by_rank ≡ replicate ranks []) }
+        ensures sizes { IfOk result (λ ops. ops.sizes ≡ replicate ranks []) }
+    {
+        Ok(Ops {
+            by_rank: ByRank::new(alloc, ranks)?,
+            sizes: ByRank::new(alloc, ranks)?,
+        })
+    }
+
+    // What a line asks for, after all that came before it. After want of memory nothing is said of the calls.
+    pub(crate) fn take(&mut self, line: CallsLine) -> Result<(), OutOfMemory>
+        requires there { IsLineOf (length self.old.by_rank) line }
+        requires sized { length self.old.sizes ≡ length self.old.by_rank }
+        ensures { OnOk result (self.new ≡ with_line self.old line) }
+    {
+        if let CallsLine::Asks { rank, call, size } = line {
+            self.by_rank.push(rank, call)?;
+            self.sizes.push(rank, size)?;
+        }
+        Ok(())
+    }
 }

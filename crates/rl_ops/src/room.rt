@@ -4,7 +4,7 @@ ghost use Rattle.rl_model.specs.Geom.{GeomFits};
 ghost use Rattle.rl_ops.specs.Ops.{total_calls};
 ghost use Rattle.rl_ops.specs.Room.{calls_on, updates_on};
 
-use crate::ops::Ops;
+use crate::ops::{MOST_CALLS, Ops};
 use rl_model::{Call, Geom};
 use std::alloc::{AllocError as OutOfMemory, Global};
 
@@ -17,7 +17,7 @@ pub struct Room {
 
 fn count_calls(calls: &[Call], geom: Geom, shard: u32) -> u32
     requires fits { GeomFits geom }
-    requires few { length calls.now ≤ 20000 }
+    requires few { length calls.now ≤ MOST_CALLS }
     ensures { result ≡ calls_on geom shard calls.now }
 {
     calls
@@ -28,7 +28,7 @@ fn count_calls(calls: &[Call], geom: Geom, shard: u32) -> u32
 
 fn count_updates(calls: &[Call], geom: Geom, shard: u32) -> u32
     requires fits { GeomFits geom }
-    requires few { length calls.now ≤ 20000 }
+    requires few { length calls.now ≤ MOST_CALLS }
     ensures { result ≡ updates_on geom shard calls.now }
 {
     calls
@@ -43,7 +43,7 @@ impl Ops {
     pub fn room(&self, alloc: Global, geom: Geom, shard: u32) -> Result<Room, OutOfMemory>
         requires fits { GeomFits geom }
         requires there { shard < geom.shards }
-        requires few { total_calls self.now.by_rank ≤ 20000 }
+        requires few { total_calls self.now.by_rank ≤ MOST_CALLS }
         ensures calls { IfOk result (λ room. room.calls.items ≡ map (calls_on geom shard) self.now.by_rank) }
         ensures updates { IfOk result (λ room. room.updates.items ≡ map (updates_on geom shard) self.now.by_rank) }
     {

@@ -5,12 +5,15 @@ ghost use Rattle.rl_ops.specs.Schedule.{steps_of};
 use std::alloc::{AllocError as OutOfMemory, Global};
 use std::marker::Model;
 
+/// The most steps of all turns together.
+pub const MOST_STEPS: u32 = 2_000_000;
+
 /// One turn of a schedule.
 #[derive(Clone, Copy, Debug, PartialEq, Eq)]
 pub enum Turn {
     /// So many steps of a rank, one after the other.
     Steps { rank: u32, count: u32 },
-    /// The rank makes no step from here on. No file has this turn yet: it is printed, and isn't read.
+    /// The rank makes no step from here on: no later turn names it.
     Stop { rank: u32 },
 }
 

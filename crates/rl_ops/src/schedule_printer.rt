@@ -1,8 +1,8 @@
 //! Printing a schedule file.
-ghost use Rattle.std.specs.Prelude.{◌≡◌, ◌<◌, ◌^◌, ℕ, ◌++◌, Ok, map, IfOk, OnOk};
+ghost use Rattle.std.specs.Prelude.{◌≡◌, ◌++◌, map, IfOk, OnOk};
 ghost use Rattle.rl_text.specs.Spelling.{line_text, text_of};
-ghost use Rattle.rl_ops.specs.Schedule.{turn_words, schedule_spelling, ScheduleFits};
-ghost use Rattle.rl_ops.specs.ScheduleReading.{schedule_at};
+ghost use Rattle.rl_ops.specs.Schedule.{turn_words, schedule_spelling};
+ghost use Rattle.rl_ops.specs.ScheduleReading.{IsReadAsSchedule};
 
 use crate::schedule::{Schedule, Turn};
 use rl_text::put_number;
@@ -46,11 +46,10 @@ fn printed(alloc: Global, schedule: &Schedule) -> Result<Vec<u8>, OutOfMemory>
 
 /// Prints the one spelling of a schedule.
 ///
-/// It is read back as the schedule, for all numbers of ranks that the schedule fits. A schedule with a stop fits none
-/// yet.
+/// It is read back as the schedule, for all numbers of ranks that the schedule fits.
 pub fn schedule_text(alloc: Global, schedule: &Schedule) -> Result<Vec<u8>, OutOfMemory>
     ensures text { IfOk result (λ text. text.items ≡ schedule_spelling schedule.now) }
-    ensures again { IfOk result (λ text. (ranks : ℕ) → ranks < 2 ^ 32 → ScheduleFits ranks schedule.now → schedule_at ranks text.items ≡ Ok schedule.now) }
+    ensures again { IfOk result (λ text. IsReadAsSchedule text.items schedule.now) }
 {
     printed(alloc, schedule)
 }

@@ -1,54 +1,135 @@
 //! Reading a schedule file.
-ghost use Rattle.std.specs.Prelude.{◌≡◌, ◌≤◌, ◌<◌, ◌+◌, ◌^◌, ◌↔◌, ℕ, List, None, Ok, length, IfOk};
+ghost use Rattle.std.specs.Prelude.{◌≡◌, ◌≤◌, ◌<◌, ◌+◌, length, Ok, IfOk, OnOk};
+ghost use Rattle.rl_text.specs.Rows.{row_of};
 ghost use Rattle.rl_text.specs.Reading.{Gives};
-ghost use Rattle.rl_ops.specs.Schedule.{steps_of, schedule_spelling, ScheduleFits};
-ghost use Rattle.rl_ops.specs.ScheduleReading.{turn_after, turns_at, schedule_at, schedule_fault};
+ghost use Rattle.rl_ops.specs.Schedule.{steps_of, SpellsSchedule};
+ghost use Rattle.rl_ops.specs.ScheduleReading.{is_stopped, steps_at, stop_at, turn_after, no_turn, after_turn, turns_at, schedule_at};
 
-use crate::schedule::{Schedule, Turn, Turns};
-use rl_text::{Lines, Refusal, TextErr, Words};
-use std::alloc::Global;
+use crate::schedule::{MOST_STEPS, Schedule, Turn, Turns};
+use rl_text::{Line, Lines, Refusal, TEXT_LIMIT, TextErr, Why};
+use std::alloc::{AllocError as OutOfMemory, Global};
+use std::marker::Model;
 
-// The most steps of all turns.
-const MOST_STEPS: u32 = 2_000_000;
+// The steps of the turns that were read, and the ranks that they stopped.
+#[derive(Drop)]
+struct SoFar {
+    steps: u32,
+    stopped: Vec<u32>,
+}
 
-// RANK COUNT after so many steps, from the first word of its line on.
-#[tactic(auto, unfolding(crate::specs::ScheduleReading::turn_after))]
-fn turn_of(words: &mut Words<'_>, ranks: u32, steps: u32) -> Result<Turn, Refusal>
-    requires { (words.old.next ≡ 1) × (steps ≤ 2000000) }
-    ensures value { result ≡ turn_after ranks steps words.old.row }
-    ensures most { IfOk result (λ turn. steps + steps_of turn ≤ 2000000) }
+impl Model for SoFar {
+    ghost use Rattle.std.specs.Prelude.{◌≤◌};
+    ghost use Rattle.rl_ops.specs.declared.schedule.TheConstants.{MOST_STEPS};
+    ghost use Rattle.rl_ops.specs.ScheduleReading.{Turned};
+
+    ghost Value = { Turned };
+
+    ghost view = { λ s. record { steps = s.steps; stopped = s.stopped.items } };
+
+    ghost invariant = { λ s. s.steps ≤ MOST_STEPS };
+}
+
+impl SoFar {
+    fn new(alloc: Global) -> SoFar
+        ensures { result ≡ no_turn }
+    {
+        SoFar {
+            steps: 0,
+            stopped: Vec::new(alloc),
+        }
+    }
+
+    fn is_stopped(&self, rank: u32) -> bool
+        ensures stopped { result ≡ is_stopped self.now.stopped rank }
+        ensures within { self.now.steps ≤ MOST_STEPS }
+    {
+        self.stopped.iter().any(|other| *other == rank)
+    }
+
+    // How many steps there may still be.
+    fn steps_left(&self) -> u32
+        ensures { self.now.steps + result ≡ MOST_STEPS }
+    {
+        MOST_STEPS - self.steps
+    }
+
+    fn add(&mut self, turn: Turn) -> Result<(), OutOfMemory>
+        requires { self.old.steps + steps_of turn ≤ MOST_STEPS }
+        ensures { OnOk result (self.new ≡ after_turn self.old turn) }
+    {
+        match turn {
+            Turn::Steps { count, .. } => self.steps += count,
+            Turn::Stop { rank } => self.stopped.push(rank)?,
+        }
+        Ok(())
+    }
+}
+
+// RANK COUNT, of a rank that isn't stopped
+#[tactic(auto, unfolding(crate::specs::ScheduleReading::steps_at))]
+fn steps_of(line: &Line<'_>, ranks: u32, so_far: &SoFar) -> Result<Turn, Refusal>
+    ensures value { result ≡ steps_at ranks so_far.now (row_of line.now) }
+    ensures few { IfOk result (λ turn. so_far.now.steps + steps_of turn ≤ MOST_STEPS) }
 {
-    let rank = words.below(u64::from(ranks))?;
-    let count = words.below(u64::from(MOST_STEPS + 1 - steps))?;
+    let mut words = line.words();
+    let rank = words.below(u64::from(ranks))? as u32;
+    if so_far.is_stopped(rank) {
+        return Err(words.refusal(Why::Order));
+    }
+    let count = words.below(u64::from(so_far.steps_left() + 1))? as u32;
     words.no_more()?;
-    Ok(Turn::Steps {
-        rank: rank as u32,
-        count: count as u32,
-    })
+    Ok(Turn::Steps { rank, count })
+}
+
+// stop RANK, of a rank that isn't stopped
+#[tactic(auto, unfolding(crate::specs::ScheduleReading::stop_at))]
+fn stop_of(line: &Line<'_>, ranks: u32, so_far: &SoFar) -> Result<Turn, Refusal>
+    ensures value { result ≡ stop_at ranks so_far.now (row_of line.now) }
+    ensures few { IfOk result (λ turn. so_far.now.steps + steps_of turn ≤ MOST_STEPS) }
+{
+    let mut words = line.words_from(2);
+    let rank = words.below(u64::from(ranks))? as u32;
+    if so_far.is_stopped(rank) {
+        return Err(words.refusal(Why::Repeat));
+    }
+    words.no_more()?;
+    Ok(Turn::Stop { rank })
+}
+
+// A turn after those that were read.
+#[tactic(auto, unfolding(crate::specs::ScheduleReading::turn_after))]
+fn turn_of(line: &Line<'_>, ranks: u32, so_far: &SoFar) -> Result<Turn, Refusal>
+    ensures value { result ≡ turn_after ranks so_far.now (row_of line.now) }
+    ensures few { IfOk result (λ turn. so_far.now.steps + steps_of turn ≤ MOST_STEPS) }
+{
+    if line.begins(b"stop") {
+        stop_of(line, ranks, so_far)
+    } else {
+        steps_of(line, ranks, so_far)
+    }
 }
 
 // Turns up to the line `end`.
 fn turns_of(alloc: Global, lines: &mut Lines<'_>, ranks: u32) -> Result<Turns, TextErr>
-    ensures { Gives result (turns_at ranks 0 lines.old.read lines.old.rows) }
+    ensures { Gives result (turns_at ranks no_turn lines.old.read lines.old.rows) }
 {
     let mut turns = Turns::new(alloc);
-    let mut steps = 0;
+    let mut so_far = SoFar::new(alloc);
     loop {
         let line = lines.next_whole()?;
-        let mut words = line.words();
-        if words.is_next(b"end") {
+        if line.begins(b"end") {
             lines.end(&line)?;
             return Ok(turns);
         }
-        let turn = turn_of(&mut words, ranks, steps)?;
+        let turn = turn_of(&line, ranks, &so_far)?;
         turns.push(turn)?;
-        steps += turn.steps();
+        so_far.add(turn)?;
     }
 }
 
 #[tactic(auto, unfolding(crate::specs::ScheduleReading::schedule_at))]
 fn schedule_of(alloc: Global, ranks: u32, bytes: &[u8]) -> Result<Schedule, TextErr>
-    requires { length bytes.now < 4294967295 }
+    requires { length bytes.now < TEXT_LIMIT }
     ensures { Gives result (schedule_at ranks bytes.now) }
 {
     let mut lines = Lines::new(bytes);
@@ -60,24 +141,20 @@ fn schedule_of(alloc: Global, ranks: u32, bytes: &[u8]) -> Result<Schedule, Text
 
 /// Reads a schedule of so many ranks.
 ///
-/// A schedule file has the first line `rmalock-schedule 1`, a line `RANK COUNT` for each turn, and the line `end`. All
-/// counts together are at most 2,000,000: the line with which they pass it is Range at word 2.
+/// A schedule file has the first line `rmalock-schedule 1`, a line for each turn, and the line `end`. A turn is
+/// `RANK COUNT`, so many steps of a rank, or `stop RANK`, after which no line names that rank: a further turn of it is
+/// Order at word 1, and a second stop Repeat at word 2. All counts together are at most 2,000,000: the line with which
+/// they pass it is Range at word 2.
 ///
-/// The text has fewer than 4,294,967,295 bytes. Refused with the first fault exactly where the text spells no schedule.
+/// The text has fewer than [`TEXT_LIMIT`] bytes. Refused with the first fault exactly where the text spells no schedule.
 pub fn read_schedule(alloc: Global, ranks: u32, bytes: &[u8]) -> Result<Schedule, TextErr>
-    requires { length bytes.now < 4294967295 }
+    requires { length bytes.now < TEXT_LIMIT }
     // What is read is spelled so, and keeps the limits.
-    ensures found { IfOk result (λ schedule. ScheduleFits ranks schedule × (bytes.now ≡ schedule_spelling schedule)) }
+    ensures found { IfOk result (λ schedule. SpellsSchedule ranks schedule bytes.now) }
     // What is spelled so is read, unless memory runs out.
-    ensures only { (schedule : Schedule) → ScheduleFits ranks schedule → bytes.now ≡ schedule_spelling schedule → Gives result (Ok schedule) }
+    ensures only { (schedule : Schedule) → SpellsSchedule ranks schedule bytes.now → Gives result (Ok schedule) }
     // Which fault it is: the first one.
     ensures exact { Gives result (schedule_at ranks bytes.now) }
 {
     schedule_of(alloc, ranks, bytes)
 }
-
-/// A text has no fault exactly where it is the spelling of some schedule.
-pub fn no_schedule_fault()
-    ensures { (ranks : ℕ) (text : List ℕ) → ranks < 2 ^ 32 →
-        (schedule_fault ranks text ≡ None) ↔ ((schedule : Schedule) × ScheduleFits ranks schedule × (text ≡ schedule_spelling schedule)) }
-{}

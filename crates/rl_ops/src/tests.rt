@@ -11,14 +11,14 @@ const CALLS: &str = "rmalock-calls 1\n";
 
 const SCHEDULE: &str = "rmalock-schedule 1\n";
 
-fn joined(rt: &HostRuntime, head: &str, body: &str) -> Result<Vec<u8>, Fail> {
+pub fn joined(rt: &HostRuntime, head: &str, body: &str) -> Result<Vec<u8>, Fail> {
     let mut text = Vec::from_slice(rt.alloc(), head.as_bytes())?;
     text.extend_from_slice(body.as_bytes())?;
     Ok(text)
 }
 
 // The calls of two ranks and two shards.
-fn read_calls(rt: &HostRuntime, text: &[u8]) -> Result<Ops, TextErr>
+pub fn read_calls(rt: &HostRuntime, text: &[u8]) -> Result<Ops, TextErr>
     ensures { IfOk result (λ ops. OpsFit 2 2 ops) }
 {
     if text.len() >= 4_294_967_295 {
@@ -42,7 +42,7 @@ fn refusal<T: Drop>(read: Result<T, TextErr>) -> Option<Refusal> {
     }
 }
 
-fn calls_fault(rt: &HostRuntime, text: &[u8]) -> Option<Refusal> {
+pub fn calls_fault(rt: &HostRuntime, text: &[u8]) -> Option<Refusal> {
     refusal(read_calls(rt, text))
 }
 
@@ -50,7 +50,7 @@ fn schedule_fault(rt: &HostRuntime, text: &[u8]) -> Option<Refusal> {
     refusal(read_turns(rt, text))
 }
 
-fn at(line: u32, word: u32, why: Why) -> Option<Refusal> {
+pub fn at(line: u32, word: u32, why: Why) -> Option<Refusal> {
     Some(Refusal { line, word, why })
 }
 
@@ -66,11 +66,13 @@ fn faults_of_first_lines(rt: HostRuntime) {
         (" rmalock-calls 1\n", 1, Why::Word),
         ("rmalock-calls\n", 2, Why::Missing),
         ("rmalock-calls \n", 2, Why::Version),
-        ("rmalock-calls 2\n", 2, Why::Version),
+        ("rmalock-calls 0\n", 2, Why::Version),
+        ("rmalock-calls 3\n", 2, Why::Version),
         ("rmalock-calls 01\n", 2, Why::Version),
         ("rmalock-calls 1\r\n", 2, Why::Version),
         ("rmalock-calls 1 \n", 3, Why::Extra),
         ("rmalock-calls 1 1\nend\n", 3, Why::Extra),
+        ("rmalock-calls 2 \n", 3, Why::Extra),
     ] {
         assert_eq!(rt;
             calls_fault(&rt, text.as_bytes()),
@@ -153,8 +155,18 @@ fn faults_of_schedules(rt: HostRuntime) -> Result<(), Fail> {
         ("0 9\nend", 3, 0, Why::NoEnd),
         ("\nend\n", 2, 1, Why::Number),
         (" 0 9\n", 2, 1, Why::Number),
-        ("stop 0\nend\n", 2, 1, Why::Number),
-        ("stop\n", 2, 1, Why::Number),
+        ("stop0\nend\n", 2, 1, Why::Number),
+        ("stop\n", 2, 2, Why::Missing),
+        ("stop x\n", 2, 2, Why::Number),
+        ("stop 00\n", 2, 2, Why::Number),
+        ("stop 4\n", 2, 2, Why::Range),
+        ("stop 0\nstop 0 1\n", 3, 2, Why::Repeat),
+        ("stop 0\n1 5\nstop 0\n", 4, 2, Why::Repeat),
+        ("stop 0 1\n", 2, 3, Why::Extra),
+        ("stop 0\n0 x\n", 3, 1, Why::Order),
+        ("0 7\nstop 0\n1 2\n0 1\n", 5, 1, Why::Order),
+        ("stop 0\n4 x\n", 3, 1, Why::Range),
+        ("stop 3\n", 3, 0, Why::NoEnd),
         ("4 9\n", 2, 1, Why::Range),
         ("9 x\n", 2, 1, Why::Range),
         ("0\n", 2, 2, Why::Missing),
@@ -248,6 +260,19 @@ fn a_schedule_is_printed_back(rt: HostRuntime) -> Result<(), Fail> {
     assert_eq!(rt; turns.len(), 6);
     assert_eq!(rt; turns[2], Turn::Steps { rank: 2, count: 16 });
     assert_eq!(rt; turns[5].steps(), 1);
+    Ok(())
+}
+
+#[test]
+fn stops_are_printed_back(rt: HostRuntime) -> Result<(), Fail> {
+    let text = joined(&rt, SCHEDULE, "0 12\nstop 1\n2 3\nstop 0\n2 0\nend\n")?;
+    let schedule = read_turns(&rt, &text)?;
+    let printed = schedule_text(rt.alloc(), &schedule)?;
+    assert_eq!(rt; printed.as_slice(), text.as_slice());
+    let turns = schedule.turns.as_slice();
+    assert_eq!(rt; turns.len(), 5);
+    assert_eq!(rt; turns[1], Turn::Stop { rank: 1 });
+    assert_eq!(rt; turns[1].steps(), 0);
     Ok(())
 }
 

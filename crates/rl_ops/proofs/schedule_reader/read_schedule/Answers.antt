@@ -10,4 +10,4 @@ pub returns-clause-found : goal.returns-clause-found
 returns-clause-found c = is_found c.args.ranks c.args.bytes.now c.schedule_of.result (omega arith) c.schedule_of.ensures
 
 pub returns-clause-only : goal.returns-clause-only
-returns-clause-only c = λ schedule fits e. subst (λ (read : Result Schedule Refusal). Gives c.schedule_of.result read) (ap (schedule_at c.args.ranks) e ∙ schedule-again c.args.ranks schedule (omega arith) fits) c.schedule_of.ensures
+returns-clause-only c = λ schedule spells. subst (λ (read : Result Schedule Refusal). Gives c.schedule_of.result read) (ap (schedule_at c.args.ranks) spells.1 ∙ schedule-again c.args.ranks schedule (omega arith) spells.0) c.schedule_of.ensures

@@ -1,13 +1,10 @@
-use Rattle.std.proofs.Common.{◌≡◌, ◌≤◌, length}
+use Rattle.std.proofs.Common.{◌≡◌, length}
 use Rattle.rl_ops.specs.Body.{gathered}
-use Rattle.rl_ops.specs.ScheduleReading.{turns_at, with_turn}
+use Rattle.rl_ops.specs.ScheduleReading.{turns_at, no_turn, with_turn}
 use Rattle.rl_ops.proofs.schedule_reader.turns_of.Given as goal
 
-abbrev pub invariant-loop-turns : goal.invariant-loop-turns
-invariant-loop-turns l = record {
-  most : l.steps ≤ 2000000;
-  so_far : gathered with_turn l.turns (turns_at l.ranks l.steps l.lines.read l.lines.rows) ≡ turns_at l.ranks 0 l.fn.lines.read l.fn.lines.rows;
-}
+abbrev pub invariant-loop-so_far : goal.invariant-loop-so_far
+invariant-loop-so_far l = gathered with_turn l.turns (turns_at l.ranks l.so_far l.lines.read l.lines.rows) ≡ turns_at l.ranks no_turn l.fn.lines.read l.fn.lines.rows
 
-abbrev pub decreases-loop-turns : goal.decreases-loop-turns
-decreases-loop-turns l = length l.lines.rows
+abbrev pub decreases-loop-so_far : goal.decreases-loop-so_far
+decreases-loop-so_far l = length l.lines.rows
