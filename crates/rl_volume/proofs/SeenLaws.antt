@@ -1,10 +1,10 @@
 -- What was read, what there is room for, and what is read next.
-use Rattle.std.proofs.Common.{◌≡◌, ◌≢◌, ℕ, zero, suc, ◌+◌, ◌-◌, ◌<◌, ◌≤◌, Bool, true, false, cond, eqb, ltb, List, [], ◌∷◌, ◌++◌, length, get_or, refl, sym, ap, ◌∙◌, subst, arith, Option, Some, None, IsSome, IfSome, is_some, slice_index}
+use Rattle.std.proofs.Common.{◌≡◌, ℕ, zero, suc, ◌+◌, ◌<◌, ◌≤◌, Bool, true, false, cond, eqb, ltb, List, [], ◌∷◌, ◌++◌, length, get_or, refl, sym, ap, ◌∙◌, subst, arith, Option, Some, None, IfSome, is_some, slice_index}
 use Rattle.std.specs.List.{count_by}
 use Rattle.std.proofs.lemmas.Bool.Decides.{nat_tests}
 use Rattle.std.proofs.lemmas.List.{length-append}
 use Rattle.rl_model.proofs.Counts.{count-cons, count-append, sum_of_counts}
-use Rattle.rl_volume.specs.Seen.{value_of, AgreesWith, AreApart, first_unread}
+use Rattle.rl_volume.specs.Seen.{value_of, AgreesWith, AreApart}
 use Rattle.rl_volume.proofs.Sums.{sum_le, sum_changed, sum_one, cond_true, cond_false}
 
 -- a word that wasn't read stands in no pair
@@ -60,41 +60,6 @@ apart_more pairs room word value apart below none = record {
       );
 }
 
-module _ (pairs : List (ℕ × ℕ)) where
-  -- the next word is looked at, and then the others
-  pub look_on : (from words : ℕ) → from < words → first_unread pairs from (words - from) ≡ cond (is_some (value_of pairs from)) (first_unread pairs (from + 1) (words - (from + 1))) (Some from)
-  look_on from words h =
-      let e : words - from ≡ suc (words - (from + 1)) = omega arith in
-      ap (first_unread pairs from) e
-
-  -- the word that is found is one of those looked at, and wasn't read
-  pub unread_is : (from left word : ℕ) → first_unread pairs from left ≡ Some word → (word < from + left) × (value_of pairs word ≡ None)
-  unread_is from zero word e = absurd (cc)
-  unread_is from (suc left) word e =
-      elim (value_of pairs from) as (λ o. value_of pairs from ≡ o → cond (is_some o) (first_unread pairs (from + 1) left) (Some from) ≡ Some word → (word < from + suc left) × (value_of pairs word ≡ None)) [
-        | None ↦ λ none f. let same : from ≡ word = cc in (omega arith, ap (value_of pairs) (sym same) ∙ none)
-        | Some v ↦ λ some f. let rest = unread_is (from + 1) left word f in (omega (arith, rest.0), rest.1)
-      ] refl e
-
-  -- where none is found, all were read
-  pub none_unread : (from left : ℕ) → first_unread pairs from left ≡ None → (word : ℕ) → from ≤ word → word < from + left → IsSome (value_of pairs word)
-  none_unread from zero e word low high = absurd (omega arith)
-  none_unread from (suc left) e word low high =
-      elim (value_of pairs from) as (λ o. value_of pairs from ≡ o → cond (is_some o) (first_unread pairs (from + 1) left) (Some from) ≡ None → IsSome (value_of pairs word)) [
-        | None ↦ λ none f. absurd (cc)
-        | Some v ↦ λ some f.
-            elim (eqb from word) as (λ b. eqb from word ≡ b → IsSome (value_of pairs word)) [
-              | true ↦ λ i. let same : from ≡ word = grind (arith, nat_tests) in let P : Option ℕ → Type 0 = λ o. IsSome o in subst P (sym (ap (value_of pairs) (sym same) ∙ some)) refl
-              | false ↦ λ i. let other : from ≢ word = grind (arith, nat_tests) in none_unread (from + 1) left f word (omega arith) (omega arith)
-            ] refl
-      ] refl e
-
-  -- and where all were read, none is found
-  pub all_read : (from left : ℕ) → ((word : ℕ) → from ≤ word → word < from + left → IsSome (value_of pairs word)) → first_unread pairs from left ≡ None
-  all_read from zero read = refl
-  all_read from (suc left) read =
-      ap (λ b. cond b (first_unread pairs (from + 1) left) (Some from)) (read from (omega arith) (omega arith)) ∙ all_read (from + 1) left (λ w low high. read w (omega arith) (omega arith))
-
 at_place : (pairs : List (ℕ × ℕ)) (i word value : ℕ) → i < length pairs → get_or pairs i (0, 0) ≡ (word, value) → 0 < count_by (λ p. eqb p.0 word) pairs
 at_place [] i word value h e = absurd (omega arith)
 at_place (p ∷ ps) zero word value h e =
@@ -119,7 +84,7 @@ value_at (p ∷ ps) (suc i) word value h e once =
     cond_false (eqb p.0 word) _ _ miss ∙ value_at ps i word value (omega arith) e (omega arith)
 
 -- what a word gives in a list with one pair more
-value_more : (pairs : List (ℕ × ℕ)) (word value w : ℕ) → value_of (pairs ++ (word, value) ∷ []) w ≡ cond (is_some (value_of pairs w)) (value_of pairs w) (cond (eqb word w) (Some value) None)
+pub value_more : (pairs : List (ℕ × ℕ)) (word value w : ℕ) → value_of (pairs ++ (word, value) ∷ []) w ≡ cond (is_some (value_of pairs w)) (value_of pairs w) (cond (eqb word w) (Some value) None)
 value_more [] word value w = refl
 value_more (p ∷ ps) word value w =
     elim (eqb p.0 w) as (λ b. cond b (Some p.1) (value_of (ps ++ (word, value) ∷ []) w) ≡ cond (is_some (cond b (Some p.1) (value_of ps w))) (cond b (Some p.1) (value_of ps w)) (cond (eqb word w) (Some value) None)) [

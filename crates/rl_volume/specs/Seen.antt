@@ -1,12 +1,12 @@
 -- The words that a call has read, and which it reads next.
-use Rattle.std.specs.Prelude.{◌≡◌, ℕ, zero, suc, ◌+◌, ◌<◌, ◌≤◌, ◌==◌, nat_lt, if◌then◌else◌, List, length, slice_index, count_by, Option, Some, None, IfSome, IsSome, is_some, refl}
+use Rattle.std.specs.Prelude.{◌≡◌, ℕ, ◌<◌, ◌≤◌, ◌==◌, nat_lt, if◌then◌else◌, List, [], ◌∷◌, length, take, get_or, slice_index, count_by, Option, Some, None, IfSome, refl}
 use Rattle.std.specs.Option.{unwrap_or}
 use Rattle.std.specs.Map.{lookup}
 use Rattle.std.specs.Coded.{Coded, code_by, coded×, coded_list, coded_ℕ}
 use Rattle.rl_model.specs.declared.call.Call.{Call}
-use Rattle.rl_model.specs.declared.call.Call.TheVariants.{Put, Get, Del, Add, Cas, Hold}
 use Rattle.rl_model.specs.declared.geom.Geom.{Geom}
-use Rattle.rl_volume.specs.Words.{volume_words}
+use Rattle.rl_volume.specs.declared.write.Write.{Write}
+use Rattle.rl_volume.specs.Walk.{Walk, stop, look, walk}
 
 -- what contracts see of the words that were read: each with the value that it gave, and how many there is room for
 pub record SeenWords : Type 0 where
@@ -26,6 +26,16 @@ value_of pairs word = lookup (λ w. w == word) pairs
 abbrev pub value_or_zero : List (ℕ × ℕ) → ℕ → ℕ
 value_or_zero pairs word = unwrap_or (value_of pairs word) 0
 
+-- the words with a value written to one of them: that word has it from then on, whether it was read or not
+abbrev pub with_value : List (ℕ × ℕ) → ℕ → ℕ → List (ℕ × ℕ)
+with_value [] word value = (word, value) ∷ []
+with_value (p ∷ ps) word value = if p.0 == word then ((word, value) ∷ ps) else (p ∷ with_value ps word value)
+
+-- the words with some writes applied, in order
+abbrev pub patched : List (ℕ × ℕ) → List Write → List (ℕ × ℕ)
+patched pairs [] = pairs
+patched pairs (w ∷ ws) = patched (with_value pairs w.word w.value) ws
+
 -- each word that was read has in the volume the value that it gave
 abbrev pub AgreesWith : List (ℕ × ℕ) → List ℕ → Type 0
 AgreesWith pairs words = (word : ℕ) → IfSome (value_of pairs word) (λ value. slice_index words word ≡ value)
@@ -35,29 +45,24 @@ pub record AreApart (pairs : List (ℕ × ℕ)) (room : ℕ) : Type 0 where
   pub once : (word : ℕ) → count_by (λ p. p.0 == word) pairs ≤ 1
   pub below : count_by (λ p. nat_lt p.0 room) pairs ≡ length pairs
 
--- each word of the volume was read
-abbrev pub IsAllRead : Geom → List (ℕ × ℕ) → Type 0
-IsAllRead geom pairs = (word : ℕ) → word < volume_words geom → IsSome (value_of pairs word)
+-- the word that a walk looks at next: the first on its way that wasn't read
+abbrev pub next_in : Walk → List (ℕ × ℕ) → Option ℕ
+next_in stop pairs = None
+next_in (look word go) pairs = elim (value_of pairs word) [ None ↦ Some word | Some value ↦ next_in (go value) pairs ]
 
--- the first word from `from` on, of the next `left`, that was not read
-abbrev pub first_unread : List (ℕ × ℕ) → ℕ → ℕ → Option ℕ
-first_unread pairs from zero = None
-first_unread pairs from (suc left) = if is_some (value_of pairs from) then first_unread pairs (from + 1) left else Some from
-
--- the word that a call reads next: the first one of the volume that it hasn't read. A hold reads none
+-- the word that a call reads next: the next one of its walk
 abbrev pub next_word : Geom → Call → List (ℕ × ℕ) → Option ℕ
-next_word geom (Put key value) pairs = first_unread pairs 0 (volume_words geom)
-next_word geom (Get key) pairs = first_unread pairs 0 (volume_words geom)
-next_word geom (Del key) pairs = first_unread pairs 0 (volume_words geom)
-next_word geom (Add key by) pairs = first_unread pairs 0 (volume_words geom)
-next_word geom (Cas key old new) pairs = first_unread pairs 0 (volume_words geom)
-next_word geom (Hold shard) pairs = None
+next_word geom call pairs = next_in (walk geom call) pairs
 
--- a call has read all that it needs: each word of the volume. A hold needs none
+-- all words on the way of a walk were read
+abbrev pub IsWalked : Walk → List (ℕ × ℕ) → Type 0
+IsWalked stop pairs = Unit {0}
+IsWalked (look word go) pairs = (value : ℕ) × (value_of pairs word ≡ Some value) × IsWalked (go value) pairs
+
+-- a call has read all that it needs
 abbrev pub IsReadingOver : Geom → Call → List (ℕ × ℕ) → Type 0
-IsReadingOver geom (Put key value) pairs = IsAllRead geom pairs
-IsReadingOver geom (Get key) pairs = IsAllRead geom pairs
-IsReadingOver geom (Del key) pairs = IsAllRead geom pairs
-IsReadingOver geom (Add key by) pairs = IsAllRead geom pairs
-IsReadingOver geom (Cas key old new) pairs = IsAllRead geom pairs
-IsReadingOver geom (Hold shard) pairs = Unit {0}
+IsReadingOver geom call pairs = IsWalked (walk geom call) pairs
+
+-- the call has read these words from nothing on, each when it was the next one
+abbrev pub AreNamed : Geom → Call → List (ℕ × ℕ) → Type 0
+AreNamed geom call pairs = (i : ℕ) → i < length pairs → next_word geom call (take i pairs) ≡ Some (get_or pairs i (0, 0)).0

@@ -1,10 +1,14 @@
 // The words that a call has read.
-ghost use Rattle.std.specs.Prelude.{◌≡◌, ◌<◌, ◌≤◌, ◌++◌, ◌∷◌, [], IfOk, None};
+ghost use Rattle.std.specs.Prelude.{◌≡◌, ◌<◌, ◌++◌, ◌∷◌, ◌==◌, [], ℕ, List, length, position, IfOk, Some, None};
+ghost use Rattle.std.specs.List.{All};
 ghost use Rattle.rl_model.specs.Geom.{GeomFits};
 ghost use Rattle.rl_volume.specs.Words as word;
-ghost use Rattle.rl_volume.specs.Seen.{value_of, value_or_zero};
+ghost use Rattle.rl_volume.specs.Seen.{value_of, value_or_zero, AgreesWith, with_value, patched};
+ghost use Rattle.rl_volume.specs.Decision.{written};
 
 use crate::words::volume_words;
+use crate::write::Write;
+use arrayvec::ArrayVec;
 use rl_model::Geom;
 use std::alloc::{AllocError as OutOfMemory, Global};
 use std::marker::Model;
@@ -67,18 +71,57 @@ impl Seen {
         self.pairs.push_reserved((word, value));
     }
 
-    /// What a word gave, if it was seen.
-    pub fn value(&self, word: u32) -> Option<u64>
-        ensures { result ≡ value_of self.now.pairs word }
+    /// Takes writes as made: each word that is written has its new value from now on, whether it was seen
+    /// or not. So the next call of a batch reads the volume as it is after the writes of the calls before.
+    pub fn patch(&mut self, writes: &ArrayVec<Write, 5>)
+        requires in_volume { All (λ w. w.word < self.old.room) writes.now.items }
+        ensures patched { self.new.pairs ≡ patched self.old.pairs writes.now.items }
+        ensures room { self.new.room ≡ self.old.room }
+        ensures agrees { (words : List ℕ) → length words ≡ self.old.room → AgreesWith self.old.pairs words → AgreesWith self.new.pairs (written words writes.now.items) }
     {
-        // Where the words are read in order, each stands at its own number.
-        match self.pairs.get(word as usize) {
-            Some(&(seen, value)) if seen == word => Some(value),
-            _ => self.found(word),
+        self.write_all(writes.as_slice());
+    }
+
+    fn write_all(&mut self, writes: &[Write])
+        requires in_volume { All (λ w. w.word < self.old.room) writes.now }
+        ensures patched { self.new.pairs ≡ patched self.old.pairs writes.now }
+        ensures room { self.new.room ≡ self.old.room }
+    {
+        for write in writes {
+            self.write(write.word, write.value);
         }
     }
 
-    fn found(&self, word: u32) -> Option<u64>
+    fn write(&mut self, word: u32, value: u64)
+        requires in_volume { word < self.old.room }
+        ensures written { self.new.pairs ≡ with_value self.old.pairs word value }
+        ensures room { self.new.room ≡ self.old.room }
+    {
+        match self.position(word) {
+            Some(index) => self.replace(index, word, value),
+            None => self.add(word, value),
+        }
+    }
+
+    // Gives another value to the word that stands at this index.
+    fn replace(&mut self, index: usize, word: u32, value: u64)
+        requires inside { index < length self.old.pairs }
+        requires there { position (λ p. p.0 == word) self.old.pairs ≡ Some index }
+        ensures written { self.new.pairs ≡ with_value self.old.pairs word value }
+        ensures room { self.new.room ≡ self.old.room }
+    {
+        self.pairs[index] = (word, value);
+    }
+
+    // At which index a word stands among those seen, if it was seen.
+    fn position(&self, word: u32) -> Option<usize>
+        ensures { result ≡ position (λ p. p.0 == word) self.now.pairs }
+    {
+        self.pairs.iter().position(|pair| pair.0 == word)
+    }
+
+    /// What a word gave, if it was seen.
+    pub fn value(&self, word: u32) -> Option<u64>
         ensures { result ≡ value_of self.now.pairs word }
     {
         for (seen, value) in &self.pairs {
@@ -89,10 +132,27 @@ impl Seen {
         None
     }
 
+    /// What a word gave, if it was seen. It is found at once where it is the one seen after so many others.
+    pub(crate) fn value_at(&self, position: u32, word: u32) -> Option<u64>
+        ensures { result ≡ value_of self.now.pairs word }
+    {
+        match self.pairs.get(position as usize) {
+            Some(&(seen, value)) if seen == word => Some(value),
+            _ => self.value(word),
+        }
+    }
+
     /// What a word gave, or 0 where it wasn't seen.
     pub(crate) fn value_or_zero(&self, word: u32) -> u64
         ensures { result ≡ value_or_zero self.now.pairs word }
     {
         self.value(word).unwrap_or(0)
+    }
+
+    /// The same, found at once where the word is the one seen after so many others.
+    pub(crate) fn value_or_zero_at(&self, position: u32, word: u32) -> u64
+        ensures { result ≡ value_or_zero self.now.pairs word }
+    {
+        self.value_at(position, word).unwrap_or(0)
     }
 }

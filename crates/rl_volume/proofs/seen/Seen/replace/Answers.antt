@@ -1,0 +1,19 @@
+use Rattle.std.proofs.Common.{◌≡◌, ◌∙◌, ◌≤◌, sym, ap, subst, ℕ, List, eqb, Some}
+use Rattle.std.specs.List.{position}
+use Rattle.rl_volume.specs.Seen.{AreApart, with_value}
+use Rattle.rl_volume.proofs.Patches.{replaced, apart_replaced}
+use Rattle.rl_volume.proofs.seen.Seen.replace.Goals as goal
+
+pub invariant_of-self : goal.invariant_of-self
+invariant_of-self c =
+    let s = c.self.inside in
+    let at : position (λ (q : ℕ × ℕ). eqb q.0 c.args.word) s.pairs.items ≡ Some c.args.index = ap (λ v. position (λ (q : ℕ × ℕ). eqb q.0 c.args.word) v.pairs) c.self.view_is ∙ c.requires.there in
+    let new = replaced s.pairs.items c.args.word c.args.value c.args.index at in
+    let P : List (ℕ × ℕ) → Type 0 = λ ps. AreApart ps s.room × (s.room ≤ s.pairs.cap) in
+    subst P (sym new.1) (apart_replaced s.pairs.items s.room c.args.word c.args.value c.self.invariant.0 new.2, c.self.invariant.1)
+
+pub returns-clause-written : goal.returns-clause-written
+returns-clause-written c =
+    let s = c.self.inside in
+    let at : position (λ (q : ℕ × ℕ). eqb q.0 c.args.word) s.pairs.items ≡ Some c.args.index = ap (λ v. position (λ (q : ℕ × ℕ). eqb q.0 c.args.word) v.pairs) c.self.view_is ∙ c.requires.there in
+    (replaced s.pairs.items c.args.word c.args.value c.args.index at).1 ∙ ap (λ v. with_value v.pairs c.args.word c.args.value) c.self.view_is
