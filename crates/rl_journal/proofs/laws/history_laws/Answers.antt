@@ -1,0 +1,18 @@
+-- Each law of a history, by its proof.
+use Rattle.rl_journal.specs.HistoryLaws.{replayed}
+use Rattle.rl_journal.specs.HistoryPlaces.{places_told}
+use Rattle.rl_journal.specs.HistoryCounts.{same_entries}
+use Rattle.rl_journal.specs.HistorySorted.{history_sorted}
+use Rattle.rl_journal.proofs.laws.history_laws.Goals as goal
+
+pub returns-clause-replayed : goal.returns-clause-replayed
+returns-clause-replayed c = replayed
+
+pub returns-clause-places : goal.returns-clause-places
+returns-clause-places c = places_told
+
+pub returns-clause-entries : goal.returns-clause-entries
+returns-clause-entries c = λ geom journal ts test. same_entries test geom journal ts
+
+pub returns-clause-sorted : goal.returns-clause-sorted
+returns-clause-sorted c = history_sorted

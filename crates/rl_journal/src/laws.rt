@@ -1,0 +1,44 @@
+// What is proved of legal journals, and of their words.
+ghost use Rattle.std.specs.Prelude.{◌≡◌, ◌↔◌, ℕ, Bool, true, false, List, All, count_by, length, slice_get, Some};
+ghost use Rattle.std.specs.FinMap as map;
+ghost use Rattle.rl_model.specs.declared.entry.Entry.{Entry};
+ghost use Rattle.rl_model.specs.declared.geom.Geom.{Geom};
+ghost use Rattle.rl_model.specs.declared.entry.Reply.TheVariants.{Undone};
+ghost use Rattle.rl_model.specs.Table.{Table};
+ghost use Rattle.rl_journal.specs.Blocks.{any_stops, in_turn, calls_of, replies_of};
+ghost use Rattle.rl_journal.specs.Legal.{table_after, AnotherStops, IsLegalBlock, IsLegal, IsLegalJournal};
+ghost use Rattle.rl_journal.specs.Ranks.{IsOwn, count_in};
+ghost use Rattle.rl_journal.specs.History.{history, IsReplay, TellsUpdatesBefore, AreOwn, IsSorted};
+ghost use Rattle.rl_journal.specs.Journal.{spelled, Agrees, journal_in};
+
+/// What is proved of a legal block: all of its calls or none. There is nothing to run.
+pub fn block_laws()
+    // A call is undone exactly where another call of its block has no room or runs over.
+    ensures undone { (geom : Geom) (t : Table) (n : ℕ) (b : List Entry) → IsLegalBlock geom t n b → (i : ℕ) (e : Entry) → slice_get b i ≡ Some e →
+        (e.reply ≡ Undone) ↔ AnotherStops b i }
+    // Where a call has no room or runs over, the table stays as it was.
+    ensures none { (geom : Geom) (t : Table) (n : ℕ) (b : List Entry) → IsLegalBlock geom t n b → any_stops (replies_of b) ≡ true → table_after geom t b ≡ t }
+    // Else table and replies are those of the calls one after the other.
+    ensures all { (geom : Geom) (t : Table) (n : ℕ) (b : List Entry) → IsLegalBlock geom t n b → any_stops (replies_of b) ≡ false →
+        (table_after geom t b, replies_of b) ≡ in_turn geom t (calls_of b) }
+{}
+
+/// What is proved of a journal and the ranks' transcripts, where they are legal. There is nothing to run.
+pub fn history_laws()
+    // From the empty table the blocks of the history give every entry its reply, one after the other.
+    ensures replayed { (geom : Geom) (journal : List Entry) (ts : List (List Entry)) → IsLegal geom journal ts → IsReplay geom map.empty 0 (history journal ts) }
+    // Every entry's place is the number of updates before it.
+    ensures places { (geom : Geom) (journal : List Entry) (ts : List (List Entry)) → IsLegal geom journal ts → TellsUpdatesBefore (history journal ts) }
+    // The history has each entry as often as the transcripts have it, whatever test counts them.
+    ensures entries { (geom : Geom) (journal : List Entry) (ts : List (List Entry)) (test : Entry → Bool) → IsLegal geom journal ts →
+        count_by test (history journal ts) ≡ count_in test ts }
+    // It is ordered by place; at one place gets and holds come first, by rank and then by number.
+    ensures sorted { (geom : Geom) (journal : List Entry) (ts : List (List Entry)) → IsLegal geom journal ts → AreOwn 0 ts → IsSorted (history journal ts) }
+{}
+
+/// What is proved of the words of a legal journal. There is nothing to run.
+pub fn journal_laws()
+    // Words that spell it are read back as it.
+    ensures read { (geom : Geom) (shard base : ℕ) (words : List ℕ) (journal : List Entry) → IsLegalJournal geom journal → All (λ e. IsOwn shard e.rank e) journal →
+        Agrees words base (spelled journal) → journal_in shard words base (length journal) ≡ journal }
+{}

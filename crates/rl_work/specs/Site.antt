@@ -1,0 +1,32 @@
+-- One shard's place: the size of the table, the shard's number, and how many updates each rank may make; and where the parts of
+-- its window lie before the lock's words.
+use Rattle.std.specs.Prelude.{ℕ, ◌+◌, ◌*◌, List, take, drop, sum}
+use Rattle.rl_model.specs.declared.geom.Geom.{Geom}
+use Rattle.rl_volume.specs.Words.{volume_words}
+
+pub record Site : Type 0 where
+  pub geom : Geom
+  pub shard : ℕ
+  pub rooms : List ℕ
+
+-- the journal has a place for each update that a rank may make
+abbrev pub places : Site → ℕ
+places site = sum site.rooms
+
+-- word 0 is always 1; then the count, the volume and the journal
+abbrev pub count_word : ℕ
+count_word = 1
+
+abbrev pub volume_base : ℕ
+volume_base = 2
+
+abbrev pub journal_base : Geom → ℕ
+journal_base geom = 2 + volume_words geom
+
+-- the lock's words stand behind the journal
+abbrev pub lock_base : Site → ℕ
+lock_base site = journal_base site.geom + 6 * places site
+
+-- the volume among the words of a window
+abbrev pub volume_of : Geom → List ℕ → List ℕ
+volume_of geom words = take (volume_words geom) (drop 2 words)
