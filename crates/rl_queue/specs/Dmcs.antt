@@ -1,23 +1,20 @@
 -- D-MCS as plain functions: one queue of all ranks, without limit; and which of its states are good.
-use Rattle.std.specs.Prelude.{◌≡◌, ℕ, zero, suc, ◌+◌, ◌-◌, ◌*◌, ◌/◌, ◌<◌, ◌==◌, Bool, true, false, List, [], ◌∷◌, ◌++◌, length, nat_lt, if◌then◌else◌, slice_get, slice_index, Some, None}
+use Rattle.std.specs.Prelude.{◌≡◌, ℕ, ◌+◌, ◌-◌, ◌*◌, ◌/◌, ◌<◌, ◌==◌, Bool, true, false, List, [], ◌∷◌, ◌++◌, length, if◌then◌else◌, slice_get, slice_index, Some, None}
 use Rattle.rl_word.specs.declared.classes.Spot.{Spot}
 use Rattle.rl_word.specs.declared.classes.Class.TheVariants as class
 use Rattle.rl_step.specs.declared.events.Event.{Event}
 use Rattle.rl_step.specs.declared.events.Event.TheVariants as event
-use Rattle.rl_step.specs.declared.events.Standing.{Standing}
-use Rattle.rl_step.specs.declared.events.Standing.TheVariants as standing
 use Rattle.rl_step.specs.Lock.{LockTable, LockState, Told, no_local}
+use Rattle.rl_step.specs.LockQueues.{all_ranks}
 use Rattle.rl_step.specs.Queues.{QueueOf, tenures}
 use Rattle.rl_queue.specs.declared.view.Phase.{Phase}
-use Rattle.rl_queue.specs.declared.view.Phase.TheVariants.{Idle, Clear, Reset, Swing, Link, Wait, Settle, Granted, Look, Close, Await, Hand, Above}
+use Rattle.rl_queue.specs.declared.view.Phase.TheVariants.{Idle, Clear, Settle, Granted, Look, Above}
 use Rattle.rl_queue.specs.declared.view.QueueView.{QueueView}
 use Rattle.rl_queue.specs.Queue.{TheNames, Turn, at_phase, plan_at, turn_at, settled_at, leave_at}
 use Rattle.rl_queue.specs.QueueLaws.{QueueGood}
-
--- n numbers from one on, each 2 more than the one before
-abbrev pub every_second : ℕ → ℕ → List ℕ
-every_second from zero = []
-every_second from (suc n) = from ∷ every_second (from + 2) n
+use Rattle.rl_queue.specs.RankWords.{every_second}
+use Rattle.rl_queue.specs.RankViews.{of_rank}
+use Rattle.rl_queue.specs.Standings.{standing_of}
 
 -- the words of the queue of n ranks: word 0 is the tail, a card word; then come the next word and the status word of each rank
 abbrev pub dmcs_names : ℕ → TheNames
@@ -41,24 +38,9 @@ dmcs_turn m t = dmcs_enter m t.phase t.events t.waits
 abbrev pub dmcs_learn : ℕ → ℕ → Phase → ℕ → Told QueueView
 dmcs_learn n m p got = dmcs_turn m (turn_at (dmcs_names n) m p got)
 
-abbrev pub dmcs_standing : Phase → Standing
-dmcs_standing Idle = standing.Out
-dmcs_standing Clear = standing.Asking
-dmcs_standing Reset = standing.Asking
-dmcs_standing (Swing guess) = standing.Asking
-dmcs_standing (Link guess) = standing.Asking
-dmcs_standing Wait = standing.Asking
-dmcs_standing Settle = standing.Asking
-dmcs_standing (Granted left) = standing.Writer
-dmcs_standing (Look left upper) = standing.Leaving
-dmcs_standing (Close left) = standing.Leaving
-dmcs_standing (Await left) = standing.Leaving
-dmcs_standing (Hand succ left) = standing.Leaving
-dmcs_standing (Above succ) = standing.Leaving
-
 -- one queue of all n ranks, without limit
 abbrev pub dmcs_queue : ℕ → QueueOf
-dmcs_queue n = record { members = λ m. nat_lt m n; of_ranks = true; budget = None }
+dmcs_queue n = all_ranks n
 
 -- The lock of a shard with this home, of ranks on these nodes: a rank joins the queue when it asks, and leaves it by the leave of
 -- a queue that has nothing above it. No cohort, no readers that share, and no local compare-and-swap.
@@ -72,7 +54,7 @@ dmcs_table home node_of =
       plan = λ v. plan_at (dmcs_names (length node_of)) v.member v.phase;
       learn = λ v got. dmcs_learn (length node_of) v.member v.phase got;
       leave = λ v. at_phase v.member (leave_at v.phase false);
-      standing = λ v. dmcs_standing v.phase;
+      standing = λ v. standing_of v.phase;
       queues = dmcs_queue (length node_of) ∷ [];
       cohort = λ c. false;
       shares = false;
@@ -81,9 +63,7 @@ dmcs_table home node_of =
 
 -- the phase of each rank, by its number
 abbrev pub phase_in : List QueueView → ℕ → Phase
-phase_in [] m = Idle
-phase_in (v ∷ vs) zero = v.phase
-phase_in (v ∷ vs) (suc m) = phase_in vs m
+phase_in vs m = of_rank {V = QueueView} (λ v. v.phase) Idle vs m
 
 -- between acts no rank is left where it must settle, or where something is above
 abbrev pub Calm : Phase → Type 0

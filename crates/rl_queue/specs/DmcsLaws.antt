@@ -1,5 +1,5 @@
 -- D-MCS meets the laws of a lock.
-use Rattle.std.specs.Prelude.{◌≡◌, ℕ, zero, suc, ◌+◌, ◌-◌, ◌*◌, ◌<◌, ◌≤◌, Bool, false, List, [], ◌∷◌, ◌++◌, length, replicate, slice_get, slice_index, slice_set, Some, None, refl}
+use Rattle.std.specs.Prelude.{◌≡◌, ℕ, zero, suc, ◌+◌, ◌-◌, ◌*◌, ◌<◌, ◌≤◌, Bool, true, false, List, [], ◌∷◌, ◌++◌, length, replicate, slice_get, slice_index, slice_set, Some, None, refl}
 use Rattle.std.proofs.Common.{sym, ◌∙◌, ap, subst, arith, length-set}
 use Rattle.std.proofs.lemmas.List.{length-replicate}
 use Rattle.std.proofs.lemmas.Option.{same_Some}
@@ -10,30 +10,29 @@ use Rattle.rl_word.specs.declared.acts.Act.{Act}
 use Rattle.rl_step.specs.declared.events.Event.{Event}
 use Rattle.rl_step.specs.declared.events.Event.TheVariants as event
 use Rattle.rl_step.specs.declared.events.Standing.TheVariants as standing
-use Rattle.rl_step.specs.Lock.{LockTable, LockState, LockLaws, opening, acted, asked, left as left_state, touched, found, Shift, holds_only, no_more}
+use Rattle.rl_step.specs.Lock.{LockTable, LockState, LockLaws, opening, acted, asked, left as left_state, touched, found, Shift, holds_only, no_more, IsLoad, PlansLoad}
 use Rattle.rl_step.specs.LockLemmas.{length-first_views, first_views_at}
 use Rattle.rl_step.specs.Queues.{IsFifo, settled, passed, tenures, count}
 use Rattle.rl_step.specs.QueueLemmas.{tenures-append}
 use Rattle.rl_queue.specs.declared.view.Phase.{Phase}
 use Rattle.rl_queue.specs.declared.view.Phase.TheVariants.{Idle, Clear, Reset, Swing, Link, Wait, Settle, Granted, Look, Close, Await, Hand, Above}
 use Rattle.rl_queue.specs.declared.view.QueueView.{QueueView}
-use Rattle.rl_queue.specs.Queue.{next_word, status_word, at_phase, plan_at, PlanFits, PhaseFits, GotFits}
+use Rattle.rl_queue.specs.Queue.{next_word, status_word, at_phase, plan_at, turn_at, PlanFits, PhaseFits, GotFits}
 use Rattle.rl_queue.specs.Lane.{SuitsAlone, Listed, Busy, Own}
 use Rattle.rl_queue.specs.LaneLaws.{IsFirst}
 use Rattle.rl_queue.specs.QueueLaws.{QueueGood}
 use Rattle.rl_queue.specs.QueueMoves.{join_keeps, leave_keeps, beside_keeps, one_first, queue_fifo, queue_counted}
-use Rattle.rl_queue.specs.QueueFits.{plan_fits, learn_fits, alone_finds, alone_moves_on}
-use Rattle.rl_queue.specs.Dmcs.{every_second, dmcs_names, dmcs_learn, dmcs_standing, dmcs_queue, dmcs_table, phase_in, Calm, Below, DmcsGood}
-use Rattle.rl_queue.specs.DmcsWords.{length-every_second, Seated, word_home, lawful_at}
-use Rattle.rl_queue.specs.DmcsPhases.{phase_get, moves_in, first_idle, all_idle, no_reader, writer_first, holder_first, leaving_at, out_idle, suits_at, rests_at}
-use Rattle.rl_queue.specs.DmcsTurns.{lt_test, enter_waits}
+use Rattle.rl_queue.specs.QueueFits.{plan_fits, learn_fits, alone_finds, alone_moves_on, waits_on}
+use Rattle.rl_queue.specs.Choices.{lt_test}
+use Rattle.rl_queue.specs.RankWords.{every_second, Seated}
+use Rattle.rl_queue.specs.RankWordLaws.{length-every_second, all_zero}
+use Rattle.rl_queue.specs.Standings.{standing_of}
+use Rattle.rl_queue.specs.StandingLaws.{no_reader, writer_first, holder_first, leaving_at, out_idle, suits_at}
+use Rattle.rl_queue.specs.Dmcs.{dmcs_names, dmcs_learn, dmcs_queue, dmcs_table, phase_in, Calm, Below, DmcsGood}
+use Rattle.rl_queue.specs.DmcsWords.{word_home, lawful_at}
+use Rattle.rl_queue.specs.DmcsPhases.{phase_get, moves_in, first_idle, all_idle, rests_at}
+use Rattle.rl_queue.specs.DmcsTurns.{enter_waits, enter_loads}
 use Rattle.rl_queue.specs.DmcsActs.{stays_good, rank_below, succ_below, act_fits, act_keeps_at}
-
--- each of the opening words is 0
-zeros : (m n : ℕ) → slice_index (replicate m 0) n ≡ 0
-zeros zero n = refl
-zeros (suc m) zero = refl
-zeros (suc m) (suc n) = zeros m n
 
 -- the opening state is good, with an empty line
 begins_at : (home : ℕ) (node_of : List ℕ) → DmcsGood (length node_of) (opening (dmcs_table home node_of) (length node_of))
@@ -55,7 +54,7 @@ begins_at home node_of =
           distinct = tt;
           listed = λ m h. subst Listed (idle m) h;
           only = λ m h. absurd h;
-          line = zeros (1 + 2 * length node_of) 0;
+          line = all_zero (1 + 2 * length node_of) 0;
           own = λ m. subst (λ z. Own None (Below (length node_of)) z (slice_index (replicate (1 + 2 * length node_of) 0) (next_word (dmcs_names (length node_of)) m)) (slice_index (replicate (1 + 2 * length node_of) 0) (status_word (dmcs_names (length node_of)) m))) (sym (idle m)) tt;
           inside = λ m b. absurd (subst Busy (idle m) b);
         };
@@ -65,7 +64,7 @@ begins_at home node_of =
     }
 
 -- asking keeps a state good
-ask_keeps_at : (home : ℕ) (node_of : List ℕ) (s : LockState QueueView) (r k : ℕ) (p : Phase) (m : Mode) → DmcsGood (length node_of) s → slice_get s.views r ≡ Some (at_phase k p) → dmcs_standing p ≡ standing.Out →
+ask_keeps_at : (home : ℕ) (node_of : List ℕ) (s : LockState QueueView) (r k : ℕ) (p : Phase) (m : Mode) → DmcsGood (length node_of) s → slice_get s.views r ≡ Some (at_phase k p) → standing_of p ≡ standing.Out →
     DmcsGood (length node_of) (asked (dmcs_table home node_of) s r (at_phase k p) m)
 ask_keeps_at home node_of s r k Idle m g has st =
     stays_good (length node_of) s _ r (at_phase k Idle) (at_phase k Clear) g has refl refl (length-set s.modes r m) (g.named r _ has) tt
@@ -91,7 +90,7 @@ ends_one n r t h =
     omega arith
 
 -- so does leaving, with the leave event
-leave_keeps_at : (home : ℕ) (node_of : List ℕ) (s : LockState QueueView) (r k : ℕ) (p : Phase) → DmcsGood (length node_of) s → slice_get s.views r ≡ Some (at_phase k p) → dmcs_standing p ≡ standing.Writer →
+leave_keeps_at : (home : ℕ) (node_of : List ℕ) (s : LockState QueueView) (r k : ℕ) (p : Phase) → DmcsGood (length node_of) s → slice_get s.views r ≡ Some (at_phase k p) → standing_of p ≡ standing.Writer →
     DmcsGood (length node_of) (left_state (dmcs_table home node_of) s r (at_phase k p) (event.LeaveW r))
 leave_keeps_at home node_of s r k Idle g has st = cc
 leave_keeps_at home node_of s r k Clear g has st = cc
@@ -158,6 +157,14 @@ got_fits_at n s r k p a few g has pl =
     learn_fits (dmcs_names n) (Below n) s.words (phase_in s.views) g.line s.trace (tenures (dmcs_queue n) s.trace) r p a g.queue (phase_get s.views r (at_phase k p) has) (subst (λ z. plan_at (dmcs_names n) z p ≡ Some a) same pl)
     (λ x i. omega arith) (λ b e. cc)
 
+-- a rank waits on after a load alone, and stands at a load again
+waits_on_at : (n m : ℕ) (p : Phase) (a : Act) (got : ℕ) → plan_at (dmcs_names n) m p ≡ Some a → (dmcs_learn n m p got).waits ≡ true →
+    IsLoad a × PlansLoad (plan_at (dmcs_names n) (dmcs_learn n m p got).view.member (dmcs_learn n m p got).view.phase)
+waits_on_at n m p a got pl e =
+    let t = turn_at (dmcs_names n) m p got in
+    let k = waits_on (dmcs_names n) (Below n) m p got (sym (enter_waits m t.phase t.events t.waits) ∙ e) in
+    (subst PlansLoad pl k.1, enter_loads (dmcs_names n) m t.phase t.events t.waits (subst (λ z. PlansLoad (plan_at (dmcs_names n) m z)) (sym k.0) k.1))
+
 -- all laws of a lock
 pub dmcs_laws : (home : ℕ) (layout : Layout) → Seated layout → home < layout.nodes → LockLaws (dmcs_table home layout.node_of) (DmcsGood (length layout.node_of)) no_more layout
 dmcs_laws home layout seated homed =
@@ -168,6 +175,7 @@ dmcs_laws home layout seated homed =
     record {
       begins = begins_at home layout.node_of;
       sized = λ s g. (g.all_words, g.all_views, g.all_modes);
+      few_words = let few = seated.few in omega arith;
       homes = λ w lt. word_home home layout w seated homed lt;
       lawful = λ s r v a h.
           lawful_at home layout r v.member v.phase a seated homed (fits_at (length layout.node_of) s r v.member v.phase h.is_good h.has)
@@ -191,8 +199,9 @@ dmcs_laws home layout seated homed =
       leave_leaves = λ v h. leaving_at v.phase h;
       rests = λ s r v g has. rests_at (length layout.node_of) v.member v.phase (g.calm r v has);
       shifts = λ s r v a h.
-          subst (λ z. Shift z (dmcs_standing v.phase) (dmcs_standing (dmcs_learn (length layout.node_of) v.member v.phase (told a (found s a))).view.phase) (holds_only (dmcs_learn (length layout.node_of) v.member v.phase (told a (found s a))).events)) (h.is_good.named r v h.has)
+          subst (λ z. Shift z (standing_of v.phase) (standing_of (dmcs_learn (length layout.node_of) v.member v.phase (told a (found s a))).view.phase) (holds_only (dmcs_learn (length layout.node_of) v.member v.phase (told a (found s a))).events)) (h.is_good.named r v h.has)
           (act_fits home (length layout.node_of) s v.member v.phase a (told a (found s a)) h.is_good (at s r v h.is_good h.has) h.planned).shift;
+      waits_on_loads = λ s r v a h e. waits_on_at (length layout.node_of) v.member v.phase a (told a (found s a)) h.planned e;
       orders = λ s r v a h.
           let ok = act_fits home (length layout.node_of) s v.member v.phase a (told a (found s a)) h.is_good (at s r v h.is_good h.has) h.planned in (ok.order, ok.few);
       names = λ s r v a h. (act_fits home (length layout.node_of) s v.member v.phase a (told a (found s a)) h.is_good (at s r v h.is_good h.has) h.planned).names;

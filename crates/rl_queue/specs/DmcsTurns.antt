@@ -1,22 +1,18 @@
 -- What a rank learns from an act of D-MCS: its number stays, its standing changes as it may, and its events are in order.
-use Rattle.std.specs.Prelude.{◌≡◌, ℕ, ◌+◌, ◌-◌, ◌<◌, ◌≤◌, ◌==◌, Bool, true, false, List, [], ◌∷◌, length, nat_lt, if◌then◌else◌, Some, refl}
+use Rattle.std.specs.Prelude.{◌≡◌, ℕ, ◌+◌, ◌-◌, ◌<◌, ◌≤◌, ◌==◌, Bool, true, false, List, [], ◌∷◌, length, if◌then◌else◌, Some, refl}
 use Rattle.std.proofs.Common.{arith}
-use Rattle.std.proofs.lemmas.Bool.Decides.{nat_tests}
 use Rattle.rl_word.specs.declared.acts.Act.{Act}
 use Rattle.rl_step.specs.declared.events.Event.{Event}
 use Rattle.rl_step.specs.declared.events.Event.TheVariants as event
-use Rattle.rl_step.specs.Lock.{Told, Shift, holds_only, InOrder, IsMember, AllNamed}
+use Rattle.rl_step.specs.Lock.{Told, PlansLoad, Shift, holds_only, InOrder, IsMember, AllNamed}
 use Rattle.rl_step.specs.Queues.{tenures}
 use Rattle.rl_queue.specs.declared.view.Phase.{Phase}
 use Rattle.rl_queue.specs.declared.view.Phase.TheVariants.{Idle, Clear, Reset, Swing, Link, Wait, Settle, Granted, Look, Close, Await, Hand, Above}
 use Rattle.rl_queue.specs.declared.view.QueueView.{QueueView}
-use Rattle.rl_queue.specs.Choices.{choose}
-use Rattle.rl_queue.specs.Queue.{moves_to, moves_with, waits_at, joined_at, plan_at}
-use Rattle.rl_queue.specs.Dmcs.{dmcs_names, dmcs_enter, dmcs_turn, dmcs_learn, dmcs_standing, dmcs_queue, Calm}
-
--- the test of a number that is smaller
-pub lt_test : (k n : ℕ) → k < n → nat_lt k n ≡ true
-lt_test k n h = grind (arith, nat_tests)
+use Rattle.rl_queue.specs.Choices.{choose, lt_test}
+use Rattle.rl_queue.specs.Queue.{TheNames, moves_to, moves_with, waits_at, joined_at, plan_at}
+use Rattle.rl_queue.specs.Dmcs.{dmcs_names, dmcs_enter, dmcs_turn, dmcs_learn, dmcs_queue, Calm}
+use Rattle.rl_queue.specs.Standings.{standing_of}
 
 -- each rank is a member of the one queue
 is_member : (n k : ℕ) → k < n → IsMember (dmcs_queue n ∷ []) 0 k
@@ -25,7 +21,7 @@ is_member n k h = record { queue = dmcs_queue n; is_queue = refl; is_member = lt
 -- what the laws ask of what rank k of n learns in phase p: its number, how its standing changes, its events, and where it is left
 pub record TurnFits (n k : ℕ) (p : Phase) (u : Told QueueView) : Type 0 where
   pub member : u.view.member ≡ k
-  pub shift : Shift k (dmcs_standing p) (dmcs_standing u.view.phase) (holds_only u.events)
+  pub shift : Shift k (standing_of p) (standing_of u.view.phase) (holds_only u.events)
   pub order : InOrder u.events
   pub few : length u.events ≤ 8
   pub names : AllNamed (dmcs_queue n ∷ []) (λ c. false) u.events
@@ -70,6 +66,22 @@ turn_fits n k (Hand s left) a got pl calm lt hs =
 turn_fits n k (Above s) a got pl calm lt hs = absurd calm
 
 -- entering changes nothing of whether a load has to be made again
+pub enter_loads : (n : TheNames) (m : ℕ) (p : Phase) (es : List Event) (w : Bool) → PlansLoad (plan_at n m p) → PlansLoad (plan_at n (dmcs_enter m p es w).view.member (dmcs_enter m p es w).view.phase)
+enter_loads n m Idle es w h = h
+enter_loads n m Clear es w h = h
+enter_loads n m Reset es w h = h
+enter_loads n m (Swing guess) es w h = h
+enter_loads n m (Link guess) es w h = h
+enter_loads n m Wait es w h = h
+enter_loads n m Settle es w h = absurd h
+enter_loads n m (Granted left) es w h = h
+enter_loads n m (Look left upper) es w h = h
+enter_loads n m (Close left) es w h = h
+enter_loads n m (Await left) es w h = h
+enter_loads n m (Hand succ left) es w h = h
+enter_loads n m (Above succ) es w h = h
+
+-- and waits where its turn does
 pub enter_waits : (m : ℕ) (p : Phase) (es : List Event) (w : Bool) → (dmcs_enter m p es w).waits ≡ w
 enter_waits m Idle es w = refl
 enter_waits m Clear es w = refl

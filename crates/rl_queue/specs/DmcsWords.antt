@@ -1,11 +1,10 @@
 -- The words of D-MCS: where each rank's are, where they live, and that planned acts on them are lawful.
-use Rattle.std.specs.Prelude.{◌≡◌, ◌≢◌, ℕ, zero, suc, ◌+◌, ◌-◌, ◌*◌, ◌/◌, ◌<◌, ◌≤◌, true, List, [], ◌∷◌, ◌++◌, length, slice_get, slice_index, Some, refl}
-use Rattle.std.proofs.Common.{sym, ◌∙◌, ap, subst, arith}
+use Rattle.std.specs.Prelude.{◌≡◌, ◌≢◌, ℕ, zero, suc, ◌+◌, ◌-◌, ◌*◌, ◌/◌, ◌<◌, true, List, length, Some, refl}
+use Rattle.std.proofs.Common.{sym, subst, arith}
 use Rattle.std.proofs.lemmas.Option.{same_Some, get_or_from_slice_get}
 use Rattle.std.proofs.Math.Dec.{eqb-suc-zero}
 use Rattle.rl_word.specs.Places.{some_at}
 use Rattle.rl_word.specs.Acts.{Layout, IsLawful}
-use Rattle.rl_word.specs.Shapes.{TheShape, IsProper, layout_of}
 use Rattle.rl_word.specs.declared.classes.Class.TheVariants as class
 use Rattle.rl_word.specs.declared.acts.Act.{Act}
 use Rattle.rl_word.specs.declared.acts.Act.TheVariants.{Load, Store}
@@ -15,28 +14,9 @@ use Rattle.rl_queue.specs.declared.view.Phase.TheVariants.{Idle, Clear, Reset, S
 use Rattle.rl_queue.specs.Choices.{other_test}
 use Rattle.rl_queue.specs.Queue.{next_word, status_word, plan_at, PlanFits}
 use Rattle.rl_queue.specs.QueueLaws.{IsNaming}
-use Rattle.rl_queue.specs.Dmcs.{every_second, dmcs_names, dmcs_spot, Below}
-
--- number m of every second number
-pub every_second_at : (from n m : ℕ) → m < n → slice_index (every_second from n) m ≡ from + 2 * m
-every_second_at from zero m h = absurd (omega arith)
-every_second_at from (suc n) zero h = omega arith
-every_second_at from (suc n) (suc m) h =
-    let k : m < n = omega arith in
-    let e : slice_index (every_second (from + 2) n) m ≡ (from + 2) + 2 * m = every_second_at (from + 2) n m k in
-    e ∙ omega arith
-
--- how many there are
-pub length-every_second : (from n : ℕ) → length (every_second from n) ≡ n
-length-every_second from zero = refl
-length-every_second from (suc n) = ap suc (length-every_second (from + 2) n)
-
--- one more of them stands at the end
-pub every_second_more : (from n : ℕ) → every_second from (suc n) ≡ every_second from n ++ (from + 2 * n) ∷ []
-every_second_more from zero = let e : from ≡ from + 2 * 0 = omega arith in ap (λ z. z ∷ []) e
-every_second_more from (suc n) =
-    let e : (from + 2) + 2 * n ≡ from + 2 * suc n = omega arith in
-    ap (λ z. from ∷ z) (every_second_more (from + 2) n ∙ ap (λ z. every_second (from + 2) n ++ z ∷ []) e)
+use Rattle.rl_queue.specs.RankWords.{Seated}
+use Rattle.rl_queue.specs.RankWordLaws.{every_second_at}
+use Rattle.rl_queue.specs.Dmcs.{dmcs_names, dmcs_spot, Below}
 
 -- where a rank's next word and status word are
 pub next_is : (n m : ℕ) → m < n → next_word (dmcs_names n) m ≡ 1 + 2 * m
@@ -58,15 +38,6 @@ dmcs_named n size e =
       status_once = λ m k i j q. let a = status_is n m i in let b = status_is n k j in omega arith;
       next_status = λ m k i j q. let a = next_is n m i in let b = status_is n k j in absurd (omega arith);
     }
-
--- what is asked of where the ranks sit: there are at most 32, and each sits on a node that is there
-pub record Seated (layout : Layout) : Type 0 where
-  pub few : length layout.node_of ≤ 32
-  pub sits : (r n : ℕ) → slice_get layout.node_of r ≡ Some n → n < layout.nodes
-
--- in a proper shape they sit so
-pub seated_in : (shape : TheShape) → IsProper shape → Seated (layout_of shape)
-seated_in shape proper = record { few = proper.few; sits = proper.sits }
 
 -- each word but the tail is plain
 word_class : (home : ℕ) (node_of : List ℕ) (w : ℕ) → w ≢ 0 → (dmcs_spot home node_of w).class ≡ class.Plain

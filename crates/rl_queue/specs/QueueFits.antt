@@ -1,18 +1,18 @@
 -- A good queue meets the conditions of the calls; and where a member is alone, its compares succeed and it never waits.
-use Rattle.std.specs.Prelude.{◌↔◌, ◌≡◌, ℕ, zero, suc, ◌+◌, ◌-◌, ◌<◌, ◌≤◌, ◌==◌, false, List, ◌∷◌, length, slice_index, Option, Some, None, refl, ◌^◌}
+use Rattle.std.specs.Prelude.{◌↔◌, ◌≡◌, ℕ, zero, suc, ◌+◌, ◌-◌, ◌<◌, ◌≤◌, ◌==◌, if◌then◌else◌, true, false, List, ◌∷◌, length, slice_index, Option, Some, None, refl, ◌^◌}
 use Rattle.std.proofs.Common.{sym, ◌∙◌, ap, subst, inl, inr, arith}
 use Rattle.std.proofs.lemmas.Option.{same_Some}
 use Rattle.rl_word.specs.Acts.{word_of, told}
 use Rattle.rl_word.specs.declared.acts.Act.{Act}
 use Rattle.rl_step.specs.declared.events.Event.{Event}
 use Rattle.rl_step.specs.declared.events.Event.TheVariants as event
-use Rattle.rl_step.specs.Lock.{FindsOld}
+use Rattle.rl_step.specs.Lock.{FindsOld, PlansLoad}
 use Rattle.rl_queue.specs.declared.view.Phase.{Phase}
 use Rattle.rl_queue.specs.declared.view.Phase.TheVariants.{Idle, Clear, Reset, Swing, Link, Wait, Settle, Granted, Look, Close, Await, Hand, Above}
 use Rattle.rl_queue.specs.declared.view.Stage.{Stage}
 use Rattle.rl_queue.specs.declared.view.Stage.TheVariants as stage
 use Rattle.rl_queue.specs.Choices.{choose}
-use Rattle.rl_queue.specs.Queue.{stage_at, full_budget, TheNames, next_word, status_word, plan_at, turn_at, moves_to, moves_with, joined_at, hand_turn, PlanFits, PhaseFits, GotFits}
+use Rattle.rl_queue.specs.Queue.{stage_at, full_budget, TheNames, next_word, status_word, plan_at, turn_at, moves_to, moves_with, waits_at, code_left, joined_at, hand_turn, PlanFits, PhaseFits, GotFits}
 use Rattle.rl_queue.specs.Lane.{Own, told_left, lane_of, Has, last_of, Listed, IsCode, QueueInvariant, SuitsAlone, IsAlone}
 use Rattle.rl_queue.specs.LineLaws.{has_last_of, chain_next}
 use Rattle.rl_queue.specs.LaneLaws.{IsFirst, in_line, is_first}
@@ -149,6 +149,24 @@ module _ (n : TheNames) (In : ℕ → Type 0) where
   alone_moves_on m (Await left) got s = absurd s
   alone_moves_on m (Hand succ left) got s = hand_goes n.queue n.budget succ left
   alone_moves_on m (Above succ) got s = refl
+
+  -- a member has to wait on after a load alone, and stands at that load again
+  pub waits_on : (m : ℕ) (p : Phase) (got : ℕ) → (turn_at n m p got).waits ≡ true → ((turn_at n m p got).phase ≡ p) × PlansLoad (plan_at n m p)
+  waits_on m Idle got e = cc
+  waits_on m Clear got e = cc
+  waits_on m Reset got e = cc
+  waits_on m (Swing guess) got e = choose (λ z. z.waits ≡ true → (z.phase ≡ Swing guess) × PlansLoad (plan_at n m (Swing guess))) (got == guess) (moves_with (joined_at guess) (event.Join n.queue m)) (moves_to (Swing got)) (λ e. cc) (λ e. cc) e
+  waits_on m (Link guess) got e = cc
+  waits_on m Wait got e =
+      choose (λ z. z.waits ≡ true → (z.phase ≡ Wait) × Unit {0}) (got == 0) (waits_at Wait) (if got == 1 then moves_to Settle else moves_to (Granted (code_left n.budget got))) (λ e. (refl, tt))
+      (choose (λ z. z.waits ≡ true → (z.phase ≡ Wait) × Unit {0}) (got == 1) (moves_to Settle) (moves_to (Granted (code_left n.budget got))) (λ e. cc) (λ e. cc)) e
+  waits_on m Settle got e = cc
+  waits_on m (Granted left) got e = cc
+  waits_on m (Look left u) got e = cc
+  waits_on m (Close left) got e = choose (λ z. z.waits ≡ true → (z.phase ≡ Close left) × PlansLoad (plan_at n m (Close left))) (got == m + 1) (moves_to Idle) (moves_to (Await left)) (λ e. cc) (λ e. cc) e
+  waits_on m (Await left) got e = choose (λ z. z.waits ≡ true → (z.phase ≡ Await left) × Unit {0}) (got == 0) (waits_at (Await left)) (moves_to (Hand (got - 1) left)) (λ e. (refl, tt)) (λ e. cc) e
+  waits_on m (Hand succ left) got e = let bad : false ≡ true = sym (hand_goes n.queue n.budget succ left) ∙ e in cc
+  waits_on m (Above succ) got e = cc
 
 -- an act is planned exactly where a member is joining or leaving
 abbrev pub MakesActs : Stage → Type 0

@@ -64,7 +64,7 @@ StartsWith [] h = ⊥
 StartsWith (x ∷ r) h = h ≡ x
 
 -- a line has the same head where its first has the same phase and status
-same_head : (L M : Lane) (l : List ℕ) → ((h : ℕ) → Has h l → StartsWith l h → (M.phase h ≡ L.phase h) × (M.status h ≡ L.status h)) → head_in M l ≡ head_in L l
+pub same_head : (L M : Lane) (l : List ℕ) → ((h : ℕ) → Has h l → StartsWith l h → (M.phase h ≡ L.phase h) × (M.status h ≡ L.status h)) → head_in M l ≡ head_in L l
 same_head L M [] f = refl
 same_head L M (h ∷ r) f = let k = f h (inl refl) refl in head_at M h r (L.phase h) (L.status h) k.0 k.1
 

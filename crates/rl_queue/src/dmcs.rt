@@ -1,15 +1,17 @@
 //! D-MCS: the lock that is one queue of all ranks, without limit.
 
-ghost use Rattle.std.specs.Prelude.{◌≡◌, ◌+◌, ◌*◌, ◌^◌, ◌<◌, ◌≤◌, length, IfOk};
+ghost use Rattle.std.specs.Prelude.{◌≡◌, ◌<◌, ◌≤◌, length, refl, IfOk};
+ghost use Rattle.rl_word.specs.declared.locks.LockName.TheVariants as TheName;
 ghost use Rattle.rl_step.specs.Lock.{no_more};
-ghost use Rattle.rl_queue.specs.Dmcs.{dmcs_table, dmcs_names, every_second, dmcs_learn, dmcs_turn, dmcs_standing, DmcsGood};
-ghost use Rattle.rl_queue.specs.DmcsWords.{Seated};
+ghost use Rattle.rl_queue.specs.Dmcs.{dmcs_table, dmcs_names, dmcs_learn, dmcs_turn, DmcsGood};
+ghost use Rattle.rl_queue.specs.RankWords.{Seated};
 ghost use Rattle.rl_queue.specs.DmcsLaws.{dmcs_laws};
 
 use crate::queue::{
     QueueNames, queue_idle, queue_join, queue_learn, queue_leave, queue_plan, queue_settled,
-    queue_stage,
+    queue_stage, queue_standing,
 };
+use crate::ranks::rank_words;
 use crate::view::{QueueView, Stage};
 use arrayvec::ArrayVec;
 use rl_step::{Algo, Event, Learnt, Standing};
@@ -32,25 +34,13 @@ pub struct Dmcs {
     ghost named: { names ≡ dmcs_names (length node_of.items) },
 }
 
-/// So many numbers from one on, each 2 more than the one before.
-fn seconds(alloc: Global, from: u32, count: u32) -> Result<Vec<u32>, OutOfMemory>
-    requires { from + 2 * count < 2 ^ 32 }
-    ensures { IfOk result (λ v. v.items ≡ every_second from count) }
-{
-    let mut words = Vec::new(alloc);
-    for rank in 0..count {
-        words.push(from + 2 * rank)?;
-    }
-    Ok(words)
-}
-
 /// The words of the queue of so many ranks.
 fn names_for(alloc: Global, ranks: u32) -> Result<QueueNames, OutOfMemory>
     requires { ranks ≤ 32 }
     ensures { IfOk result (λ q. q ≡ dmcs_names ranks) }
 {
-    let next = seconds(alloc, 1, ranks)?;
-    let status = seconds(alloc, 2, ranks)?;
+    let next = rank_words(alloc, 1, ranks)?;
+    let status = rank_words(alloc, 2, ranks)?;
     Ok(QueueNames {
         queue: 0,
         tail: 0,
@@ -75,6 +65,10 @@ impl Algo for Dmcs {
     ghost defined = { λ shape home knobs. dmcs_table home shape.node_of };
 
     ghost promised = { λ shape home knobs. no_more };
+
+    ghost name = { TheName.Dmcs };
+
+    ghost has_queues = { λ shape home knobs. refl };
 
     ghost suits_knobs = { λ shape knobs. Unit {0} };
 
@@ -148,12 +142,7 @@ impl Algo for Dmcs {
     }
 
     fn standing(&self, view: QueueView) -> Standing {
-        match queue_stage(view) {
-            Stage::Idle => Standing::Out,
-            Stage::Joining | Stage::Settle => Standing::Asking,
-            Stage::Granted { .. } => Standing::Writer,
-            Stage::Leaving | Stage::Above => Standing::Leaving,
-        }
+        queue_standing(view)
     }
 
     ghost laws = { λ s. dmcs_laws s.home (record { node_of = s.node_of.items; nodes = s.nodes }) s.seated s.homed };

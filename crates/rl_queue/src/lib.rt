@@ -15,14 +15,18 @@
 #![tactic(auto)]
 
 mod dmcs;
+mod laws;
 mod queue;
+mod ranks;
 mod view;
 
 pub use dmcs::Dmcs;
+pub use laws::queue_laws;
 pub use queue::{
     QueueNames, queue_holder, queue_idle, queue_join, queue_learn, queue_leave, queue_plan,
-    queue_resume, queue_settled, queue_stage,
+    queue_resume, queue_settled, queue_stage, queue_standing,
 };
+pub use ranks::rank_words;
 pub use view::{Phase, QueueView, Stage};
 
 #[cfg(test)]

@@ -1,11 +1,13 @@
 //! The acts of one queue: what a member plans in each phase, what it learns, and the moves that are no acts.
 
-ghost use Rattle.std.specs.Prelude.{◌≡◌, ℕ, ◌+◌, ◌-◌, ◌<◌, ◌^◌, length};
+ghost use Rattle.std.specs.Prelude.{◌≡◌, ◌↔◌, ℕ, ◌+◌, ◌-◌, ◌<◌, ◌^◌, None, length};
+ghost use Rattle.rl_queue.specs.QueueFits.{MakesActs};
 ghost use Rattle.rl_queue.specs.Queue.{TheNames, PlanFits, GotFits, swap_act, code_of, code_left, look_at, plan_at, turn_at, at_phase, IsGranted, settled_at, leave_at, resume_at, stage_at};
+ghost use Rattle.rl_queue.specs.Standings.{standing_of};
 
 use crate::view::{Phase, QueueView, Stage};
 use arrayvec::ArrayVec;
-use rl_step::{Event, Learnt};
+use rl_step::{Event, Learnt, Standing};
 use rl_word::{Act, Class};
 use std::marker::Model;
 
@@ -67,9 +69,11 @@ fn code(budget: Option<u32>, left: u32) -> u64
 /// The view's member, the successor that it hands the queue to, and the member before it, `guess - 1`, that it links itself to
 /// have words in `names`, which has as many status words as next words. The queue is the one of Mellor-Crummey and Scott,
 /// with budgets as in cohort locks.
+#[tactic(auto, using(crate::specs::QueueFits::plans_where))]
 pub fn queue_plan(view: QueueView, names: &QueueNames) -> Option<Act>
     requires { PlanFits names.now view.member view.phase }
-    ensures { result ≡ plan_at names.now view.member view.phase }
+    ensures plan { result ≡ plan_at names.now view.member view.phase }
+    ensures acts { (result ≡ None) ↔ (MakesActs (stage_at view.phase) → ⊥) }
 {
     let me = view.member as usize;
     match view.phase {
@@ -239,6 +243,18 @@ pub fn queue_stage(view: QueueView) -> Stage
         Phase::Look { .. } | Phase::Close { .. } | Phase::Await { .. } | Phase::Hand { .. } =>
             Stage::Leaving,
         Phase::Above { .. } => Stage::Above,
+    }
+}
+
+/// How a rank stands to a lock that it has exactly where it has this queue.
+pub fn queue_standing(view: QueueView) -> Standing
+    ensures { result ≡ standing_of view.phase }
+{
+    match queue_stage(view) {
+        Stage::Idle => Standing::Out,
+        Stage::Joining | Stage::Settle => Standing::Asking,
+        Stage::Granted { .. } => Standing::Writer,
+        Stage::Leaving | Stage::Above => Standing::Leaving,
     }
 }
 

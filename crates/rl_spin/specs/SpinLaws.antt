@@ -1,6 +1,6 @@
 -- The spin lock meets the laws of a lock.
 use Rattle.std.specs.Prelude.{◌≡◌, ◌≢◌, ◌⊎◌, ℕ, zero, suc, ◌+◌, ◌<◌, ◌≤◌, ◌↔◌, true, false, [], ◌∷◌, length, slice_get, slice_index, slice_set, Some, None, refl}
-use Rattle.std.proofs.Common.{sym, ◌∙◌, ap, subst, ⊎_elim, arith, length-set, get_or-set_same}
+use Rattle.std.proofs.Common.{lit≤, sym, ◌∙◌, ap, subst, ⊎_elim, arith, length-set, get_or-set_same}
 use Rattle.std.proofs.lemmas.Option.{same_Some, slice_get_within}
 use Rattle.std.proofs.lemmas.List.{set-get_or, length-replicate}
 use Rattle.rl_word.specs.Places.{same_or_not}
@@ -230,6 +230,7 @@ spin_laws home layout homed =
     record {
       begins = begins_at home (length layout.node_of);
       sized = λ s g. (g.one_word, g.all_views, g.all_modes);
+      few_words = lit≤ tt;
       homes = λ w lt. homed;
       lawful = λ s r v a h. lawful_at home layout r v.rank v.phase a homed h.planned;
       keeps = λ s r v a h. act_keeps (length layout.node_of) home s r v.rank v.phase a h.is_good h.has h.planned;
@@ -247,6 +248,7 @@ spin_laws home layout homed =
       leave_leaves = λ v h. refl;
       rests = λ s r v g has. rests_at v.rank v.phase;
       shifts = λ s r v a h. shifts_at r v.rank v.phase a _ (h.is_good.named r v h.has) h.planned;
+      waits_on_loads = λ s r v a h w. let never = (act_events v.rank v.phase (told a (found s a))).3 in let bad : false ≡ true = sym never ∙ w in cc;
       orders = λ s r v a h. let e = act_events v.rank v.phase (told a (found s a)) in (e.0, e.1);
       names = λ s r v a h. (act_events v.rank v.phase (told a (found s a))).2;
       within = λ s q B d g has. cc;

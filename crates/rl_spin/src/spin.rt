@@ -1,6 +1,7 @@
 //! The spin lock's acts, and what a rank learns from them.
 
-ghost use Rattle.std.specs.Prelude.{◌≡◌, ◌<◌, length};
+ghost use Rattle.std.specs.Prelude.{◌≡◌, ◌<◌, length, refl};
+ghost use Rattle.rl_word.specs.declared.locks.LockName.TheVariants as TheName;
 ghost use Rattle.rl_step.specs.Lock.{no_more};
 ghost use Rattle.rl_spin.specs.Spin.{spin_table, SpinGood};
 ghost use Rattle.rl_spin.specs.SpinLaws.{spin_laws};
@@ -41,6 +42,10 @@ impl Algo for Spin {
     ghost defined = { λ shape home knobs. spin_table home };
 
     ghost promised = { λ shape home knobs. no_more };
+
+    ghost name = { TheName.Spin };
+
+    ghost has_queues = { λ shape home knobs. refl };
 
     ghost suits_knobs = { λ shape knobs. Unit {0} };
 

@@ -1,12 +1,21 @@
-pub mod Answers
-pub mod Core
-pub mod CoreLemmas
+-- to be believed, in reading order
 pub mod Do
+pub mod Answers
 pub mod Exclusion
-pub mod ExclusionLaws
-pub mod Flat
-pub mod Loader
-pub mod Lock
-pub mod LockLemmas
-pub mod QueueLemmas
 pub mod Queues
+pub mod LockQueues
+pub mod QueuePromises
+pub mod Lock
+pub mod Overtaking
+pub mod Batches
+pub mod Core
+pub mod Flat
+-- proved; skip at first
+pub mod ExclusionLaws
+pub mod QueueLemmas
+pub mod LockLemmas
+pub mod OvertakingLaws
+pub mod BatchLaws
+pub mod CoreLemmas
+-- a core for tests
+pub mod Loader

@@ -1,5 +1,5 @@
 -- What a lock is: its table of plain functions, its states and how they change, and its laws.
-use Rattle.std.specs.Prelude.{◌≡◌, ◌↔◌, ℕ, zero, suc, ◌+◌, ◌<◌, ◌≤◌, Bool, true, false, List, [], ◌∷◌, ◌++◌, length, replicate, slice_get, slice_index, slice_set, Option, Some, None}
+use Rattle.std.specs.Prelude.{◌≡◌, ◌↔◌, ℕ, zero, suc, ◌+◌, ◌^◌, ◌<◌, ◌≤◌, Bool, true, false, List, [], ◌∷◌, ◌++◌, length, replicate, slice_get, slice_index, slice_set, Option, Some, None}
 use Rattle.rl_word.specs.declared.classes.Mode.{Mode}
 use Rattle.rl_word.specs.declared.classes.Mode.TheVariants as mode
 use Rattle.rl_word.specs.declared.classes.Spot.{Spot}
@@ -198,6 +198,15 @@ FindsOld (act.CardCas w old new) g = g ≡ old
 FindsOld (act.CardSwap w v) g = Unit {0}
 FindsOld (act.CardAdd w d) g = Unit {0}
 
+-- the act is a load, and a plan is one
+abbrev pub IsLoad : Act → Type 0
+IsLoad (act.Load w) = Unit {0}
+IsLoad _ = ⊥
+
+abbrev pub PlansLoad : Option Act → Type 0
+PlansLoad None = ⊥
+PlansLoad (Some a) = IsLoad a
+
 -- no rank makes a local compare-and-swap: what locks without local words say of their acts
 abbrev pub no_local : ℕ → Act → Bool
 no_local r (act.Load w) = true
@@ -210,6 +219,10 @@ no_local r (act.CardAdd w d) = true
 -- a lock that says no more than the laws of every lock
 abbrev pub no_more : List Event → List Deed → Type 0
 no_more t ds = Unit {0}
+
+-- what is said of all events and acts so far gives what was promised of them
+abbrev pub HandsOn : (List Event → List Deed → Type 0) → (List Event → List Deed → Type 0) → Type 0
+HandsOn said promised = (t : List Event) (ds : List Deed) → said t ds → promised t ds
 
 -- some good state has this view
 pub record MayStep {V : Type 0} (good : LockState V → Type 0) (v : V) : Type 0 where
@@ -245,6 +258,8 @@ pub record LockLaws {V : Type 0} (T : LockTable V) (good : LockState V → Type 
   pub begins : good (opening T (length layout.node_of))
   -- a good state has all words, and a view and a mode for each rank
   pub sized : (s : LockState V) → good s → (length s.words ≡ T.size) × (length s.views ≡ length layout.node_of) × (length s.modes ≡ length layout.node_of)
+  -- it has few words
+  pub few_words : T.size ≤ 2 ^ 16
   -- each of its words lives on a node that is there
   pub homes : (w : ℕ) → w < T.size → (T.spot w).home < layout.nodes
   -- a planned act is on a word that is there, the rule of classes allows it, and it is one that the rank may make
@@ -272,6 +287,8 @@ pub record LockLaws {V : Type 0} (T : LockTable V) (good : LockState V → Type 
   -- an act changes its rank's standing from asking to holding or from leaving to out alone; the enter event comes exactly with
   -- it and names the rank; acts give no touch and no leave event
   pub shifts : (s : LockState V) (r : ℕ) (v : V) (a : Act) → Acts T good s r v a → Shift r (T.standing v) (T.standing (learnt T s v a).view) (holds_only (learnt T s v a).events)
+  -- a round has to be made again after a load alone, and begins with a load
+  pub waits_on_loads : (s : LockState V) (r : ℕ) (v : V) (a : Act) → Acts T good s r v a → (learnt T s v a).waits ≡ true → IsLoad a × PlansLoad (T.plan (learnt T s v a).view)
   -- the events of an act stand in the order of their kinds, and there are at most 8
   pub orders : (s : LockState V) (r : ℕ) (v : V) (a : Act) → Acts T good s r v a → InOrder (learnt T s v a).events × (length (learnt T s v a).events ≤ 8)
   -- they name queues, members and cohorts that the lock has

@@ -2,10 +2,12 @@
 
 ghost use Rattle.std.specs.Prelude.{◌≡◌, ◌<◌, ℕ, length, List, IfOk};
 ghost use Rattle.rl_step.specs.declared.events.Event.{Event as TheEvent};
+ghost use Rattle.rl_word.specs.declared.locks.LockName.{LockName as TheName};
 ghost use Rattle.rl_word.specs.declared.shapes.Knobs.{Knobs as TheKnobs};
 ghost use Rattle.rl_word.specs.Acts.{Layout};
 ghost use Rattle.rl_word.specs.Shapes.{TheShape, IsProper, layout_of};
-ghost use Rattle.rl_step.specs.Lock.{LockTable, LockState, LockLaws, Deed, MayStep, MayLearn, IsHolder};
+ghost use Rattle.rl_step.specs.LockQueues.{queues_of};
+ghost use Rattle.rl_step.specs.Lock.{LockTable, LockState, LockLaws, HandsOn, Deed, MayStep, MayLearn, IsHolder};
 
 use crate::events::{Event, Standing};
 use arrayvec::ArrayVec;
@@ -46,6 +48,13 @@ pub trait Algo: Sized + Drop {
     /// What it says further, by the same three.
     ghost promised: { TheShape → ℕ → TheKnobs → List TheEvent → List Deed → Type 0 };
 
+    /// The lock's name.
+    ghost name: { TheName };
+
+    /// Its queues are those of the lock of that name: so their members and budgets are the placement's, and not the lock's own
+    /// word.
+    ghost has_queues: { (shape : TheShape) (home : ℕ) (knobs : TheKnobs) → (defined shape home knobs).queues ≡ queues_of name shape home knobs };
+
     /// The settings that the lock reads are in their ranges, and the shape has what it needs.
     ghost suits_knobs: { TheShape → TheKnobs → Type 0 };
 
@@ -55,7 +64,7 @@ pub trait Algo: Sized + Drop {
         requires home { home < shape.now.nodes }
         requires knobs { suits_knobs shape.now knobs }
         ensures defined { IfOk result (λ a. table a ≡ defined shape.now home knobs) }
-        ensures promised { IfOk result (λ a. (t : List TheEvent) (ds : List Deed) → further a t ds → promised shape.now home knobs t ds) }
+        ensures promised { IfOk result (λ a. HandsOn (further a) (promised shape.now home knobs)) }
         ensures layout { IfOk result (λ a. layout a ≡ layout_of shape.now) };
 
     /// How many words the lock has.

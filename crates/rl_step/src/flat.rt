@@ -86,6 +86,8 @@ fn card_word(atom: Atom) -> Option<u32>
 impl<'a, C: Core> Port<C> for FlatPort<'a, C> {
     ghost fits = { λ p c. C.rule c p.flat.now.words p.flat.now.views.items × (p.rank < length p.flat.now.views.items) };
 
+    ghost there = { λ p. p.rank < length p.flat.now.views.items };
+
     ghost sees = { λ p v. slice_get p.flat.now.views.items p.rank ≡ Some v };
 
     ghost rank_of = { λ p. p.rank };
@@ -109,6 +111,10 @@ impl<'a, C: Core> Port<C> for FlatPort<'a, C> {
         let view = &mut self.flat.views[self.rank as usize];
         core.after(view, got)
     }
+
+    ghost has_rank = { λ p c f. f.1 };
+
+    ghost same_rank = { λ p q f. f.1 };
 
     ghost known = { λ p c v f s. record { held = p.flat.now.words; views = p.flat.now.views.items; rank = p.rank; is_ruled = f.0; has = s } };
 

@@ -17,6 +17,9 @@ pub trait Port<C: Core> {
     /// The core is the one of the port's words and views.
     ghost fits: { Self → C → Type 0 };
 
+    /// The port's rank is there.
+    ghost there: { Self → Type 0 };
+
     /// The view of the port's rank.
     ghost sees: { Self → C.View → Type 0 };
 
@@ -34,7 +37,7 @@ pub trait Port<C: Core> {
 
     /// The view of the port's rank.
     fn view(&self) -> &C::View
-        requires { (c : C) × fits self.now c }
+        requires { there self.now }
         ensures { sees self.now result.now };
 
     /// Makes the view's next atom: the view becomes what `after` makes of it, and the answer is that of `after`.
@@ -45,6 +48,12 @@ pub trait Port<C: Core> {
         ensures frame { frame self.old self.new }
         ensures moved { moved self.old core.now self.new }
         ensures made { (v w : C.View) → sees self.old v → sees self.new w → Performs (C.table core.now) (C.rule core.now) (rank_of self.old) atom v w (told self.old) (told self.new) result.events.items result.stepped };
+
+    /// In a port that fits a core the rank is there.
+    ghost has_rank: { (p : Self) (c : C) → fits p c → there p };
+
+    /// The rank stays.
+    ghost same_rank: { (p q : Self) → frame p q → rank_of q ≡ rank_of p };
 
     /// The view of a port that fits a core is one that some state under the rule has.
     ghost known: { (p : Self) (c : C) (v : C.View) → fits p c → sees p v → MayBe (C.rule c) v };

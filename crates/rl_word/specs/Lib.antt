@@ -1,4 +1,8 @@
+-- to be believed, in reading order
 pub mod Acts
-pub mod OneNode
-pub mod Places
 pub mod Shapes
+-- proved; skip at first
+pub mod Places
+-- shapes for tests
+pub mod OneNode
+pub mod TwoNodes

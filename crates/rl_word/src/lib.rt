@@ -4,7 +4,8 @@
 //! - A *word* is a number of 64 bits that lives on a node, its *home*. A `Spot` is a word's home and class.
 //! - An *act* (`Act`) is what a lock asks for on one word; an *atom* (`Atom`) is one indivisible step. An act through
 //!   the card of a node is made of several atoms.
-//! - A *shape* (`Shape`) says where ranks sit and how nodes are grouped into elements. `Knobs` are a lock's settings.
+//! - A *shape* (`Shape`) says where ranks sit and how nodes are grouped into elements. `Knobs` are a lock's settings,
+//!   and `LockName` is the name of one.
 //!
 //! Promise: `lawful` is the rule of classes, both ways: true exactly where a rank may make an act on a word. `specs/`
 //! says what each act writes and tells (`Acts`), and which shapes are proper (`Shapes`).
@@ -14,11 +15,13 @@
 mod acts;
 mod classes;
 mod lawfulness;
+mod locks;
 mod shapes;
 
 pub use acts::{Act, Atom};
 pub use classes::{Class, Mode, Spot};
 pub use lawfulness::lawful;
+pub use locks::LockName;
 pub use shapes::{Element, Knobs, Shape};
 
 #[cfg(test)]

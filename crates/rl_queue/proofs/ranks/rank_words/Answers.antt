@@ -1,8 +1,8 @@
 -- One more number stands at the end.
 use Rattle.std.proofs.Common.{◌∙◌, ◌≡◌, ◌+◌, ◌*◌, ◌++◌, ◌∷◌, [], suc, ap, sym, arith}
-use Rattle.rl_queue.specs.Dmcs.{every_second}
-use Rattle.rl_queue.specs.DmcsWords.{every_second_more}
-use Rattle.rl_queue.proofs.dmcs.seconds.Goals as goal
+use Rattle.rl_queue.specs.RankWords.{every_second}
+use Rattle.rl_queue.specs.RankWordLaws.{every_second_more}
+use Rattle.rl_queue.proofs.ranks.rank_words.Goals as goal
 
 pub loop-rank-preserved : goal.loop-rank-preserved
 loop-rank-preserved c =

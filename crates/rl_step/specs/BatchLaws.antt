@@ -1,0 +1,112 @@
+-- Bounded batches along the acts of a run: that acts that keep the bound one by one keep it, and which acts do.
+use Rattle.std.specs.Prelude.{◌≡◌, ◌⊎◌, ℕ, ◌+◌, ◌^◌, ◌%◌, ◌<◌, ◌≤◌, ◌&&◌, Bool, true, false, List, [], ◌∷◌, ◌++◌, length, nat_lt, if◌then◌else◌, slice_index, slice_set, refl}
+use Rattle.std.proofs.Common.{sym, ◌∙◌, ap, subst, inl, inr, ⊎_elim, arith, get_or-set_same, get_or-set_other}
+use Rattle.std.proofs.lemmas.List.{append-nil}
+use Rattle.std.proofs.lemmas.Bool.Decides.{eqb_tells, nat_tests}
+use Rattle.rl_word.specs.declared.acts.Act.{Act}
+use Rattle.rl_word.specs.declared.acts.Act.TheVariants.{CardAdd}
+use Rattle.rl_word.specs.Acts.{word_of, written, told}
+use Rattle.rl_step.specs.declared.events.Event.{Event}
+use Rattle.rl_step.specs.Lock.{Deed}
+use Rattle.rl_step.specs.Queues.{count}
+use Rattle.rl_step.specs.Batches.{reader_entries, readers_in, lowers, lowerings, IsBatchedAtMost, since_after, since, BatchedFrom}
+
+module _ (mine : ℕ → Bool) (w bound : ℕ) where
+  pub since-append : (n : ℕ) (ds es : List Deed) → since mine w n (ds ++ es) ≡ since mine w (since mine w n ds) es
+  since-append n [] es = refl
+  since-append n (d ∷ ds) es = since-append (since_after mine w n d) ds es
+
+  pub batched-append : (n : ℕ) (ds es : List Deed) → BatchedFrom mine w bound n ds → BatchedFrom mine w bound (since mine w n ds) es → BatchedFrom mine w bound n (ds ++ es)
+  batched-append n [] es b c = c
+  batched-append n (d ∷ ds) es b c = (b.0, batched-append (since_after mine w n d) ds es b.1 c)
+
+  rest_of : (n : ℕ) (p s : List Deed) → BatchedFrom mine w bound n (p ++ s) → BatchedFrom mine w bound (since mine w n p) s
+  rest_of n [] s b = b
+  rest_of n (d ∷ p) s b = rest_of (since_after mine w n d) p s b.1
+
+  -- along a stretch that doesn't lower the word those who enter add up
+  stretch_low : (n : ℕ) (u s : List Deed) → n ≤ bound → BatchedFrom mine w bound n (u ++ s) → lowerings w u ≡ 0 → n + readers_in mine u ≤ bound
+  stretch_low n [] s h b z = omega arith
+  stretch_low n (d ∷ u) s h b z = by (lowers w d) z b.0 (stretch_low (since_after mine w n d) u s b.0 b.1) where
+    by : (x : Bool) → count x + lowerings w u ≡ 0 → (if x then 0 else n + reader_entries mine d.events) ≤ bound → (lowerings w u ≡ 0 → (if lowers w d then 0 else n + reader_entries mine d.events) + readers_in mine u ≤ bound) → n + (reader_entries mine d.events + readers_in mine u) ≤ bound
+    by true y l rec = absurd (omega arith)
+    by false y l rec = at (lowers w d) refl where
+      at : (x : Bool) → lowers w d ≡ x → n + (reader_entries mine d.events + readers_in mine u) ≤ bound
+      at true e = let k : count (lowers w d) ≡ 1 = ap count e in absurd (omega arith)
+      at false e =
+          let r : (if lowers w d then 0 else n + reader_entries mine d.events) + readers_in mine u ≤ bound = rec (omega arith) in
+          let k : (if lowers w d then 0 else n + reader_entries mine d.events) ≡ n + reader_entries mine d.events = ap (λ q. if q then 0 else n + reader_entries mine d.events) e in omega arith
+
+  low_since : (n : ℕ) (ds s : List Deed) → n ≤ bound → BatchedFrom mine w bound n (ds ++ s) → since mine w n ds ≤ bound
+  low_since n [] s h b = h
+  low_since n (d ∷ ds) s h b = low_since (since_after mine w n d) ds s b.0 b.1
+
+  -- deeds that keep it one by one keep it over every stretch
+  pub is_batched : (ds : List Deed) → BatchedFrom mine w bound 0 ds → IsBatchedAtMost mine w bound ds
+  is_batched ds b =
+      record {
+        stretch = λ p u s e z.
+            let all : BatchedFrom mine w bound 0 (p ++ (u ++ s)) = subst (BatchedFrom mine w bound 0) e b in
+            let low : since mine w 0 p ≤ bound = low_since 0 p (u ++ s) (omega arith) all in
+            let k : since mine w 0 p + readers_in mine u ≤ bound = stretch_low (since mine w 0 p) u s low (rest_of 0 p (u ++ s) all) z in omega arith;
+      }
+
+  -- What is kept: so far it is so, and those who have entered since the word was lowered are no more than the word says.
+  pub record Batched (words : List ℕ) (deeds : List Deed) : Type 0 where
+    pub so_far : BatchedFrom mine w bound 0 deeds
+    pub counted : since mine w 0 deeds ≤ slice_index words w
+
+  -- how an act may let readers of the group enter: not at all, or one by adding 1 to the word where it was below the bound
+  abbrev pub MayEnter : Act → ℕ → List Event → Type 0
+  MayEnter a g es = (reader_entries mine es ≡ 0) ⊎ ((a ≡ CardAdd w 1) × (g < bound) × (reader_entries mine es ≤ 1))
+
+  lt_tells : (x y : ℕ) → ((nat_lt x y ≡ true) × (x < y)) ⊎ ((nat_lt x y ≡ false) × (y ≤ x))
+  lt_tells x y = at (nat_lt x y) refl where
+    at : (b : Bool) → nat_lt x y ≡ b → ((nat_lt x y ≡ true) × (x < y)) ⊎ ((nat_lt x y ≡ false) × (y ≤ x))
+    at true e = inl (e, grind (arith, nat_tests))
+    at false e = inr (e, grind (arith, nat_tests))
+
+  -- Each act keeps it that tells what it finds in the word, and that lets readers enter so.
+  pub act_batches : (words : List ℕ) (deeds : List Deed) (r : ℕ) (a : Act) (es : List Event) → w < length words → Batched words deeds → (word_of a ≡ w → told a (slice_index words (word_of a)) ≡ slice_index words (word_of a)) → MayEnter a (slice_index words (word_of a)) es →
+      Batched (slice_set words (word_of a) (written a (slice_index words (word_of a)))) (deeds ++ record { rank = r; act = a; got = told a (slice_index words (word_of a)); events = es } ∷ [])
+  act_batches words deeds r a es there b tells enter =
+      let d : Deed = record { rank = r; act = a; got = told a (slice_index words (word_of a)); events = es } in
+      let n : ℕ = since mine w 0 deeds in
+      let us : List ℕ = slice_set words (word_of a) (written a (slice_index words (word_of a))) in
+      let k : (since_after mine w n d ≤ bound) × (since_after mine w n d ≤ slice_index us w) =
+      ⊎_elim
+      (λ q.
+      let same : told a (slice_index words (word_of a)) ≡ slice_index words (word_of a) = tells q.1 in
+      let now : slice_index us w ≡ written a (slice_index words (word_of a)) = ap (slice_index us) (sym q.1) ∙ get_or-set_same words (word_of a) (written a (slice_index words (word_of a))) 0 (subst (λ z. z < length words) (sym q.1) there) in
+      let old : n ≤ slice_index words (word_of a) = subst (λ z. n ≤ slice_index words z) (sym q.1) b.counted in
+      ⊎_elim
+      (λ l.
+      let yes : lowers w d ≡ true = ap (λ z. z && nat_lt (written a d.got) d.got) q.0 ∙ l.0 in
+      let zero_now : since_after mine w n d ≡ 0 = ap (λ z. if z then 0 else n + reader_entries mine es) yes in
+      (omega arith, omega arith))
+      (λ l.
+      let no : lowers w d ≡ false = ap (λ z. z && nat_lt (written a d.got) d.got) q.0 ∙ l.0 in
+      let sum : since_after mine w n d ≡ n + reader_entries mine es = ap (λ z. if z then 0 else n + reader_entries mine es) no in
+      let up : slice_index words (word_of a) ≤ written a (slice_index words (word_of a)) = subst (λ z. z ≤ written a z) same l.1 in
+      ⊎_elim
+      (λ z. (let h : n ≤ bound = low in omega arith, omega arith))
+      (λ z.
+      let add : written a (slice_index words (word_of a)) ≡ (slice_index words (word_of a) + 1) % 2 ^ 64 = ap (λ y. written y (slice_index words (word_of a))) z.0 in
+      let m : ℕ = slice_index words (word_of a) in
+      (omega arith, omega arith)) enter)
+      (lt_tells (written a d.got) d.got))
+      (λ q.
+      let no : lowers w d ≡ false = ap (λ z. z && nat_lt (written a d.got) d.got) q.0 in
+      let sum : since_after mine w n d ≡ n + reader_entries mine es = ap (λ z. if z then 0 else n + reader_entries mine es) no in
+      let still : slice_index us w ≡ slice_index words w = get_or-set_other words (word_of a) w (written a (slice_index words (word_of a))) 0 (λ e. q.1 (sym e)) in
+      let old : n ≤ slice_index words w = b.counted in
+      ⊎_elim
+      (λ z. (let h : n ≤ bound = low in omega arith, omega arith))
+      (λ z. absurd (q.1 (ap word_of z.0))) enter)
+      (eqb_tells (word_of a) w) in
+      record {
+        so_far = batched-append 0 deeds (d ∷ []) b.so_far (k.0, tt);
+        counted = subst (λ z. z ≤ slice_index us w) (sym (since-append 0 deeds (d ∷ []))) k.1;
+      } where
+        low : since mine w 0 deeds ≤ bound
+        low = low_since 0 deeds [] (omega arith) (subst (BatchedFrom mine w bound 0) (sym (append-nil deeds)) b.so_far)

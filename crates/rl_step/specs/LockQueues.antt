@@ -1,0 +1,86 @@
+-- The queues of each lock, by its name, the shape, the shard's home and the settings: their members and their budgets.
+use Rattle.std.specs.Prelude.{ℕ, zero, suc, ◌+◌, ◌==◌, ◌&&◌, ◌||◌, Bool, true, false, not, List, [], ◌∷◌, length, nat_lt, if◌then◌else◌, slice_get, slice_index, Option, Some, None}
+use Rattle.rl_word.specs.declared.locks.LockName.{LockName}
+use Rattle.rl_word.specs.declared.locks.LockName.TheVariants.{Spin, Dmcs, Alock, Mcs, Rw}
+use Rattle.rl_word.specs.declared.shapes.Element.{Element}
+use Rattle.rl_word.specs.declared.shapes.Knobs.{Knobs}
+use Rattle.rl_word.specs.Shapes.{TheShape}
+use Rattle.rl_step.specs.Queues.{QueueOf}
+
+-- one queue of all n ranks, without limit
+abbrev pub all_ranks : ℕ → QueueOf
+all_ranks n = record { members = λ m. nat_lt m n; of_ranks = true; budget = None }
+
+-- a rank is local where it sits on the shard's home; true names the local cohort, and false the remote one
+abbrev pub sits_at : ℕ → List ℕ → ℕ → Bool
+sits_at home node_of rank = slice_index node_of rank == home
+
+abbrev pub same : Bool → Bool → Bool
+same true b = b
+same false b = not b
+
+-- the queue of a cohort
+abbrev pub cohort_queue : ℕ → List ℕ → Bool → ℕ → QueueOf
+cohort_queue home node_of local budget =
+    record { members = λ m. nat_lt m (length node_of) && same local (sits_at home node_of m); of_ranks = true; budget = Some budget }
+
+-- what an element says of itself, where there is one
+abbrev pub parent_of : Option Element → Option ℕ
+parent_of None = None
+parent_of (Some x) = x.parent
+
+abbrev pub budget_by : Option Element → Option ℕ
+budget_by None = None
+budget_by (Some x) = x.budget
+
+-- a number stands in a list
+abbrev pub stands : List ℕ → ℕ → Bool
+stands [] e = false
+stands (x ∷ xs) e = (x == e) || stands xs e
+
+-- an element is a node where it is a node's leaf
+abbrev pub is_node : TheShape → ℕ → Bool
+is_node shape e = stands shape.leaf_of e
+
+-- the leaf of a rank's node
+abbrev pub leaf_of : TheShape → ℕ → ℕ
+leaf_of shape rank = slice_index shape.leaf_of (slice_index shape.node_of rank)
+
+abbrev pub is_at : Option ℕ → ℕ → Bool
+is_at None q = false
+is_at (Some p) q = p == q
+
+-- the members of an element's queue: a node's are its ranks, another element's the elements whose parent it is
+abbrev pub is_in : TheShape → ℕ → ℕ → Bool
+is_in shape q m =
+    if is_node shape q then nat_lt m (length shape.node_of) && (leaf_of shape m == q) else is_at (parent_of (slice_get shape.elements m)) q
+
+-- its budget: the root's is given apart
+abbrev pub element_budget : TheShape → Option ℕ → ℕ → Option ℕ
+element_budget shape root zero = root
+element_budget shape root (suc e) = budget_by (slice_get shape.elements (suc e))
+
+abbrev pub element_queue : TheShape → Option ℕ → ℕ → QueueOf
+element_queue shape root q = record { members = is_in shape q; of_ranks = is_node shape q; budget = element_budget shape root q }
+
+-- the queues of n elements, numbered on from one
+abbrev pub element_queues : TheShape → Option ℕ → ℕ → ℕ → List QueueOf
+element_queues shape root from zero = []
+element_queues shape root from (suc n) = element_queue shape root from ∷ element_queues shape root (from + 1) n
+
+-- The queues of a lock by number. A spin lock has none; D-MCS has one of all ranks; ALock has one of the ranks at home and one of
+-- the others; the trees have one for each element, and the root's has no budget but under RMA-RW.
+abbrev pub queues_of : LockName → TheShape → ℕ → Knobs → List QueueOf
+queues_of Spin shape home knobs = []
+queues_of Dmcs shape home knobs = all_ranks (length shape.node_of) ∷ []
+queues_of Alock shape home knobs = cohort_queue home shape.node_of true knobs.local ∷ cohort_queue home shape.node_of false knobs.remote ∷ []
+queues_of Mcs shape home knobs = element_queues shape None 0 (length shape.elements)
+queues_of Rw shape home knobs = element_queues shape (Some knobs.writers) 0 (length shape.elements)
+
+-- the budget of a queue that there is
+abbrev pub budget_if : Option QueueOf → Option ℕ
+budget_if None = None
+budget_if (Some queue) = queue.budget
+
+abbrev pub budget_of : LockName → TheShape → ℕ → Knobs → ℕ → Option ℕ
+budget_of name shape home knobs q = budget_if (slice_get (queues_of name shape home knobs) q)
