@@ -1,0 +1,331 @@
+//! ALock's acts, and what a rank learns from them.
+
+ghost use Rattle.std.specs.Prelude.{◌≡◌, ◌<◌, ◌≤◌, [], ◌∷◌, ◌++◌, false, length, refl, IfOk};
+ghost use Rattle.rl_word.specs.declared.locks.LockName.TheVariants as TheName;
+ghost use Rattle.rl_step.specs.LockQueues.{sits_at};
+ghost use Rattle.rl_queue.specs.Queue.{full_budget};
+ghost use Rattle.rl_queue.specs.RankWords.{Seated};
+ghost use Rattle.rl_alock.specs.declared.cohort.Cohort.TheVariants.{Local, Remote};
+ghost use Rattle.rl_alock.specs.Alock.{cohort_names, cohort_no, cohorts_of, cohort_by, names_of, entry_act as the_entry_act, settles_now, entry_told, entry_of, alock_table, BoundsOvertaking};
+ghost use Rattle.rl_alock.specs.AlockBounded.{AlockBounded, bounded_laws};
+
+use crate::cohort::Cohort;
+use crate::view::{AlockView, Entry};
+use arrayvec::ArrayVec;
+use rl_queue::{
+    Phase, QueueNames, QueueView, queue_idle, queue_join, queue_learn, queue_leave, queue_plan,
+    queue_settled, queue_standing, rank_words,
+};
+use rl_step::{Algo, Event, Learnt, Standing};
+use rl_word::{Act, Class, Knobs, Mode, Shape, Spot};
+use std::alloc::{AllocError as OutOfMemory, Global};
+
+/// The word that says which cohort yields.
+const VICTIM: u32 = 2;
+
+/// ALock, the lock of Baran, Nelson-Slivon, Tseng and Palmieri for memory that some ranks reach without the network: the ranks on the
+/// shard's home have a queue of their own, and all others have one. The heads of both meet in an entry for two after Peterson.
+///
+/// Words 0 and 1 are the tails of the local and of the remote queue, and word 2 is the victim, all on the shard's home: a local word,
+/// which the ranks there compare by themselves, a card word and a plain one. Words 3 + 2r and 4 + 2r are the next word and the status
+/// word of rank r, plain words on its node. Each queue has a budget of its own: so often it is passed on before its head must settle
+/// again. Readers are writers to it.
+#[derive(Drop)]
+pub struct Alock {
+    home: u32,
+    node_of: Vec<u32>,
+    nodes: u32,
+    local: QueueNames,
+    remote: QueueNames,
+    ghost seated: { Seated (record { node_of = node_of.items; nodes = nodes }) },
+    ghost homed: { home < nodes },
+    ghost local_named: { local ≡ cohort_names Local (length node_of.items) (full_budget local.budget) },
+    ghost remote_named: { remote ≡ cohort_names Remote (length node_of.items) (full_budget remote.budget) },
+    ghost local_modest: { full_budget local.budget ≤ 1000 },
+    ghost remote_modest: { full_budget remote.budget ≤ 1000 },
+}
+
+/// The queue of a cohort of so many ranks in all.
+fn names_for(
+    alloc: Global,
+    cohort: Cohort,
+    ranks: u32,
+    budget: u32,
+) -> Result<QueueNames, OutOfMemory>
+    requires { ranks ≤ 32 }
+    ensures { IfOk result (λ names. names ≡ cohort_names cohort ranks budget) }
+{
+    let next = rank_words(alloc, 3, ranks)?;
+    let status = rank_words(alloc, 4, ranks)?;
+    let tail_class = match cohort {
+        Cohort::Local => Class::Local,
+        Cohort::Remote => Class::Card,
+    };
+    Ok(QueueNames {
+        queue: cohort.queue(),
+        tail: cohort.queue(),
+        tail_class,
+        next,
+        status,
+        budget: Some(budget),
+    })
+}
+
+/// Where the ranks sit.
+fn seats(shape: &Shape) -> Result<Vec<u32>, OutOfMemory>
+    ensures { IfOk result (λ seats. seats.items ≡ shape.now.node_of) }
+{
+    shape.node_of.clone()
+}
+
+/// The act of a head that must settle.
+fn entry_act(cohort: Cohort, entry: Entry) -> Act
+    ensures { result ≡ the_entry_act cohort entry }
+{
+    match entry {
+        Entry::Announce => Act::Store {
+            word: VICTIM,
+            value: cohort.number() as u64,
+        },
+        Entry::Tail => Act::Load {
+            word: cohort.other().queue(),
+        },
+        Entry::Victim => Act::Load { word: VICTIM },
+    }
+}
+
+/// A head has settled, and enters.
+fn settle(head: QueueView, names: &QueueNames) -> Learnt<AlockView>
+    requires { head.phase ≡ Phase.Settle }
+    ensures view { result.view ≡ (settles_now names.now head.member).view }
+    ensures events { result.events.items ≡ (settles_now names.now head.member).events }
+    ensures waits { result.waits ≡ (settles_now names.now head.member).waits }
+{
+    let mut events = ArrayVec::new();
+    events.push(Event::Settle {
+        queue: names.queue,
+        member: head.member,
+    });
+    events.push(Event::EnterW { rank: head.member });
+    Learnt {
+        view: AlockView {
+            queue: queue_settled(head, names),
+            entry: Entry::Announce,
+        },
+        events,
+        waits: false,
+    }
+}
+
+/// A head goes on in the entry.
+fn look_on(head: QueueView, entry: Entry, waits: bool) -> Learnt<AlockView>
+    ensures view { result.view ≡ record { queue = head; entry = entry } }
+    ensures events { result.events.items ≡ [] }
+    ensures waits { result.waits ≡ waits }
+{
+    Learnt {
+        view: AlockView { queue: head, entry },
+        events: ArrayVec::new(),
+        waits,
+    }
+}
+
+/// A head has named its cohort the victim, and looks at the other's tail next.
+fn announce(head: QueueView, cohort: Cohort) -> Learnt<AlockView>
+    ensures view { result.view ≡ record { queue = head; entry = Entry.Tail } }
+    ensures events { result.events.items ≡ Event.Announce (cohort_no cohort) ∷ [] }
+    ensures waits { result.waits ≡ false }
+{
+    let mut events = ArrayVec::new();
+    events.push(Event::Announce {
+        cohort: cohort.number(),
+    });
+    Learnt {
+        view: AlockView {
+            queue: head,
+            entry: Entry::Tail,
+        },
+        events,
+        waits: false,
+    }
+}
+
+/// What a head learns in the entry, where its act told `got`.
+fn entry_turn(view: AlockView, cohort: Cohort, names: &QueueNames, got: u64) -> Learnt<AlockView>
+    requires { view.queue.phase ≡ Phase.Settle }
+    ensures view { result.view ≡ (entry_told names.now cohort view.queue.member view.entry got).view }
+    ensures events { result.events.items ≡ (entry_told names.now cohort view.queue.member view.entry got).events }
+    ensures waits { result.waits ≡ (entry_told names.now cohort view.queue.member view.entry got).waits }
+{
+    let head = view.queue;
+    match view.entry {
+        Entry::Announce => announce(head, cohort),
+        Entry::Tail => {
+            if got == 0 {
+                settle(head, names)
+            } else {
+                look_on(head, Entry::Victim, false)
+            }
+        }
+        Entry::Victim => {
+            if got == cohort.number() as u64 {
+                look_on(head, Entry::Tail, true)
+            } else {
+                settle(head, names)
+            }
+        }
+    }
+}
+
+/// Who has been given its queue enters.
+fn enter(turn: Learnt<QueueView>) -> Learnt<AlockView>
+    requires { length turn.events.items ≤ 1 }
+    ensures view { result.view ≡ record { queue = turn.view; entry = Entry.Announce } }
+    ensures events { result.events.items ≡ turn.events.items ++ entry_of turn.view.member turn.view.phase }
+    ensures waits { result.waits ≡ turn.waits }
+{
+    let mut events = turn.events;
+    if matches!(turn.view.phase, Phase::Granted { .. }) {
+        events.push(Event::EnterW {
+            rank: turn.view.member,
+        });
+    }
+    Learnt {
+        view: AlockView {
+            queue: turn.view,
+            entry: Entry::Announce,
+        },
+        events,
+        waits: turn.waits,
+    }
+}
+
+impl Alock {
+    /// The cohort of a rank, which is there.
+    fn cohort_of(&self, rank: u32) -> Cohort
+        requires { rank < length self.now.node_of.items }
+        ensures { result ≡ cohort_by (sits_at self.now.home self.now.node_of.items rank) }
+    {
+        if self.node_of[rank as usize] == self.home {
+            Cohort::Local
+        } else {
+            Cohort::Remote
+        }
+    }
+
+    /// The queue of a cohort.
+    fn names_of(&self, cohort: Cohort) -> &QueueNames
+        ensures { result.now ≡ names_of (cohorts_of self.now.home self.now.node_of.items self.now.local self.now.remote) cohort }
+    {
+        match cohort {
+            Cohort::Local => &self.local,
+            Cohort::Remote => &self.remote,
+        }
+    }
+}
+
+impl Algo for Alock {
+    type View = AlockView;
+
+    ghost table = { λ s. alock_table (cohorts_of s.home s.node_of.items s.local s.remote) };
+
+    ghost good = { λ s. AlockBounded (cohorts_of s.home s.node_of.items s.local s.remote) };
+
+    ghost further = { λ s. BoundsOvertaking (cohorts_of s.home s.node_of.items s.local s.remote) };
+
+    ghost layout = { λ s. record { node_of = s.node_of.items; nodes = s.nodes } };
+
+    ghost defined = { λ shape home knobs. alock_table (record { home = home; node_of = shape.node_of; local = knobs.local; remote = knobs.remote }) };
+
+    ghost promised = { λ shape home knobs. BoundsOvertaking (record { home = home; node_of = shape.node_of; local = knobs.local; remote = knobs.remote }) };
+
+    ghost name = { TheName.Alock };
+
+    ghost has_queues = { λ shape home knobs. refl };
+
+    ghost suits_knobs = { λ shape knobs. (knobs.local ≤ 1000) × (knobs.remote ≤ 1000) };
+
+    /// Makes the lock. Of the settings it reads `local` and `remote`: the budget of each queue, 0 to 1000.
+    fn make(alloc: Global, shape: &Shape, home: u32, knobs: Knobs) -> Result<Self, OutOfMemory> {
+        let ranks = shape.node_of.len() as u32;
+        let local = names_for(alloc, Cohort::Local, ranks, knobs.local)?;
+        let remote = names_for(alloc, Cohort::Remote, ranks, knobs.remote)?;
+        let node_of = seats(shape)?;
+        Ok(Alock {
+            home,
+            node_of,
+            nodes: shape.nodes,
+            local,
+            remote,
+        })
+    }
+
+    fn words(&self) -> u32 {
+        3 + 2 * self.node_of.len() as u32
+    }
+
+    fn spot(&self, word: u32) -> Spot {
+        let home = self.home;
+        match word {
+            0 => Spot {
+                class: Class::Local,
+                home,
+            },
+            1 => Spot {
+                class: Class::Card,
+                home,
+            },
+            VICTIM => Spot {
+                class: Class::Plain,
+                home,
+            },
+            _ => Spot {
+                class: Class::Plain,
+                home: self.node_of[((word - 3) / 2) as usize],
+            },
+        }
+    }
+
+    fn first(&self, rank: u32) -> AlockView {
+        AlockView {
+            queue: queue_idle(rank),
+            entry: Entry::Announce,
+        }
+    }
+
+    fn ask(&self, view: AlockView, _mode: Mode) -> AlockView {
+        AlockView {
+            queue: queue_join(view.queue),
+            entry: Entry::Announce,
+        }
+    }
+
+    fn plan(&self, view: AlockView) -> Option<Act> {
+        let cohort = self.cohort_of(view.queue.member);
+        match view.queue.phase {
+            Phase::Settle => Some(entry_act(cohort, view.entry)),
+            _ => queue_plan(view.queue, self.names_of(cohort)),
+        }
+    }
+
+    fn learn(&self, view: AlockView, got: u64) -> Learnt<AlockView> {
+        let cohort = self.cohort_of(view.queue.member);
+        match view.queue.phase {
+            Phase::Settle => entry_turn(view, cohort, self.names_of(cohort), got),
+            _ => enter(queue_learn(view.queue, self.names_of(cohort), got)),
+        }
+    }
+
+    fn leave(&self, view: AlockView) -> AlockView {
+        AlockView {
+            queue: queue_leave(view.queue, false),
+            entry: Entry::Announce,
+        }
+    }
+
+    fn standing(&self, view: AlockView) -> Standing {
+        queue_standing(view.queue)
+    }
+
+    ghost laws = { λ s. bounded_laws (cohorts_of s.home s.node_of.items s.local s.remote) s.nodes s.seated s.homed };
+}
