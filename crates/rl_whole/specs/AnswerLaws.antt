@@ -5,7 +5,7 @@ use Rattle.rl_word.specs.declared.acts.Act.{Act}
 use Rattle.rl_word.specs.Acts.{word_of, by_card}
 use Rattle.rl_step.specs.declared.events.Stepped.{Stepped}
 use Rattle.rl_step.specs.declared.events.Stepped.TheVariants.{Moved, Busy, Finished}
-use Rattle.rl_step.specs.Lock.{LockTable}
+use Rattle.rl_whole.specs.Running.{LockAt}
 use Rattle.rl_whole.specs.declared.card_state.CardState.{CardState}
 use Rattle.rl_whole.specs.declared.card_state.CardState.TheVariants.{Free, InCard, Loaded, ToLeave}
 use Rattle.rl_whole.specs.declared.effect.Effect.{Effect}
@@ -53,14 +53,14 @@ learnt_goes_on base (Some a) got true waits e = cc
 learnt_goes_on base (Some a) got false true e = cc
 learnt_goes_on base (Some a) got false false e = cc
 
-effect_goes_on : {A V : Type 0} (base : ℕ) (T : LockTable V) (x : WholeView A V) (got : ℕ) (t : Effect) →
-    effect_at (plan_home T (T.plan x.lock)) (T.plan x.lock) x.card got ≡ t → (effect_turned base T x t).stepped ≡ Finished → ⊥
-effect_goes_on base T x got Work q e = cc
-effect_goes_on base T x got (Stay c s) q e =
-    let same : s ≡ Finished = sym (stays_answer base _ _ _ got c s q) ∙ e in
-    ⊎_elim (λ k. let bad : Moved ≡ Finished = sym k ∙ same in cc) (λ k. let bad : Busy (plan_home T (T.plan x.lock)) (got - 1) ≡ Finished = sym k ∙ same in cc)
-    (stays_as (plan_home T (T.plan x.lock)) (T.plan x.lock) x.card got c s q)
-effect_goes_on base T x got (Learn c t lost) q e = learnt_goes_on base (T.plan x.lock) t lost (T.learn x.lock t).waits e
+effect_goes_on : {V : Type 0} (L : LockAt V) (x : WholeView V) (got : ℕ) (t : Effect) →
+    effect_at (plan_home L.table (L.table.plan x.side.view)) (L.table.plan x.side.view) x.side.card got ≡ t → (effect_turned L x t).stepped ≡ Finished → ⊥
+effect_goes_on L x got Work q e = cc
+effect_goes_on L x got (Stay c s) q e =
+    let same : s ≡ Finished = sym (stays_answer L.base _ _ _ got c s q) ∙ e in
+    ⊎_elim (λ k. let bad : Moved ≡ Finished = sym k ∙ same in cc) (λ k. let bad : Busy (plan_home L.table (L.table.plan x.side.view)) (got - 1) ≡ Finished = sym k ∙ same in cc)
+    (stays_as (plan_home L.table (L.table.plan x.side.view)) (L.table.plan x.side.view) x.side.card got c s q)
+effect_goes_on L x got (Learn c t lost) q e = learnt_goes_on L.base (L.table.plan x.side.view) t lost (L.table.learn x.side.view t).waits e
 
-pub atom_goes_on : {A V : Type 0} (base : ℕ) (T : LockTable V) (x : WholeView A V) (got : ℕ) → (after_of base T x got).stepped ≡ Finished → ⊥
-atom_goes_on base T x got e = effect_goes_on base T x got (effect_at (plan_home T (T.plan x.lock)) (T.plan x.lock) x.card got) refl e
+pub atom_goes_on : {V : Type 0} (L : LockAt V) (x : WholeView V) (got : ℕ) → (after_of L x got).stepped ≡ Finished → ⊥
+atom_goes_on L x got e = effect_goes_on L x got (effect_at (plan_home L.table (L.table.plan x.side.view)) (L.table.plan x.side.view) x.side.card got) refl e

@@ -11,7 +11,8 @@ use Rattle.rl_step.specs.declared.events.Event.{Event}
 use Rattle.rl_step.specs.declared.events.Standing.{Standing}
 use Rattle.rl_step.specs.declared.events.Standing.TheVariants as standing
 use Rattle.rl_whole.specs.declared.card_state.CardState.TheVariants.{Free}
-use Rattle.rl_whole.specs.Split.{Side, SplitState, LockGood, side_atom, lock_of, view_of, card_in, StandsStill, departure, grown}
+use Rattle.rl_whole.specs.declared.side.Side.{Side}
+use Rattle.rl_whole.specs.Split.{SplitState, LockGood, side_atom, lock_of, view_of, card_in, StandsStill, departure, grown}
 use Rattle.rl_step.specs.declared.events.Event.TheVariants.{Touch, LeaveW, LeaveR}
 use Rattle.std.proofs.Common.{append_assoc}
 use Rattle.rl_step.specs.Lock.{touched}
@@ -72,5 +73,6 @@ module _ (V : Type 0) (T : LockTable V) (good : LockState V → Type 0) (further
         all_cards = length-replicate layout.nodes 0;
         names = λ r n x h c. let none : None ≡ Some n = sym (ap (λ k. card_in T (T.plan x.view) k) (away r x h)) ∙ c in cc;
         named = λ r n c. let z : slice_index (replicate layout.nodes 0) n ≡ 0 = zeros layout.nodes n in absurd (omega arith);
+        domain = λ r n x h c. let none : None ≡ Some n = sym (ap (λ k. card_in T (T.plan x.view) k) (away r x h)) ∙ c in cc;
         still = λ r x h. subst (λ k. StandsStill (replicate T.size 0) (T.plan x.view) k) (sym (away r x h)) tt;
       }

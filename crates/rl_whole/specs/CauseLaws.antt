@@ -1,5 +1,5 @@
 -- Each answer of a step has its cause, for every lock.
-use Rattle.std.specs.Prelude.{◌≡◌, ◌≢◌, ℕ, ◌+◌, Bool, true, false, not, List, drop, slice_get, slice_index, Option, Some, None, refl}
+use Rattle.std.specs.Prelude.{◌≡◌, ◌≢◌, ℕ, ◌+◌, ◌==◌, Bool, true, false, not, List, drop, slice_get, slice_index, Option, Some, None, refl}
 use Rattle.std.proofs.Common.{sym, ◌∙◌, ap, subst, ⊎_elim, arith, get_or-drop}
 use Rattle.std.proofs.lemmas.Option.{same_Some}
 use Rattle.std.proofs.lemmas.Bool.Decides.{eqb_tells}
@@ -8,40 +8,112 @@ use Rattle.rl_word.specs.declared.acts.Act.{Act}
 use Rattle.rl_word.specs.declared.acts.Act.TheVariants as act
 use Rattle.rl_word.specs.declared.acts.Atom.{Atom}
 use Rattle.rl_word.specs.declared.acts.Atom.TheVariants as atom
-use Rattle.rl_word.specs.Acts.{word_of, told, by_card, Layout}
+use Rattle.rl_word.specs.Acts.{word_of, written, told, by_card, Layout}
 use Rattle.rl_step.specs.declared.events.Event.{Event}
 use Rattle.rl_step.specs.declared.events.Stepped.{Stepped}
-use Rattle.rl_step.specs.Lock.{LockTable, LockState, LockLaws, Deed}
+use Rattle.rl_step.specs.Lock.{LockState, LockLaws, Deed, IsLoad, PlansLoad}
 use Rattle.rl_step.specs.Do.{Held, do_got}
+use Rattle.rl_whole.specs.Running.{LockAt}
 use Rattle.rl_whole.specs.declared.card_state.CardState.{CardState}
 use Rattle.rl_whole.specs.declared.card_state.CardState.TheVariants.{Free, InCard, Loaded, ToLeave}
 use Rattle.rl_whole.specs.declared.effect.Effect.TheVariants.{Learn}
 use Rattle.rl_whole.specs.declared.whole.WholeView.{WholeView}
-use Rattle.rl_whole.specs.Split.{home_of, first_atom, card_atom, side_atom, skips, guess_of, answer_of, turned_by, card_after, StandsStill}
+use Rattle.rl_whole.specs.Split.{SplitState, lock_of, view_of, home_of, first_atom, card_atom, side_atom, skips, guess_of, answer_of, turned_by, card_after, StandsStill}
 use Rattle.rl_whole.specs.SplitActs.{bool_cases, first_card, plain_got, after_plain, after_take, after_busy, after_load, after_skip}
 use Rattle.rl_whole.specs.SplitLaws.{none_at}
-use Rattle.rl_whole.specs.Whole.{side_of, shifted, shifted_answer, next_of, after_of, Good}
+use Rattle.rl_whole.specs.Whole.{count_word, side_of, split_of, shifted, shifted_answer, next_of, after_of, Good}
 use Rattle.rl_whole.specs.ShiftLaws.{shift_got}
 use Rattle.rl_whole.specs.WholeLaws.{next_cases}
-use Rattle.rl_whole.specs.Causes.{atom_word, Compares, Cause}
+use Rattle.rl_whole.specs.Causes.{Compares, Cause, GoesOn}
 
--- the first atom of a plain act is on the act's word
-plain_on : {V : Type 0} (base : ℕ) (T : LockTable V) (a : Act) → by_card a ≡ false → atom_word (shifted base (first_atom T a)) ≡ Some (base + word_of a)
-plain_on base T (act.Load w) e = refl
-plain_on base T (act.Store w v) e = refl
-plain_on base T (act.LocalCas w old new) e = refl
-plain_on base T (act.CardCas w old new) e = cc
-plain_on base T (act.CardSwap w v) e = cc
-plain_on base T (act.CardAdd w d) e = cc
+-- a plain act whose first atom is a load loads its word; no first atom of a plain act is a Take
+plain_load : {V : Type 0} (L : LockAt V) (a : Act) (word : ℕ) → by_card a ≡ false → shifted L.base (first_atom L.table a) ≡ atom.Load word → IsLoad a
+plain_load L (act.Load w) word e q = tt
+plain_load L (act.Store w v) word e q = cc
+plain_load L (act.LocalCas w old new) word e q = cc
+plain_load L (act.CardCas w old new) word e q = cc
+plain_load L (act.CardSwap w v) word e q = cc
+plain_load L (act.CardAdd w d) word e q = cc
+
+plain_no_take : {V : Type 0} (L : LockAt V) (a : Act) (node : ℕ) → by_card a ≡ false → shifted L.base (first_atom L.table a) ≡ atom.Take node → ⊥
+plain_no_take L (act.Load w) node e q = cc
+plain_no_take L (act.Store w v) node e q = cc
+plain_no_take L (act.LocalCas w old new) node e q = cc
+plain_no_take L (act.CardCas w old new) node e q = cc
+plain_no_take L (act.CardSwap w v) node e q = cc
+plain_no_take L (act.CardAdd w d) node e q = cc
+
+-- a load's one atom, and what it tells
+load_atom : {V : Type 0} (L : LockAt V) (a : Act) → IsLoad a → shifted L.base (first_atom L.table a) ≡ atom.Load (L.base + word_of a)
+load_atom L (act.Load w) h = refl
+load_atom L (act.Store w v) h = absurd h
+load_atom L (act.LocalCas w old new) h = absurd h
+load_atom L (act.CardCas w old new) h = absurd h
+load_atom L (act.CardSwap w v) h = absurd h
+load_atom L (act.CardAdd w d) h = absurd h
+
+load_told : (a : Act) (g : ℕ) → IsLoad a → told a g ≡ g
+load_told (act.Load w) g h = refl
+load_told (act.Store w v) g h = absurd h
+load_told (act.LocalCas w old new) g h = absurd h
+load_told (act.CardCas w old new) g h = absurd h
+load_told (act.CardSwap w v) g h = absurd h
+load_told (act.CardAdd w d) g h = absurd h
+
+load_plain : (a : Act) → IsLoad a → by_card a ≡ true → ⊥
+load_plain (act.Load w) h e = cc
+load_plain (act.Store w v) h e = h
+load_plain (act.LocalCas w old new) h e = h
+load_plain (act.CardCas w old new) h e = h
+load_plain (act.CardSwap w v) h e = h
+load_plain (act.CardAdd w d) h e = h
+
+-- an atom compares where it is a local compare-and-swap or a load in a card, and then an act that saw another value skips its store
+abbrev IsCompare : Atom → Type 0
+IsCompare (atom.Load w) = ⊥
+IsCompare (atom.Store w v) = ⊥
+IsCompare (atom.LocalCas w old new) = Unit {0}
+IsCompare (atom.Take n) = ⊥
+IsCompare (atom.CardLoad w) = Unit {0}
+IsCompare (atom.CardStore w v) = ⊥
+IsCompare (atom.Leave n) = ⊥
+
+compares_at : (base : ℕ) (a : Act) (at : Atom) (guess : ℕ) → Compares base a at guess → IsCompare at
+compares_at base (act.Load w) at guess h = absurd h
+compares_at base (act.Store w v) at guess h = absurd h
+compares_at base (act.LocalCas w old new) at guess h = subst IsCompare (sym h.0) tt
+compares_at base (act.CardCas w old new) at guess h = subst IsCompare (sym h.0) tt
+compares_at base (act.CardSwap w v) at guess h = absurd h
+compares_at base (act.CardAdd w d) at guess h = absurd h
+
+other_not : (seen old : ℕ) → seen ≢ old → not (seen == old) ≡ true
+other_not seen old ne = ⊎_elim (λ q. absurd (ne q.1)) (λ q. ap not q.0) (eqb_tells seen old)
+
+compares_skips : (base : ℕ) (a : Act) (at : Atom) (guess seen : ℕ) → Compares base a at guess → seen ≢ guess → skips a seen ≡ true
+compares_skips base (act.Load w) at guess seen h ne = absurd h
+compares_skips base (act.Store w v) at guess seen h ne = absurd h
+compares_skips base (act.LocalCas w old new) at guess seen h ne = other_not seen old (λ e. ne (e ∙ sym h.1))
+compares_skips base (act.CardCas w old new) at guess seen h ne = other_not seen old (λ e. ne (e ∙ sym h.1))
+compares_skips base (act.CardSwap w v) at guess seen h ne = absurd h
+compares_skips base (act.CardAdd w d) at guess seen h ne = absurd h
+
+-- what a plain act tells skips as what it found
+told_skips : (a : Act) (g : ℕ) → by_card a ≡ false → skips a (told a g) ≡ skips a g
+told_skips (act.Load w) g e = refl
+told_skips (act.Store w v) g e = refl
+told_skips (act.LocalCas w old new) g e = refl
+told_skips (act.CardCas w old new) g e = cc
+told_skips (act.CardSwap w v) g e = cc
+told_skips (act.CardAdd w d) g e = cc
 
 -- a plain act that skips its store is a local compare-and-swap, and one by card a CardCas
-plain_compares : {V : Type 0} (base : ℕ) (T : LockTable V) (a : Act) (got : ℕ) → by_card a ≡ false → skips a got ≡ true → Compares base a (shifted base (first_atom T a)) (guess_of a)
-plain_compares base T (act.Load w) got e s = cc
-plain_compares base T (act.Store w v) got e s = cc
-plain_compares base T (act.LocalCas w old new) got e s = (refl, refl)
-plain_compares base T (act.CardCas w old new) got e s = cc
-plain_compares base T (act.CardSwap w v) got e s = cc
-plain_compares base T (act.CardAdd w d) got e s = cc
+plain_compares : {V : Type 0} (L : LockAt V) (a : Act) (got : ℕ) → by_card a ≡ false → skips a got ≡ true → Compares L.base a (shifted L.base (first_atom L.table a)) (guess_of a)
+plain_compares L (act.Load w) got e s = cc
+plain_compares L (act.Store w v) got e s = cc
+plain_compares L (act.LocalCas w old new) got e s = (refl, refl)
+plain_compares L (act.CardCas w old new) got e s = cc
+plain_compares L (act.CardSwap w v) got e s = cc
+plain_compares L (act.CardAdd w d) got e s = cc
 
 card_compares : (base : ℕ) (a : Act) (got : ℕ) → by_card a ≡ true → skips a got ≡ true → Compares base a (atom.CardLoad (base + word_of a)) (guess_of a)
 card_compares base (act.Load w) got e s = cc
@@ -69,99 +141,170 @@ plain_told (act.CardCas w old new) g got e s = cc
 plain_told (act.CardSwap w v) g got e s = cc
 plain_told (act.CardAdd w d) g got e s = cc
 
-module _ (V : Type 0) (base : ℕ) (T : LockTable V) (h : Held) (v : V) where
-  -- an answer of a learnt act that lost no compare
-  learnt_cause : (a : Act) (at : Atom) (value : ℕ) → T.plan v ≡ Some a → atom_word at ≡ Some (base + word_of a) → value ≡ told a (slice_index h.words (base + word_of a)) →
-      (b : Bool) → (T.learn v value).waits ≡ b → Cause base T h v (Some at) (shifted_answer base (answer_of (Some a) value false b))
-  learnt_cause a at value pl on tells true e = record { act = a; planned = pl; same_word = refl; on_word = on; tells = tells; unmet = e }
-  learnt_cause a at value pl on tells false e = tt
+-- where the planned act's round has to be made again after what it found, it is a load, and so is the next act
+abbrev pub BeginsAgain : {V : Type 0} → LockAt V → Held → V → Type 0
+BeginsAgain L h v =
+    (a : Act) → L.table.plan v ≡ Some a → (L.table.learn v (told a (slice_index h.words (L.base + word_of a)))).waits ≡ true →
+    IsLoad a × PlansLoad (L.table.plan (L.table.learn v (told a (slice_index h.words (L.base + word_of a)))).view)
+
+module _ (V : Type 0) (L : LockAt V) (h : Held) (v : V) (rounds : BeginsAgain L h v) where
+  -- an atom that neither compares nor loads goes on, but for a Take
+  plain_sailing : (at : Atom) → ((node : ℕ) → at ≡ atom.Take node → slice_index h.cards node ≡ 0) → (IsCompare at → ⊥) → ((word : ℕ) → at ≡ atom.Load word → ⊥) → GoesOn L h v at
+  plain_sailing at free no_compare no_load =
+      record {
+        free = free;
+        won = λ guess seen l. no_compare (compares_at L.base l.act at guess l.compares);
+        met = λ word value w. no_load word w.made;
+      }
+
+  -- an answer of a plain act that lost no compare
+  learnt_cause : (a : Act) (got : ℕ) → L.table.plan v ≡ Some a → by_card a ≡ false → got ≡ told a (slice_index h.words (L.base + word_of a)) → skips a got ≡ false →
+      (b : Bool) → (L.table.learn v got).waits ≡ b → Cause L h v (Some (shifted L.base (first_atom L.table a))) (shifted_answer L.base (answer_of (Some a) got false b))
+  learnt_cause a got pl bc tells sk true e =
+      let round = rounds a pl (ap (λ z. (L.table.learn v z).waits) (sym tells) ∙ e) in
+      record {
+        act = a;
+        planned = pl;
+        same_word = refl;
+        made = load_atom L a round.0;
+        tells = tells ∙ load_told a (slice_index h.words (L.base + word_of a)) round.0;
+        unmet = e;
+        again = subst (λ z. PlansLoad (L.table.plan (L.table.learn v z).view)) (sym tells) round.1;
+      }
+  learnt_cause a got pl bc tells sk false e =
+      record {
+        free = λ node q. absurd (plain_no_take L a node bc q);
+        won = λ guess seen l.
+            let same : l.act ≡ a = same_Some _ _ (sym l.planned ∙ pl) in
+            let seen_is : slice_index h.words (L.base + word_of a) ≡ seen = ap (λ z. slice_index h.words (L.base + word_of z)) (sym same) ∙ l.found in
+            let lost : skips a seen ≡ true = ap (λ z. skips z seen) (sym same) ∙ compares_skips L.base l.act _ guess seen l.compares l.other in
+            let not_lost : skips a seen ≡ false = ap (skips a) (sym seen_is) ∙ sym (told_skips a (slice_index h.words (L.base + word_of a)) bc) ∙ ap (skips a) (sym tells) ∙ sk in
+            let bad : true ≡ false = sym lost ∙ not_lost in cc;
+        met = λ word value w.
+            let same : w.act ≡ a = same_Some _ _ (sym w.planned ∙ pl) in
+            let loads : IsLoad a = plain_load L a word bc w.made in
+            let here : word ≡ L.base + word_of a = w.same_word ∙ ap (λ z. L.base + word_of z) same in
+            let value_is : value ≡ got = w.tells ∙ ap (slice_index h.words) here ∙ sym (load_told a (slice_index h.words (L.base + word_of a)) loads) ∙ sym tells in
+            let bad : true ≡ false = sym w.unmet ∙ ap (λ z. (L.table.learn v z).waits) value_is ∙ e in cc;
+      }
 
   -- the value of a lock word in the window
-  in_window : (w : ℕ) → slice_index (drop base h.words) w ≡ slice_index h.words (base + w)
-  in_window w = get_or-drop base h.words w 0
+  in_window : (w : ℕ) → slice_index (drop L.base h.words) w ≡ slice_index h.words (L.base + w)
+  in_window w = get_or-drop L.base h.words w 0
 
   abbrev CauseOf : Atom → Stepped → Type 0
-  CauseOf at s = Cause base T h v (Some at) (shifted_answer base s)
+  CauseOf at s = Cause L h v (Some at) (shifted_answer L.base s)
 
   -- the one atom of a plain act
-  plain_cause : (r : ℕ) (a : Act) (got : ℕ) → T.plan v ≡ Some a → by_card a ≡ false → got ≡ do_got (first_atom T a) (drop base h.words) h.cards →
-      CauseOf (shifted base (first_atom T a)) (turned_by T r v (Some a) (Learn Free got (skips a got))).stepped
+  plain_cause : (r : ℕ) (a : Act) (got : ℕ) → L.table.plan v ≡ Some a → by_card a ≡ false → got ≡ do_got (first_atom L.table a) (drop L.base h.words) h.cards →
+      CauseOf (shifted L.base (first_atom L.table a)) (turned_by L.table r v (Some a) (Learn Free got (skips a got))).stepped
   plain_cause r a got pl bc eg =
-      let tells : got ≡ told a (slice_index h.words (base + word_of a)) = eg ∙ plain_got V T a (drop base h.words) h.cards bc ∙ ap (told a) (in_window (word_of a)) in
+      let tells : got ≡ told a (slice_index h.words (L.base + word_of a)) = eg ∙ plain_got V L.table a (drop L.base h.words) h.cards bc ∙ ap (told a) (in_window (word_of a)) in
       ⊎_elim
-      (λ sk. subst (λ b. CauseOf (shifted base (first_atom T a)) (answer_of (Some a) got b (T.learn v got).waits)) (sym sk)
+      (λ sk. subst (λ b. CauseOf (shifted L.base (first_atom L.table a)) (answer_of (Some a) got b (L.table.learn v got).waits)) (sym sk)
       (record {
         act = a;
         planned = pl;
-        compares = plain_compares base T a got bc sk;
-        found = sym (plain_told a (slice_index h.words (base + word_of a)) got bc sk) ∙ sym tells;
+        compares = plain_compares L a got bc sk;
+        found = sym (plain_told a (slice_index h.words (L.base + word_of a)) got bc sk) ∙ sym tells;
         other = skips_other a got sk;
       }))
-      (λ sk. subst (λ b. CauseOf (shifted base (first_atom T a)) (answer_of (Some a) got b (T.learn v got).waits)) (sym sk)
-      (learnt_cause a (shifted base (first_atom T a)) got pl (plain_on base T a bc) tells (T.learn v got).waits refl))
+      (λ sk. subst (λ b. CauseOf (shifted L.base (first_atom L.table a)) (answer_of (Some a) got b (L.table.learn v got).waits)) (sym sk)
+      (learnt_cause a got pl bc tells sk (L.table.learn v got).waits refl))
       (bool_cases (skips a got))
 
   -- the first atom of an act
-  first_cause : (r : ℕ) (a : Act) (got : ℕ) → T.plan v ≡ Some a → got ≡ do_got (first_atom T a) (drop base h.words) h.cards →
-      CauseOf (shifted base (first_atom T a)) (card_after T r v (Some a) Free got).stepped
+  first_cause : (r : ℕ) (a : Act) (got : ℕ) → L.table.plan v ≡ Some a → got ≡ do_got (first_atom L.table a) (drop L.base h.words) h.cards →
+      CauseOf (shifted L.base (first_atom L.table a)) (card_after L.table r v (Some a) Free got).stepped
   first_cause r a got pl eg =
-      let n : ℕ = home_of T (word_of a) in
+      let n : ℕ = home_of L.table (word_of a) in
       ⊎_elim
       (λ bc.
-      let take : first_atom T a ≡ atom.Take n = first_card V T a bc in
-      let found : got ≡ slice_index h.cards n = eg ∙ ap (λ z. do_got z (drop base h.words) h.cards) take in
+      let take : first_atom L.table a ≡ atom.Take n = first_card V L.table a bc in
+      let found : got ≡ slice_index h.cards n = eg ∙ ap (λ z. do_got z (drop L.base h.words) h.cards) take in
       ⊎_elim
-      (λ q. subst (λ z. CauseOf (shifted base (first_atom T a)) z.stepped) (sym (after_take V T r v a got bc q.0)) tt)
-      (λ q. subst (λ z. CauseOf (shifted base (first_atom T a)) z.stepped) (sym (after_busy V T r v a got bc q.0))
-      (ap (shifted base) take, (let other : got ≢ 0 = q.1 in let same : slice_index h.cards n ≡ got = sym found in grind (arith, other, same))))
+      (λ q. subst (λ z. CauseOf (shifted L.base (first_atom L.table a)) z.stepped) (sym (after_take V L.table r v a got bc q.0))
+      (subst (GoesOn L h v) (sym (ap (shifted L.base) take))
+      (plain_sailing (atom.Take n) (λ node e. let same : n ≡ node = cc in ap (slice_index h.cards) (sym same) ∙ sym found ∙ q.1) (λ c. c) (λ word e. cc))))
+      (λ q. subst (λ z. CauseOf (shifted L.base (first_atom L.table a)) z.stepped) (sym (after_busy V L.table r v a got bc q.0))
+      (ap (shifted L.base) take, (let other : got ≢ 0 = q.1 in let same : slice_index h.cards n ≡ got = sym found in grind (arith, other, same))))
       (eqb_tells got 0))
-      (λ bc. subst (λ z. CauseOf (shifted base (first_atom T a)) z.stepped) (sym (after_plain V T r v a got bc)) (plain_cause r a got pl bc eg))
+      (λ bc. subst (λ z. CauseOf (shifted L.base (first_atom L.table a)) z.stepped) (sym (after_plain V L.table r v a got bc)) (plain_cause r a got pl bc eg))
       (bool_cases (by_card a))
 
   -- the load in a card
-  load_cause : (r : ℕ) (a : Act) (got : ℕ) → T.plan v ≡ Some a → by_card a ≡ true → got ≡ slice_index (drop base h.words) (word_of a) →
-      CauseOf (atom.CardLoad (base + word_of a)) (card_after T r v (Some a) InCard got).stepped
+  load_cause : (r : ℕ) (a : Act) (got : ℕ) → L.table.plan v ≡ Some a → by_card a ≡ true → got ≡ slice_index (drop L.base h.words) (word_of a) →
+      CauseOf (atom.CardLoad (L.base + word_of a)) (card_after L.table r v (Some a) InCard got).stepped
   load_cause r a got pl bc eg =
       ⊎_elim
-      (λ sk. subst (λ z. CauseOf (atom.CardLoad (base + word_of a)) z.stepped) (sym (after_skip V T r v a got sk))
+      (λ sk. subst (λ z. CauseOf (atom.CardLoad (L.base + word_of a)) z.stepped) (sym (after_skip V L.table r v a got sk))
       (record {
         act = a;
         planned = pl;
-        compares = card_compares base a got bc sk;
+        compares = card_compares L.base a got bc sk;
         found = sym (eg ∙ in_window (word_of a));
         other = skips_other a got sk;
       }))
-      (λ sk. subst (λ z. CauseOf (atom.CardLoad (base + word_of a)) z.stepped) (sym (after_load V T r v a got sk)) tt)
+      (λ sk. subst (λ z. CauseOf (atom.CardLoad (L.base + word_of a)) z.stepped) (sym (after_load V L.table r v a got sk))
+      (record {
+        free = λ node e. cc;
+        won = λ guess seen l.
+            let same : l.act ≡ a = same_Some _ _ (sym l.planned ∙ pl) in
+            let seen_is : got ≡ seen = eg ∙ in_window (word_of a) ∙ ap (λ z. slice_index h.words (L.base + word_of z)) (sym same) ∙ l.found in
+            let bad : true ≡ false = sym (ap (λ z. skips z seen) (sym same) ∙ compares_skips L.base l.act _ guess seen l.compares l.other) ∙ ap (skips a) (sym seen_is) ∙ sk in cc;
+        met = λ word value w. cc;
+      }))
       (bool_cases (skips a got))
 
+  -- the store in a card
+  store_cause : (a : Act) (g : ℕ) (b : Bool) → L.table.plan v ≡ Some a → by_card a ≡ true → told a g ≡ told a (slice_index h.words (L.base + word_of a)) → (L.table.learn v (told a g)).waits ≡ b →
+      Cause L h v (Some (atom.CardStore (L.base + word_of a) (written a g))) (shifted_answer L.base (answer_of (Some a) (told a g) false b))
+  store_cause a g true pl bc tells e = absurd (load_plain a (rounds a pl (ap (λ z. (L.table.learn v z).waits) (sym tells) ∙ e)).0 bc)
+  store_cause a g false pl bc tells e = plain_sailing (atom.CardStore (L.base + word_of a) (written a g)) (λ node q. cc) (λ c. c) (λ word q. cc)
+
   -- every atom of the lock
-  lock_cause : (r : ℕ) (p : Option Act) (c : CardState) (b : Atom) → T.plan v ≡ p → StandsStill (drop base h.words) p c → card_atom T p c ≡ Some b →
-      CauseOf (shifted base b) (card_after T r v p c (do_got b (drop base h.words) h.cards)).stepped
-  lock_cause r p (ToLeave n) b pl k e = tt
+  lock_cause : (r : ℕ) (p : Option Act) (c : CardState) (b : Atom) → L.table.plan v ≡ p → StandsStill (drop L.base h.words) p c → card_atom L.table p c ≡ Some b →
+      CauseOf (shifted L.base b) (card_after L.table r v p c (do_got b (drop L.base h.words) h.cards)).stepped
+  lock_cause r p (ToLeave n) b pl k e =
+      subst (λ z. GoesOn L h v (shifted L.base z)) (same_Some _ _ e) (plain_sailing (atom.Leave n) (λ node q. cc) (λ c. c) (λ word q. cc))
   lock_cause r None Free b pl k e = cc
   lock_cause r None InCard b pl k e = cc
   lock_cause r None (Loaded g) b pl k e = cc
   lock_cause r (Some a) Free b pl k e =
-      subst (λ z. CauseOf (shifted base z) (card_after T r v (Some a) Free (do_got z (drop base h.words) h.cards)).stepped) (same_Some _ _ e)
-      (first_cause r a (do_got (first_atom T a) (drop base h.words) h.cards) pl refl)
+      subst (λ z. CauseOf (shifted L.base z) (card_after L.table r v (Some a) Free (do_got z (drop L.base h.words) h.cards)).stepped) (same_Some _ _ e)
+      (first_cause r a (do_got (first_atom L.table a) (drop L.base h.words) h.cards) pl refl)
   lock_cause r (Some a) InCard b pl k e =
-      subst (λ z. CauseOf (shifted base z) (card_after T r v (Some a) InCard (do_got z (drop base h.words) h.cards)).stepped) (same_Some _ _ e)
-      (load_cause r a (slice_index (drop base h.words) (word_of a)) pl k refl)
+      subst (λ z. CauseOf (shifted L.base z) (card_after L.table r v (Some a) InCard (do_got z (drop L.base h.words) h.cards)).stepped) (same_Some _ _ e)
+      (load_cause r a (slice_index (drop L.base h.words) (word_of a)) pl k refl)
   lock_cause r (Some a) (Loaded g) b pl k e =
-      subst (λ z. CauseOf (shifted base z) (card_after T r v (Some a) (Loaded g) (do_got z (drop base h.words) h.cards)).stepped) (same_Some _ _ e)
-      (learnt_cause a (atom.CardStore (base + word_of a) _) (told a g) pl refl (ap (told a) (sym k.2 ∙ in_window (word_of a))) (T.learn v (told a g)).waits refl)
+      subst (λ z. CauseOf (shifted L.base z) (card_after L.table r v (Some a) (Loaded g) (do_got z (drop L.base h.words) h.cards)).stepped) (same_Some _ _ e)
+      (store_cause a g (L.table.learn v (told a g)).waits pl k.0 (ap (told a) (sym k.2 ∙ in_window (word_of a))) refl)
 
-module _ (A V : Type 0) (T : LockTable V) (good : LockState V → Type 0) (further : List Event → List Deed → Type 0) (layout : Layout) (laws : LockLaws T good further layout) (base home : ℕ) where
-  pub answer_cause : (h : Held) (vs : List (WholeView A V)) (r : ℕ) (x : WholeView A V) (at : Atom) → Good base T good layout h vs → slice_get vs r ≡ Some x → next_of base T x ≡ Some at →
-      Cause base T h x.lock (Some at) (after_of base T x (do_got at h.words h.cards)).stepped
+module _ (V : Type 0) (L : LockAt V) (good : LockState V → Type 0) (further : List Event → List Deed → Type 0) (layout : Layout) (laws : LockLaws L.table good further layout) (home : ℕ) where
+  -- by the lock's law
+  rounds_of : (h : Held) (vs : List (WholeView V)) (r : ℕ) (x : WholeView V) → Good L good layout h vs → slice_get vs r ≡ Some x → BeginsAgain L h x.side.view
+  rounds_of h vs r x g has a pl e =
+      let s : SplitState V = split_of L.base h vs g.modes g.past in
+      let here : told a (slice_index s.words (word_of a)) ≡ told a (slice_index h.words (L.base + word_of a)) = ap (told a) (get_or-drop L.base h.words (word_of a) 0) in
+      let law = laws.waits_on_loads (lock_of s) r x.side.view a (record { is_good = g.lock_part.lock; has = get_map view_of s.sides r x.side (get_map side_of vs r x has); planned = pl })
+      (ap (λ z. (L.table.learn x.side.view z).waits) here ∙ e) in
+      (law.0, subst (λ z. PlansLoad (L.table.plan (L.table.learn x.side.view z).view)) here law.1)
+
+  pub answer_cause : (h : Held) (vs : List (WholeView V)) (r : ℕ) (x : WholeView V) (at : Atom) → Good L good layout h vs → slice_get vs r ≡ Some x → next_of L x ≡ Some at →
+      Cause L h x.side.view (Some at) (after_of L x (do_got at h.words h.cards)).stepped
   answer_cause h vs r x at g has e =
       ⊎_elim
-      (λ q. subst (λ z. Cause base T h x.lock (Some z) (after_of base T x (do_got z h.words h.cards)).stepped) q.2
-      (subst (λ n. Cause base T h x.lock (Some (shifted base q.0)) (after_of base T x n).stepped) (sym (shift_got base q.0 h.words h.cards))
-      (lock_cause V base T h x.lock x.rank (T.plan x.lock) x.card q.0 refl (g.lock_part.still r (side_of x) (get_map side_of vs r x has)) q.1)))
-      (λ q. let away = none_at V T good further layout laws (drop base h.words) (T.plan x.lock) x.card (g.lock_part.still r (side_of x) (get_map side_of vs r x has)) q.0 in
+      (λ q. subst (λ z. Cause L h x.side.view (Some z) (after_of L x (do_got z h.words h.cards)).stepped) q.2
+      (subst (λ n. Cause L h x.side.view (Some (shifted L.base q.0)) (after_of L x n).stepped) (sym (shift_got L.base q.0 h.words h.cards))
+      (lock_cause V L h x.side.view (rounds_of h vs r x g has) x.rank (L.table.plan x.side.view) x.side.card q.0 refl (g.lock_part.still r x.side (get_map side_of vs r x has)) q.1)))
+      (λ q. let away = none_at V L.table good further layout laws (drop L.base h.words) (L.table.plan x.side.view) x.side.card (g.lock_part.still r x.side (get_map side_of vs r x has)) q.0 in
       let got : ℕ = do_got at h.words h.cards in
-      let work : card_after T x.rank x.lock (T.plan x.lock) x.card got ≡ card_after T x.rank x.lock None Free got =
-      ap (λ p. card_after T x.rank x.lock p x.card got) away.0 ∙ ap (λ c. card_after T x.rank x.lock None c got) away.1 in
-      subst (λ z. Cause base T h x.lock (Some at) (shifted_answer base z.stepped)) (sym work) tt)
-      (next_cases A V T good further layout laws base home (T.standing x.lock) (side_atom T (side_of x)) at e)
+      let work : card_after L.table x.rank x.side.view (L.table.plan x.side.view) x.side.card got ≡ card_after L.table x.rank x.side.view None Free got =
+      ap (λ p. card_after L.table x.rank x.side.view p x.side.card got) away.0 ∙ ap (λ c. card_after L.table x.rank x.side.view None c got) away.1 in
+      subst (λ z. Cause L h x.side.view (Some at) (shifted_answer L.base z.stepped)) (sym work)
+      (record {
+        free = λ node e. let bad : atom.Load count_word ≡ atom.Take node = sym q.2 ∙ e in cc;
+        won = λ guess seen l. let bad : None ≡ Some l.act = sym away.0 ∙ l.planned in cc;
+        met = λ word value w. let bad : None ≡ Some w.act = sym away.0 ∙ w.planned in cc;
+      }))
+      (next_cases V L good further layout laws home (L.table.standing x.side.view) (side_atom L.table x.side) at e)

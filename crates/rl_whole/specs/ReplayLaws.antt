@@ -10,15 +10,16 @@ use Rattle.rl_step.specs.declared.events.Stepped.{Stepped}
 use Rattle.rl_step.specs.declared.events.Stepped.TheVariants.{Moved, Waiting, Lost, Busy, Finished}
 use Rattle.rl_step.specs.declared.tallies.Steps.{Steps}
 use Rattle.rl_step.specs.Answers.{counted, steps_made}
-use Rattle.rl_step.specs.Lock.{LockTable, LockState, LockLaws, Deed}
+use Rattle.rl_step.specs.Lock.{LockState, LockLaws, Deed}
 use Rattle.rl_step.specs.Do.{do_got}
 use Rattle.rl_step.specs.Exclusion.{IsExclusive}
 use Rattle.rl_step.specs.ExclusionLaws.{is_exclusive}
+use Rattle.rl_whole.specs.Running.{LockAt, World, Running, put}
 use Rattle.rl_whole.specs.declared.whole.WholeView.{WholeView}
 use Rattle.rl_ops.specs.declared.schedule.Turn.{Turn}
 use Rattle.rl_ops.specs.Schedule.{steps_of}
 use Rattle.rl_whole.specs.Whole.{next_of, after_of}
-use Rattle.rl_whole.specs.Run.{World, opens, opened_if, opened_at, call_opened, makes, made_at, stepped, run_of, turn_ranks, ranks_of, steps_in, events_of}
+use Rattle.rl_whole.specs.Run.{opens, opened_if, opened_at, call_opened, makes, made_at, after_step, stepped, run_of, turn_ranks, ranks_of, steps_in, events_of}
 use Rattle.rl_whole.specs.RunGood.{RunGood}
 use Rattle.rl_whole.specs.RunLaws.{run_good}
 
@@ -30,50 +31,51 @@ counts_one (Lost g v) s = omega arith
 counts_one (Busy n h) s = omega arith
 counts_one Finished s = omega arith
 
-module _ {A V : Type 0} (base : ℕ) (T : LockTable V) where
+module _ {V : Type 0} (L : LockAt V) where
   -- a call that is opened is no step
-  opens_none : (w : World A V) (k : ℕ) (x : WholeView A V) (b : Bool) → ((opened_if T w k x b).steps ≡ w.steps) × (length (opened_if T w k x b).views ≡ length w.views)
+  opens_none : (w : World V) (k : ℕ) (x : WholeView V) (b : Bool) → ((opened_if L.table w k x b).steps ≡ w.steps) × (length (opened_if L.table w k x b).views ≡ length w.views)
   opens_none w k x true = (refl, length-set w.views k _)
   opens_none w k x false = (refl, refl)
 
-  pub opened_steps : (w : World A V) (k : ℕ) (o : Option (WholeView A V)) → ((opened_at base T w k o).steps ≡ w.steps) × (length (opened_at base T w k o).views ≡ length w.views)
+  pub opened_steps : (w : World V) (k : ℕ) (o : Option (WholeView V)) → ((opened_at L w k o).steps ≡ w.steps) × (length (opened_at L w k o).views ≡ length w.views)
   opened_steps w k None = (refl, refl)
-  opened_steps w k (Some x) = opens_none w k x (opens base T x (slice_index w.given k) (slice_index w.opened k))
+  opened_steps w k (Some x) = opens_none w k x (opens L x (slice_index w.given k) (slice_index w.opened k))
 
   -- an atom, or none, is one step
-  makes_one : (w : World A V) (k : ℕ) (x : WholeView A V) (o : Option Atom) → (steps_made (makes base T w k x o).steps ≡ steps_made w.steps + 1) × (length (makes base T w k x o).views ≡ length w.views)
+  makes_one : (w : World V) (k : ℕ) (x : WholeView V) (o : Option Atom) → (steps_made (makes L w k x o).steps ≡ steps_made w.steps + 1) × (length (makes L w k x o).views ≡ length w.views)
   makes_one w k x None = (counts_one Finished w.steps, refl)
   makes_one w k x (Some at) =
-      let after = after_of base T x (do_got at w.held.words w.held.cards) in
+      let after = after_of L x (do_got at w.held.words w.held.cards) in
       (counts_one after.stepped w.steps, length-set w.views k after.view)
 
-  made_one : (w : World A V) (k : ℕ) (o : Option (WholeView A V)) → slice_get w.views k ≡ o → k < length w.views → (steps_made (made_at base T w k o).steps ≡ steps_made w.steps + 1) × (length (made_at base T w k o).views ≡ length w.views)
+  made_one : (w : World V) (k : ℕ) (o : Option (WholeView V)) → slice_get w.views k ≡ o → k < length w.views → (steps_made (made_at L w k o).steps ≡ steps_made w.steps + 1) × (length (made_at L w k o).views ≡ length w.views)
   made_one w k None e h = absurd (none_there w.views k e h) where
-    none_there : (vs : List (WholeView A V)) (k : ℕ) → slice_get vs k ≡ None → k < length vs → ⊥
+    none_there : (vs : List (WholeView V)) (k : ℕ) → slice_get vs k ≡ None → k < length vs → ⊥
     none_there [] k e h = omega arith
     none_there (x ∷ vs) zero e h = cc
     none_there (x ∷ vs) (suc k) e h = none_there vs k e (omega arith)
-  made_one w k (Some x) e h = makes_one w k x (next_of base T x)
+  made_one w k (Some x) e h = makes_one w k x (next_of L x)
 
-  pub stepped_one : (w : World A V) (k : ℕ) → k < length w.views → (steps_made (stepped base T w k).steps ≡ steps_made w.steps + 1) × (length (stepped base T w k).views ≡ length w.views)
+  pub stepped_one : (w : World V) (k : ℕ) → k < length w.views → (steps_made (after_step L w k).steps ≡ steps_made w.steps + 1) × (length (after_step L w k).views ≡ length w.views)
   stepped_one w k h =
       let o = opened_steps w k (slice_get w.views k) in
-      let m = made_one (call_opened base T w k) k (slice_get (call_opened base T w k).views k) refl (subst (λ n. k < n) (sym o.1) h) in
+      let m = made_one (call_opened L w k) k (slice_get (call_opened L w k).views k) refl (subst (λ n. k < n) (sym o.1) h) in
       (m.0 ∙ ap (λ s. steps_made s + 1) o.0, m.1 ∙ o.1)
 
+module _ {V : Type 0} where
   -- a run goes on by one step, and by a whole run
-  pub run_append : (w : World A V) (ks js : List ℕ) → run_of base T w (ks ++ js) ≡ run_of base T (run_of base T w ks) js
-  run_append w [] js = refl
-  run_append w (k ∷ ks) js = run_append (stepped base T w k) ks js
+  pub run_append : (m : Running V) (ks js : List ℕ) → run_of m (ks ++ js) ≡ run_of (run_of m ks) js
+  run_append m [] js = refl
+  run_append m (k ∷ ks) js = run_append (stepped m k) ks js
 
   -- a turn has as many steps as it says
-  pub turn_counts : (w : World A V) (n k : ℕ) → k < length w.views →
-      (steps_made (run_of base T w (replicate n k)).steps ≡ steps_made w.steps + n) × (length (run_of base T w (replicate n k)).views ≡ length w.views)
-  turn_counts w zero k h = (omega arith, refl)
-  turn_counts w (suc n) k h =
-      let s = stepped_one w k h in
-      let r = turn_counts (stepped base T w k) n k (subst (λ m. k < m) (sym s.1) h) in
-      (r.0 ∙ ap (λ m. m + n) s.0 ∙ omega arith, r.1 ∙ s.1)
+  pub turn_counts : (m : Running V) (n k : ℕ) → k < length m.world.views →
+      (steps_made (run_of m (replicate n k)).world.steps ≡ steps_made m.world.steps + n) × (length (run_of m (replicate n k)).world.views ≡ length m.world.views)
+  turn_counts m zero k h = (omega arith, refl)
+  turn_counts m (suc n) k h =
+      let s = stepped_one m.lock m.world k h in
+      let r = turn_counts (stepped m k) n k (subst (λ c. k < c) (sym s.1) h) in
+      (r.0 ∙ ap (λ c. c + n) s.0 ∙ omega arith, r.1 ∙ s.1)
 
 -- one step more of the same rank stands at the end
 pub replicate-end : (n k : ℕ) → replicate (n + 1) k ≡ replicate n k ++ k ∷ []
@@ -104,6 +106,6 @@ steps-within (x ∷ ts) zero = omega arith
 steps-within (x ∷ ts) (suc i) = let h = steps-within ts i in omega arith
 
 -- from any moment of a run on, its trace stays exclusive
-module _ (A V : Type 0) (T : LockTable V) (good : LockState V → Type 0) (further : List Event → List Deed → Type 0) (layout : Layout) (laws : LockLaws T good further layout) (base home : ℕ) where
-  pub stays_exclusive : (w : World A V) → RunGood base T good layout w → (ks : List ℕ) → IsExclusive (events_of (run_of base T w ks).trace)
-  stays_exclusive w g ks = is_exclusive (events_of (run_of base T w ks).trace) (run_good A V T good further layout laws base home w ks g).exclusive
+module _ (V : Type 0) (L : LockAt V) (good : LockState V → Type 0) (further : List Event → List Deed → Type 0) (layout : Layout) (laws : LockLaws L.table good further layout) (home : ℕ) where
+  pub stays_exclusive : (w : World V) → RunGood L good layout w → (ks : List ℕ) → IsExclusive (events_of (run_of (put L w) ks).world.trace)
+  stays_exclusive w g ks = is_exclusive (events_of (run_of (put L w) ks).world.trace) (run_good V L good further layout laws home w ks g).exclusive

@@ -5,8 +5,8 @@ use Rattle.std.proofs.lemmas.List.{drop-set-add}
 use Rattle.std.proofs.lemmas.Bool.Decides.{nat_tests}
 use Rattle.rl_word.specs.declared.acts.Atom.{Atom}
 use Rattle.rl_word.specs.declared.acts.Atom.TheVariants as atom
-use Rattle.rl_step.specs.Lock.{LockTable}
 use Rattle.rl_step.specs.Do.{do_words, do_cards, do_got}
+use Rattle.rl_whole.specs.Running.{LockAt}
 use Rattle.rl_whole.specs.Split.{home_of}
 use Rattle.rl_whole.specs.Whole.{shifted, home_of_word}
 
@@ -60,10 +60,10 @@ length-do_words (atom.Leave n) ws = refl
 pub there : (base w : ℕ) (ws : List ℕ) → w < length (drop base ws) → base + w < length ws
 there base w ws h = omega (arith, length-drop base ws)
 
-pub shift_home : {V : Type 0} (base home : ℕ) (T : LockTable V) (w : ℕ) → home_of_word base home T (base + w) ≡ home_of T w
-shift_home base home T w =
-    let e : nat_lt (base + w) base ≡ false = grind (arith, nat_tests) in
-    let d : base + w - base ≡ w = omega arith in
+pub shift_home : {V : Type 0} (L : LockAt V) (home : ℕ) (w : ℕ) → home_of_word L home (L.base + w) ≡ home_of L.table w
+shift_home L home w =
+    let e : nat_lt (L.base + w) L.base ≡ false = grind (arith, nat_tests) in
+    let d : L.base + w - L.base ≡ w = omega arith in
     rw (e, d)
 
 -- and leaves the words below base as they were

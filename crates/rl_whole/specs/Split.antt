@@ -16,13 +16,9 @@ use Rattle.rl_step.specs.Lock.{LockTable, LockState, Deed}
 use Rattle.rl_step.specs.Do.{do_words, do_cards, do_got}
 use Rattle.rl_whole.specs.declared.card_state.CardState.{CardState}
 use Rattle.rl_whole.specs.declared.card_state.CardState.TheVariants.{Free, InCard, Loaded, ToLeave}
+use Rattle.rl_whole.specs.declared.side.Side.{Side}
 use Rattle.rl_whole.specs.declared.effect.Effect.{Effect}
 use Rattle.rl_whole.specs.declared.effect.Effect.TheVariants.{Work, Stay, Learn}
-
--- a rank's side of the lock: its lock view, and its place in a split act
-pub record Side (V : Type 0) : Type 0 where
-  pub view : V
-  pub card : CardState
 
 -- all events and all acts so far
 pub record Past : Type 0 where
@@ -209,6 +205,10 @@ StandsStill ws None (Loaded g) = ⊥
 StandsStill ws (Some a) InCard = by_card a ≡ true
 StandsStill ws (Some a) (Loaded g) = (by_card a ≡ true) × (skips a g ≡ false) × (slice_index ws (word_of a) ≡ g)
 
+-- rank r may make an act through a card
+abbrev pub UsesCards : {V : Type 0} → LockTable V → ℕ → Type 0
+UsesCards T r = (a : Act) × (by_card a ≡ true) × (T.may_make r a ≡ true)
+
 -- the lock's part of the rule: the lock's own invariant, the cards that name who is in them, and the loaded words that stand still
 pub record LockGood {V : Type 0} (T : LockTable V) (good : LockState V → Type 0) (layout : Layout) (s : SplitState V) : Type 0 where
   pub lock : good (lock_of s)
@@ -219,6 +219,8 @@ pub record LockGood {V : Type 0} (T : LockTable V) (good : LockState V → Type 
   pub named : (r n : ℕ) → slice_index s.cards n ≡ r + 1 → (x : Side V) × (slice_get s.sides r ≡ Some x) × (card_of T x ≡ Some n)
   -- what a rank has loaded in a card is still there
   pub still : (r : ℕ) (x : Side V) → slice_get s.sides r ≡ Some x → StandsStill s.words (T.plan x.view) x.card
+  -- who is in a card is a rank that may make acts through cards
+  pub domain : (r n : ℕ) (x : Side V) → slice_get s.sides r ≡ Some x → card_of T x ≡ Some n → UsesCards T r
 
 -- t follows s where rank r, with this view, planned act and card state, makes the atom at
 pub record Leads {V : Type 0} (T : LockTable V) (s t : SplitState V) (r : ℕ) (v : V) (p : Option Act) (c : CardState) (at : Atom) : Type 0 where

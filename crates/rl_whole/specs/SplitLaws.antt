@@ -19,7 +19,8 @@ use Rattle.rl_step.specs.declared.events.Event.{Event}
 use Rattle.rl_whole.specs.declared.card_state.CardState.{CardState}
 use Rattle.rl_whole.specs.declared.card_state.CardState.TheVariants.{Free, InCard, Loaded, ToLeave}
 use Rattle.rl_whole.specs.declared.effect.Effect.TheVariants.{Stay, Learn}
-use Rattle.rl_whole.specs.Split.{Side, SplitState, LockGood, side_atom, card_atom, card_after, lock_of, view_of, card_of, card_in, StandsStill, moved, skips, home_of, turned_by, first_atom, Leads, Past, grown, deed_of}
+use Rattle.rl_whole.specs.declared.side.Side.{Side}
+use Rattle.rl_whole.specs.Split.{UsesCards, SplitState, LockGood, side_atom, card_atom, card_after, lock_of, view_of, card_of, card_in, StandsStill, moved, skips, home_of, turned_by, first_atom, Leads, Past, grown, deed_of}
 use Rattle.rl_whole.specs.SplitActs.{bool_cases, in_range, still_after_write, first_card, plain_words, plain_cards, plain_got, skipped_words, told_card, card_class, plain_class, after_plain, after_take, after_busy, after_load, after_skip}
 
 module _ (V : Type 0) (T : LockTable V) (good : LockState V → Type 0) (further : List Event → List Deed → Type 0) (layout : Layout) (laws : LockLaws T good further layout) where
@@ -58,12 +59,13 @@ module _ (V : Type 0) (T : LockTable V) (good : LockState V → Type 0) (further
       good (lock_of t) → length t.cards ≡ layout.nodes →
       ((n : ℕ) → card_of T y ≡ Some n → slice_index t.cards n ≡ r + 1) →
       ((n : ℕ) → slice_index t.cards n ≡ r + 1 → card_of T y ≡ Some n) →
+      ((n : ℕ) → card_of T y ≡ Some n → UsesCards T r) →
       ((i n : ℕ) → i ≢ r → slice_index s.cards n ≡ i + 1 → slice_index t.cards n ≡ i + 1) →
       ((i n : ℕ) → i ≢ r → slice_index t.cards n ≡ i + 1 → slice_index s.cards n ≡ i + 1) →
       StandsStill t.words (T.plan y.view) y.card →
       ((i : ℕ) (u : Side V) → i ≢ r → slice_get s.sides i ≡ Some u → StandsStill t.words (T.plan u.view) u.card) →
       LockGood T good layout t
-  changed s t r x y g has es lock cards mine back others_in others_out holds others =
+  changed s t r x y g has es lock cards mine back may others_in others_out holds others =
       let cases : (i : ℕ) (u : Side V) → slice_get t.sides i ≡ Some u → ((i ≡ r) × (u ≡ y)) ⊎ ((i ≢ r) × (slice_get s.sides i ≡ Some u)) =
       λ i u h. get_set_cases s.sides r i y u (subst (λ zs. slice_get zs i ≡ Some u) es h) in
       record {
@@ -86,6 +88,8 @@ module _ (V : Type 0) (T : LockTable V) (good : LockState V → Type 0) (further
             (same_or_not i r);
         still = λ i u h.
             ⊎_elim (λ q. subst (λ z. StandsStill t.words (T.plan z.view) z.card) (sym q.1) holds) (λ q. others i u q.0 q.1) (cases i u h);
+        domain = λ i n u h c.
+            ⊎_elim (λ q. subst (UsesCards T) (sym q.0) (may n (subst (λ z. card_of T z ≡ Some n) q.1 c))) (λ q. g.domain i n u q.1 c) (cases i u h);
       }
 
   -- the same with the cards as they were
@@ -99,6 +103,7 @@ module _ (V : Type 0) (T : LockTable V) (good : LockState V → Type 0) (further
       (λ n c. ap (λ cs. slice_index cs n) ec ∙ g.names r n x has (sym ey ∙ c))
       (λ n c. let o = g.named r n (sym (ap (λ cs. slice_index cs n) ec) ∙ c) in
       ey ∙ ap (card_of T) (same_Some _ _ (sym has ∙ o.1)) ∙ o.2)
+      (λ n c. g.domain r n x has (sym ey ∙ c))
       (λ i n ne c. ap (λ cs. slice_index cs n) ec ∙ c)
       (λ i n ne c. sym (ap (λ cs. slice_index cs n) ec) ∙ c)
       holds others
@@ -119,6 +124,7 @@ module _ (V : Type 0) (T : LockTable V) (good : LockState V → Type 0) (further
       let o = g.named r k old in
       absurd (q (same_Some _ _ (sym o.2 ∙ ap (card_of T) (same_Some _ _ (sym o.1 ∙ has))))))
       (same_or_not k n))
+      (λ k c. cc)
       (λ i k ne c. ap (λ cs. slice_index cs k) l.cards ∙ get_or-set_other s.cards n k 0 0 (λ q. ne (let d : slice_index s.cards n ≡ i + 1 = sym (ap (slice_index s.cards) q) ∙ c in omega arith)) ∙ c)
       (λ i k ne c. ⊎_elim
       (λ q. let z : slice_index t.cards k ≡ 0 = ap (λ cs. slice_index cs k) l.cards ∙ ap (slice_index (slice_set s.cards n 0)) q ∙ get_or-set_same s.cards n 0 0 fits in absurd (omega arith))
@@ -129,10 +135,10 @@ module _ (V : Type 0) (T : LockTable V) (good : LockState V → Type 0) (further
 
   -- a rank takes a free card
   pub take_keeps : (s t : SplitState V) (r : ℕ) (v : V) (a : Act) (n : ℕ) → LockGood T good layout s → slice_get s.sides r ≡ Some (record { view = v; card = Free }) → T.plan v ≡ Some a →
-      by_card a ≡ true → n ≡ home_of T (word_of a) → n < length s.cards → slice_index s.cards n ≡ 0 →
+      by_card a ≡ true → T.may_make r a ≡ true → n ≡ home_of T (word_of a) → n < length s.cards → slice_index s.cards n ≡ 0 →
       t.words ≡ s.words → t.cards ≡ slice_set s.cards n (r + 1) → t.sides ≡ slice_set s.sides r (record { view = v; card = InCard }) → t.modes ≡ s.modes → t.past ≡ s.past →
       LockGood T good layout t
-  take_keeps s t r v a n g has pl bc en fits free ew ec es em et =
+  take_keeps s t r v a n g has pl bc may en fits free ew ec es em et =
       let x : Side V = record { view = v; card = Free } in
       let y : Side V = record { view = v; card = InCard } in
       let cy : card_of T y ≡ Some n = ap (λ q. card_in T q InCard) pl ∙ ap (λ k. Some k) (sym en) in
@@ -146,6 +152,7 @@ module _ (V : Type 0) (T : LockTable V) (good : LockState V → Type 0) (further
       let o = g.named r k old in
       let none : card_of T x ≡ Some k = ap (card_of T) (same_Some _ _ (sym has ∙ o.1)) ∙ o.2 in cc)
       (same_or_not k n))
+      (λ k c. (a, bc, may))
       (λ i k ne c. ap (λ cs. slice_index cs k) ec ∙ get_or-set_other s.cards n k (r + 1) 0 (λ q. let z : slice_index s.cards n ≡ i + 1 = sym (ap (slice_index s.cards) q) ∙ c in absurd (omega arith)) ∙ c)
       (λ i k ne c. ⊎_elim
       (λ q. let z : slice_index t.cards k ≡ r + 1 = ap (λ cs. slice_index cs k) ec ∙ ap (slice_index (slice_set s.cards n (r + 1))) q ∙ get_or-set_same s.cards n (r + 1) 0 fits in
@@ -237,7 +244,7 @@ module _ (V : Type 0) (T : LockTable V) (good : LockState V → Type 0) (further
       ap (λ z. card_after T r v (Some a) Free (do_got z s.words s.cards)) fa in
       ⊎_elim
       (λ q. let ha : card_after T r v (Some a) Free (do_got (first_atom T a) s.words s.cards) ≡ turned_by T r v (Some a) (Stay InCard Moved) = eg ∙ after_take V T r v a (slice_index s.cards n) bc q.0 in
-      take_keeps s t r v a n g has pl bc refl (subst (λ k. n < k) (sym g.all_cards) law.homed) q.1 ew
+      take_keeps s t r v a n g has pl bc (laws.lawful (lock_of s) r v a (record { is_good = g.lock; has = get_map view_of s.sides r x has; planned = pl })).1 refl (subst (λ k. n < k) (sym g.all_cards) law.homed) q.1 ew
       (ec ∙ ap (λ b. if b then slice_set s.cards n (r + 1) else s.cards) q.0)
       (l.sides ∙ ap (λ z. slice_set s.sides r z.side) ha) l.modes (l.past ∙ ap (λ z. grown s.past z.events z.deeds) ha ∙ grown_nil s.past))
       (λ q. let ha : card_after T r v (Some a) Free (do_got (first_atom T a) s.words s.cards) ≡ turned_by T r v (Some a) (Stay Free (Busy n (slice_index s.cards n - 1))) = eg ∙ after_busy V T r v a (slice_index s.cards n) bc q.0 in

@@ -9,14 +9,16 @@ use Rattle.rl_step.specs.declared.events.Standing.{Standing}
 use Rattle.rl_step.specs.declared.events.Standing.TheVariants as standing
 use Rattle.rl_step.specs.declared.events.Stepped.{Stepped}
 use Rattle.rl_step.specs.declared.events.Stepped.TheVariants.{Moved, Waiting, Lost, Busy, Finished}
-use Rattle.rl_step.specs.Lock.{LockTable, LockState}
+use Rattle.rl_step.specs.Lock.{LockState, LockTable, Deed}
 use Rattle.rl_step.specs.Do.{Held}
 use Rattle.rl_step.specs.Core.{CoreTable, Turned}
+use Rattle.rl_whole.specs.Running.{LockAt}
 use Rattle.rl_whole.specs.declared.card_state.CardState.{CardState}
 use Rattle.rl_whole.specs.declared.card_state.CardState.TheVariants.{Free, InCard, Loaded, ToLeave}
 use Rattle.rl_whole.specs.declared.effect.Effect.{Effect}
 use Rattle.rl_whole.specs.declared.whole.WholeView.{WholeView}
-use Rattle.rl_whole.specs.Split.{Side, SplitState, LockGood, Past, SideTurned, side_atom, side_after, home_of, turned_by, effect_at, plan_home}
+use Rattle.rl_whole.specs.declared.side.Side.{Side}
+use Rattle.rl_whole.specs.Split.{SplitState, LockGood, Past, SideTurned, side_atom, side_after, home_of, turned_by, effect_at, plan_home}
 
 -- the word of the window that counts the updates
 abbrev pub count_word : ℕ
@@ -27,8 +29,8 @@ abbrev pub lock_base : ℕ
 lock_base = 2
 
 -- the lock's side of a rank's view
-abbrev pub side_of : {A V : Type 0} → WholeView A V → Side V
-side_of x = record { view = x.lock; card = x.card }
+abbrev pub side_of : {V : Type 0} → WholeView V → Side V
+side_of x = x.side
 
 -- an atom of the lock, whose words stand in the window from base on
 abbrev pub shifted : ℕ → Atom → Atom
@@ -62,8 +64,8 @@ lock_or_work base st (Some at) = Some (shifted base at)
 lock_or_work base st None = work_atom st
 
 -- the next atom of a rank; none where no call of it is open
-abbrev pub next_of : {A V : Type 0} → ℕ → LockTable V → WholeView A V → Option Atom
-next_of base T x = lock_or_work base (T.standing x.lock) (side_atom T (side_of x))
+abbrev pub next_of : {V : Type 0} → LockAt V → WholeView V → Option Atom
+next_of L x = lock_or_work L.base (L.table.standing x.side.view) (side_atom L.table x.side)
 
 -- a rank is in a call: it isn't out, or it is still in a card or about to leave one
 abbrev pub is_at_work : Standing → CardState → Bool
@@ -76,48 +78,56 @@ is_at_work standing.Writer c = true
 is_at_work standing.Reader c = true
 is_at_work standing.Leaving c = true
 
+-- a call of the rank is open: the rank is in it
+abbrev pub is_open : {V : Type 0} → LockAt V → WholeView V → Bool
+is_open L x = is_at_work (L.table.standing x.side.view) x.side.card
+
 -- the view, the events and the answer, by what is left of the lock's side
-abbrev pub whole_turned : {A V : Type 0} → ℕ → WholeView A V → SideTurned V → Turned (WholeView A V)
+abbrev pub whole_turned : {V : Type 0} → ℕ → WholeView V → SideTurned V → Turned (WholeView V)
 whole_turned base x left_of =
     record {
-      view = record { lock = left_of.side.view; card = left_of.side.card; rank = x.rank };
+      view = record { side = left_of.side; rank = x.rank };
       events = left_of.events;
       stepped = shifted_answer base left_of.stepped;
     }
 
 -- what an atom that gave got leaves of a rank's view
-abbrev pub after_of : {A V : Type 0} → ℕ → LockTable V → WholeView A V → ℕ → Turned (WholeView A V)
-after_of base T x got = whole_turned base x (side_after T x.rank (side_of x) got)
+abbrev pub after_of : {V : Type 0} → LockAt V → WholeView V → ℕ → Turned (WholeView V)
+after_of L x got = whole_turned L.base x (side_after L.table x.rank x.side got)
 
 -- the home of a word of the window: that of the shard below the lock's words
-abbrev pub home_of_word : {V : Type 0} → ℕ → ℕ → LockTable V → ℕ → ℕ
-home_of_word base home T w = if nat_lt w base then home else home_of T (w - base)
+abbrev pub home_of_word : {V : Type 0} → LockAt V → ℕ → ℕ → ℕ
+home_of_word L home w = if nat_lt w L.base then home else home_of L.table (w - L.base)
 
 -- the whole machine as plain functions
-abbrev pub whole_table : {A V : Type 0} → ℕ → ℕ → LockTable V → CoreTable (WholeView A V)
-whole_table base home T =
-    record { next = next_of base T; after = after_of base T; size = base + T.size; home = home_of_word base home T }
+abbrev pub whole_table : {V : Type 0} → LockAt V → ℕ → CoreTable (WholeView V)
+whole_table L home =
+    record { next = next_of L; after = after_of L; size = L.base + L.table.size; home = home_of_word L home }
 
 -- the lock's part of a window
-abbrev pub split_of : {A V : Type 0} → ℕ → Held → List (WholeView A V) → List Mode → Past → SplitState V
+abbrev pub split_of : {V : Type 0} → ℕ → Held → List (WholeView V) → List Mode → Past → SplitState V
 split_of base h vs modes past = record { words = drop base h.words; cards = h.cards; sides = map side_of vs; modes = modes; past = past }
+
+-- the acts that an atom decides which found got: the one that the rank learns, if it learns one
+abbrev pub made_deeds : {V : Type 0} → LockTable V → WholeView V → ℕ → List Deed
+made_deeds T x got = (side_after T x.rank x.side got).deeds
 
 -- the work's part of the rule: the words before the lock's are as they were at the start, since no call makes an update;
 -- and each view is its rank's own
-pub record WorkGood {A V : Type 0} (base : ℕ) (T : LockTable V) (h : Held) (vs : List (WholeView A V)) : Type 0 where
-  pub all_words : length h.words ≡ base + T.size
+pub record WorkGood {V : Type 0} (L : LockAt V) (h : Held) (vs : List (WholeView V)) : Type 0 where
+  pub all_words : length h.words ≡ L.base + L.table.size
   pub fixed : slice_index h.words 0 ≡ 1
   pub count : slice_index h.words count_word ≡ 0
-  pub own : (r : ℕ) (x : WholeView A V) → slice_get vs r ≡ Some x → x.rank ≡ r
+  pub own : (r : ℕ) (x : WholeView V) → slice_get vs r ≡ Some x → x.rank ≡ r
 
 -- the rule of a window: some modes of the last asks, some events and some acts explain it; and its numbers fit the machine's
-pub record Good {A V : Type 0} (base : ℕ) (T : LockTable V) (good : LockState V → Type 0) (layout : Layout) (h : Held) (vs : List (WholeView A V)) : Type 0 where
+pub record Good {V : Type 0} (L : LockAt V) (good : LockState V → Type 0) (layout : Layout) (h : Held) (vs : List (WholeView V)) : Type 0 where
   pub modes : List Mode
   pub past : Past
-  pub lock_part : LockGood T good layout (split_of base h vs modes past)
-  pub work_part : WorkGood base T h vs
-  pub starts : count_word < base
-  pub fits : base + T.size < 2 ^ 32
+  pub lock_part : LockGood L.table good layout (split_of L.base h vs modes past)
+  pub work_part : WorkGood L h vs
+  pub starts : count_word < L.base
+  pub fits : L.base + L.table.size < 2 ^ 32
   pub few : length vs < 2 ^ 32
 
 -- a lock word that an atom names fits, once it is shifted
@@ -139,9 +149,9 @@ IsAnswerShiftable base (Busy node holder) = Unit {0}
 IsAnswerShiftable base Finished = Unit {0}
 
 -- what an effect leaves of a whole view
-abbrev pub effect_turned : {A V : Type 0} → ℕ → LockTable V → WholeView A V → Effect → Turned (WholeView A V)
-effect_turned base T x e = whole_turned base x (turned_by T x.rank x.lock (T.plan x.lock) e)
+abbrev pub effect_turned : {V : Type 0} → LockAt V → WholeView V → Effect → Turned (WholeView V)
+effect_turned L x e = whole_turned L.base x (turned_by L.table x.rank x.side.view (L.table.plan x.side.view) e)
 
-pub after_effect : {A V : Type 0} (base : ℕ) (T : LockTable V) (x : WholeView A V) (got : ℕ) (e : Effect) →
-    effect_at (plan_home T (T.plan x.lock)) (T.plan x.lock) x.card got ≡ e → after_of base T x got ≡ effect_turned base T x e
-after_effect base T x got e is = ap (effect_turned base T x) is
+pub after_effect : {V : Type 0} (L : LockAt V) (x : WholeView V) (got : ℕ) (e : Effect) →
+    effect_at (plan_home L.table (L.table.plan x.side.view)) (L.table.plan x.side.view) x.side.card got ≡ e → after_of L x got ≡ effect_turned L x e
+after_effect L x got e is = ap (effect_turned L x) is

@@ -9,8 +9,9 @@ use Rattle.rl_word.specs.declared.acts.Atom.{Atom}
 use Rattle.rl_word.specs.declared.acts.Atom.TheVariants as atom
 use Rattle.rl_step.specs.declared.events.Event.{Event}
 use Rattle.rl_step.specs.declared.events.Stepped.TheVariants.{Moved, Busy}
+use Rattle.rl_whole.specs.Running.{LockAt}
 use Rattle.rl_whole.specs.Split.{answer_of}
-use Rattle.rl_step.specs.Lock.{LockTable, LockState, LockLaws, Deed, IsHolder, MayStep, MayLearn}
+use Rattle.rl_step.specs.Lock.{LockState, LockLaws, Deed, IsHolder, MayStep, MayLearn}
 use Rattle.rl_step.specs.Do.{do_got}
 use Rattle.rl_step.specs.Core.{MayBe, MayGet}
 use Rattle.rl_whole.specs.declared.card_state.CardState.TheVariants.{Free, InCard, Loaded, ToLeave}
@@ -49,33 +50,33 @@ load_works : (home got : ℕ) (b : Bool) → (if b then Learn (ToLeave home) got
 load_works home got true e = cc
 load_works home got false e = cc
 
-module _ (A V : Type 0) (T : LockTable V) (good : LockState V → Type 0) (further : List Event → List Deed → Type 0) (layout : Layout) (laws : LockLaws T good further layout) (base home : ℕ) where
+module _ (V : Type 0) (L : LockAt V) (good : LockState V → Type 0) (further : List Event → List Deed → Type 0) (layout : Layout) (laws : LockLaws L.table good further layout) (home : ℕ) where
   -- what the machine owes to the calls of the lock
 
-  pub may_step : (x : WholeView A V) → MayBe (Good base T good layout) x → MayStep good x.lock
+  pub may_step : (x : WholeView V) → MayBe (Good L good layout) x → MayStep good x.side.view
   may_step x m =
       record {
-        state = lock_of (split_of base m.held m.views m.is_ruled.modes m.is_ruled.past);
+        state = lock_of (split_of L.base m.held m.views m.is_ruled.modes m.is_ruled.past);
         rank = m.rank;
         is_good = m.is_ruled.lock_part.lock;
-        has = get_map view_of (map side_of m.views) m.rank (side_of x) (get_map side_of m.views m.rank x m.has);
+        has = get_map view_of (map side_of m.views) m.rank x.side (get_map side_of m.views m.rank x m.has);
       }
 
-  pub may_be : (x : WholeView A V) (got : ℕ) → MayGet (whole_table base home T) (Good base T good layout) x got → MayBe (Good base T good layout) x
+  pub may_be : (x : WholeView V) (got : ℕ) → MayGet (whole_table L home) (Good L good layout) x got → MayBe (Good L good layout) x
   may_be x got m = record { held = m.held; views = m.views; rank = m.rank; is_ruled = m.plans.is_ruled; has = m.plans.has }
 
-  lawful_of : (x : WholeView A V) (a : Act) (m : MayBe (Good base T good layout) x) → T.plan x.lock ≡ Some a → IsLawful T.size T.spot layout m.rank a
+  lawful_of : (x : WholeView V) (a : Act) (m : MayBe (Good L good layout) x) → L.table.plan x.side.view ≡ Some a → IsLawful L.table.size L.table.spot layout m.rank a
   unfolding may_step
-  lawful_of x a m pl = (laws.lawful _ m.rank x.lock a (record { is_good = (may_step x m).is_good; has = (may_step x m).has; planned = pl })).0
+  lawful_of x a m pl = (laws.lawful _ m.rank x.side.view a (record { is_good = (may_step x m).is_good; has = (may_step x m).has; planned = pl })).0
 
-  pub plan_there : (x : WholeView A V) (a : Act) → MayBe (Good base T good layout) x → T.plan x.lock ≡ Some a → word_of a < T.size
+  pub plan_there : (x : WholeView V) (a : Act) → MayBe (Good L good layout) x → L.table.plan x.side.view ≡ Some a → word_of a < L.table.size
   plan_there x a m pl = (lawful_of x a m pl).there
 
-  pub fits_u32 : (x : WholeView A V) → MayBe (Good base T good layout) x → base + T.size < 2 ^ 32
+  pub fits_u32 : (x : WholeView V) → MayBe (Good L good layout) x → L.base + L.table.size < 2 ^ 32
   fits_u32 x m = m.is_ruled.fits
 
   -- the next atom can be shifted
-  first_shifts : (a : Act) → base + T.size < 2 ^ 32 → word_of a < T.size → IsShiftable base (first_atom T a)
+  first_shifts : (a : Act) → L.base + L.table.size < 2 ^ 32 → word_of a < L.table.size → IsShiftable L.base (first_atom L.table a)
   first_shifts (act.Load w) f h = omega arith
   first_shifts (act.Store w v) f h = omega arith
   first_shifts (act.LocalCas w old new) f h = omega arith
@@ -83,20 +84,20 @@ module _ (A V : Type 0) (T : LockTable V) (good : LockState V → Type 0) (furth
   first_shifts (act.CardSwap w v) f h = tt
   first_shifts (act.CardAdd w d) f h = tt
 
-  shifts_at : (p : Option Act) (h : CardState) (at : Atom) → base + T.size < 2 ^ 32 → ((a : Act) → p ≡ Some a → word_of a < T.size) → card_atom T p h ≡ Some at → IsShiftable base at
-  shifts_at p (ToLeave n) at f k e = subst (IsShiftable base) (same_Some _ _ e) tt
+  shifts_at : (p : Option Act) (h : CardState) (at : Atom) → L.base + L.table.size < 2 ^ 32 → ((a : Act) → p ≡ Some a → word_of a < L.table.size) → card_atom L.table p h ≡ Some at → IsShiftable L.base at
+  shifts_at p (ToLeave n) at f k e = subst (IsShiftable L.base) (same_Some _ _ e) tt
   shifts_at None Free at f k e = cc
   shifts_at None InCard at f k e = cc
   shifts_at None (Loaded g) at f k e = cc
-  shifts_at (Some a) Free at f k e = subst (IsShiftable base) (same_Some _ _ e) (first_shifts a f (k a refl))
-  shifts_at (Some a) InCard at f k e = let h : word_of a < T.size = k a refl in let b : base + word_of a < 2 ^ 32 = omega arith in subst (IsShiftable base) (same_Some _ _ e) b
-  shifts_at (Some a) (Loaded g) at f k e = let h : word_of a < T.size = k a refl in let b : base + word_of a < 2 ^ 32 = omega arith in subst (IsShiftable base) (same_Some _ _ e) b
+  shifts_at (Some a) Free at f k e = subst (IsShiftable L.base) (same_Some _ _ e) (first_shifts a f (k a refl))
+  shifts_at (Some a) InCard at f k e = let h : word_of a < L.table.size = k a refl in let b : L.base + word_of a < 2 ^ 32 = omega arith in subst (IsShiftable L.base) (same_Some _ _ e) b
+  shifts_at (Some a) (Loaded g) at f k e = let h : word_of a < L.table.size = k a refl in let b : L.base + word_of a < 2 ^ 32 = omega arith in subst (IsShiftable L.base) (same_Some _ _ e) b
 
-  pub shifts : (x : WholeView A V) (at : Atom) → MayBe (Good base T good layout) x → side_atom T (side_of x) ≡ Some at → IsShiftable base at
-  shifts x at m e = shifts_at (T.plan x.lock) x.card at m.is_ruled.fits (λ a pl. plan_there x a m pl) e
+  pub shifts : (x : WholeView V) (at : Atom) → MayBe (Good L good layout) x → side_atom L.table x.side ≡ Some at → IsShiftable L.base at
+  shifts x at m e = shifts_at (L.table.plan x.side.view) x.side.card at m.is_ruled.fits (λ a pl. plan_there x a m pl) e
 
   -- what a card holds is small
-  card_small : (s : SplitState V) (n k : ℕ) → LockGood T good layout s → length s.sides < 2 ^ 32 → slice_index s.cards n ≡ k → k < 2 ^ 32 + 1
+  card_small : (s : SplitState V) (n k : ℕ) → LockGood L.table good layout s → length s.sides < 2 ^ 32 → slice_index s.cards n ≡ k → k < 2 ^ 32 + 1
   card_small s n zero g few e = omega arith
   card_small s n (suc k) g few e =
       let o = g.named k n (e ∙ omega arith) in
@@ -104,78 +105,78 @@ module _ (A V : Type 0) (T : LockTable V) (good : LockState V → Type 0) (furth
       omega arith
 
   -- what a state gives for an atom of the lock
-  pub got_is : (x : WholeView A V) (got : ℕ) (m : MayGet (whole_table base home T) (Good base T good layout) x got) (at : Atom) → side_atom T (side_of x) ≡ Some at →
-      got ≡ do_got at (drop base m.held.words) m.held.cards
+  pub got_is : (x : WholeView V) (got : ℕ) (m : MayGet (whole_table L home) (Good L good layout) x got) (at : Atom) → side_atom L.table x.side ≡ Some at →
+      got ≡ do_got at (drop L.base m.held.words) m.held.cards
   got_is x got m at e =
-      m.gives ∙ ap (λ z. do_got z m.held.words m.held.cards) (same_Some _ _ (sym m.plans.planned ∙ ap (lock_or_work base (T.standing x.lock)) e)) ∙ shift_got base at m.held.words m.held.cards
+      m.gives ∙ ap (λ z. do_got z m.held.words m.held.cards) (same_Some _ _ (sym m.plans.planned ∙ ap (lock_or_work L.base (L.table.standing x.side.view)) e)) ∙ shift_got L.base at m.held.words m.held.cards
 
-  fits_at : (s : SplitState V) (p : Option Act) (h : CardState) (got : ℕ) → LockGood T good layout s → length s.sides < 2 ^ 32 →
-      ((at : Atom) → card_atom T p h ≡ Some at → got ≡ do_got at s.words s.cards) → HolderFits p h got
+  fits_at : (s : SplitState V) (p : Option Act) (h : CardState) (got : ℕ) → LockGood L.table good layout s → length s.sides < 2 ^ 32 →
+      ((at : Atom) → card_atom L.table p h ≡ Some at → got ≡ do_got at s.words s.cards) → HolderFits p h got
   fits_at s p (ToLeave n) got g few k = tt
   fits_at s None Free got g few k = tt
   fits_at s None InCard got g few k = tt
   fits_at s None (Loaded v) got g few k = tt
   fits_at s (Some a) Free got g few k =
-      λ bc. card_small s (home_of T (word_of a)) got g few (sym (k (atom.Take (home_of T (word_of a))) (ap (λ z. Some z) (first_card V T a bc))))
+      λ bc. card_small s (home_of L.table (word_of a)) got g few (sym (k (atom.Take (home_of L.table (word_of a))) (ap (λ z. Some z) (first_card V L.table a bc))))
   fits_at s (Some a) InCard got g few k = tt
   fits_at s (Some a) (Loaded v) got g few k = tt
 
-  pub holder_fits : (x : WholeView A V) (got : ℕ) → MayGet (whole_table base home T) (Good base T good layout) x got → HolderFits (T.plan x.lock) x.card got
+  pub holder_fits : (x : WholeView V) (got : ℕ) → MayGet (whole_table L home) (Good L good layout) x got → HolderFits (L.table.plan x.side.view) x.side.card got
   holder_fits x got m =
       let rule = m.plans.is_ruled in
-      fits_at (split_of base m.held m.views rule.modes rule.past) (T.plan x.lock) x.card got rule.lock_part (subst (λ n. n < 2 ^ 32) (sym (length-map m.views side_of)) rule.few) (λ at e. got_is x got m at e)
+      fits_at (split_of L.base m.held m.views rule.modes rule.past) (L.table.plan x.side.view) x.side.card got rule.lock_part (subst (λ n. n < 2 ^ 32) (sym (length-map m.views side_of)) rule.few) (λ at e. got_is x got m at e)
 
-  pub learns_at : (s : SplitState V) (r : ℕ) (v : V) (p : Option Act) (h : CardState) (got : ℕ) (hand : CardState) (t : ℕ) (lost : Bool) → LockGood T good layout s →
-      slice_get s.sides r ≡ Some (record { view = v; card = h }) → T.plan v ≡ p → effect_at (plan_home T p) p h got ≡ Learn hand t lost →
-      ((at : Atom) → card_atom T p h ≡ Some at → got ≡ do_got at s.words s.cards) →
+  pub learns_at : (s : SplitState V) (r : ℕ) (v : V) (p : Option Act) (h : CardState) (got : ℕ) (hand : CardState) (t : ℕ) (lost : Bool) → LockGood L.table good layout s →
+      slice_get s.sides r ≡ Some (record { view = v; card = h }) → L.table.plan v ≡ p → effect_at (plan_home L.table p) p h got ≡ Learn hand t lost →
+      ((at : Atom) → card_atom L.table p h ≡ Some at → got ≡ do_got at s.words s.cards) →
       (a : Act) × (p ≡ Some a) × (t ≡ told a (slice_index s.words (word_of a)))
   learns_at s r v p (ToLeave n) got hand t lost g has pl e k = cc
   learns_at s r v None Free got hand t lost g has pl e k = cc
   learns_at s r v None InCard got hand t lost g has pl e k = cc
   learns_at s r v None (Loaded w) got hand t lost g has pl e k = cc
   learns_at s r v (Some a) Free got hand t lost g has pl e k =
-      let q = first_learns a (home_of T (word_of a)) got (by_card a) (got == 0) hand t lost e in
-      (a, refl, q.1 ∙ k (first_atom T a) refl ∙ plain_got V T a s.words s.cards q.0)
+      let q = first_learns a (home_of L.table (word_of a)) got (by_card a) (got == 0) hand t lost e in
+      (a, refl, q.1 ∙ k (first_atom L.table a) refl ∙ plain_got V L.table a s.words s.cards q.0)
   learns_at s r v (Some a) InCard got hand t lost g has pl e k =
-      let q = load_learns (home_of T (word_of a)) got (skips a got) hand t lost e in
+      let q = load_learns (home_of L.table (word_of a)) got (skips a got) hand t lost e in
       let bc : by_card a ≡ true = subst (λ o. StandsStill s.words o InCard) pl (g.still r _ has) in
-      (a, refl, q.1 ∙ k (atom.CardLoad (word_of a)) refl ∙ sym (told_card V T a (slice_index s.words (word_of a)) bc))
+      (a, refl, q.1 ∙ k (atom.CardLoad (word_of a)) refl ∙ sym (told_card V L.table a (slice_index s.words (word_of a)) bc))
   learns_at s r v (Some a) (Loaded w) got hand t lost g has pl e k =
       let holds : StandsStill s.words (Some a) (Loaded w) = subst (λ o. StandsStill s.words o (Loaded w)) pl (g.still r _ has) in
       let same : t ≡ told a w = cc in
       (a, refl, same ∙ ap (told a) (sym holds.2))
 
-  pub may_learn : (x : WholeView A V) (got : ℕ) (hand : CardState) (t : ℕ) (lost : Bool) → MayGet (whole_table base home T) (Good base T good layout) x got →
-      effect_at (plan_home T (T.plan x.lock)) (T.plan x.lock) x.card got ≡ Learn hand t lost → MayLearn T good x.lock t
+  pub may_learn : (x : WholeView V) (got : ℕ) (hand : CardState) (t : ℕ) (lost : Bool) → MayGet (whole_table L home) (Good L good layout) x got →
+      effect_at (plan_home L.table (L.table.plan x.side.view)) (L.table.plan x.side.view) x.side.card got ≡ Learn hand t lost → MayLearn L.table good x.side.view t
   may_learn x got hand t lost m e =
       let rule = m.plans.is_ruled in
-      let s : SplitState V = split_of base m.held m.views rule.modes rule.past in
-      let has : slice_get s.sides m.rank ≡ Some (side_of x) = get_map side_of m.views m.rank x m.plans.has in
-      let q = learns_at s m.rank x.lock (T.plan x.lock) x.card got hand t lost rule.lock_part has refl e (λ at f. got_is x got m at f) in
-      record { state = lock_of s; rank = m.rank; act = q.0; is_good = rule.lock_part.lock; has = get_map view_of s.sides m.rank (side_of x) has; planned = q.1; gives = q.2 }
+      let s : SplitState V = split_of L.base m.held m.views rule.modes rule.past in
+      let has : slice_get s.sides m.rank ≡ Some x.side = get_map side_of m.views m.rank x m.plans.has in
+      let q = learns_at s m.rank x.side.view (L.table.plan x.side.view) x.side.card got hand t lost rule.lock_part has refl e (λ at f. got_is x got m at f) in
+      record { state = lock_of s; rank = m.rank; act = q.0; is_good = rule.lock_part.lock; has = get_map view_of s.sides m.rank x.side has; planned = q.1; gives = q.2 }
 
-  works_at : (p : Option Act) (h : CardState) (got : ℕ) → effect_at (plan_home T p) p h got ≡ Work → card_atom T p h ≡ None
+  works_at : (p : Option Act) (h : CardState) (got : ℕ) → effect_at (plan_home L.table p) p h got ≡ Work → card_atom L.table p h ≡ None
   works_at p (ToLeave n) got e = cc
   works_at None Free got e = refl
   works_at None InCard got e = refl
   works_at None (Loaded w) got e = refl
-  works_at (Some a) Free got e = absurd (first_works a (home_of T (word_of a)) got (by_card a) (got == 0) e)
-  works_at (Some a) InCard got e = absurd (load_works (home_of T (word_of a)) got (skips a got) e)
+  works_at (Some a) Free got e = absurd (first_works a (home_of L.table (word_of a)) got (by_card a) (got == 0) e)
+  works_at (Some a) InCard got e = absurd (load_works (home_of L.table (word_of a)) got (skips a got) e)
   works_at (Some a) (Loaded w) got e = cc
 
-  pub work_holds : (x : WholeView A V) (got : ℕ) → MayGet (whole_table base home T) (Good base T good layout) x got →
-      effect_at (plan_home T (T.plan x.lock)) (T.plan x.lock) x.card got ≡ Work → IsHolder (T.standing x.lock)
+  pub work_holds : (x : WholeView V) (got : ℕ) → MayGet (whole_table L home) (Good L good layout) x got →
+      effect_at (plan_home L.table (L.table.plan x.side.view)) (L.table.plan x.side.view) x.side.card got ≡ Work → IsHolder (L.table.standing x.side.view)
   work_holds x got m e =
-      let none : side_atom T (side_of x) ≡ None = works_at (T.plan x.lock) x.card got e in
-      ⊎_elim (λ q. let bad : Some q.0 ≡ None = sym q.1 ∙ none in cc) (λ q. q.1) (next_cases A V T good further layout laws base home (T.standing x.lock) (side_atom T (side_of x)) m.atom m.plans.planned)
+      let none : side_atom L.table x.side ≡ None = works_at (L.table.plan x.side.view) x.side.card got e in
+      ⊎_elim (λ q. let bad : Some q.0 ≡ None = sym q.1 ∙ none in cc) (λ q. q.1) (next_cases V L good further layout laws home (L.table.standing x.side.view) (side_atom L.table x.side) m.atom m.plans.planned)
 
-  word_there : (p : Option Act) (w : ℕ) → ((a : Act) → p ≡ Some a → word_of a < T.size) → plan_word p ≡ Some w → w < T.size
+  word_there : (p : Option Act) (w : ℕ) → ((a : Act) → p ≡ Some a → word_of a < L.table.size) → plan_word p ≡ Some w → w < L.table.size
   word_there None w k e = cc
-  word_there (Some a) w k e = subst (λ n. n < T.size) (same_Some _ _ e) (k a refl)
+  word_there (Some a) w k e = subst (λ n. n < L.table.size) (same_Some _ _ e) (k a refl)
 
-  pub plan_word_there : (x : WholeView A V) (w : ℕ) → MayBe (Good base T good layout) x → plan_word (T.plan x.lock) ≡ Some w → w < T.size
-  plan_word_there x w m e = word_there (T.plan x.lock) w (λ a pl. plan_there x a m pl) e
+  pub plan_word_there : (x : WholeView V) (w : ℕ) → MayBe (Good L good layout) x → plan_word (L.table.plan x.side.view) ≡ Some w → w < L.table.size
+  plan_word_there x w m e = word_there (L.table.plan x.side.view) w (λ a pl. plan_there x a m pl) e
 
-  pub answer_fits : (x : WholeView A V) (got : ℕ) (lost waits : Bool) → MayBe (Good base T good layout) x → IsAnswerShiftable base (answer_of (T.plan x.lock) got lost waits)
+  pub answer_fits : (x : WholeView V) (got : ℕ) (lost waits : Bool) → MayBe (Good L good layout) x → IsAnswerShiftable L.base (answer_of (L.table.plan x.side.view) got lost waits)
   answer_fits x got lost waits m =
-      answer_shifts base (T.plan x.lock) got lost waits (λ a pl. let h : word_of a < T.size = plan_there x a m pl in let f : base + T.size < 2 ^ 32 = m.is_ruled.fits in omega arith)
+      answer_shifts L.base (L.table.plan x.side.view) got lost waits (λ a pl. let h : word_of a < L.table.size = plan_there x a m pl in let f : L.base + L.table.size < 2 ^ 32 = m.is_ruled.fits in omega arith)

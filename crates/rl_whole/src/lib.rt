@@ -16,22 +16,18 @@
 #![tactic(auto)]
 
 mod card_state;
-#[cfg(test)]
-mod dmcs_tests;
 mod effect;
 mod machine;
 mod runs;
 mod shift;
+mod side;
 mod split;
 mod state;
-#[cfg(test)]
-mod tests;
-#[cfg(test)]
-mod trials;
 mod whole;
 
 pub use card_state::CardState;
 pub use effect::Effect;
-pub use machine::{Machine, exclusive};
+pub use machine::{Machine, exclusive, queue_laws};
 pub use runs::replay;
-pub use whole::{Whole, WholeView};
+pub use side::Side;
+pub use whole::{Whole, WholeView, domains};

@@ -1,12 +1,17 @@
 //! All of one shard in plain vectors, stepped one rank at a time.
 
-ghost use Rattle.std.specs.Prelude.{◌≡◌, ◌↔◌, ◌+◌, ◌-◌, ◌<◌, ◌^◌, ℕ, List, length, slice_index, IfOk, OnErr};
+ghost use Rattle.std.specs.Prelude.{◌≡◌, ◌↔◌, ◌-◌, ◌<◌, ◌^◌, ℕ, length, slice_index, IfOk, OnErr};
 ghost use Rattle.rl_word.specs.Shapes.{IsProper, layout_of};
 ghost use Rattle.rl_step.specs.Exclusion.{IsExclusive};
 ghost use Rattle.rl_step.specs.Answers.{steps_made};
-ghost use Rattle.rl_whole.specs.Whole.{count_word, lock_base};
+ghost use Rattle.rl_step.specs.Lock.{HandsOn};
+ghost use Rattle.rl_step.specs.QueuePromises.{KeepQueues, KeepBudgets, KeepTotals, ServeInOrder, CountTenures};
+ghost use Rattle.rl_whole.specs.RunDeeds.{SaysOfRuns};
+ghost use Rattle.rl_whole.specs.Promises.{RunsExclusively, EachRun, EachClosedRun};
+ghost use Rattle.rl_whole.specs.Whole.{count_word};
 ghost use Rattle.rl_whole.specs.Causes.{StepCause, IsFinished};
-ghost use Rattle.rl_whole.specs.Run.{start, stepped, answer_of_step, events_of, done_of, has_open_call, run_of, call_opened, only_counted};
+ghost use Rattle.rl_whole.specs.Running.{lock_at, running};
+ghost use Rattle.rl_whole.specs.Run.{started, stepped, answer_of_step, events_of, done_of, has_open_call, call_opened, only_counted};
 
 use crate::state::{EVENTS, State, make_atom, open_next, opening, zeros};
 use crate::whole::{COUNT_WORD, Whole};
@@ -17,8 +22,8 @@ use std::marker::Model;
 
 /// All of one shard, with the steps of its ranks one after the other.
 ///
-/// Contracts see its core, which never changes, and its world (`World` of `specs/Run.antt`): words and cards, views, calls, the
-/// trace and the counts of answers. Whatever steps it has taken, its trace is exclusive.
+/// Contracts see its core, which never changes, and its world (`Running` of `specs/Running.antt`): words and cards, views, calls,
+/// the trace and the counts of answers. Whatever steps it has taken, its trace is exclusive.
 #[derive(Drop)]
 pub struct Machine<A: Algo> {
     core: Whole<A>,
@@ -28,13 +33,13 @@ pub struct Machine<A: Algo> {
 impl<A: Algo> Model for Machine<A> {
     ghost use Rattle.rl_whole.specs.RunGood.{RunGood};
     ghost use Rattle.rl_whole.specs.State.{world_of};
-    ghost use Rattle.rl_whole.specs.Running.{Running};
+    ghost use Rattle.rl_whole.specs.Running.{TheMachine, lock_at};
 
-    ghost Value = { Running A A.View };
+    ghost Value = { TheMachine A A.View };
 
     ghost view = { λ m. record { core = m.core; world = world_of m.state } };
 
-    ghost invariant = { λ m. RunGood m.core.base (A.table m.core.algo) (A.good m.core.algo) (A.layout m.core.algo) (world_of m.state) };
+    ghost invariant = { λ m. RunGood (lock_at A.table m.core) (A.good m.core.algo) (A.layout m.core.algo) (world_of m.state) };
 }
 
 impl<A: Algo> Machine<A> {
@@ -53,11 +58,10 @@ impl<A: Algo> Machine<A> {
         requires proper { IsProper shape.now }
         requires home { home < shape.now.nodes }
         requires knobs { A.suits_knobs shape.now knobs }
-        requires fits { lock_base + (A.defined shape.now home knobs).size < 2 ^ 32 }
         requires given { length given.items ≡ length shape.now.node_of }
-        ensures base { IfOk result (λ m. m.core.base ≡ lock_base) }
-        ensures table { IfOk result (λ m. A.table m.core.algo ≡ A.defined shape.now home knobs) }
-        ensures world { IfOk result (λ m. m.world ≡ start A A.View lock_base (A.defined shape.now home knobs) (layout_of shape.now) given.items) }
+        ensures made { IfOk result (λ m. running A.table m ≡ started (A.defined shape.now home knobs) shape.now given.items) }
+        ensures promised { IfOk result (λ m. HandsOn (A.further m.core.algo) (A.promised shape.now home knobs)) }
+        ensures layout { IfOk result (λ m. A.layout m.core.algo ≡ layout_of shape.now) }
         ensures ranks { IfOk result (λ m. length m.world.views ≡ length shape.now.node_of) }
     {
         let core = Whole::new(alloc, shape, home, knobs)?;
@@ -90,11 +94,11 @@ impl<A: Algo> Machine<A> {
         requires there { rank < length self.old.world.views }
         requires few { steps_made self.old.world.steps < 2 ^ 32 - 1 }
         ensures core { self.new.core ≡ self.old.core }
-        ensures stepped { IfOk result (λ _. self.new.world ≡ stepped self.old.core.base (A.table self.old.core.algo) self.old.world rank) }
-        ensures answer { IfOk result (λ answer. answer ≡ answer_of_step self.old.core.base (A.table self.old.core.algo) self.old.world rank) }
-        ensures cause { IfOk result (λ answer. StepCause self.old.core.base (A.table self.old.core.algo) self.old.world rank answer) }
-        ensures finished { IfOk result (λ answer. (answer ≡ Stepped.Finished) ↔ IsFinished self.old.core.base (A.table self.old.core.algo) self.old.world rank) }
-        ensures busy { IfOk result (λ answer. (node holder : ℕ) → answer ≡ Stepped.Busy node holder → self.new.world ≡ only_counted (call_opened self.old.core.base (A.table self.old.core.algo) self.old.world rank) answer) }
+        ensures stepped { IfOk result (λ _. running A.table self.new ≡ stepped (running A.table self.old) rank) }
+        ensures answer { IfOk result (λ answer. answer ≡ answer_of_step (running A.table self.old) rank) }
+        ensures cause { IfOk result (StepCause (running A.table self.old) rank) }
+        ensures finished { IfOk result (λ answer. (answer ≡ Stepped.Finished) ↔ IsFinished (running A.table self.old) rank) }
+        ensures busy { IfOk result (λ answer. (node holder : ℕ) → answer ≡ Stepped.Busy node holder → self.new.world ≡ only_counted (call_opened (lock_at A.table self.old.core) self.old.world rank) answer) }
         ensures kept { OnErr result (self.new ≡ self.old) }
     {
         self.state.events.reserve(EVENTS)?;
@@ -106,6 +110,7 @@ impl<A: Algo> Machine<A> {
     pub fn events(&self) -> &[(u32, Event)]
         ensures events { result.now ≡ self.now.world.trace }
         ensures exclusive { IsExclusive (events_of result.now) }
+        ensures queues { KeepQueues (A.table self.now.core.algo).queues (events_of result.now) }
     {
         self.state.events.as_slice()
     }
@@ -136,10 +141,14 @@ impl<A: Algo> Machine<A> {
     /// holds it.
     pub fn done(&self, rank: u32) -> u32
         requires { rank < length self.now.world.views }
-        ensures { result ≡ done_of (A.table self.now.core.algo) self.now.world rank }
+        ensures { result ≡ done_of (running A.table self.now) rank }
     {
         let opened = self.state.opened[rank as usize];
-        match self.core.algo.standing(self.state.flat.view(rank).lock) {
+        match self
+            .core
+            .algo
+            .standing(self.state.flat.view(rank).side.view)
+        {
             Standing::Asking | Standing::Writer | Standing::Reader => opened.saturating_sub(1),
             Standing::Out | Standing::Leaving => opened,
         }
@@ -148,7 +157,7 @@ impl<A: Algo> Machine<A> {
     /// Whether the rank has an open call: it has until the call's last atom was made, a card's Leave among them.
     pub fn is_open(&self, rank: u32) -> bool
         requires { rank < length self.now.world.views }
-        ensures { result ≡ has_open_call self.now.core.base (A.table self.now.core.algo) self.now.world rank }
+        ensures { result ≡ has_open_call (running A.table self.now) rank }
     {
         self.core.is_open(self.state.flat.view(rank))
     }
@@ -164,7 +173,20 @@ impl<A: Algo> Machine<A> {
 /// Whatever steps follow, in whatever order of the ranks: at most one rank writes at any moment of the whole trace, none reads
 /// beside it, and who touches what the lock guards holds the lock. For every lock.
 pub fn exclusive<A: Algo>(machine: &Machine<A>)
-    ensures { (ks : List ℕ) → IsExclusive (events_of (run_of machine.now.core.base (A.table machine.now.core.algo) machine.now.world ks).trace) }
+    ensures { RunsExclusively (running A.table machine.now) }
+{
+    let _ = &machine.core;
+}
+
+/// Whatever steps follow, in whatever order of the ranks: each queue of the lock serves first who came first, one with a budget
+/// keeps it, and while no call is open a queue was settled and passed as often as it was had. And what the lock says further
+/// holds of the events and the acts of every run from the start. For every lock.
+pub fn queue_laws<A: Algo>(machine: &Machine<A>)
+    ensures budgets { EachRun (running A.table machine.now) KeepBudgets }
+    ensures totals { EachRun (running A.table machine.now) KeepTotals }
+    ensures order { EachRun (running A.table machine.now) ServeInOrder }
+    ensures tenures { EachClosedRun (running A.table machine.now) CountTenures }
+    ensures further { SaysOfRuns (A.further machine.now.core.algo) (lock_at A.table machine.now.core) (A.layout machine.now.core.algo) }
 {
     let _ = &machine.core;
 }

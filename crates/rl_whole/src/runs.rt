@@ -1,15 +1,18 @@
 //! A whole replay: a machine is made and takes the steps of a schedule.
 
 ghost use Rattle.std.specs.Prelude.{◌≡◌, ◌+◌, ◌<◌, ◌^◌, length, replicate, IfOk};
-ghost use Rattle.rl_word.specs.Shapes.{IsProper, layout_of};
+ghost use Rattle.rl_word.specs.Shapes.{IsProper};
 ghost use Rattle.rl_step.specs.Exclusion.{IsExclusive};
 ghost use Rattle.rl_step.specs.Answers.{steps_made};
+ghost use Rattle.rl_step.specs.LockQueues.{queues_of};
+ghost use Rattle.rl_step.specs.QueuePromises.{KeepQueues};
 ghost use Rattle.std.specs.List.{AllByRecursion};
 ghost use Rattle.rl_ops.specs.Schedule.{TurnFits, steps_of};
-ghost use Rattle.rl_whole.specs.Whole.{lock_base};
-ghost use Rattle.rl_whole.specs.Run.{start, run_of, turn_ranks, ranks_of, steps_in, events_of};
+ghost use Rattle.rl_whole.specs.RunDeeds.{SaysOf};
+ghost use Rattle.rl_whole.specs.Running.{running};
+ghost use Rattle.rl_whole.specs.Run.{started, run_of, turn_ranks, ranks_of, steps_in, events_of};
 
-use crate::machine::{Machine, exclusive};
+use crate::machine::{Machine, exclusive, queue_laws};
 use rl_ops::Turn;
 use rl_step::Algo;
 use rl_word::{Knobs, Shape};
@@ -20,7 +23,7 @@ fn take_steps<A: Algo>(machine: &mut Machine<A>, rank: u32, count: u32) -> Resul
     requires there { rank < length machine.old.world.views }
     requires few { steps_made machine.old.world.steps + count < 2 ^ 32 }
     ensures core { machine.new.core ≡ machine.old.core }
-    ensures run { IfOk result (λ _. machine.new.world ≡ run_of machine.old.core.base (A.table machine.old.core.algo) machine.old.world (replicate count rank)) }
+    ensures run { IfOk result (λ _. running A.table machine.new ≡ run_of (running A.table machine.old) (replicate count rank)) }
     ensures steps { IfOk result (λ _. steps_made machine.new.world.steps ≡ steps_made machine.old.world.steps + count) }
     ensures ranks { IfOk result (λ _. length machine.new.world.views ≡ length machine.old.world.views) }
 {
@@ -35,7 +38,7 @@ fn take_turn<A: Algo>(machine: &mut Machine<A>, turn: Turn) -> Result<(), OutOfM
     requires there { TurnFits (length machine.old.world.views) turn }
     requires few { steps_made machine.old.world.steps + steps_of turn < 2 ^ 32 }
     ensures core { machine.new.core ≡ machine.old.core }
-    ensures run { IfOk result (λ _. machine.new.world ≡ run_of machine.old.core.base (A.table machine.old.core.algo) machine.old.world (turn_ranks turn)) }
+    ensures run { IfOk result (λ _. running A.table machine.new ≡ run_of (running A.table machine.old) (turn_ranks turn)) }
     ensures steps { IfOk result (λ _. steps_made machine.new.world.steps ≡ steps_made machine.old.world.steps + steps_of turn) }
     ensures ranks { IfOk result (λ _. length machine.new.world.views ≡ length machine.old.world.views) }
 {
@@ -50,7 +53,8 @@ fn take_turn<A: Algo>(machine: &mut Machine<A>, turn: Turn) -> Result<(), OutOfM
 /// `shape` says where the ranks sit, `home` is the node that the shard's own words live on, `knobs` are the lock's settings,
 /// and `given` says for each rank how many calls it has; the ranks of the turns are the shape's, and there are fewer than 2^32
 /// steps in all. Refused only for want of memory. Whatever the schedule, at most one rank writes at any moment of its trace,
-/// none reads beside it, and who touches what the lock guards holds the lock. The contract speaks of the run by its
+/// none reads beside it, and who touches what the lock guards holds the lock; and each queue of the lock, whose members and
+/// budgets are the placement's, serves first who came first and keeps its budget. The contract speaks of the run by its
 /// definition (`run_of` of `specs/Run.antt`), which knows no vectors.
 pub fn replay<A: Algo>(
     alloc: Global,
@@ -63,20 +67,20 @@ pub fn replay<A: Algo>(
     requires proper { IsProper shape.now }
     requires home { home < shape.now.nodes }
     requires knobs { A.suits_knobs shape.now knobs }
-    requires fits { lock_base + (A.defined shape.now home knobs).size < 2 ^ 32 }
     requires given { length given.items ≡ length shape.now.node_of }
     requires there { AllByRecursion (TurnFits (length shape.now.node_of)) turns.now }
     requires few { steps_in turns.now < 2 ^ 32 }
-    ensures base { IfOk result (λ m. m.core.base ≡ lock_base) }
-    ensures table { IfOk result (λ m. A.table m.core.algo ≡ A.defined shape.now home knobs) }
-    ensures run { IfOk result (λ m. m.world ≡ run_of lock_base (A.defined shape.now home knobs) (start A A.View lock_base (A.defined shape.now home knobs) (layout_of shape.now) given.items) (ranks_of turns.now)) }
+    ensures run { IfOk result (λ m. running A.table m ≡ run_of (started (A.defined shape.now home knobs) shape.now given.items) (ranks_of turns.now)) }
     ensures ranks { IfOk result (λ m. length m.world.views ≡ length shape.now.node_of) }
     ensures exclusive { IfOk result (λ m. IsExclusive (events_of m.world.trace)) }
+    ensures queues { IfOk result (λ m. KeepQueues (queues_of A.name shape.now home knobs) (events_of m.world.trace)) }
+    ensures further { IfOk result (λ _. SaysOf (A.promised shape.now home knobs) (started (A.defined shape.now home knobs) shape.now given.items) (ranks_of turns.now)) }
 {
     let mut machine = Machine::new(alloc, shape, home, knobs, given)?;
     for turn in turns {
         take_turn(&mut machine, *turn)?;
     }
     exclusive(&machine);
+    queue_laws(&machine);
     Ok(machine)
 }

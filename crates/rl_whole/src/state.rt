@@ -2,6 +2,7 @@
 
 ghost use Rattle.std.specs.Prelude.{◌≡◌, ◌+◌, ◌-◌, ◌<◌, ◌≤◌, ◌^◌, ◌++◌, length, replicate, vec_len, vec_capacity, IfOk};
 ghost use Rattle.rl_step.specs.Answers.{steps_made};
+ghost use Rattle.rl_whole.specs.Running.{lock_at};
 ghost use Rattle.rl_whole.specs.Run.{opening_held, opening_views, call_opened, atom_made, atom_answer, numbered};
 ghost use Rattle.rl_whole.specs.RunGood.{RunGood};
 ghost use Rattle.rl_whole.specs.State.{world_of};
@@ -62,8 +63,8 @@ pub fn zeros(alloc: Global, count: u32) -> Result<Vec<u32>, OutOfMemory>
 /// Opens the rank's next call where none is open and one is left.
 pub fn open_next<A: Algo>(core: &Whole<A>, state: &mut State<A>, rank: u32)
     requires there { rank < length (world_of state.old).views }
-    requires good { RunGood core.now.base (A.table core.now.algo) (A.good core.now.algo) (A.layout core.now.algo) (world_of state.old) }
-    ensures opened { world_of state.new ≡ call_opened core.now.base (A.table core.now.algo) (world_of state.old) rank }
+    requires good { RunGood (lock_at A.table core.now) (A.good core.now.algo) (A.layout core.now.algo) (world_of state.old) }
+    ensures opened { world_of state.new ≡ call_opened (lock_at A.table core.now) (world_of state.old) rank }
     ensures room { state.new.events ≡ state.old.events }
 {
     let at = rank as usize;
@@ -95,11 +96,11 @@ fn note(events: &mut Vec<(u32, Event)>, steps: Steps, noted: &ArrayVec<Event, EV
 /// Makes the next atom of the rank, if it has one, and counts the step.
 pub fn make_atom<A: Algo>(core: &Whole<A>, state: &mut State<A>, rank: u32) -> Stepped
     requires there { rank < length (world_of state.old).views }
-    requires good { RunGood core.now.base (A.table core.now.algo) (A.good core.now.algo) (A.layout core.now.algo) (world_of state.old) }
+    requires good { RunGood (lock_at A.table core.now) (A.good core.now.algo) (A.layout core.now.algo) (world_of state.old) }
     requires few { steps_made state.old.steps < 2 ^ 32 - 1 }
     requires room { vec_len state.old.events + 8 ≤ vec_capacity state.old.events }
-    ensures made { world_of state.new ≡ atom_made core.now.base (A.table core.now.algo) (world_of state.old) rank }
-    ensures answer { result ≡ atom_answer core.now.base (A.table core.now.algo) (world_of state.old) rank }
+    ensures made { world_of state.new ≡ atom_made (lock_at A.table core.now) (world_of state.old) rank }
+    ensures answer { result ≡ atom_answer (lock_at A.table core.now) (world_of state.old) rank }
 {
     let after = advance_flat(core, &mut state.flat, rank);
     note(&mut state.events, state.steps, &after.events);

@@ -5,7 +5,6 @@ use Rattle.std.specs.List.{AllByRecursion}
 use Rattle.rl_word.specs.Shapes.{layout_of}
 use Rattle.rl_step.specs.Exclusion.{IsExclusive}
 use Rattle.rl_step.specs.Lock.{no_more}
-use Rattle.rl_spin.specs.declared.spin.Spin.{Spin}
 use Rattle.rl_spin.specs.declared.view.SpinView.{SpinView}
 use Rattle.rl_spin.specs.Spin.{spin_table, SpinGood}
 use Rattle.rl_spin.specs.SpinLaws.{spin_laws}
@@ -34,7 +33,7 @@ home_there (h ∷ hs) n all some = all.0
 
 -- the trace of every replay is exclusive
 pub replay_exclusive : (place : ThePlace) (ops : Ops) (schedule : Schedule) → IsProper place → place.geom.shards ≡ 1 → length ops.by_rank ≡ length place.paths →
-    IsExclusive (events_of (replay_of place ops schedule).trace)
+    IsExclusive (events_of (replay_of place ops schedule).world.trace)
 replay_exclusive place ops schedule proper one ranks =
     let layout = layout_of (shape_of place) in
     let count : length layout.node_of ≡ length place.paths = length-map place.paths (number_in (node_paths place.paths)) in
@@ -44,7 +43,7 @@ replay_exclusive place ops schedule proper one ranks =
     let homed : home_of place < layout.nodes = home_there place.homes (length (node_paths place.paths)) proper.homes some in
     let most = proper.most_ranks in
     let few : length layout.node_of < 2 ^ 32 = omega (arith, count, most) in
-    run_exclusive Spin SpinView (spin_table (home_of place)) (SpinGood (length layout.node_of)) no_more layout (spin_laws (home_of place) layout homed) lock_base (home_of place)
+    run_exclusive SpinView (record { base = lock_base; table = spin_table (home_of place) }) (SpinGood (length layout.node_of)) no_more layout (spin_laws (home_of place) layout homed) (home_of place)
     (given_of ops.by_rank) (lit< tt) (lit< tt) few given (ranks_of schedule.turns)
 
 -- texts that are replayed
@@ -60,15 +59,21 @@ is_replay texts report e =
     let one = read.one_shard in
     let shards : p.0.geom.shards < 2 ^ 32 = omega (arith, one) in
     let calls = calls_read p.0 texts.calls c.0 ranks shards c.1 in
+    let turns = schedule_read p.0 texts.schedule s.0 ranks s.1 in
     record {
       place = p.0;
       ops = c.0;
       schedule = s.0;
+      proper = read.proper;
+      built = read.built;
+      one_shard = one;
+      fits = turns.0;
+      holds = calls.1;
       place_spelled = read.spelled;
-      calls_spelled = calls;
-      schedule_spelled = schedule_read p.0 texts.schedule s.0 ranks s.1;
+      calls_spelled = calls.0;
+      schedule_spelled = turns.1;
       bytes = sym (same_value {E = Complaint} (report_spelling (report_of p.0 c.0 s.0)) report s.2);
-      exclusive = replay_exclusive p.0 c.0 s.0 read.proper one (spelled-fits (length p.0.paths) p.0.geom.shards texts.calls c.0 calls).ranks_there;
+      exclusive = replay_exclusive p.0 c.0 s.0 read.proper one (spelled-fits (length p.0.paths) p.0.geom.shards texts.calls c.0 calls.0).ranks_there;
     }
 
 -- the answer's status is that of a replay where it is 0

@@ -50,6 +50,7 @@ equals_reply (reply.Sum v) = refl
 equals_reply (reply.Over v) = refl
 equals_reply (reply.No v) = refl
 equals_reply reply.Held = refl
+equals_reply reply.Undone = refl
 
 -- `SEQ CALL = REPLY`
 pub call_and_reply : (word : List ℕ) (call : Call) (reply : Reply) →

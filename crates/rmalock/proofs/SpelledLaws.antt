@@ -12,7 +12,7 @@ use Rattle.rl_ops.specs.declared.ops.Ops.{Ops}
 use Rattle.rl_ops.specs.declared.schedule.Schedule.{Schedule}
 use Rattle.rl_ops.specs.Ops.{SpellsOps}
 use Rattle.rl_ops.specs.OpsReading.{ops_at}
-use Rattle.rl_ops.specs.Schedule.{schedule_spelling}
+use Rattle.rl_ops.specs.Schedule.{ScheduleFits, schedule_spelling}
 use Rattle.rl_ops.specs.ScheduleReading.{schedule_at}
 use Rattle.rl_ops.proofs.OpsLaws.{ops-takes}
 use Rattle.rl_ops.proofs.ScheduleLaws.{schedule-takes}
@@ -53,6 +53,7 @@ read_ok kind most reading bytes x e =
 -- a placement that was read
 pub record PlaceRead (bytes : List ℕ) (place : ThePlace) : Type 0 where
   pub proper : IsProper place
+  pub built : is_built place.lock ≡ true
   pub spelled : bytes ≡ place_spelling place
   pub one_shard : place.geom.shards ≡ 1
 
@@ -64,24 +65,24 @@ built_place_ok bytes place e =
     from_bind (unless 0 0 (p.geom.shards == 1)) _ place rest2 (λ v alone rest3.
     let taken = place-takes bytes p is in
     let one : p.geom.shards ≡ 1 = eqb-true p.geom.shards 1 (passed_with (p.geom.shards == 1) tt v _ alone).0 in
-    subst (λ q. PlaceRead bytes q) (ok_is p place rest3) (record { proper = taken.proper; spelled = taken.spelled; one_shard = one }))))
+    subst (λ q. PlaceRead bytes q) (ok_is p place rest3) (record { proper = taken.proper; built = (passed_with (is_built p.lock) tt u _ built).0; spelled = taken.spelled; one_shard = one }))))
 
 pub place_read : (bytes : List ℕ) (place : ThePlace) → placed bytes ≡ Ok place → PlaceRead bytes place
 unfolding placed
 place_read bytes place e = built_place_ok bytes place (read_ok which.Place 4194304 built_place bytes place e)
 
-built_calls_ok : (place : ThePlace) (bytes : List ℕ) (ops : Ops) → length place.paths < 2 ^ 32 → place.geom.shards < 2 ^ 32 → built_calls place bytes ≡ Ok ops → SpellsOps (length place.paths) place.geom.shards ops bytes
+built_calls_ok : (place : ThePlace) (bytes : List ℕ) (ops : Ops) → length place.paths < 2 ^ 32 → place.geom.shards < 2 ^ 32 → built_calls place bytes ≡ Ok ops → SpellsOps (length place.paths) place.geom.shards ops bytes × (only_holds ops.by_rank ≡ true)
 unfolding built_calls
 built_calls_ok place bytes ops ranks shards e =
     from_bind (ops_at (length place.paths) place.geom.shards bytes) _ ops e (λ o is rest.
     from_bind (unless 0 0 (only_holds o.by_rank)) _ ops rest (λ u hold rest2.
-    subst (λ q. SpellsOps (length place.paths) place.geom.shards q bytes) (ok_is o ops rest2) (ops-takes (length place.paths) place.geom.shards bytes o ranks shards is)))
+    subst (λ q. SpellsOps (length place.paths) place.geom.shards q bytes × (only_holds q.by_rank ≡ true)) (ok_is o ops rest2) (ops-takes (length place.paths) place.geom.shards bytes o ranks shards is, (passed_with (only_holds o.by_rank) tt u _ hold).0)))
 
-pub calls_read : (place : ThePlace) (bytes : List ℕ) (ops : Ops) → length place.paths < 2 ^ 32 → place.geom.shards < 2 ^ 32 → called place bytes ≡ Ok ops → SpellsOps (length place.paths) place.geom.shards ops bytes
+pub calls_read : (place : ThePlace) (bytes : List ℕ) (ops : Ops) → length place.paths < 2 ^ 32 → place.geom.shards < 2 ^ 32 → called place bytes ≡ Ok ops → SpellsOps (length place.paths) place.geom.shards ops bytes × (only_holds ops.by_rank ≡ true)
 unfolding called
 calls_read place bytes ops ranks shards e = built_calls_ok place bytes ops ranks shards (read_ok which.Calls 4194304 (built_calls place) bytes ops e)
 
-pub schedule_read : (place : ThePlace) (bytes : List ℕ) (schedule : Schedule) → length place.paths < 2 ^ 32 → scheduled place bytes ≡ Ok schedule → bytes ≡ schedule_spelling schedule
+pub schedule_read : (place : ThePlace) (bytes : List ℕ) (schedule : Schedule) → length place.paths < 2 ^ 32 → scheduled place bytes ≡ Ok schedule → ScheduleFits (length place.paths) schedule × (bytes ≡ schedule_spelling schedule)
 unfolding scheduled
 schedule_read place bytes schedule ranks e =
-    (schedule-takes (length place.paths) bytes schedule ranks (read_ok which.Schedule 16777216 (schedule_at (length place.paths)) bytes schedule e)).1
+    let taken = schedule-takes (length place.paths) bytes schedule ranks (read_ok which.Schedule 16777216 (schedule_at (length place.paths)) bytes schedule e) in (taken.0, taken.1)

@@ -6,8 +6,8 @@ use Rattle.std.proofs.lemmas.List.Sums.{sum_by-cons}
 use Rattle.rl_text.specs.Spelling.{line_text, text_of}
 use Rattle.rl_model.specs.declared.call.Call.{Call}
 use Rattle.rl_ops.specs.Ops.{total_calls}
-use Rattle.rl_step.specs.Lock.{LockTable}
-use Rattle.rl_whole.specs.Run.{World, steps_in}
+use Rattle.rl_whole.specs.Running.{Running}
+use Rattle.rl_whole.specs.Run.{steps_in}
 use Rattle.rl_ops.specs.declared.schedule.Turn.{Turn}
 use Rattle.rl_ops.specs.Schedule.{steps_of}
 use Rattle.rmalock.specs.Replay.{dones_from, given_of}
@@ -40,9 +40,9 @@ four_lines o0 o1 o2 o3 o4 a b c d e1 e2 e3 e4 =
     ∙ ap (λ t. o0 ++ (line_text a ++ (line_text b ++ (line_text c ++ t)))) (sym (append-nil (line_text d)))
 
 -- there is a line for each rank
-pub length-dones : {A V X : Type 0} (w : World A V) (T : LockTable V) (rank : ℕ) (f : X → List Call) (lists : List X) → length (dones_from w T rank (map f lists)) ≡ length lists
-length-dones w T rank f [] = refl
-length-dones w T rank f (x ∷ xs) = let h = length-dones w T (rank + 1) f xs in omega (arith, h)
+pub length-dones : {V X : Type 0} (m : Running V) (rank : ℕ) (f : X → List Call) (lists : List X) → length (dones_from m rank (map f lists)) ≡ length lists
+length-dones m rank f [] = refl
+length-dones m rank f (x ∷ xs) = let h = length-dones m (rank + 1) f xs in omega (arith, h)
 
 -- a rank has at most as many calls as all ranks
 pub short_lists : (lists : List (Vec Call Global)) → total_calls (map (λ calls. calls.items) lists) ≤ 20000 → All (λ calls. length calls.items < 2 ^ 32) lists

@@ -1,18 +1,19 @@
 -- What the program answers to the words of its command line, for the bytes of the files that they name.
-use Rattle.std.specs.Prelude.{◌≡◌, ◌≢◌, ◌≤◌, ◌<◌, ◌⊎◌, ℕ, List, [], ◌∷◌, take, length, codes, Bool, IsTrue, Option, Some, None, Result, Ok, Err}
+use Rattle.std.specs.Prelude.{◌≡◌, ◌≢◌, ◌≤◌, ◌<◌, ◌⊎◌, ℕ, List, [], ◌∷◌, take, length, codes, Bool, true, IsTrue, Option, Some, None, Result, Ok, Err}
 use Rattle.rl_text.specs.Spelling.{line_text, refusal_words}
 use Rattle.rl_step.specs.Exclusion.{IsExclusive}
-use Rattle.rl_place.specs.Places.{ThePlace}
+use Rattle.rl_place.specs.Places.{ThePlace, IsProper}
 use Rattle.rl_place.specs.Spelling.{place_spelling}
 use Rattle.rl_ops.specs.declared.ops.Ops.{Ops}
 use Rattle.rl_ops.specs.declared.schedule.Schedule.{Schedule}
 use Rattle.rl_ops.specs.Ops.{SpellsOps}
-use Rattle.rl_ops.specs.Schedule.{schedule_spelling}
+use Rattle.rl_ops.specs.Schedule.{ScheduleFits, schedule_spelling}
 use Rattle.rl_whole.specs.Run.{events_of}
+use Rattle.rmalock.specs.Built.{is_built, only_holds}
 use Rattle.rmalock.specs.Replay.{replay_of, report_of}
 use Rattle.rmalock.specs.Report.{report_spelling}
 use Rattle.std.specs.Global.{Vec}
-use Rattle.rl_io.specs.Outside.{Appends}
+use Rattle.rl_io.specs.Outside.{Appends, GoesOn}
 use Rattle.rmalock.specs.declared.complaint.Which.{Which}
 use Rattle.rmalock.specs.declared.complaint.Which.TheVariants as which
 use Rattle.rmalock.specs.declared.complaint.Trouble.{Trouble}
@@ -111,11 +112,17 @@ pub record IsReplay (texts : Texts) (text : List ℕ) : Type 0 where
   pub place : ThePlace
   pub ops : Ops
   pub schedule : Schedule
+  -- the placement is proper, its lock is one that is built, and it has one shard; the schedule is of its ranks, and all calls hold
+  pub proper : IsProper place
+  pub built : is_built place.lock ≡ true
+  pub one_shard : place.geom.shards ≡ 1
+  pub fits : ScheduleFits (length place.paths) schedule
+  pub holds : only_holds ops.by_rank ≡ true
   pub place_spelled : texts.place ≡ place_spelling place
   pub calls_spelled : SpellsOps (length place.paths) place.geom.shards ops texts.calls
   pub schedule_spelled : texts.schedule ≡ schedule_spelling schedule
   pub bytes : text ≡ report_spelling (report_of place ops schedule)
-  pub exclusive : IsExclusive (events_of (replay_of place ops schedule).trace)
+  pub exclusive : IsExclusive (events_of (replay_of place ops schedule).world.trace)
 
 -- what the program did: its status, and what it wrote, where the sink tells it
 pub record Outcome (named : Option Names) (answer : TheAnswer) (status : ℕ) (before after : Option (List ℕ)) : Type 0 where
@@ -127,6 +134,11 @@ pub record Outcome (named : Option Names) (answer : TheAnswer) (status : ℕ) (b
   pub cut : status ≡ 4 → (n : ℕ) × (n ≤ length answer.text) × Appends before (take n answer.text) after
   -- nothing, where a file could not be read or memory ran out
   pub silent : (status ≡ 3) ⊎ (status ≡ 5) → after ≡ before
+
+-- the sink goes on telling its bytes: with room for the text that belongs to the bytes of the named files, and some more, it still
+-- tells them through that more
+abbrev pub StillTells : {S : Type 0} → (S → ℕ → Type 0) → (List ℕ → Option (List ℕ)) → Option Names → S → S → Type 0
+StillTells tells_on file named before after = (texts : Texts) × AreTexts file named texts × GoesOn tells_on before (length (answer_in named texts).text) after
 
 -- what the program did is what belongs to the bytes of the named files
 pub record IsDone (file : List ℕ → Option (List ℕ)) (named : Option Names) (status : ℕ) (before after : Option (List ℕ)) : Type 0 where

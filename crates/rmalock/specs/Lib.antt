@@ -1,3 +1,4 @@
+-- to be believed, in reading order
 pub mod Command
 pub mod Built
 pub mod Replay

@@ -21,6 +21,7 @@ reply_words (reply.Sum v) = codes "sum" ∷ decimal v ∷ []
 reply_words (reply.Over v) = codes "over" ∷ decimal v ∷ []
 reply_words (reply.No v) = codes "no" ∷ decimal v ∷ []
 reply_words reply.Held = codes "held" ∷ []
+reply_words reply.Undone = codes "undone" ∷ []
 
 -- `entry AT RANK SEQ CALL = REPLY`
 abbrev pub entry_words : Entry → List (List ℕ)

@@ -1,17 +1,25 @@
 //! The program.
 #![tactic(auto)]
 
+ghost use Rattle.std.specs.Prelude.{◌≢◌, ◌↔◌, ◌≤◌, None};
+
 mod answer;
 mod built;
 mod command;
 mod complaint;
+#[cfg(test)]
+mod dmcs_tests;
 mod offline;
 mod printing;
 mod reading;
 mod replaying;
 mod reporting;
 #[cfg(test)]
+mod spin_tests;
+#[cfg(test)]
 mod tests;
+#[cfg(test)]
+mod trials;
 
 use crate::offline::offline;
 use rl_io::{RealFiles, RealOut};
@@ -46,7 +54,25 @@ fn run(rt: &HostRuntime) -> Result<u8, OutOfMemory> {
     Ok(offline(rt.alloc(), words.as_slice(), &mut source, &mut out))
 }
 
-/// Does what the command line asks for, and ends with its status: 5 is want of memory.
+/// Why there is no output, or none that is whole, for the statuses that say so.
+fn why_no_output(status: u8) -> Option<&'static str>
+    ensures { (result ≢ None) ↔ ((3 ≤ status) × (status ≤ 5)) }
+{
+    match status {
+        3 => Some("a file could not be read"),
+        4 => Some("the output could not be written"),
+        5 => Some("there was not enough memory"),
+        _ => None,
+    }
+}
+
+/// Does what the command line asks for, and ends with its status: 5 is want of memory. Where there is no output, one line on
+/// standard error says why.
 fn main(rt: HostRuntime) -> ExitCode {
-    ExitCode::from(run(&rt).unwrap_or(5))
+    let status = run(&rt).unwrap_or(5);
+    if let Some(why) = why_no_output(status) {
+        // If standard error takes nothing either, the status is all that is left.
+        let _ = eprintln!(rt; "rmalock: {why}");
+    }
+    ExitCode::from(status)
 }

@@ -34,6 +34,7 @@ fn put_reply(out: &mut Vec<u8>, reply: Reply) -> Result<(), OutOfMemory>
         Reply::Over(value) => put_with(out, "over", value)?,
         Reply::No(value) => put_with(out, "no", value)?,
         Reply::Held => out.extend_from_slice(b"held")?,
+        Reply::Undone => out.extend_from_slice(b"undone")?,
     }
     Ok(())
 }

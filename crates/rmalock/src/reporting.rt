@@ -2,6 +2,7 @@
 ghost use Rattle.std.specs.Prelude.{◌≡◌, ◌+◌, ◌++◌, ◌∷◌, [], ◌<◌, ◌≤◌, ◌^◌, ℕ, length, map, slice_index, decimal, take, codes, All, OnOk, IfOk};
 ghost use Rattle.rl_text.specs.Spelling.{line_text, text_of};
 ghost use Rattle.rl_whole.specs.Whole.{count_word};
+ghost use Rattle.rl_whole.specs.Running.{running};
 ghost use Rattle.rl_whole.specs.Run.{done_of};
 ghost use Rattle.rmalock.specs.Replay.{report_in, entries_of, entries_from, dones_from};
 ghost use Rattle.rmalock.specs.Report.{heading_lines, shard_words, entry_words, rank_words, rank_lines, steps_words, report_spelling};
@@ -33,6 +34,8 @@ fn list_calls(
             call: *call,
             at,
             reply: Reply::Held,
+            batch: 0,
+            part: 0,
         })?;
     }
     Ok(())
@@ -68,7 +71,7 @@ fn entries_in<A: Algo>(
     requires ranks { length lists.now ≤ length machine.now.world.views }
     requires few { length machine.now.world.views < 2 ^ 32 }
     requires short { All (λ calls. length calls.items < 2 ^ 32) lists.now }
-    ensures { IfOk result (λ entries. entries.items ≡ entries_from machine.now.world (A.table machine.now.core.algo) 0 (map (λ calls. calls.items) lists.now)) }
+    ensures { IfOk result (λ entries. entries.items ≡ entries_from (running A.table machine.now) 0 (map (λ calls. calls.items) lists.now)) }
 {
     let at = machine.updates();
     let mut entries = Vec::new(alloc);
@@ -100,7 +103,7 @@ fn put_ranks<A: Algo>(
     requires ranks { length lists.now ≤ length machine.now.world.views }
     requires few { length machine.now.world.views < 2 ^ 32 }
     requires short { All (λ calls. length calls.items < 2 ^ 32) lists.now }
-    ensures { OnOk result (out.new.items ≡ out.old.items ++ text_of (rank_lines 0 (dones_from machine.now.world (A.table machine.now.core.algo) 0 (map (λ calls. calls.items) lists.now)))) }
+    ensures { OnOk result (out.new.items ≡ out.old.items ++ text_of (rank_lines 0 (dones_from (running A.table machine.now) 0 (map (λ calls. calls.items) lists.now)))) }
 {
     for (rank, calls) in lists.iter().enumerate() {
         let done = machine.done(rank as u32);
@@ -175,7 +178,7 @@ fn report_lists<A: Algo>(
     requires ranks { length lists.now ≤ length machine.now.world.views }
     requires few { length machine.now.world.views < 2 ^ 32 }
     requires short { All (λ calls. length calls.items < 2 ^ 32) lists.now }
-    ensures { IfOk result (λ text. text.items ≡ report_spelling (report_in lock.now machine.now.world (A.table machine.now.core.algo) (map (λ calls. calls.items) lists.now))) }
+    ensures { IfOk result (λ text. text.items ≡ report_spelling (report_in lock.now (running A.table machine.now) (map (λ calls. calls.items) lists.now))) }
 {
     let entries = entries_in(alloc, machine, lists)?;
     let listed = entries.as_slice();
@@ -200,7 +203,7 @@ pub fn report_text<A: Algo>(
     requires ranks { length ops.now.by_rank ≤ length machine.now.world.views }
     requires few { length machine.now.world.views < 2 ^ 32 }
     requires calls { total_calls ops.now.by_rank ≤ 20000 }
-    ensures { IfOk result (λ text. text.items ≡ report_spelling (report_in lock.now machine.now.world (A.table machine.now.core.algo) ops.now.by_rank)) }
+    ensures { IfOk result (λ text. text.items ≡ report_spelling (report_in lock.now (running A.table machine.now) ops.now.by_rank)) }
 {
     report_lists(alloc, lock, machine, ops.by_rank.as_slice())
 }

@@ -1,46 +1,42 @@
 -- After some of the turn's steps the run of them was made.
 use Rattle.std.proofs.Common.{◌≡◌, ◌∷◌, [], ◌<◌, ◌+◌, length, ap, sym, ◌∙◌, subst, arith, replicate}
 use Rattle.rl_step.specs.Answers.{steps_made}
+use Rattle.rl_whole.specs.Running.{running}
 use Rattle.rl_whole.specs.Run.{stepped, run_of}
 use Rattle.rl_whole.specs.ReplayLaws.{turn_counts, run_append, replicate-end}
 use Rattle.rl_whole.proofs.runs.take_steps.Goals as goal
 
 pub step-requires-clause-there : goal.step-requires-clause-there
 step-requires-clause-there g c =
-    let old = c.args.machine.now in
-    let counts = turn_counts old.core.base (g.A.Algo.table old.core.algo) old.world c.loop.counter c.args.rank c.requires.there in
-    subst (λ n. c.args.rank < n) (sym (ap (λ w. length w.views) c.loop.invariant.1 ∙ counts.1)) c.requires.there
+    let counts = turn_counts (running g.A.Algo.table c.args.machine.now) c.loop.counter c.args.rank c.requires.there in
+    subst (λ n. c.args.rank < n) (sym (ap (λ m. length m.world.views) c.loop.invariant.1 ∙ counts.1)) c.requires.there
 
 pub step-requires-clause-few : goal.step-requires-clause-few
 step-requires-clause-few g c =
-    let old = c.args.machine.now in
-    let counts = turn_counts old.core.base (g.A.Algo.table old.core.algo) old.world c.loop.counter c.args.rank c.requires.there in
-    let made : steps_made c.loop.machine.world.steps ≡ steps_made old.world.steps + c.loop.counter = ap (λ w. steps_made w.steps) c.loop.invariant.1 ∙ counts.0 in
+    let old = running g.A.Algo.table c.args.machine.now in
+    let counts = turn_counts old c.loop.counter c.args.rank c.requires.there in
+    let made : steps_made c.loop.machine.world.steps ≡ steps_made old.world.steps + c.loop.counter = ap (λ m. steps_made m.world.steps) c.loop.invariant.1 ∙ counts.0 in
     let more : c.loop.counter < c.args.count = c.loop-test.true in
     let few = c.requires.few in
     omega arith
 
 pub loop-preserved : goal.loop-preserved
 loop-preserved g c =
-    let old = c.args.machine.now in
-    let base = old.core.base in
-    let T = g.A.Algo.table old.core.algo in
+    let old = running g.A.Algo.table c.args.machine.now in
     let rank = c.args.rank in
     let n = c.loop.counter in (
       c.in_ok-step.ensures.core ∙ c.loop.invariant.0,
-      c.in_ok-step.ensures.stepped ∙ ap (λ k. stepped k.base (g.A.Algo.table k.algo) c.loop.machine.world rank) c.loop.invariant.0 ∙
-          ap (λ w. stepped base T w rank) c.loop.invariant.1 ∙ sym (run_append base T old.world (replicate n rank) (rank ∷ [])) ∙ sym (ap (run_of base T old.world) (replicate-end n rank)),
+      c.in_ok-step.ensures.stepped ∙ ap (λ m. stepped m rank) c.loop.invariant.1 ∙ sym (run_append old (replicate n rank) (rank ∷ [])) ∙ sym (ap (run_of old) (replicate-end n rank)),
     )
 
 pub returns-clause-steps : goal.returns-clause-steps
 returns-clause-steps g c =
-    let old = c.args.machine.now in
-    let counts = turn_counts old.core.base (g.A.Algo.table old.core.algo) old.world c.loop.counter c.args.rank c.requires.there in
+    let old = running g.A.Algo.table c.args.machine.now in
+    let counts = turn_counts old c.loop.counter c.args.rank c.requires.there in
     let all : c.loop.counter ≡ c.args.count = omega arith in
-    ap (λ w. steps_made w.steps) c.loop.invariant.1 ∙ counts.0 ∙ ap (λ n. steps_made old.world.steps + n) all
+    ap (λ m. steps_made m.world.steps) c.loop.invariant.1 ∙ counts.0 ∙ ap (λ n. steps_made old.world.steps + n) all
 
 pub returns-clause-ranks : goal.returns-clause-ranks
 returns-clause-ranks g c =
-    let old = c.args.machine.now in
-    let counts = turn_counts old.core.base (g.A.Algo.table old.core.algo) old.world c.loop.counter c.args.rank c.requires.there in
-    ap (λ w. length w.views) c.loop.invariant.1 ∙ counts.1
+    let counts = turn_counts (running g.A.Algo.table c.args.machine.now) c.loop.counter c.args.rank c.requires.there in
+    ap (λ m. length m.world.views) c.loop.invariant.1 ∙ counts.1

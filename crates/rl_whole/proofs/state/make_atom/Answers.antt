@@ -1,6 +1,7 @@
 -- An advance, its events noted and its answer counted, is one atom of the run's definition.
 use Rattle.std.proofs.Common.{◌≡◌, ◌∙◌, ◌++◌, ap}
 use Rattle.rl_step.specs.Answers.{steps_made}
+use Rattle.rl_whole.specs.Running.{lock_at}
 use Rattle.rl_whole.specs.Run.{numbered}
 use Rattle.rl_whole.specs.State.{world_of}
 use Rattle.rl_whole.specs.StepLaws.{Advances, advanced_world, world_with}
@@ -9,7 +10,7 @@ use Rattle.rl_whole.proofs.state.make_atom.Goals.{After-advance_flat-after}
 use Rattle.rl_whole.proofs.state.make_atom.Given.{Over}
 
 advances : (g : Over) (c : After-advance_flat-after g) →
-    Advances c.args.core.now.base (g.A.Algo.table c.args.core.now.algo) (world_of c.args.state.now) c.args.rank
+    Advances (lock_at g.A.Algo.table c.args.core.now) (world_of c.args.state.now) c.args.rank
     c.advance_flat-after.new.flat.words c.advance_flat-after.new.flat.views.items c.advance_flat-after.result.events.items c.advance_flat-after.result.stepped
 advances g c =
     let made = c.advance_flat-after.ensures in
@@ -29,10 +30,10 @@ returns-clause-made g c =
     let t : c.note.new.events.items ≡ w.trace ++ numbered (steps_made w.steps) es = c.note.ensures in
     ap (λ z. world_with w h vs z c.count.new.self) t ∙
     ap (λ z. world_with w h vs (w.trace ++ numbered (steps_made w.steps) es) z) c.count.ensures ∙
-    (advanced_world c.args.core.now.base (g.A.Algo.table c.args.core.now.algo) w c.args.rank h vs es answer (advances g (goal.at.returns-clause-made g c).After-advance_flat-after)).0
+    (advanced_world (lock_at g.A.Algo.table c.args.core.now) w c.args.rank h vs es answer (advances g (goal.at.returns-clause-made g c).After-advance_flat-after)).0
 
 pub returns-clause-answer : goal.returns-clause-answer
 returns-clause-answer g c =
-    (advanced_world c.args.core.now.base (g.A.Algo.table c.args.core.now.algo) (world_of c.args.state.now) c.args.rank
+    (advanced_world (lock_at g.A.Algo.table c.args.core.now) (world_of c.args.state.now) c.args.rank
     c.advance_flat-after.new.flat.words c.advance_flat-after.new.flat.views.items c.advance_flat-after.result.events.items c.advance_flat-after.result.stepped
     (advances g (goal.at.returns-clause-answer g c).After-advance_flat-after)).1

@@ -2,8 +2,6 @@ use Rattle.std.proofs.Common.{◌≡◌, ◌≤◌, ℕ, List, length, sum_by, I
 use Rattle.std.specs.List.{AllByRecursion}
 use Rattle.std.proofs.lemmas.List.{length-map}
 use Rattle.rl_word.specs.Shapes.{TheShape, layout_of}
-use Rattle.rl_step.specs.Lock.{LockTable}
-use Rattle.rl_spin.specs.declared.spin.Spin.{Spin}
 use Rattle.rl_spin.specs.declared.view.SpinView.{SpinView}
 use Rattle.rl_spin.specs.Spin.{spin_table}
 use Rattle.rl_place.specs.Numbering.{node_paths}
@@ -12,7 +10,8 @@ use Rattle.rl_ops.specs.declared.schedule.Turn.{Turn}
 use Rattle.rl_ops.specs.Ops.{total_calls}
 use Rattle.rl_ops.specs.Schedule.{TurnFits, steps_of}
 use Rattle.rl_whole.specs.Whole.{lock_base}
-use Rattle.rl_whole.specs.Run.{World, start, run_of, ranks_of}
+use Rattle.rl_whole.specs.Running.{Running, running}
+use Rattle.rl_whole.specs.Run.{start, run_of, ranks_of}
 use Rattle.rmalock.specs.Replay.{report_in, replay_of, home_of, given_of}
 use Rattle.rmalock.specs.Report.{report_spelling}
 use Rattle.rmalock.proofs.TextPieces.{short_lists, steps_are, given_is}
@@ -37,20 +36,14 @@ replay-requires-clause-few c =
 pub returns : goal.returns
 returns c =
     let made = c.in_ok-machine.ensures in
-    let run : ℕ → TheShape → List ℕ → List Turn → World Spin SpinView =
-    λ home shape given turns. run_of lock_base (spin_table home) (start Spin SpinView lock_base (spin_table home) (layout_of shape) given) (ranks_of turns) in
+    let run : ℕ → TheShape → List ℕ → List Turn → Running SpinView =
+    λ home shape given turns. run_of (start (record { base = lock_base; table = spin_table home }) (layout_of shape) given) (ranks_of turns) in
     let given : c.in_ok-given.given.items ≡ given_of c.args.ops.now.by_rank =
     c.in_ok-given.ensures ∙ given_is c.as_slice-lists.result.now ∙ ap given_of c.as_slice-lists.ensures in
     let home : c.first_home-home.result ≡ home_of c.args.place.now = c.first_home-home.ensures ∙ ap (λ homes. slice_index homes 0) c.as_slice-homes.ensures.value ∙ ap (λ p. slice_index p.homes 0) c.place.view_is in
-    let shape = c.in_ok-shape.ensures.exact in
-    let turns = c.as_slice-turns.ensures in
-    let table : spin_table c.in_ok-machine.machine.core.algo.home ≡ spin_table (home_of c.args.place.now) = made.table ∙ ap spin_table home in
-    let world : c.in_ok-machine.machine.world ≡ replay_of c.args.place.now c.args.ops.now c.args.schedule.now =
+    let machine : running (λ a. spin_table a.home) c.in_ok-machine.machine ≡ replay_of c.args.place.now c.args.ops.now c.args.schedule.now =
     made.run ∙ ap (λ h. run h c.in_ok-shape.shape c.in_ok-given.given.items c.as_slice-turns.result.now) home
-    ∙ ap (λ s. run (home_of c.args.place.now) s c.in_ok-given.given.items c.as_slice-turns.result.now) shape
+    ∙ ap (λ s. run (home_of c.args.place.now) s c.in_ok-given.given.items c.as_slice-turns.result.now) c.in_ok-shape.ensures.exact
     ∙ ap (λ ns. run (home_of c.args.place.now) (shape_of c.args.place.now) ns c.as_slice-turns.result.now) given
-    ∙ ap (λ ts. run (home_of c.args.place.now) (shape_of c.args.place.now) (given_of c.args.ops.now.by_rank) ts) turns in
-    let Says : World Spin SpinView → LockTable SpinView → Type 0 =
-    λ w T. IfOk c.report_text.result (λ text. text.items ≡ report_spelling (report_in (codes "spin") w T c.args.ops.now.by_rank)) in
-    subst (λ T. Says (replay_of c.args.place.now c.args.ops.now c.args.schedule.now) T) table
-    (subst (λ w. Says w (spin_table c.in_ok-machine.machine.core.algo.home)) world c.report_text.ensures)
+    ∙ ap (λ ts. run (home_of c.args.place.now) (shape_of c.args.place.now) (given_of c.args.ops.now.by_rank) ts) c.as_slice-turns.ensures in
+    subst (λ m. IfOk c.report_text.result (λ text. text.items ≡ report_spelling (report_in (codes "spin") m c.args.ops.now.by_rank))) machine c.report_text.ensures

@@ -1,5 +1,6 @@
 -- What the calls of the lock ask follows from the rule, by the lock's laws.
 use Rattle.std.proofs.Common.{◌≡◌, ap, sym, ◌∙◌, subst}
+use Rattle.rl_whole.specs.Running.{lock_at}
 use Rattle.rl_whole.specs.Split.{plan_word, word_home, plan_home, effect_at, answer_of, HolderFits}
 use Rattle.rl_whole.specs.declared.effect.Effect.{Effect}
 use Rattle.rl_whole.specs.declared.effect.Effect.TheVariants.{Stay}
@@ -16,8 +17,8 @@ plan-plan-requires g c =
     let good = g.A.Algo.good c.args.self.now.algo in
     let layout = g.A.Algo.layout c.args.self.now.algo in
     let laws = g.met.A.Algo.laws c.args.self.now.algo in
-    may_step _ _ T good (g.A.Algo.further c.args.self.now.algo) layout laws c.args.self.now.base c.args.self.now.home c.args.view.now
-    (may_be _ _ T good (g.A.Algo.further c.args.self.now.algo) layout laws c.args.self.now.base c.args.self.now.home c.args.view.now c.args.got c.requires)
+    may_step _ (lock_at g.A.Algo.table c.args.self.now) good (g.A.Algo.further c.args.self.now.algo) layout laws c.args.self.now.home c.args.view.now
+    (may_be _ (lock_at g.A.Algo.table c.args.self.now) good (g.A.Algo.further c.args.self.now.algo) layout laws c.args.self.now.home c.args.view.now c.args.got c.requires)
 
 pub spot-requires : goal.spot-requires
 spot-requires g c =
@@ -25,35 +26,35 @@ spot-requires g c =
     let good = g.A.Algo.good c.args.self.now.algo in
     let layout = g.A.Algo.layout c.args.self.now.algo in
     let laws = g.met.A.Algo.laws c.args.self.now.algo in
-    plan_word_there _ _ T good (g.A.Algo.further c.args.self.now.algo) layout laws c.args.self.now.base c.args.self.now.home c.args.view.now c.in-Some.word
-    (may_be _ _ T good (g.A.Algo.further c.args.self.now.algo) layout laws c.args.self.now.base c.args.self.now.home c.args.view.now c.args.got c.requires) (sym (c.in-Some.ensures ∙ ap plan_word c.plan-plan.ensures))
+    plan_word_there _ (lock_at g.A.Algo.table c.args.self.now) good (g.A.Algo.further c.args.self.now.algo) layout laws c.args.self.now.home c.args.view.now c.in-Some.word
+    (may_be _ (lock_at g.A.Algo.table c.args.self.now) good (g.A.Algo.further c.args.self.now.algo) layout laws c.args.self.now.home c.args.view.now c.args.got c.requires) (sym (c.in-Some.ensures ∙ ap plan_word c.plan-plan.ensures))
 
 pub effect-requires : goal.effect-requires
 effect-requires g c =
-    subst (λ p. HolderFits p c.args.view.now.card c.args.got) (sym c.plan-plan.ensures)
-    (holder_fits _ _ (g.A.Algo.table c.args.self.now.algo) (g.A.Algo.good c.args.self.now.algo) (g.A.Algo.further c.args.self.now.algo) (g.A.Algo.layout c.args.self.now.algo) (g.met.A.Algo.laws c.args.self.now.algo)
-    c.args.self.now.base c.args.self.now.home c.args.view.now c.args.got c.requires)
+    subst (λ p. HolderFits p c.args.view.now.side.card c.args.got) (sym c.plan-plan.ensures)
+    (holder_fits _ (lock_at g.A.Algo.table c.args.self.now) (g.A.Algo.good c.args.self.now.algo) (g.A.Algo.further c.args.self.now.algo) (g.A.Algo.layout c.args.self.now.algo) (g.met.A.Algo.laws c.args.self.now.algo)
+    c.args.self.now.home c.args.view.now c.args.got c.requires)
 
 pub learn-learnt-requires : goal.learn-learnt-requires
 learn-learnt-requires g c =
     let T = g.A.Algo.table c.args.self.now.algo in
     let home : c.match-word_planned.home ≡ plan_home T c.plan-plan.result =
     elim c.match-word_planned.branch [ in-Some w ↦ w.home-is ∙ ap (λ z. z.home) w.spot.ensures ∙ ap (word_home T) w.in-Some.ensures | in-None w ↦ w.home-is ∙ ap (word_home T) w.in-None.ensures ] in
-    may_learn _ _ T (g.A.Algo.good c.args.self.now.algo) (g.A.Algo.further c.args.self.now.algo) (g.A.Algo.layout c.args.self.now.algo) (g.met.A.Algo.laws c.args.self.now.algo)
-    c.args.self.now.base c.args.self.now.home c.args.view.now c.args.got c.in-Learn.card c.in-Learn.told c.in-Learn.lost c.requires
-    (sym (c.in-Learn.ensures ∙ ap (λ z. effect_at z c.plan-plan.result c.args.view.now.card c.args.got) home ∙ ap (λ p. effect_at (plan_home T p) p c.args.view.now.card c.args.got) c.plan-plan.ensures))
+    may_learn _ (lock_at g.A.Algo.table c.args.self.now) (g.A.Algo.good c.args.self.now.algo) (g.A.Algo.further c.args.self.now.algo) (g.A.Algo.layout c.args.self.now.algo) (g.met.A.Algo.laws c.args.self.now.algo)
+    c.args.self.now.home c.args.view.now c.args.got c.in-Learn.card c.in-Learn.told c.in-Learn.lost c.requires
+    (sym (c.in-Learn.ensures ∙ ap (λ z. effect_at z c.plan-plan.result c.args.view.now.side.card c.args.got) home ∙ ap (λ p. effect_at (plan_home T p) p c.args.view.now.side.card c.args.got) c.plan-plan.ensures))
 
 -- the effect is the table's
-the_effect : (g : Over) (c : After-effect g) → effect_at (plan_home (g.A.Algo.table c.args.self.now.algo) ((g.A.Algo.table c.args.self.now.algo).plan c.args.view.now.lock)) ((g.A.Algo.table c.args.self.now.algo).plan c.args.view.now.lock) c.args.view.now.card c.args.got ≡ c.effect.result
+the_effect : (g : Over) (c : After-effect g) → effect_at (plan_home (g.A.Algo.table c.args.self.now.algo) ((g.A.Algo.table c.args.self.now.algo).plan c.args.view.now.side.view)) ((g.A.Algo.table c.args.self.now.algo).plan c.args.view.now.side.view) c.args.view.now.side.card c.args.got ≡ c.effect.result
 the_effect g c =
     let T = g.A.Algo.table c.args.self.now.algo in
     let home : c.match-word_planned.home ≡ plan_home T c.plan-plan.result =
     elim c.match-word_planned.branch [ in-Some w ↦ w.home-is ∙ ap (λ z. z.home) w.spot.ensures ∙ ap (word_home T) w.in-Some.ensures | in-None w ↦ w.home-is ∙ ap (word_home T) w.in-None.ensures ] in
-    sym (c.effect.ensures ∙ ap (λ z. effect_at z c.plan-plan.result c.args.view.now.card c.args.got) home ∙ ap (λ p. effect_at (plan_home T p) p c.args.view.now.card c.args.got) c.plan-plan.ensures)
+    sym (c.effect.ensures ∙ ap (λ z. effect_at z c.plan-plan.result c.args.view.now.side.card c.args.got) home ∙ ap (λ p. effect_at (plan_home T p) p c.args.view.now.side.card c.args.got) c.plan-plan.ensures)
 
 -- what the effect leaves is what the table says
-the_after : (g : Over) (c : After-effect g) (t : Effect) → c.effect.result ≡ t → effect_turned c.args.self.now.base (g.A.Algo.table c.args.self.now.algo) c.args.view.now t ≡ after_of c.args.self.now.base (g.A.Algo.table c.args.self.now.algo) c.args.view.now c.args.got
-the_after g c t e = sym (after_effect c.args.self.now.base (g.A.Algo.table c.args.self.now.algo) c.args.view.now c.args.got t (the_effect g c ∙ e))
+the_after : (g : Over) (c : After-effect g) (t : Effect) → c.effect.result ≡ t → effect_turned (lock_at g.A.Algo.table c.args.self.now) c.args.view.now t ≡ after_of (lock_at g.A.Algo.table c.args.self.now) c.args.view.now c.args.got
+the_after g c t e = sym (after_effect (lock_at g.A.Algo.table c.args.self.now) c.args.view.now c.args.got t (the_effect g c ∙ e))
 
 pub returns-in-Stay-clause-view : goal.returns-in-Stay-clause-view
 returns-in-Stay-clause-view g c = ap (λ z. z.view) (the_after g (goal.at.returns-in-Stay-clause-view g c).After-effect (Stay c.in-Stay.card c.in-Stay.stepped) c.in-Stay.is)
@@ -77,5 +78,5 @@ shift_answer-requires g c =
     let lost = c.in-Learn.lost in
     let waits = c.learn-learnt.result.waits in
     subst (IsAnswerShiftable c.args.self.now.base) (sym (c.answer.ensures ∙ ap (λ p. answer_of p told lost waits) c.plan-plan.ensures))
-    (answer_fits _ _ T good (g.A.Algo.further c.args.self.now.algo) layout laws c.args.self.now.base c.args.self.now.home c.args.view.now told lost waits
-    (may_be _ _ T good (g.A.Algo.further c.args.self.now.algo) layout laws c.args.self.now.base c.args.self.now.home c.args.view.now c.args.got c.requires))
+    (answer_fits _ (lock_at g.A.Algo.table c.args.self.now) good (g.A.Algo.further c.args.self.now.algo) layout laws c.args.self.now.home c.args.view.now told lost waits
+    (may_be _ (lock_at g.A.Algo.table c.args.self.now) good (g.A.Algo.further c.args.self.now.algo) layout laws c.args.self.now.home c.args.view.now c.args.got c.requires))

@@ -1,10 +1,10 @@
 //! Small schedules over the spin lock, with their answers and events worked out by hand.
 
 use crate::trials::{KNOBS, one_node, run};
-use crate::{Machine, replay};
 use rl_ops::Turn;
 use rl_spin::Spin;
 use rl_step::{Event, Steps};
+use rl_whole::{Machine, replay};
 use std::test::Fail;
 
 #[test]

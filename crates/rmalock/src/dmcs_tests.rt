@@ -1,10 +1,10 @@
 //! Small schedules over the queue lock of all ranks, worked out by hand: a joiner that finds the queue taken, a leaver that waits
 //! for its link, a rank that is passed to.
 
-use crate::Machine;
 use crate::trials::{KNOBS, one_node, run};
 use rl_queue::Dmcs;
 use rl_step::{Event, Steps};
+use rl_whole::Machine;
 use std::test::Fail;
 
 /// Words 3 and 4 of the window are the next word and the status word of rank 0, words 5 and 6 those of rank 1.

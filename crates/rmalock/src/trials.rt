@@ -5,9 +5,8 @@ ghost use Rattle.rl_word.specs.OneNode.{one_node as one_node_shape};
 ghost use Rattle.rl_word.specs.Shapes.{IsProper};
 ghost use Rattle.rl_step.specs.Answers.{steps_made};
 
-use crate::Machine;
-use crate::state::zeros;
 use rl_step::{Algo, Event, Stepped, Steps};
+use rl_whole::Machine;
 use rl_word::{Element, Knobs, Shape};
 use std::alloc::{AllocError as OutOfMemory, Global};
 
@@ -28,7 +27,7 @@ pub(crate) fn one_node(alloc: Global, ranks: u32) -> Result<Shape, OutOfMemory>
     ensures proper { IfOk result IsProper }
 {
     Ok(Shape {
-        node_of: zeros(alloc, ranks)?,
+        node_of: vec![in alloc; 0; ranks as usize]?,
         nodes: 1,
         leaf_of: vec![in alloc; 1]?,
         elements: vec![in alloc;

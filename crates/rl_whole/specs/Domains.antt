@@ -1,0 +1,134 @@
+-- Which atoms a rank's next one may be: those of cards only where the rank may make acts through cards.
+use Rattle.std.specs.Prelude.{◌≡◌, ℕ, true, List, slice_get, Option, Some, None, refl}
+use Rattle.std.proofs.Common.{sym, ap, subst, ⊎_elim}
+use Rattle.std.proofs.lemmas.Option.{same_Some}
+use Rattle.rl_word.specs.Acts.{word_of, by_card, Layout}
+use Rattle.rl_word.specs.declared.acts.Act.{Act}
+use Rattle.rl_word.specs.declared.acts.Act.TheVariants as act
+use Rattle.rl_word.specs.declared.acts.Atom.{Atom}
+use Rattle.rl_word.specs.declared.acts.Atom.TheVariants as atom
+use Rattle.rl_step.specs.declared.events.Event.{Event}
+use Rattle.rl_step.specs.Lock.{LockTable, LockState, LockLaws, Deed}
+use Rattle.rl_word.specs.Places.{get_map}
+use Rattle.rl_whole.specs.declared.card_state.CardState.{CardState}
+use Rattle.rl_whole.specs.declared.card_state.CardState.TheVariants.{Free, InCard, Loaded, ToLeave}
+use Rattle.rl_whole.specs.declared.side.Side.{Side}
+use Rattle.rl_step.specs.Core.{MayBe}
+use Rattle.rl_step.specs.Do.{Held}
+use Rattle.rl_whole.specs.Running.{LockAt}
+use Rattle.rl_whole.specs.declared.whole.WholeView.{WholeView}
+use Rattle.rl_whole.specs.Whole.{shifted, next_of, side_of, Good}
+use Rattle.rl_whole.specs.WholeLaws.{next_cases}
+use Rattle.rl_whole.specs.Split.{SplitState, LockGood, UsesCards, lock_of, view_of, side_atom, card_atom, card_in, first_at, home_of}
+
+-- an atom of a card
+abbrev pub IsCardAtom : Atom → Type 0
+IsCardAtom (atom.Load w) = ⊥
+IsCardAtom (atom.Store w v) = ⊥
+IsCardAtom (atom.LocalCas w old new) = ⊥
+IsCardAtom (atom.Take n) = Unit {0}
+IsCardAtom (atom.CardLoad w) = Unit {0}
+IsCardAtom (atom.CardStore w v) = Unit {0}
+IsCardAtom (atom.Leave n) = Unit {0}
+
+-- a local compare-and-swap, as an atom and as an act
+abbrev pub IsLocalAtom : Atom → Type 0
+IsLocalAtom (atom.LocalCas w old new) = Unit {0}
+IsLocalAtom _ = ⊥
+
+abbrev pub IsLocalAct : Act → Type 0
+IsLocalAct (act.LocalCas w old new) = Unit {0}
+IsLocalAct _ = ⊥
+
+-- the lock lets rank r make some local compare-and-swap
+abbrev pub UsesLocals : {V : Type 0} → LockTable V → ℕ → Type 0
+UsesLocals T r = (a : Act) × IsLocalAct a × (T.may_make r a ≡ true)
+
+-- in every state under the rule a rank's next atom is one of a card only where it may make acts through cards, and a local
+-- compare-and-swap only where it may make one
+abbrev pub KeepsToCards : {V : Type 0} → LockAt V → (Held → List (WholeView V) → Type 0) → Type 0
+KeepsToCards L rule = (x : _) (at : Atom) → MayBe rule x → next_of L x ≡ Some at → IsCardAtom at → UsesCards L.table x.rank
+
+abbrev pub KeepsToLocals : {V : Type 0} → LockAt V → (Held → List (WholeView V) → Type 0) → Type 0
+KeepsToLocals L rule = (x : _) (at : Atom) → MayBe rule x → next_of L x ≡ Some at → IsLocalAtom at → UsesLocals L.table x.rank
+
+module _ (V : Type 0) (T : LockTable V) (good : LockState V → Type 0) (further : List Event → List Deed → Type 0) (layout : Layout) (laws : LockLaws T good further layout) where
+  first_card : (home : ℕ) (a : Act) → IsCardAtom (first_at home a) → by_card a ≡ true
+  first_card home (act.Load w) h = absurd h
+  first_card home (act.Store w v) h = absurd h
+  first_card home (act.LocalCas w old new) h = absurd h
+  first_card home (act.CardCas w old new) h = refl
+  first_card home (act.CardSwap w v) h = refl
+  first_card home (act.CardAdd w d) h = refl
+
+  at_atom : (s : SplitState V) (r : ℕ) (v : V) (p : Option Act) (h : CardState) (at : Atom) → LockGood T good layout s → slice_get s.sides r ≡ Some (record { view = v; card = h }) → T.plan v ≡ p → card_atom T p h ≡ Some at → IsCardAtom at → UsesCards T r
+  at_atom s r v p (ToLeave n) at g has pl e c = g.domain r n (record { view = v; card = ToLeave n }) has refl
+  at_atom s r v None Free at g has pl e c = cc
+  at_atom s r v None InCard at g has pl e c = cc
+  at_atom s r v None (Loaded k) at g has pl e c = cc
+  at_atom s r v (Some a) Free at g has pl e c =
+      (a, first_card (home_of T (word_of a)) a (subst IsCardAtom (sym (same_Some _ _ e)) c), (laws.lawful (lock_of s) r v a (record { is_good = g.lock; has = get_map view_of s.sides r (record { view = v; card = Free }) has; planned = pl })).1)
+  at_atom s r v (Some a) InCard at g has pl e c = g.domain r (home_of T (word_of a)) (record { view = v; card = InCard }) has (ap (λ q. card_in T q InCard) pl)
+  at_atom s r v (Some a) (Loaded k) at g has pl e c = g.domain r (home_of T (word_of a)) (record { view = v; card = Loaded k }) has (ap (λ q. card_in T q (Loaded k)) pl)
+
+  -- a rank whose next atom is one of a card may make acts through cards
+  pub card_atom_allowed : (s : SplitState V) (r : ℕ) (x : Side V) (at : Atom) → LockGood T good layout s → slice_get s.sides r ≡ Some x → side_atom T x ≡ Some at → IsCardAtom at → UsesCards T r
+  card_atom_allowed s r x at g has e c = at_atom s r x.view (T.plan x.view) x.card at g has refl e c
+
+  first_local : (home : ℕ) (a : Act) → IsLocalAtom (first_at home a) → IsLocalAct a
+  first_local home (act.Load w) h = h
+  first_local home (act.Store w v) h = h
+  first_local home (act.LocalCas w old new) h = tt
+  first_local home (act.CardCas w old new) h = h
+  first_local home (act.CardSwap w v) h = h
+  first_local home (act.CardAdd w d) h = h
+
+  local_at : (s : SplitState V) (r : ℕ) (v : V) (p : Option Act) (h : CardState) (at : Atom) → LockGood T good layout s → slice_get s.sides r ≡ Some (record { view = v; card = h }) → T.plan v ≡ p → card_atom T p h ≡ Some at → IsLocalAtom at → UsesLocals T r
+  local_at s r v p (ToLeave n) at g has pl e c = absurd (subst IsLocalAtom (sym (same_Some _ _ e)) c)
+  local_at s r v None Free at g has pl e c = cc
+  local_at s r v None InCard at g has pl e c = cc
+  local_at s r v None (Loaded k) at g has pl e c = cc
+  local_at s r v (Some a) Free at g has pl e c =
+      (a, first_local (home_of T (word_of a)) a (subst IsLocalAtom (sym (same_Some _ _ e)) c), (laws.lawful (lock_of s) r v a (record { is_good = g.lock; has = get_map view_of s.sides r (record { view = v; card = Free }) has; planned = pl })).1)
+  local_at s r v (Some a) InCard at g has pl e c = absurd (subst IsLocalAtom (sym (same_Some _ _ e)) c)
+  local_at s r v (Some a) (Loaded k) at g has pl e c = absurd (subst IsLocalAtom (sym (same_Some _ _ e)) c)
+
+  -- a rank whose next atom is a local compare-and-swap may make one
+  pub local_atom_allowed : (s : SplitState V) (r : ℕ) (x : Side V) (at : Atom) → LockGood T good layout s → slice_get s.sides r ≡ Some x → side_atom T x ≡ Some at → IsLocalAtom at → UsesLocals T r
+  local_atom_allowed s r x at g has e c = local_at s r x.view (T.plan x.view) x.card at g has refl e c
+
+-- a rank's next atom of the whole machine
+module _ (V : Type 0) (L : LockAt V) (good : LockState V → Type 0) (further : List Event → List Deed → Type 0) (layout : Layout) (laws : LockLaws L.table good further layout) (home : ℕ) where
+  unshifted : (at : Atom) → IsCardAtom (shifted L.base at) → IsCardAtom at
+  unshifted (atom.Load w) h = h
+  unshifted (atom.Store w v) h = h
+  unshifted (atom.LocalCas w old new) h = h
+  unshifted (atom.Take n) h = h
+  unshifted (atom.CardLoad w) h = h
+  unshifted (atom.CardStore w v) h = h
+  unshifted (atom.Leave n) h = h
+
+  pub next_card_allowed : (x : WholeView V) (at : Atom) → MayBe (Good L good layout) x → next_of L x ≡ Some at → IsCardAtom at → UsesCards L.table x.rank
+  next_card_allowed x at m e c =
+      ⊎_elim
+      (λ q. subst (UsesCards L.table) (sym (m.is_ruled.work_part.own m.rank x m.has))
+      (card_atom_allowed V L.table good further layout laws _ m.rank x.side q.0 m.is_ruled.lock_part (get_map side_of m.views m.rank x m.has) q.1 (unshifted q.0 (subst IsCardAtom (sym q.2) c))))
+      (λ q. absurd (subst IsCardAtom q.2 c))
+      (next_cases V L good further layout laws home (L.table.standing x.side.view) (side_atom L.table x.side) at e)
+
+  local_unshifted : (at : Atom) → IsLocalAtom (shifted L.base at) → IsLocalAtom at
+  local_unshifted (atom.Load w) h = h
+  local_unshifted (atom.Store w v) h = h
+  local_unshifted (atom.LocalCas w old new) h = h
+  local_unshifted (atom.Take n) h = h
+  local_unshifted (atom.CardLoad w) h = h
+  local_unshifted (atom.CardStore w v) h = h
+  local_unshifted (atom.Leave n) h = h
+
+  pub next_local_allowed : (x : WholeView V) (at : Atom) → MayBe (Good L good layout) x → next_of L x ≡ Some at → IsLocalAtom at → UsesLocals L.table x.rank
+  next_local_allowed x at m e c =
+      ⊎_elim
+      (λ q. subst (UsesLocals L.table) (sym (m.is_ruled.work_part.own m.rank x m.has))
+      (local_atom_allowed V L.table good further layout laws _ m.rank x.side q.0 m.is_ruled.lock_part (get_map side_of m.views m.rank x m.has) q.1 (local_unshifted q.0 (subst IsLocalAtom (sym q.2) c))))
+      (λ q. absurd (subst IsLocalAtom q.2 c))
+      (next_cases V L good further layout laws home (L.table.standing x.side.view) (side_atom L.table x.side) at e)
