@@ -1,0 +1,106 @@
+//! RMA-MCS: the lock that the tree of elements is by itself.
+
+ghost use Rattle.std.specs.Prelude.{◌≡◌, ◌≤◌, None, refl, length, true};
+ghost use Rattle.rl_word.specs.declared.locks.LockName.TheVariants as TheName;
+ghost use Rattle.rl_word.specs.Shapes.{layout_of};
+ghost use Rattle.rl_step.specs.Lock.{no_more};
+ghost use Rattle.rl_tree.specs.Tree.{at_hook};
+ghost use Rattle.rl_tree.specs.Elements.{tree_of};
+ghost use Rattle.rl_tree.specs.Fits.{IsPlaced};
+ghost use Rattle.rl_tree.specs.TreeShape.{IsBudgeted, levels_of};
+ghost use Rattle.rl_tree.specs.TreeLaid.{laid_shaped};
+ghost use Rattle.rl_mcs.specs.Mcs.{mcs_tree, past_hook as past_the_hook, mcs_table, McsGood};
+ghost use Rattle.rl_mcs.specs.McsLaws.{mcs_laws};
+
+use rl_step::{Algo, Learnt, Standing};
+use rl_tree::{Tree, TreeView, tree_enter};
+use rl_word::{Act, Knobs, Mode, Shape, Spot};
+use std::alloc::{AllocError as OutOfMemory, Global};
+
+/// RMA-MCS, the lock of Schmid, Besta and Hoefler for remote memory: a queue for each element of the tree of nodes. A rank joins its
+/// node's queue; a queue's head joins the queue above for its element, and so up to the root, which has no limit. All other elements
+/// have a budget: so often their queue is passed on before what is above is given up.
+///
+/// A queue for each element, numbered as these are; their words are those of the tree. Readers are writers to it. It reads no setting.
+#[derive(Drop)]
+pub struct Mcs {
+    tree: Tree,
+    ghost unlimited: { tree.rooted.root ≡ None },
+}
+
+/// Goes on from the hook in the same act: nothing is above the root.
+fn past_hook(tree: &Tree, turn: Learnt<TreeView>) -> Learnt<TreeView>
+    requires placed { at_hook turn.view ≡ true → IsPlaced tree.now.rooted turn.view }
+    requires room { at_hook turn.view ≡ true → length turn.events.items ≤ 3 }
+    ensures view { result.view ≡ (past_the_hook (tree_of tree.now.rooted) (at_hook turn.view) (record { view = turn.view; events = turn.events.items; waits = turn.waits })).view }
+    ensures events { result.events.items ≡ (past_the_hook (tree_of tree.now.rooted) (at_hook turn.view) (record { view = turn.view; events = turn.events.items; waits = turn.waits })).events }
+    ensures waits { result.waits ≡ (past_the_hook (tree_of tree.now.rooted) (at_hook turn.view) (record { view = turn.view; events = turn.events.items; waits = turn.waits })).waits }
+{
+    if turn.view.is_at_hook() {
+        tree.resume(turn.view, turn.events)
+    } else {
+        turn
+    }
+}
+
+impl Algo for Mcs {
+    type View = TreeView;
+
+    ghost table = { λ s. mcs_table s.tree.rooted };
+
+    ghost good = { λ s. McsGood s.tree.rooted (levels_of s.tree.rooted.shape) };
+
+    ghost further = { λ s. no_more };
+
+    ghost layout = { λ s. layout_of s.tree.rooted.shape };
+
+    ghost defined = { λ shape home knobs. mcs_table (mcs_tree home shape) };
+
+    ghost promised = { λ shape home knobs. no_more };
+
+    ghost name = { TheName.Mcs };
+
+    ghost has_queues = { λ shape home knobs. refl };
+
+    ghost suits_knobs = { λ shape knobs. IsBudgeted shape };
+
+    fn make(alloc: Global, shape: &Shape, home: u32, _knobs: Knobs) -> Result<Self, OutOfMemory> {
+        let tree = Tree::new(alloc, shape, home, None)?;
+        Ok(Mcs { tree })
+    }
+
+    fn words(&self) -> u32 {
+        self.tree.words()
+    }
+
+    fn spot(&self, word: u32) -> Spot {
+        self.tree.spot(word)
+    }
+
+    fn first(&self, rank: u32) -> TreeView {
+        self.tree.first(rank)
+    }
+
+    fn ask(&self, view: TreeView, _mode: Mode) -> TreeView {
+        view.join()
+    }
+
+    fn plan(&self, view: TreeView) -> Option<Act> {
+        self.tree.plan(view)
+    }
+
+    fn learn(&self, view: TreeView, got: u64) -> Learnt<TreeView> {
+        let turn = self.tree.learn(view, got);
+        tree_enter(past_hook(&self.tree, turn))
+    }
+
+    fn leave(&self, view: TreeView) -> TreeView {
+        view.leave()
+    }
+
+    fn standing(&self, view: TreeView) -> Standing {
+        view.standing()
+    }
+
+    ghost laws = { λ s. mcs_laws s.tree.rooted (levels_of s.tree.rooted.shape) (laid_shaped s.tree.rooted (levels_of s.tree.rooted.shape) s.tree.laid) s.unlimited };
+}

@@ -1,0 +1,6 @@
+-- The rank's leaf is on its path.
+use Rattle.std.proofs.Common.{rules}
+use Rattle.rl_tree.proofs.tree.Tree.comes_in.Goals as goal
+
+pub inside-requires : goal.inside-requires
+inside-requires c = c.requires.there 0 (search rules)

@@ -1,0 +1,32 @@
+-- to be believed, in reading order
+pub mod Tree
+pub mod Elements
+pub mod Fits
+pub mod TreeGood
+pub mod TreeShape
+pub mod TreeFacts
+-- proved; skip at first
+pub mod TreePaths
+pub mod TreeWords
+pub mod TreeClimb
+pub mod TreeKeeps
+pub mod TreeActs
+pub mod TreeParts
+pub mod TreeStays
+pub mod TreePassed
+pub mod TreeOnward
+pub mod TreeCalls
+pub mod TreeHook
+pub mod TreeProper
+pub mod TreeSize
+pub mod TreeLaid
+pub mod TreeEvents
+pub mod TreeLawful
+pub mod TreeStandings
+pub mod TreeHolders
+pub mod TreeSteps
+pub mod TreeMoves
+pub mod TreeRest
+pub mod TreeFits
+pub mod TreeLaws
+pub mod Tower

@@ -1,0 +1,214 @@
+//! The tree of a shape: a queue for each element, their words, and where these live.
+
+ghost use Rattle.std.specs.Prelude.{◌≡◌, ℕ, ◌+◌, ◌*◌, ◌<◌, ◌≤◌, ◌^◌, ◌∷◌, Some, length, IfOk};
+ghost use Rattle.rl_word.specs.Shapes.{IsProper};
+ghost use Rattle.rl_step.specs.LockQueues.{stands};
+ghost use Rattle.rl_queue.specs.RankWords.{every_second};
+ghost use Rattle.rl_tree.specs.Elements.{how_many, ranks_in, leaf_of, of_tree, names_by, names_in, all_names, tree_of, tree_spot, out_at};
+ghost use Rattle.rl_tree.specs.TreeShape.{IsBudgeted, IsLaid, levels_of};
+
+use crate::rooted::Rooted;
+use crate::view::TreeView;
+use rl_queue::{QueueNames, rank_words};
+use rl_word::{Class, Shape, Spot};
+use std::alloc::{AllocError as OutOfMemory, Global};
+
+/// The tree of a shape, for the queues of one lock: a queue for each element, of which the root, element 0, has a budget that the lock
+/// gives it, or none.
+///
+/// Words come in this order: the tail of each element; the next word and the status word of each element but the root; those of each
+/// rank. Tails are card words, the root's on the shard's home and any other on its element's first node; the others are plain, an
+/// element's on its first node and a rank's on the rank's node.
+#[derive(Drop)]
+pub struct Tree {
+    rooted: Rooted,
+    queues: Vec<QueueNames>,
+    ghost laid: { IsLaid rooted (levels_of rooted.shape) },
+    ghost named: { queues.items ≡ all_names rooted.shape rooted.root },
+}
+
+/// The next words of all elements, or their status words, with 0 for the root, which has none.
+fn element_words(alloc: Global, from: u32, below_root: u32) -> Result<Vec<u32>, OutOfMemory>
+    requires { from + 2 * below_root < 2 ^ 32 }
+    ensures { IfOk result (λ words. words.items ≡ 0 ∷ every_second from below_root) }
+{
+    let mut words = Vec::new(alloc);
+    words.push(0)?;
+    for element in 0..below_root {
+        words.push(from + 2 * element)?;
+    }
+    Ok(words)
+}
+
+/// Whether an element is a node.
+fn is_node(shape: &Shape, element: u32) -> bool
+    ensures { result ≡ stands shape.now.leaf_of element }
+{
+    shape.leaf_of.contains(&element)
+}
+
+/// The words of the queue of an element: of a node's ranks, or of the elements below one.
+fn names_for(
+    alloc: Global,
+    shape: &Shape,
+    element: u32,
+    root: Option<u32>,
+) -> Result<QueueNames, OutOfMemory>
+    requires there { element < length shape.now.elements }
+    requires ranks { length shape.now.node_of ≤ 32 }
+    requires elements { length shape.now.elements ≤ 128 }
+    ensures { IfOk result (λ names. names ≡ names_by shape.now root element) }
+{
+    let ranks = shape.node_of.len() as u32;
+    let elements = shape.elements.len() as u32;
+    let of_ranks = elements + 2 * (elements - 1);
+    let node = is_node(shape, element);
+    let next = if node {
+        rank_words(alloc, of_ranks, ranks)?
+    } else {
+        element_words(alloc, elements, elements - 1)?
+    };
+    let status = if node {
+        rank_words(alloc, of_ranks + 1, ranks)?
+    } else {
+        element_words(alloc, elements + 1, elements - 1)?
+    };
+    let budget = if element == 0 {
+        root
+    } else {
+        shape.elements[element as usize].budget
+    };
+    Ok(QueueNames {
+        queue: element,
+        tail: element,
+        tail_class: Class::Card,
+        next,
+        status,
+        budget,
+    })
+}
+
+/// The words of all queues.
+fn names_for_all(
+    alloc: Global,
+    shape: &Shape,
+    root: Option<u32>,
+) -> Result<Vec<QueueNames>, OutOfMemory>
+    requires ranks { length shape.now.node_of ≤ 32 }
+    requires elements { length shape.now.elements ≤ 128 }
+    ensures { IfOk result (λ queues. queues.items ≡ all_names shape.now root) }
+{
+    let mut queues = Vec::new(alloc);
+    for element in 0..shape.elements.len() as u32 {
+        queues.push(names_for(alloc, shape, element, root)?)?;
+    }
+    Ok(queues)
+}
+
+/// A copy of a shape.
+fn copy_of(shape: &Shape) -> Result<Shape, OutOfMemory>
+    ensures { IfOk result (λ copy. copy ≡ shape.now) }
+{
+    let node_of = shape.node_of.clone()?;
+    let leaf_of = shape.leaf_of.clone()?;
+    let elements = shape.elements.clone()?;
+    Ok(Shape {
+        node_of,
+        nodes: shape.nodes,
+        leaf_of,
+        elements,
+    })
+}
+
+impl Tree {
+    /// The tree of a proper shape, in which each element but the root has a budget; the root has the one given, 1000 at most, or none.
+    /// The home is that of the shard.
+    pub fn new(
+        alloc: Global,
+        shape: &Shape,
+        home: u32,
+        root: Option<u32>,
+    ) -> Result<Self, OutOfMemory>
+        requires proper { IsProper shape.now }
+        requires homed { home < shape.now.nodes }
+        requires budgeted { IsBudgeted shape.now }
+        requires modest { (budget : ℕ) → root ≡ Some budget → budget ≤ 1000 }
+        ensures { IfOk result (λ tree. tree.rooted ≡ record { home = home; shape = shape.now; root = root }) }
+    {
+        let queues = names_for_all(alloc, shape, root)?;
+        let copy = copy_of(shape)?;
+        Ok(Tree {
+            rooted: Rooted {
+                home,
+                shape: copy,
+                root,
+            },
+            queues,
+        })
+    }
+
+    /// How many words the tree has.
+    pub fn words(&self) -> u32
+        ensures { result ≡ of_tree self.now.rooted }
+    {
+        let elements = self.rooted.shape.elements.len() as u32;
+        elements + 2 * (elements - 1) + 2 * self.rooted.shape.node_of.len() as u32
+    }
+
+    /// The class of a word, and where it lives.
+    pub fn spot(&self, word: u32) -> Spot
+        requires { word < of_tree self.now.rooted }
+        ensures { result ≡ tree_spot self.now.rooted word }
+    {
+        let elements = self.rooted.shape.elements.len() as u32;
+        let of_ranks = elements + 2 * (elements - 1);
+        if word == 0 {
+            Spot {
+                class: Class::Card,
+                home: self.rooted.home,
+            }
+        } else if word < elements {
+            Spot {
+                class: Class::Card,
+                home: self.rooted.shape.elements[word as usize].first_node,
+            }
+        } else if word < of_ranks {
+            Spot {
+                class: Class::Plain,
+                home: self.rooted.shape.elements[((word - elements) / 2 + 1) as usize].first_node,
+            }
+        } else {
+            Spot {
+                class: Class::Plain,
+                home: self.rooted.shape.node_of[((word - of_ranks) / 2) as usize],
+            }
+        }
+    }
+
+    /// The view of a rank that is out.
+    pub fn first(&self, rank: u32) -> TreeView
+        requires { rank < ranks_in self.now.rooted }
+        ensures { result ≡ out_at rank (leaf_of self.now.rooted rank) }
+    {
+        let node = self.rooted.shape.node_of[rank as usize];
+        TreeView::out(rank, self.rooted.shape.leaf_of[node as usize])
+    }
+
+    /// The parent of an element: the root has none.
+    pub(crate) fn parent(&self, element: u32) -> Option<u32>
+        ensures { result ≡ (tree_of self.now.rooted).parent element }
+    {
+        match self.rooted.shape.elements.get(element as usize) {
+            Some(there) => there.parent,
+            None => None,
+        }
+    }
+
+    /// The words of the queue of an element.
+    pub(crate) fn names(&self, element: u32) -> &QueueNames
+        requires { element < how_many self.now.rooted }
+        ensures { result.now ≡ names_in self.now.rooted element }
+    {
+        &self.queues[element as usize]
+    }
+}

@@ -1,0 +1,363 @@
+//! What a rank does in the queues on its path.
+
+ghost use Rattle.std.specs.Prelude.{◌≡◌, ℕ, true, ◌+◌, ◌<◌, ◌≤◌, ◌++◌, length};
+ghost use Rattle.rl_queue.specs.Queue.{full_budget, resume_at};
+ghost use Rattle.rl_queue.specs.Lane.{told_left};
+ghost use Rattle.rl_tree.specs.Tree.{path, is_none, behind_at, member_at as the_member, inside_from, settles_below, comes_in as the_entry, goes_up as the_rise, gives_up as the_release, goes_down as the_descent, walk as the_walk, tree_plan, tree_learn, at_hook, resume_by, with_entry};
+ghost use Rattle.rl_tree.specs.Elements.{how_many, tree_of};
+ghost use Rattle.rl_tree.specs.Fits.{IsPlaced, MayPlan, MayLearn, StatusFits};
+
+use crate::tree::Tree;
+use crate::view::TreeView;
+use arrayvec::ArrayVec;
+use rl_queue::{Phase, QueueView, queue_learn, queue_plan, queue_resume};
+use rl_step::{Event, Learnt};
+use rl_word::Act;
+
+/// The passes that a member has that has settled.
+fn full(budget: Option<u32>) -> u32
+    ensures { result ≡ full_budget budget }
+{
+    match budget {
+        None => 0,
+        Some(passes) => passes,
+    }
+}
+
+/// How many passes a status leaves.
+fn passes_told(budget: Option<u32>, status: u64) -> u32
+    requires { StatusFits budget status }
+    ensures { result ≡ told_left budget status }
+{
+    if status < 2 {
+        full(budget)
+    } else {
+        match budget {
+            None => 0,
+            Some(_) => (status - 2) as u32,
+        }
+    }
+}
+
+/// The phase of one that has given up what is above.
+fn resumed(successor: Option<u32>) -> Phase
+    ensures { result ≡ resume_at (Phase.Above successor) }
+{
+    queue_resume(QueueView {
+        member: 0,
+        phase: Phase::Above { successor },
+    })
+    .phase
+}
+
+/// The successor that a rank has found at a level below.
+fn behind(view: TreeView, level: u32) -> Option<u32>
+    requires { level < 3 }
+    ensures { result ≡ behind_at view.behind level }
+{
+    let behind = view.behind;
+    behind[level as usize]
+}
+
+/// One that has left the queue at a level goes on in the queue below.
+fn goes_down(view: TreeView, level: u32, told: ArrayVec<Event, 8>) -> Learnt<TreeView>
+    requires { level ≤ 3 }
+    ensures view { result.view ≡ (the_descent view level told.items).view }
+    ensures events { result.events.items ≡ (the_descent view level told.items).events }
+    ensures waits { result.waits ≡ (the_descent view level told.items).waits }
+{
+    let next = if level == 0 {
+        view.at_level(0, Phase::Idle)
+    } else {
+        let below = level - 1;
+        view.at_level(below, resumed(behind(view, below)))
+    };
+    Learnt {
+        view: next,
+        events: told,
+        waits: false,
+    }
+}
+
+/// One that must settle works for its element one level up, but at the root it stands at the hook.
+fn goes_up(top: bool, view: TreeView, level: u32, told: ArrayVec<Event, 8>) -> Learnt<TreeView>
+    requires { level ≤ 3 }
+    ensures view { result.view ≡ (the_rise top view level told.items).view }
+    ensures events { result.events.items ≡ (the_rise top view level told.items).events }
+    ensures waits { result.waits ≡ (the_rise top view level told.items).waits }
+{
+    let next = if top {
+        view.at_level(level, Phase::Settle)
+    } else {
+        view.at_level(level + 1, Phase::Clear)
+    };
+    Learnt {
+        view: next,
+        events: told,
+        waits: false,
+    }
+}
+
+/// One that gives up what is above loads the status of its element one level up, but at the root it stands at the hook.
+fn gives_up(
+    top: bool,
+    view: TreeView,
+    level: u32,
+    successor: Option<u32>,
+    told: ArrayVec<Event, 8>,
+) -> Learnt<TreeView>
+    requires { level ≤ 3 }
+    ensures view { result.view ≡ (the_release top view level successor told.items).view }
+    ensures events { result.events.items ≡ (the_release top view level successor told.items).events }
+    ensures waits { result.waits ≡ (the_release top view level successor told.items).waits }
+{
+    let mut behind = view.behind;
+    if level < 3 {
+        behind[level as usize] = successor;
+    }
+    let next = TreeView {
+        rank: view.rank,
+        leaf: view.leaf,
+        level: if top { level } else { level + 1 },
+        phase: if top {
+            Phase::Above { successor }
+        } else {
+            Phase::Idle
+        },
+        query: !top,
+        behind,
+    };
+    Learnt {
+        view: next,
+        events: told,
+        waits: false,
+    }
+}
+
+/// Who is inside enters: this stands behind what was told before.
+pub fn tree_enter(turn: Learnt<TreeView>) -> Learnt<TreeView>
+    requires { length (with_entry (record { view = turn.view; events = turn.events.items; waits = turn.waits })).events ≤ 8 }
+    ensures view { result.view ≡ turn.view }
+    ensures events { result.events.items ≡ (with_entry (record { view = turn.view; events = turn.events.items; waits = turn.waits })).events }
+    ensures waits { result.waits ≡ turn.waits }
+{
+    let mut events = turn.events;
+    if !turn.view.query && matches!(turn.view.phase, Phase::Granted { .. }) {
+        events.push(Event::EnterW {
+            rank: turn.view.rank,
+        });
+    }
+    Learnt {
+        view: turn.view,
+        events,
+        waits: turn.waits,
+    }
+}
+
+impl Tree {
+    /// The element at a level of the path up from a leaf.
+    fn element_at(&self, leaf: u32, level: u32) -> u32
+        ensures { result ≡ path (tree_of self.now.rooted) leaf level }
+    {
+        let mut at = leaf;
+        for _step in 0..level {
+            at = match self.parent(at) {
+                Some(parent) => parent,
+                None => 0,
+            };
+        }
+        at
+    }
+
+    /// The member for which a rank works at a level.
+    fn member_at(&self, rank: u32, leaf: u32, level: u32) -> u32
+        ensures { result ≡ the_member (tree_of self.now.rooted) rank leaf level }
+    {
+        if level == 0 {
+            rank
+        } else {
+            self.element_at(leaf, level - 1)
+        }
+    }
+
+    /// The rank settles in all queues below a level, from the upper one down.
+    fn settle_below(&self, view: TreeView, level: u32, events: &mut ArrayVec<Event, 8>)
+        requires low { level ≤ 3 }
+        requires room { length events.old.items ≤ 4 }
+        requires there { (j : ℕ) → j < level → path (tree_of self.now.rooted) view.leaf j < how_many self.now.rooted }
+        ensures { events.new.items ≡ events.old.items ++ settles_below (tree_of self.now.rooted) view level }
+    {
+        for step in 0..level {
+            let below = level - 1 - step;
+            let element = self.element_at(view.leaf, below);
+            let member = self.member_at(view.rank, view.leaf, below);
+            events.push(Event::Settle {
+                queue: self.names(element).queue,
+                member,
+            });
+        }
+    }
+
+    /// The phase in its node's queue of a rank that has come in from a level.
+    fn inside(&self, view: TreeView, level: u32, left: u32) -> Phase
+        requires { view.leaf < how_many self.now.rooted }
+        ensures { result ≡ inside_from (tree_of self.now.rooted) view level left }
+    {
+        if level == 0 {
+            Phase::Granted { left }
+        } else {
+            Phase::Granted {
+                left: full(self.names(view.leaf).budget),
+            }
+        }
+    }
+
+    /// A rank that has been given the queue at a level settles in all queues below, and is inside.
+    fn comes_in(
+        &self,
+        view: TreeView,
+        level: u32,
+        left: u32,
+        told: ArrayVec<Event, 8>,
+    ) -> Learnt<TreeView>
+        requires low { level ≤ 3 }
+        requires room { length told.items ≤ 4 }
+        requires there { (j : ℕ) → j ≤ level → path (tree_of self.now.rooted) view.leaf j < how_many self.now.rooted }
+        ensures view { result.view ≡ (the_entry (tree_of self.now.rooted) view level left told.items).view }
+        ensures events { result.events.items ≡ (the_entry (tree_of self.now.rooted) view level left told.items).events }
+        ensures waits { result.waits ≡ (the_entry (tree_of self.now.rooted) view level left told.items).waits }
+    {
+        let mut events = told;
+        self.settle_below(view, level, &mut events);
+        Learnt {
+            view: view.at_level(0, self.inside(view, level, left)),
+            events,
+            waits: false,
+        }
+    }
+
+    /// Whether the element at a level of a rank's path is the root.
+    fn is_top(&self, view: TreeView, level: u32) -> bool
+        ensures { result ≡ is_none ((tree_of self.now.rooted).parent (path (tree_of self.now.rooted) view.leaf level)) }
+    {
+        self.parent(self.element_at(view.leaf, level)).is_none()
+    }
+
+    /// Goes on from what a rank's turn at a level led to.
+    fn walk(
+        &self,
+        view: TreeView,
+        level: u32,
+        phase: Phase,
+        told: ArrayVec<Event, 8>,
+        waits: bool,
+    ) -> Learnt<TreeView>
+        requires low { level ≤ 3 }
+        requires room { length told.items ≤ 4 }
+        requires there { (j : ℕ) → j ≤ level → path (tree_of self.now.rooted) view.leaf j < how_many self.now.rooted }
+        ensures view { result.view ≡ (the_walk (tree_of self.now.rooted) view level phase told.items waits).view }
+        ensures events { result.events.items ≡ (the_walk (tree_of self.now.rooted) view level phase told.items waits).events }
+        ensures waits { result.waits ≡ (the_walk (tree_of self.now.rooted) view level phase told.items waits).waits }
+    {
+        match phase {
+            Phase::Settle => goes_up(self.is_top(view, level), view, level, told),
+            Phase::Granted { left } => self.comes_in(view, level, left, told),
+            Phase::Above { successor } => gives_up(
+                self.is_top(view, level),
+                view,
+                level,
+                successor,
+                told,
+            ),
+            Phase::Idle => goes_down(view, level, told),
+            _ => Learnt {
+                view: view.at_level(level, phase),
+                events: told,
+                waits,
+            },
+        }
+    }
+
+    /// The act that a rank makes next; none where it is out, inside, or at the hook.
+    pub fn plan(&self, view: TreeView) -> Option<Act>
+        requires { MayPlan self.now.rooted view }
+        ensures { result ≡ tree_plan (tree_of self.now.rooted) view }
+    {
+        let member = self.member_at(view.rank, view.leaf, view.level);
+        let names = self.names(self.element_at(view.leaf, view.level));
+        if view.query {
+            Some(Act::Load {
+                word: names.status[member as usize],
+            })
+        } else {
+            queue_plan(
+                QueueView {
+                    member,
+                    phase: view.phase,
+                },
+                names,
+            )
+        }
+    }
+
+    /// What a rank learns where its planned act told `got`: its view, the joins, passes and settlements in all its queues, and whether a
+    /// waiting load has to be made again. The rank may come to the hook.
+    pub fn learn(&self, view: TreeView, got: u64) -> Learnt<TreeView>
+        requires fits { MayPlan self.now.rooted view }
+        requires got { MayLearn self.now.rooted view got }
+        ensures view { result.view ≡ (tree_learn (tree_of self.now.rooted) view got).view }
+        ensures events { result.events.items ≡ (tree_learn (tree_of self.now.rooted) view got).events }
+        ensures waits { result.waits ≡ (tree_learn (tree_of self.now.rooted) view got).waits }
+    {
+        let member = self.member_at(view.rank, view.leaf, view.level);
+        let names = self.names(self.element_at(view.leaf, view.level));
+        if view.query {
+            let left = passes_told(names.budget, got);
+            let upper = names.budget.is_some();
+            Learnt {
+                view: view.at_level(view.level, Phase::Look { left, upper }),
+                events: ArrayVec::new(),
+                waits: false,
+            }
+        } else {
+            let turn = queue_learn(
+                QueueView {
+                    member,
+                    phase: view.phase,
+                },
+                names,
+                got,
+            );
+            let waits = turn.waits;
+            self.walk(view, view.level, turn.view.phase, turn.events, waits)
+        }
+    }
+
+    /// Goes on from the hook: a head of the root settles, and with it all queues below; a leaver hands the root over. What was told
+    /// before stands first among the events, for a lock that goes on in the same act.
+    pub fn resume(&self, view: TreeView, told: ArrayVec<Event, 8>) -> Learnt<TreeView>
+        requires hooked { at_hook view ≡ true }
+        requires placed { IsPlaced self.now.rooted view }
+        requires room { length told.items ≤ 3 }
+        ensures view { result.view ≡ (resume_by (tree_of self.now.rooted) view view.phase told.items).view }
+        ensures events { result.events.items ≡ (resume_by (tree_of self.now.rooted) view view.phase told.items).events }
+        ensures waits { result.waits ≡ (resume_by (tree_of self.now.rooted) view view.phase told.items).waits }
+    {
+        match view.phase {
+            Phase::Above { successor } => Learnt {
+                view: view.at_level(view.level, resumed(successor)),
+                events: told,
+                waits: false,
+            },
+            _ => {
+                let names = self.names(self.element_at(view.leaf, view.level));
+                let mut events = told;
+                events.push(Event::Settle {
+                    queue: names.queue,
+                    member: self.member_at(view.rank, view.leaf, view.level),
+                });
+                self.comes_in(view, view.level, full(names.budget), events)
+            }
+        }
+    }
+}
