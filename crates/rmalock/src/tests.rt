@@ -139,8 +139,8 @@ fn refusals(rt: HostRuntime) -> Result<(), Fail> {
         (
             ONE_RANK,
             ONE_HOLD,
-            "rmalock-schedule 1\nstop 0\nend\n",
-            "refused s 2 1 number\n",
+            "rmalock-schedule 1\nstop 0\n0 9\nend\n",
+            "refused s 3 1 order\n",
         ),
         (
             ONE_RANK,
