@@ -1,0 +1,13 @@
+pub mod Merges
+pub mod TallyLaws
+pub mod Lines
+pub mod WordsLaws
+pub mod ReplyLaws
+pub mod EntryLaws
+pub mod HeadLaws
+pub mod EventLaws
+pub mod SectionLaws
+pub mod ShardLaws
+pub mod NamingLaws
+pub mod ReportLaws
+pub mod Loops

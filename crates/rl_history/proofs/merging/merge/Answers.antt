@@ -1,0 +1,16 @@
+-- The sorted gets and holds between the updates are the history.
+use Rattle.std.proofs.Common.{map, subst, sym}
+use Rattle.std.specs.List.Sorted.{IsNonDecreasingBy, IsStableByKey}
+use Rattle.std.specs.Ordering.{nat_cmp}
+use Rattle.rl_model.specs.declared.entry.Entry.{Entry}
+use Rattle.rl_history.specs.Merging.{all_reads}
+use Rattle.rl_history.proofs.Merges.{is_history}
+use Rattle.rl_history.proofs.merging.merge.Goals as goal
+
+pub returns : goal.returns
+returns c =
+    let is = sym c.as_slice.ensures.value in
+    is_history (λ v. v.items) c.args.journal.now (map (λ t. t.items) c.args.transcripts.now) c.as_slice.result.now c.between.result
+    (subst (IsNonDecreasingBy (λ (e : Entry). e.at)) is c.in_ok-reads.ensures.sorted)
+    (subst (IsStableByKey (λ (e : Entry). e.at) nat_cmp (all_reads (map (λ t. t.items) c.args.transcripts.now))) is c.in_ok-reads.ensures.stable)
+    c.between.ensures
