@@ -1,0 +1,294 @@
+//! RMA-RW: what a rank does in the tree and at the counters.
+
+ghost use Rattle.std.specs.Prelude.{◌≡◌, ◌+◌, ◌-◌, ◌/◌, ◌<◌, ◌≤◌, ◌∷◌, [], length, refl, true, false, IfOk};
+ghost use Rattle.rl_word.specs.declared.locks.LockName.TheVariants as TheName;
+ghost use Rattle.rl_word.specs.Shapes.{layout_of};
+ghost use Rattle.rl_tree.specs.Tree.{has_above, with_entry};
+ghost use Rattle.rl_tree.specs.TreeShape.{levels_of};
+ghost use Rattle.rl_rw.specs.Rw.{shared_of, shared_in, SuitsRw, counters_of, from_tree, after_hook, from_counter, rw_table, BoundsBatches};
+ghost use Rattle.rl_rw.specs.Fits.{MayLeaveHook, Ends};
+ghost use Rattle.rl_rw.specs.RwGood.{RwGood};
+ghost use Rattle.rl_rw.specs.RwLaws.{laws_of};
+
+use crate::view::RwView;
+use arrayvec::ArrayVec;
+use rl_counter::{
+    CounterNames, CounterView, Doing, Task, counter_begin, counter_busy, counter_idle,
+    counter_learn, counter_plan,
+};
+use rl_queue::{Phase, rank_words};
+use rl_step::{Algo, Event, Learnt, Standing};
+use rl_tree::{Tree, TreeView, tree_enter};
+use rl_word::{Act, Class, Knobs, Mode, Shape, Spot};
+use std::alloc::{AllocError as OutOfMemory, Global};
+
+/// RMA-RW, the lock of Schmid, Besta and Hoefler for remote memory that readers share: writers queue in the tree of elements, whose root
+/// has a budget too; readers count themselves in and out, at a counter for each group of ranks. A writer that comes to the hook above
+/// the root puts a mark on each counter and waits until nobody is in any; one that leaves takes the marks down there.
+///
+/// The words of the tree come first, a queue for each element; then the arrive word and the depart word of each counter, card words on
+/// the node of the group's first rank. Rank r is of group r / group.
+#[derive(Drop)]
+pub struct Rw {
+    tree: Tree,
+    counters: CounterNames,
+    /// The node of each rank.
+    node_of: Vec<u32>,
+    group: u32,
+    ghost seated: { node_of.items ≡ tree.rooted.shape.node_of },
+    ghost counted: { counters ≡ counters_of (shared_of tree.rooted counters.readers group) },
+    ghost limited: { has_above tree.rooted.root ≡ true },
+    ghost few: { counters.readers ≤ 1000 },
+    ghost grouped: { 0 < group },
+    ghost modest: { group ≤ 32 },
+}
+
+/// Where the ranks sit.
+fn seats(shape: &Shape) -> Result<Vec<u32>, OutOfMemory>
+    ensures { IfOk result (λ seats. seats.items ≡ shape.now.node_of) }
+{
+    shape.node_of.clone()
+}
+
+/// How many groups of this size so many ranks make; the last may be short.
+fn groups_of(ranks: u32, group: u32) -> u32
+    requires ranks { ranks ≤ 32 }
+    requires some { 0 < group }
+    requires modest { group ≤ 32 }
+    ensures groups { result ≡ (ranks + group - 1) / group }
+    ensures few { result ≤ 32 }
+{
+    (ranks + group - 1) / group
+}
+
+/// What a rank learnt in the tree, with its entry where it came in.
+fn within_tree(view: RwView, turn: Learnt<TreeView>) -> Learnt<RwView>
+    requires { length (with_entry (record { view = turn.view; events = turn.events.items; waits = turn.waits })).events ≤ 8 }
+    ensures view { result.view ≡ (from_tree view false (record { view = turn.view; events = turn.events.items; waits = turn.waits })).view }
+    ensures events { result.events.items ≡ (from_tree view false (record { view = turn.view; events = turn.events.items; waits = turn.waits })).events }
+    ensures waits { result.waits ≡ turn.waits }
+{
+    let entered = tree_enter(turn);
+    Learnt {
+        view: RwView {
+            tree: entered.view,
+            counter: counter_idle(view.counter.counter),
+        },
+        events: entered.events,
+        waits: entered.waits,
+    }
+}
+
+/// A rank has come to the hook: it begins to put the marks up, or to take them down.
+fn comes_to_hook(view: RwView, turn: Learnt<TreeView>) -> Learnt<RwView>
+    ensures view { result.view ≡ (from_tree view true (record { view = turn.view; events = turn.events.items; waits = turn.waits })).view }
+    ensures events { result.events.items ≡ turn.events.items }
+    ensures waits { result.waits ≡ turn.waits }
+{
+    let task = match turn.view.phase {
+        Phase::Settle => Task::Up,
+        _ => Task::Down,
+    };
+    Learnt {
+        view: RwView {
+            tree: turn.view,
+            counter: counter_begin(counter_idle(view.counter.counter), task),
+        },
+        events: turn.events,
+        waits: turn.waits,
+    }
+}
+
+/// A reader is in, and enters.
+fn reader_enters(view: RwView, counter: CounterView, waits: bool) -> Learnt<RwView>
+    ensures view { result.view ≡ record { tree = view.tree; counter = counter } }
+    ensures events { result.events.items ≡ Event.EnterR view.tree.rank ∷ [] }
+    ensures waits { result.waits ≡ waits }
+{
+    let mut events = ArrayVec::new();
+    events.push(Event::EnterR {
+        rank: view.tree.rank,
+    });
+    Learnt {
+        view: RwView {
+            tree: view.tree,
+            counter,
+        },
+        events,
+        waits,
+    }
+}
+
+/// A rank goes on at the counters.
+fn goes_on(view: RwView, counter: CounterView, waits: bool) -> Learnt<RwView>
+    ensures view { result.view ≡ record { tree = view.tree; counter = counter } }
+    ensures events { result.events.items ≡ [] }
+    ensures waits { result.waits ≡ waits }
+{
+    Learnt {
+        view: RwView {
+            tree: view.tree,
+            counter,
+        },
+        events: ArrayVec::new(),
+        waits,
+    }
+}
+
+impl Rw {
+    /// A task at the marks has ended: the tree goes on from the hook.
+    fn leaves_hook(&self, view: RwView) -> Learnt<RwView>
+        requires { MayLeaveHook self.now.tree.rooted view.tree }
+        ensures view { result.view ≡ (after_hook (shared_of self.now.tree.rooted self.now.counters.readers self.now.group) view).view }
+        ensures events { result.events.items ≡ (after_hook (shared_of self.now.tree.rooted self.now.counters.readers self.now.group) view).events }
+        ensures waits { result.waits ≡ (after_hook (shared_of self.now.tree.rooted self.now.counters.readers self.now.group) view).waits }
+    {
+        within_tree(view, self.tree.resume(view.tree, ArrayVec::new()))
+    }
+
+    /// What a rank has learnt at the counters, where it does this next.
+    fn at_counters(&self, view: RwView, counter: CounterView, waits: bool) -> Learnt<RwView>
+        requires same { counter.counter ≡ view.counter.counter }
+        requires ends { Ends self.now.tree.rooted view.tree view.counter.doing counter.doing }
+        ensures view { result.view ≡ (from_counter (shared_of self.now.tree.rooted self.now.counters.readers self.now.group) view view.counter.doing counter.doing waits).view }
+        ensures events { result.events.items ≡ (from_counter (shared_of self.now.tree.rooted self.now.counters.readers self.now.group) view view.counter.doing counter.doing waits).events }
+        ensures waits { result.waits ≡ (from_counter (shared_of self.now.tree.rooted self.now.counters.readers self.now.group) view view.counter.doing counter.doing waits).waits }
+    {
+        match counter.doing {
+            Doing::Inside => reader_enters(view, counter, waits),
+            Doing::Nothing => match view.counter.doing {
+                Doing::Depart => goes_on(view, counter, waits),
+                _ => self.leaves_hook(view),
+            },
+            _ => goes_on(view, counter, waits),
+        }
+    }
+}
+
+impl Algo for Rw {
+    type View = RwView;
+
+    ghost table = { λ s. rw_table (shared_of s.tree.rooted s.counters.readers s.group) };
+
+    ghost good = { λ s. RwGood (shared_of s.tree.rooted s.counters.readers s.group) (levels_of s.tree.rooted.shape) };
+
+    ghost further = { λ s. BoundsBatches (shared_of s.tree.rooted s.counters.readers s.group) };
+
+    ghost layout = { λ s. layout_of s.tree.rooted.shape };
+
+    ghost defined = { λ shape home knobs. rw_table (shared_in home shape knobs) };
+
+    ghost promised = { λ shape home knobs. BoundsBatches (shared_in home shape knobs) };
+
+    ghost name = { TheName.Rw };
+
+    ghost has_queues = { λ shape home knobs. refl };
+
+    ghost suits_knobs = { SuitsRw };
+
+    /// Makes the lock. Of the settings it reads `writers`, the budget of the root, 0 to 1000; `readers`, how many readers may come to a
+    /// counter, 1000 at most; and `group`, how many ranks share a counter, 1 to 32.
+    fn make(alloc: Global, shape: &Shape, home: u32, knobs: Knobs) -> Result<Self, OutOfMemory> {
+        let tree = Tree::new(alloc, shape, home, Some(knobs.writers))?;
+        let groups = groups_of(shape.node_of.len() as u32, knobs.group);
+        let of_tree = tree.words();
+        let arrive = rank_words(alloc, of_tree, groups)?;
+        let depart = rank_words(alloc, of_tree + 1, groups)?;
+        let node_of = seats(shape)?;
+        let counters = CounterNames {
+            arrive,
+            depart,
+            root_tail: 0,
+            readers: knobs.readers,
+        };
+        Ok(Rw {
+            tree,
+            counters,
+            node_of,
+            group: knobs.group,
+        })
+    }
+
+    fn words(&self) -> u32 {
+        self.tree.words() + 2 * groups_of(self.node_of.len() as u32, self.group)
+    }
+
+    fn spot(&self, word: u32) -> Spot {
+        let of_tree = self.tree.words();
+        if word < of_tree {
+            self.tree.spot(word)
+        } else {
+            let first = (word - of_tree) / 2 * self.group;
+            Spot {
+                class: Class::Card,
+                home: self.node_of[first as usize],
+            }
+        }
+    }
+
+    fn first(&self, rank: u32) -> RwView {
+        RwView {
+            tree: self.tree.first(rank),
+            counter: counter_idle(rank / self.group),
+        }
+    }
+
+    fn ask(&self, view: RwView, mode: Mode) -> RwView {
+        match mode {
+            Mode::Read => RwView {
+                tree: view.tree,
+                counter: counter_begin(view.counter, Task::Enter),
+            },
+            Mode::Write => RwView {
+                tree: view.tree.join(),
+                counter: counter_idle(view.counter.counter),
+            },
+        }
+    }
+
+    fn plan(&self, view: RwView) -> Option<Act> {
+        if counter_busy(view.counter) {
+            counter_plan(view.counter, &self.counters)
+        } else {
+            self.tree.plan(view.tree)
+        }
+    }
+
+    fn learn(&self, view: RwView, got: u64) -> Learnt<RwView> {
+        if counter_busy(view.counter) {
+            let turn = counter_learn(view.counter, &self.counters, got);
+            self.at_counters(view, turn.view, turn.waits)
+        } else {
+            let turn = self.tree.learn(view.tree, got);
+            if turn.view.is_at_hook() {
+                comes_to_hook(view, turn)
+            } else {
+                within_tree(view, turn)
+            }
+        }
+    }
+
+    fn leave(&self, view: RwView) -> RwView {
+        match view.counter.doing {
+            Doing::Inside => RwView {
+                tree: view.tree,
+                counter: counter_begin(view.counter, Task::Exit),
+            },
+            _ => RwView {
+                tree: view.tree.leave(),
+                counter: view.counter,
+            },
+        }
+    }
+
+    fn standing(&self, view: RwView) -> Standing {
+        match view.counter.doing {
+            Doing::Nothing => view.tree.standing(),
+            Doing::Inside => Standing::Reader,
+            Doing::Depart | Doing::TakeOut { .. } | Doing::TakeOff { .. } => Standing::Leaving,
+            _ => Standing::Asking,
+        }
+    }
+
+    ghost laws = { λ s. laws_of s.tree.rooted s.counters.readers s.group s.tree.laid s.limited s.few s.grouped };
+}
