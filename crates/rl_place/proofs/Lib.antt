@@ -12,6 +12,7 @@ pub mod RankLaws
 pub mod HomeLaws
 pub mod PlaceLaws
 pub mod Printing
+pub mod ShapePrinting
 pub mod ElementLoop
 pub mod ElementLaws
 pub mod PrefixLaws

@@ -6,5 +6,6 @@ pub mod Places
 pub mod Spelling
 pub mod Reading
 pub mod Shapes
+pub mod ShapeText
 
 -- proved; skip at first: nothing

@@ -2,7 +2,9 @@
 ghost use Rattle.std.specs.Prelude.{IfOk};
 ghost use Rattle.rl_place.specs.Places.{IsProper};
 
-use crate::{Lock, Path, Place, lock_named, lock_word, path_text, place_text, read_place};
+use crate::{
+    Lock, Path, Place, lock_named, lock_word, path_text, place_text, read_place, shape_text,
+};
 use rl_text::{Refusal, TEXT_LIMIT, TextErr, Why, put_number};
 use rl_word::{Element, LockName};
 use std::alloc::{AllocError, Global};
@@ -289,6 +291,26 @@ fn shape_of_two_nodes(rt: HostRuntime) {
     };
     let elements = [root, element(Some(0), 0, 1), element(Some(0), 1, 1)];
     assert_eq!(rt; shape.elements.as_slice(), elements.as_slice());
+}
+
+#[test]
+fn texts_of_shapes(rt: HostRuntime) {
+    for (text, wanted) in [
+        (
+            TWO_NODES,
+            b"rmalock-shape 1\nranks 4 nodes 2 elements 3\nnode 0 0\nnode 1 1\nelement 0 root parent none budget none\nelement 1 0 parent 0 budget 1\nelement 2 1 parent 0 budget 1\nshard 0 home 0\nend\n".as_slice(),
+        ),
+        (
+            SPIN,
+            b"rmalock-shape 1\nranks 1 nodes 1 elements 2\nnode 0 0\nelement 0 root parent none budget none\nelement 1 0 parent 0 budget none\nshard 0 home 0\nend\n",
+        ),
+    ] {
+        let Ok(place) = read(rt.alloc(), text) else {
+            panic!(rt; "a right placement");
+        };
+        let printed = shape_text(rt.alloc(), &place).expect(&rt, "memory");
+        assert_eq!(rt; printed.as_slice(), wanted);
+    }
 }
 
 #[test]
