@@ -13,17 +13,20 @@ use Rattle.rl_step.specs.declared.events.Event.{Event}
 use Rattle.rl_step.specs.declared.events.Stepped.{Stepped}
 use Rattle.rl_step.specs.Lock.{LockState, LockLaws, Deed, IsLoad, PlansLoad}
 use Rattle.rl_step.specs.Do.{Held, do_got}
+use Rattle.rl_work.specs.Work.{WorkTurned, work_after}
+use Rattle.rl_work.specs.EndLaws.{IsPlain, plain_atom}
 use Rattle.rl_whole.specs.Running.{LockAt}
 use Rattle.rl_whole.specs.declared.card_state.CardState.{CardState}
 use Rattle.rl_whole.specs.declared.card_state.CardState.TheVariants.{Free, InCard, Loaded, ToLeave}
-use Rattle.rl_whole.specs.declared.effect.Effect.TheVariants.{Learn}
+use Rattle.rl_whole.specs.declared.effect.Effect.{Effect}
+use Rattle.rl_whole.specs.declared.effect.Effect.TheVariants.{Work, Stay, Learn}
 use Rattle.rl_whole.specs.declared.whole.WholeView.{WholeView}
-use Rattle.rl_whole.specs.Split.{SplitState, lock_of, view_of, home_of, first_atom, card_atom, side_atom, skips, guess_of, answer_of, turned_by, card_after, StandsStill}
+use Rattle.rl_whole.specs.Split.{SplitState, lock_of, view_of, home_of, plan_home, first_atom, card_atom, side_atom, skips, guess_of, answer_of, effect_at, turned_by, card_after, StandsStill}
 use Rattle.rl_whole.specs.SplitActs.{bool_cases, first_card, plain_got, after_plain, after_take, after_busy, after_load, after_skip}
 use Rattle.rl_whole.specs.SplitLaws.{none_at}
-use Rattle.rl_whole.specs.Whole.{count_word, side_of, split_of, shifted, shifted_answer, next_of, after_of, Good}
+use Rattle.rl_whole.specs.Whole.{side_of, split_of, shifted, shifted_answer, work_plan, next_of, after_of, effect_turned, Good}
 use Rattle.rl_whole.specs.ShiftLaws.{shift_got}
-use Rattle.rl_whole.specs.WholeLaws.{next_cases}
+use Rattle.rl_whole.specs.WholeLaws.{next_cases, plan_cases}
 use Rattle.rl_whole.specs.Causes.{Compares, Cause, GoesOn}
 
 -- a plain act whose first atom is a load loads its word; no first atom of a plain act is a Take
@@ -280,6 +283,27 @@ module _ (V : Type 0) (L : LockAt V) (h : Held) (v : V) (rounds : BeginsAgain L 
       subst (λ z. CauseOf (shifted L.base z) (card_after L.table r v (Some a) (Loaded g) (do_got z (drop L.base h.words) h.cards)).stepped) (same_Some _ _ e)
       (store_cause a g (L.table.learn v (told a g)).waits pl k.0 (ap (told a) (sym k.2 ∙ in_window (word_of a))) refl)
 
+-- an atom of the work is no Take
+work_no_take : (at : Atom) (node : ℕ) → IsPlain at → at ≡ atom.Take node → ⊥
+work_no_take (atom.Load w) node h e = cc
+work_no_take (atom.Store w v) node h e = cc
+work_no_take (atom.LocalCas w old new) node h e = absurd h
+work_no_take (atom.Take n) node h e = absurd h
+work_no_take (atom.CardLoad w) node h e = absurd h
+work_no_take (atom.CardStore w v) node h e = absurd h
+work_no_take (atom.Leave n) node h e = absurd h
+
+-- the answer is the lock's, for an atom of the work too
+effect_answer : {V : Type 0} (L : LockAt V) (x : WholeView V) (t : WorkTurned) (e : Effect) →
+    (effect_turned L x t e).stepped ≡ shifted_answer L.base (turned_by L.table x.rank x.side.view (L.table.plan x.side.view) e).stepped
+effect_answer L x t Work = refl
+effect_answer L x t (Stay c answer) = refl
+effect_answer L x t (Learn c told lost) = refl
+
+answer_is : {V : Type 0} (L : LockAt V) (x : WholeView V) (got : ℕ) → (after_of L x got).stepped ≡ shifted_answer L.base (card_after L.table x.rank x.side.view (L.table.plan x.side.view) x.side.card got).stepped
+answer_is L x got =
+    effect_answer L x (work_after L.site.geom L.site.shard x.rank x.work got) (effect_at (plan_home L.table (L.table.plan x.side.view)) (L.table.plan x.side.view) x.side.card got)
+
 module _ (V : Type 0) (L : LockAt V) (good : LockState V → Type 0) (further : List Event → List Deed → Type 0) (layout : Layout) (laws : LockLaws L.table good further layout) (home : ℕ) where
   -- by the lock's law
   rounds_of : (h : Held) (vs : List (WholeView V)) (r : ℕ) (x : WholeView V) → Good L good layout h vs → slice_get vs r ≡ Some x → BeginsAgain L h x.side.view
@@ -293,18 +317,24 @@ module _ (V : Type 0) (L : LockAt V) (good : LockState V → Type 0) (further : 
   pub answer_cause : (h : Held) (vs : List (WholeView V)) (r : ℕ) (x : WholeView V) (at : Atom) → Good L good layout h vs → slice_get vs r ≡ Some x → next_of L x ≡ Some at →
       Cause L h x.side.view (Some at) (after_of L x (do_got at h.words h.cards)).stepped
   answer_cause h vs r x at g has e =
-      ⊎_elim
-      (λ q. subst (λ z. Cause L h x.side.view (Some z) (after_of L x (do_got z h.words h.cards)).stepped) q.2
-      (subst (λ n. Cause L h x.side.view (Some (shifted L.base q.0)) (after_of L x n).stepped) (sym (shift_got L.base q.0 h.words h.cards))
-      (lock_cause V L h x.side.view (rounds_of h vs r x g has) x.rank (L.table.plan x.side.view) x.side.card q.0 refl (g.lock_part.still r x.side (get_map side_of vs r x has)) q.1)))
-      (λ q. let away = none_at V L.table good further layout laws (drop L.base h.words) (L.table.plan x.side.view) x.side.card (g.lock_part.still r x.side (get_map side_of vs r x has)) q.0 in
+      let still = g.lock_part.still r x.side (get_map side_of vs r x has) in
       let got : ℕ = do_got at h.words h.cards in
+      subst (Cause L h x.side.view (Some at)) (sym (answer_is L x got))
+      (⊎_elim
+      (λ q.
+      let same : got ≡ do_got q.0 (drop L.base h.words) h.cards = ap (λ z. do_got z h.words h.cards) (sym q.2) ∙ shift_got L.base q.0 h.words h.cards in
+      subst (λ n. Cause L h x.side.view (Some at) (shifted_answer L.base (card_after L.table x.rank x.side.view (L.table.plan x.side.view) x.side.card n).stepped)) (sym same)
+      (subst (λ z. Cause L h x.side.view (Some z) (shifted_answer L.base (card_after L.table x.rank x.side.view (L.table.plan x.side.view) x.side.card (do_got q.0 (drop L.base h.words) h.cards)).stepped)) q.2
+      (lock_cause V L h x.side.view (rounds_of h vs r x g has) x.rank (L.table.plan x.side.view) x.side.card q.0 refl still q.1)))
+      (λ q.
+      let away = none_at V L.table good further layout laws (drop L.base h.words) (L.table.plan x.side.view) x.side.card still q.0 in
+      let plain : IsPlain at = plain_atom L.site.geom x.work x.work.stage at (plan_cases V L good further layout laws home L.site.geom (L.table.standing x.side.view) x.work at q.1).1 in
       let work : card_after L.table x.rank x.side.view (L.table.plan x.side.view) x.side.card got ≡ card_after L.table x.rank x.side.view None Free got =
       ap (λ p. card_after L.table x.rank x.side.view p x.side.card got) away.0 ∙ ap (λ c. card_after L.table x.rank x.side.view None c got) away.1 in
       subst (λ z. Cause L h x.side.view (Some at) (shifted_answer L.base z.stepped)) (sym work)
       (record {
-        free = λ node e. let bad : atom.Load count_word ≡ atom.Take node = sym q.2 ∙ e in cc;
+        free = λ node e. absurd (work_no_take at node plain e);
         won = λ guess seen l. let bad : None ≡ Some l.act = sym away.0 ∙ l.planned in cc;
         met = λ word value w. let bad : None ≡ Some w.act = sym away.0 ∙ w.planned in cc;
       }))
-      (next_cases V L good further layout laws home (L.table.standing x.side.view) (side_atom L.table x.side) at e)
+      (next_cases V L good further layout laws home (side_atom L.table x.side) (work_plan L.site.geom (L.table.standing x.side.view) x.work) at e))

@@ -1,8 +1,8 @@
 -- The holders that a trace tells of are the ranks that stand so: each change of a standing keeps this, and its events are exclusive.
-use Rattle.std.specs.Prelude.{◌≡◌, ◌≢◌, ℕ, ◌==◌, Bool, true, false, List, [], ◌∷◌, if◌then◌else◌, slice_get, slice_set, Some, refl}
-use Rattle.std.proofs.Common.{sym, ◌∙◌, ap, subst, ⊎_elim, eq-eqb}
+use Rattle.std.specs.Prelude.{◌≡◌, ◌≢◌, ◌⊎◌, ℕ, ◌==◌, Bool, true, false, List, [], ◌∷◌, if◌then◌else◌, slice_get, slice_set, Some, refl}
+use Rattle.std.proofs.Common.{sym, ◌∙◌, ap, subst, inl, inr, ⊎_elim, eq-eqb}
 use Rattle.std.proofs.lemmas.Bool.{ne_eqb, true≢false}
-use Rattle.rl_word.specs.Places.{get_set_cases, get_set_same, get_set_other, same_or_not, one_at}
+use Rattle.rl_word.specs.Places.{get_set_cases, get_set_same, get_set_other, same_or_not, one_at, set_same_get}
 use Rattle.rl_step.specs.declared.events.Event.{Event}
 use Rattle.rl_step.specs.declared.events.Event.TheVariants.{Touch, EnterW, EnterR, LeaveW, LeaveR}
 use Rattle.rl_step.specs.declared.events.Standing.{Standing}
@@ -10,17 +10,19 @@ use Rattle.rl_step.specs.declared.events.Standing.TheVariants.{Out, Asking, Writ
 use Rattle.rl_step.specs.Lock.{Shift, IsHolder, holds_only}
 use Rattle.rl_step.specs.Exclusion.{Alone, ExclusiveFrom, TouchFits, writers_after, readers_after, writers_of, readers_of}
 use Rattle.rl_step.specs.ExclusionLaws.{quiet_writers, quiet_readers, quiet_exclusive, one_holds}
-use Rattle.rl_whole.specs.Split.{departure}
+use Rattle.rl_work.specs.WorkGood.{standing_after}
+use Rattle.rl_whole.specs.Whole.{departure_if}
 
--- what an atom of rank r may do to its standing, and the events of holders that come with it: those of its act, or a touch and its leave
+-- A change of a rank's standing, and the events of holders that come with it: those of an act; a touch alone, of a writer or, to
+-- read, of a reader; or a touch and the holder's leave.
 abbrev pub Change : ℕ → Standing → Standing → List Event → Type 0
 Change r Out Asking es = holds_only es ≡ []
 Change r Asking Asking es = holds_only es ≡ []
 Change r Asking Writer es = holds_only es ≡ EnterW r ∷ []
 Change r Asking Reader es = holds_only es ≡ EnterR r ∷ []
-Change r Writer Writer es = holds_only es ≡ []
-Change r Writer Leaving es = es ≡ Touch r false ∷ LeaveW r ∷ []
-Change r Reader Reader es = holds_only es ≡ []
+Change r Writer Writer es = (holds_only es ≡ []) ⊎ ((w : Bool) × (es ≡ Touch r w ∷ []))
+Change r Writer Leaving es = (w : Bool) × (es ≡ Touch r w ∷ LeaveW r ∷ [])
+Change r Reader Reader es = (holds_only es ≡ []) ⊎ (es ≡ Touch r false ∷ [])
 Change r Reader Leaving es = es ≡ Touch r false ∷ LeaveR r ∷ []
 Change r Leaving Leaving es = holds_only es ≡ []
 Change r Leaving Out es = holds_only es ≡ []
@@ -117,10 +119,23 @@ enter_r_goes ws rs sts r es m a b has h =
     (λ k ne. (refl, set_there k r true rs ne))
     (λ e. let q : Asking ≡ Writer = one_at sts r Asking Writer has (m.writes r e) in cc) (λ e. cc) (λ e. refl) (λ e. set_here r true rs))
 
+-- a writer's touch, and a reader's
+touch_w_fits : (ws rs : ℕ → Bool) (r : ℕ) (w : Bool) → ws r ≡ true → TouchFits ws rs (Touch r w)
+touch_w_fits ws rs r true here = here
+touch_w_fits ws rs r false here = λ f. absurd (true≢false (sym here ∙ f))
+
+touch_goes : (ws rs : ℕ → Bool) (sts : List Standing) (r : ℕ) (st : Standing) (w : Bool) (es : List Event) → Match ws rs sts → AloneIn sts → slice_get sts r ≡ Some st → es ≡ Touch r w ∷ [] → TouchFits ws rs (Touch r w) →
+    Goes ws rs es (slice_set sts r st)
+touch_goes ws rs sts r st w es m a has e fits =
+    let same : slice_set sts r st ≡ sts = set_same_get sts r st has in
+    let alone : Alone ws rs = alone_of ws rs sts m a in
+    subst (λ z. Goes ws rs z (slice_set sts r st)) (sym e)
+    (record { match = subst (Match ws rs) (sym same) m; exclusive = (alone, fits, alone) })
+
 -- a holder's touch and leave
-leave_w_goes : (ws rs : ℕ → Bool) (sts : List Standing) (r : ℕ) (es : List Event) → Match ws rs sts → AloneIn sts → AloneIn (slice_set sts r Leaving) → slice_get sts r ≡ Some Writer → es ≡ Touch r false ∷ LeaveW r ∷ [] →
+leave_w_goes : (ws rs : ℕ → Bool) (sts : List Standing) (r : ℕ) (w : Bool) (es : List Event) → Match ws rs sts → AloneIn sts → AloneIn (slice_set sts r Leaving) → slice_get sts r ≡ Some Writer → es ≡ Touch r w ∷ LeaveW r ∷ [] →
     Goes ws rs es (slice_set sts r Leaving)
-leave_w_goes ws rs sts r es m a b has h =
+leave_w_goes ws rs sts r w es m a b has h =
     let after : Match (writers_after (LeaveW r) ws) (readers_after (LeaveW r) rs) (slice_set sts r Leaving) =
     match_set ws rs (writers_after (LeaveW r) ws) (readers_after (LeaveW r) rs) sts r Writer Leaving m has
     (λ k ne. (set_there k r false ws ne, refl))
@@ -129,7 +144,7 @@ leave_w_goes ws rs sts r es m a b has h =
     subst (λ z. Goes ws rs z (slice_set sts r Leaving)) (sym h)
     (record {
       match = after;
-      exclusive = (alone, λ f. absurd (true≢false (sym (m.writer r has) ∙ f)), (alone, tt, alone_of (writers_after (LeaveW r) ws) (readers_after (LeaveW r) rs) (slice_set sts r Leaving) after b));
+      exclusive = (alone, touch_w_fits ws rs r w (m.writer r has), (alone, tt, alone_of (writers_after (LeaveW r) ws) (readers_after (LeaveW r) rs) (slice_set sts r Leaving) after b));
     })
 
 leave_r_goes : (ws rs : ℕ → Bool) (sts : List Standing) (r : ℕ) (es : List Event) → Match ws rs sts → AloneIn sts → AloneIn (slice_set sts r Leaving) → slice_get sts r ≡ Some Reader → es ≡ Touch r false ∷ LeaveR r ∷ [] →
@@ -161,13 +176,17 @@ goes ws rs sts r Asking Reader es m a b has h = enter_r_goes ws rs sts r es m a 
 goes ws rs sts r Asking Leaving es m a b has h = absurd h
 goes ws rs sts r Writer Out es m a b has h = absurd h
 goes ws rs sts r Writer Asking es m a b has h = absurd h
-goes ws rs sts r Writer Writer es m a b has h = quiet_goes ws rs sts r Writer Writer es m a has h (λ e. refl) (λ e. refl) (λ e. cc) (λ e. cc)
+goes ws rs sts r Writer Writer es m a b has h =
+    ⊎_elim (λ q. quiet_goes ws rs sts r Writer Writer es m a has q (λ e. refl) (λ e. refl) (λ e. cc) (λ e. cc))
+    (λ q. touch_goes ws rs sts r Writer q.0 es m a has q.1 (touch_w_fits ws rs r q.0 (m.writer r has))) h
 goes ws rs sts r Writer Reader es m a b has h = absurd h
-goes ws rs sts r Writer Leaving es m a b has h = leave_w_goes ws rs sts r es m a b has h
+goes ws rs sts r Writer Leaving es m a b has h = leave_w_goes ws rs sts r h.0 es m a b has h.1
 goes ws rs sts r Reader Out es m a b has h = absurd h
 goes ws rs sts r Reader Asking es m a b has h = absurd h
 goes ws rs sts r Reader Writer es m a b has h = absurd h
-goes ws rs sts r Reader Reader es m a b has h = quiet_goes ws rs sts r Reader Reader es m a has h (λ e. cc) (λ e. cc) (λ e. refl) (λ e. refl)
+goes ws rs sts r Reader Reader es m a b has h =
+    ⊎_elim (λ q. quiet_goes ws rs sts r Reader Reader es m a has q (λ e. cc) (λ e. cc) (λ e. refl) (λ e. refl))
+    (λ q. touch_goes ws rs sts r Reader false es m a has q (λ f. m.reader r has)) h
 goes ws rs sts r Reader Leaving es m a b has h = leave_r_goes ws rs sts r es m a b has h
 goes ws rs sts r Leaving Out es m a b has h = quiet_goes ws rs sts r Leaving Out es m a has h (λ e. cc) (λ e. cc) (λ e. cc) (λ e. cc)
 goes ws rs sts r Leaving Asking es m a b has h = absurd h
@@ -207,14 +226,16 @@ shift_change r Leaving Leaving es h = h
 pub change_refl : (r : ℕ) (st : Standing) → Change r st st []
 change_refl r Out = refl
 change_refl r Asking = refl
-change_refl r Writer = refl
-change_refl r Reader = refl
+change_refl r Writer = inl refl
+change_refl r Reader = inl refl
 change_refl r Leaving = refl
 
--- the change at the end of the work
-pub work_change : (r : ℕ) (st new : Standing) → IsHolder st → new ≡ Leaving → Change r st new (Touch r false ∷ departure r st)
-work_change r Out new h e = absurd h
-work_change r Asking new h e = absurd h
-work_change r Writer new h e = subst (λ z. Change r Writer z (Touch r false ∷ LeaveW r ∷ [])) (sym e) refl
-work_change r Reader new h e = subst (λ z. Change r Reader z (Touch r false ∷ LeaveR r ∷ [])) (sym e) refl
-work_change r Leaving new h e = absurd h
+-- the change by an atom of the work: a reader's writes nothing
+pub work_change : (r : ℕ) (st : Standing) (w over : Bool) (new : Standing) → IsHolder st → (st ≡ Reader → w ≡ false) → new ≡ standing_after over st → Change r st new (Touch r w ∷ departure_if r st over)
+work_change r Out w over new h reads e = absurd h
+work_change r Asking w over new h reads e = absurd h
+work_change r Writer w true new h reads e = subst (λ z. Change r Writer z (Touch r w ∷ LeaveW r ∷ [])) (sym e) (w, refl)
+work_change r Writer w false new h reads e = subst (λ z. Change r Writer z (Touch r w ∷ [])) (sym e) (inr (w, refl))
+work_change r Reader w true new h reads e = subst (λ z. Change r Reader z (Touch r w ∷ LeaveR r ∷ [])) (sym e) (ap (λ b. Touch r b ∷ LeaveR r ∷ []) (reads refl))
+work_change r Reader w false new h reads e = subst (λ z. Change r Reader z (Touch r w ∷ [])) (sym e) (inr (ap (λ b. Touch r b ∷ []) (reads refl)))
+work_change r Leaving w over new h reads e = absurd h

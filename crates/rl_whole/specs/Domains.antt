@@ -15,10 +15,11 @@ use Rattle.rl_whole.specs.declared.card_state.CardState.TheVariants.{Free, InCar
 use Rattle.rl_whole.specs.declared.side.Side.{Side}
 use Rattle.rl_step.specs.Core.{MayBe}
 use Rattle.rl_step.specs.Do.{Held}
-use Rattle.rl_whole.specs.Running.{LockAt}
+use Rattle.rl_whole.specs.Running.{LockAt, ShardRun}
 use Rattle.rl_whole.specs.declared.whole.WholeView.{WholeView}
-use Rattle.rl_whole.specs.Whole.{shifted, next_of, side_of, Good}
-use Rattle.rl_whole.specs.WholeLaws.{next_cases}
+use Rattle.rl_whole.specs.Whole.{shifted, work_plan, next_of, side_of, Good}
+use Rattle.rl_whole.specs.WholeLaws.{next_cases, plan_cases}
+use Rattle.rl_work.specs.EndLaws.{IsPlain, plain_atom}
 use Rattle.rl_whole.specs.Split.{SplitState, LockGood, UsesCards, lock_of, view_of, side_atom, card_atom, card_in, first_at, home_of}
 
 -- an atom of a card
@@ -51,6 +52,11 @@ KeepsToCards L rule = (x : _) (at : Atom) → MayBe rule x → next_of L x ≡ S
 
 abbrev pub KeepsToLocals : {V : Type 0} → LockAt V → (Held → List (WholeView V) → Type 0) → Type 0
 KeepsToLocals L rule = (x : _) (at : Atom) → MayBe rule x → next_of L x ≡ Some at → IsLocalAtom at → UsesLocals L.table x.rank
+
+-- so on a shard: whichever atom a rank comes to make there
+pub record KeepsDomains {V : Type 0} (S : ShardRun V) : Type 0 where
+  pub cards : (k : ℕ) (x : WholeView V) (at : Atom) → slice_get S.views k ≡ Some x → next_of S.lock x ≡ Some at → IsCardAtom at → UsesCards S.lock.table k
+  pub locals : (k : ℕ) (x : WholeView V) (at : Atom) → slice_get S.views k ≡ Some x → next_of S.lock x ≡ Some at → IsLocalAtom at → UsesLocals S.lock.table k
 
 module _ (V : Type 0) (T : LockTable V) (good : LockState V → Type 0) (further : List Event → List Deed → Type 0) (layout : Layout) (laws : LockLaws T good further layout) where
   first_card : (home : ℕ) (a : Act) → IsCardAtom (first_at home a) → by_card a ≡ true
@@ -97,8 +103,30 @@ module _ (V : Type 0) (T : LockTable V) (good : LockState V → Type 0) (further
   pub local_atom_allowed : (s : SplitState V) (r : ℕ) (x : Side V) (at : Atom) → LockGood T good layout s → slice_get s.sides r ≡ Some x → side_atom T x ≡ Some at → IsLocalAtom at → UsesLocals T r
   local_atom_allowed s r x at g has e c = local_at s r x.view (T.plan x.view) x.card at g has refl e c
 
+-- an atom of the work is neither
+plain_no_card : (at : Atom) → IsPlain at → IsCardAtom at → ⊥
+plain_no_card (atom.Load w) p c = c
+plain_no_card (atom.Store w v) p c = c
+plain_no_card (atom.LocalCas w old new) p c = c
+plain_no_card (atom.Take n) p c = p
+plain_no_card (atom.CardLoad w) p c = p
+plain_no_card (atom.CardStore w v) p c = p
+plain_no_card (atom.Leave n) p c = p
+
+plain_no_local : (at : Atom) → IsPlain at → IsLocalAtom at → ⊥
+plain_no_local (atom.Load w) p c = c
+plain_no_local (atom.Store w v) p c = c
+plain_no_local (atom.LocalCas w old new) p c = p
+plain_no_local (atom.Take n) p c = c
+plain_no_local (atom.CardLoad w) p c = c
+plain_no_local (atom.CardStore w v) p c = c
+plain_no_local (atom.Leave n) p c = c
+
 -- a rank's next atom of the whole machine
 module _ (V : Type 0) (L : LockAt V) (good : LockState V → Type 0) (further : List Event → List Deed → Type 0) (layout : Layout) (laws : LockLaws L.table good further layout) (home : ℕ) where
+  planned_plain : (x : WholeView V) (at : Atom) → work_plan L.site.geom (L.table.standing x.side.view) x.work ≡ Some at → IsPlain at
+  planned_plain x at e = plain_atom L.site.geom x.work x.work.stage at (plan_cases V L good further layout laws home L.site.geom (L.table.standing x.side.view) x.work at e).1
+
   unshifted : (at : Atom) → IsCardAtom (shifted L.base at) → IsCardAtom at
   unshifted (atom.Load w) h = h
   unshifted (atom.Store w v) h = h
@@ -111,10 +139,10 @@ module _ (V : Type 0) (L : LockAt V) (good : LockState V → Type 0) (further : 
   pub next_card_allowed : (x : WholeView V) (at : Atom) → MayBe (Good L good layout) x → next_of L x ≡ Some at → IsCardAtom at → UsesCards L.table x.rank
   next_card_allowed x at m e c =
       ⊎_elim
-      (λ q. subst (UsesCards L.table) (sym (m.is_ruled.work_part.own m.rank x m.has))
+      (λ q. subst (UsesCards L.table) (sym (m.is_ruled.own m.rank x m.has))
       (card_atom_allowed V L.table good further layout laws _ m.rank x.side q.0 m.is_ruled.lock_part (get_map side_of m.views m.rank x m.has) q.1 (unshifted q.0 (subst IsCardAtom (sym q.2) c))))
-      (λ q. absurd (subst IsCardAtom q.2 c))
-      (next_cases V L good further layout laws home (L.table.standing x.side.view) (side_atom L.table x.side) at e)
+      (λ q. absurd (plain_no_card at (planned_plain x at q.1) c))
+      (next_cases V L good further layout laws home (side_atom L.table x.side) (work_plan L.site.geom (L.table.standing x.side.view) x.work) at e)
 
   local_unshifted : (at : Atom) → IsLocalAtom (shifted L.base at) → IsLocalAtom at
   local_unshifted (atom.Load w) h = h
@@ -128,7 +156,15 @@ module _ (V : Type 0) (L : LockAt V) (good : LockState V → Type 0) (further : 
   pub next_local_allowed : (x : WholeView V) (at : Atom) → MayBe (Good L good layout) x → next_of L x ≡ Some at → IsLocalAtom at → UsesLocals L.table x.rank
   next_local_allowed x at m e c =
       ⊎_elim
-      (λ q. subst (UsesLocals L.table) (sym (m.is_ruled.work_part.own m.rank x m.has))
+      (λ q. subst (UsesLocals L.table) (sym (m.is_ruled.own m.rank x m.has))
       (local_atom_allowed V L.table good further layout laws _ m.rank x.side q.0 m.is_ruled.lock_part (get_map side_of m.views m.rank x m.has) q.1 (local_unshifted q.0 (subst IsLocalAtom (sym q.2) c))))
-      (λ q. absurd (subst IsLocalAtom q.2 c))
-      (next_cases V L good further layout laws home (L.table.standing x.side.view) (side_atom L.table x.side) at e)
+      (λ q. absurd (plain_no_local at (planned_plain x at q.1) c))
+      (next_cases V L good further layout laws home (side_atom L.table x.side) (work_plan L.site.geom (L.table.standing x.side.view) x.work) at e)
+
+  -- so each shard under the rule keeps them
+  pub keeps_domains : (h : Held) (vs : List (WholeView V)) (trace : List (ℕ × Event)) → Good L good layout h vs → KeepsDomains (record { lock = L; held = h; views = vs; trace = trace })
+  keeps_domains h vs trace rule =
+      record {
+        cards = λ k x at has next is. subst (UsesCards L.table) (rule.own k x has) (next_card_allowed x at (record { held = h; views = vs; rank = k; is_ruled = rule; has = has }) next is);
+        locals = λ k x at has next is. subst (UsesLocals L.table) (rule.own k x has) (next_local_allowed x at (record { held = h; views = vs; rank = k; is_ruled = rule; has = has }) next is);
+      }

@@ -1,27 +1,18 @@
 -- Runs one after the other, and how many steps a run has.
-use Rattle.std.specs.Prelude.{◌≡◌, ℕ, zero, suc, ◌+◌, ◌<◌, ◌≤◌, Bool, true, false, List, [], ◌∷◌, ◌++◌, length, replicate, take, slice_get, slice_index, Option, Some, None, refl}
-use Rattle.std.proofs.Common.{sym, ◌∙◌, ap, subst, arith, length-set, append_assoc, add-one}
+use Rattle.std.specs.Prelude.{◌≡◌, ℕ, zero, suc, ◌+◌, ◌≤◌, Bool, true, false, List, [], ◌∷◌, ◌++◌, replicate, take, slice_get, Some, refl}
+use Rattle.std.specs.List.{AllByRecursion}
+use Rattle.std.proofs.Common.{sym, ◌∙◌, ap, arith, append_assoc, add-one}
 use Rattle.std.proofs.lemmas.List.{append-nil}
 use Rattle.std.proofs.lemmas.Option.{same_Some}
-use Rattle.rl_word.specs.Acts.{Layout}
-use Rattle.rl_word.specs.declared.acts.Atom.{Atom}
-use Rattle.rl_step.specs.declared.events.Event.{Event}
 use Rattle.rl_step.specs.declared.events.Stepped.{Stepped}
 use Rattle.rl_step.specs.declared.events.Stepped.TheVariants.{Moved, Waiting, Lost, Busy, Finished}
 use Rattle.rl_step.specs.declared.tallies.Steps.{Steps}
 use Rattle.rl_step.specs.Answers.{counted, steps_made}
-use Rattle.rl_step.specs.Lock.{LockState, LockLaws, Deed}
-use Rattle.rl_step.specs.Do.{do_got}
-use Rattle.rl_step.specs.Exclusion.{IsExclusive}
-use Rattle.rl_step.specs.ExclusionLaws.{is_exclusive}
-use Rattle.rl_whole.specs.Running.{LockAt, World, Running, put}
-use Rattle.rl_whole.specs.declared.whole.WholeView.{WholeView}
 use Rattle.rl_ops.specs.declared.schedule.Turn.{Turn}
-use Rattle.rl_ops.specs.Schedule.{steps_of}
-use Rattle.rl_whole.specs.Whole.{next_of, after_of}
-use Rattle.rl_whole.specs.Run.{opens, opened_if, opened_at, call_opened, makes, made_at, after_step, stepped, run_of, turn_ranks, ranks_of, steps_in, events_of}
-use Rattle.rl_whole.specs.RunGood.{RunGood}
-use Rattle.rl_whole.specs.RunLaws.{run_good}
+use Rattle.rl_ops.specs.declared.schedule.Turn.TheVariants as turn
+use Rattle.rl_ops.specs.Schedule.{TurnFits, steps_of}
+use Rattle.rl_whole.specs.Running.{Running}
+use Rattle.rl_whole.specs.Run.{opens, opened_if, block_opened, atom_answer, stepped, run_of, turn_ranks, ranks_of, steps_in, AreThere}
 
 -- an answer is counted once
 counts_one : (a : Stepped) (s : Steps) → steps_made (counted a s) ≡ steps_made s + 1
@@ -31,50 +22,28 @@ counts_one (Lost g v) s = omega arith
 counts_one (Busy n h) s = omega arith
 counts_one Finished s = omega arith
 
-module _ {V : Type 0} (L : LockAt V) where
-  -- a call that is opened is no step
-  opens_none : (w : World V) (k : ℕ) (x : WholeView V) (b : Bool) → ((opened_if L.table w k x b).steps ≡ w.steps) × (length (opened_if L.table w k x b).views ≡ length w.views)
-  opens_none w k x true = (refl, length-set w.views k _)
-  opens_none w k x false = (refl, refl)
-
-  pub opened_steps : (w : World V) (k : ℕ) (o : Option (WholeView V)) → ((opened_at L w k o).steps ≡ w.steps) × (length (opened_at L w k o).views ≡ length w.views)
-  opened_steps w k None = (refl, refl)
-  opened_steps w k (Some x) = opens_none w k x (opens L x (slice_index w.given k) (slice_index w.opened k))
-
-  -- an atom, or none, is one step
-  makes_one : (w : World V) (k : ℕ) (x : WholeView V) (o : Option Atom) → (steps_made (makes L w k x o).steps ≡ steps_made w.steps + 1) × (length (makes L w k x o).views ≡ length w.views)
-  makes_one w k x None = (counts_one Finished w.steps, refl)
-  makes_one w k x (Some at) =
-      let after = after_of L x (do_got at w.held.words w.held.cards) in
-      (counts_one after.stepped w.steps, length-set w.views k after.view)
-
-  made_one : (w : World V) (k : ℕ) (o : Option (WholeView V)) → slice_get w.views k ≡ o → k < length w.views → (steps_made (made_at L w k o).steps ≡ steps_made w.steps + 1) × (length (made_at L w k o).views ≡ length w.views)
-  made_one w k None e h = absurd (none_there w.views k e h) where
-    none_there : (vs : List (WholeView V)) (k : ℕ) → slice_get vs k ≡ None → k < length vs → ⊥
-    none_there [] k e h = omega arith
-    none_there (x ∷ vs) zero e h = cc
-    none_there (x ∷ vs) (suc k) e h = none_there vs k e (omega arith)
-  made_one w k (Some x) e h = makes_one w k x (next_of L x)
-
-  pub stepped_one : (w : World V) (k : ℕ) → k < length w.views → (steps_made (after_step L w k).steps ≡ steps_made w.steps + 1) × (length (after_step L w k).views ≡ length w.views)
-  stepped_one w k h =
-      let o = opened_steps w k (slice_get w.views k) in
-      let m = made_one (call_opened L w k) k (slice_get (call_opened L w k).views k) refl (subst (λ n. k < n) (sym o.1) h) in
-      (m.0 ∙ ap (λ s. steps_made s + 1) o.0, m.1 ∙ o.1)
-
 module _ {V : Type 0} where
+  -- a block that is opened is no step
+  opens_none : (m : Running V) (k : ℕ) (b : Bool) → ((opened_if m k b).steps ≡ m.steps) × ((opened_if m k b).calls ≡ m.calls)
+  opens_none m k false = (refl, refl)
+  opens_none m k true = (refl, refl)
+
+  pub stepped_one : (m : Running V) (k : ℕ) → (steps_made (stepped m k).steps ≡ steps_made m.steps + 1) × ((stepped m k).calls ≡ m.calls)
+  stepped_one m k =
+      let o = opens_none m k (opens m k) in
+      (counts_one (atom_answer (block_opened m k) k) (block_opened m k).steps ∙ ap (λ s. steps_made s + 1) o.0, o.1)
+
   -- a run goes on by one step, and by a whole run
   pub run_append : (m : Running V) (ks js : List ℕ) → run_of m (ks ++ js) ≡ run_of (run_of m ks) js
   run_append m [] js = refl
   run_append m (k ∷ ks) js = run_append (stepped m k) ks js
 
   -- a turn has as many steps as it says
-  pub turn_counts : (m : Running V) (n k : ℕ) → k < length m.world.views →
-      (steps_made (run_of m (replicate n k)).world.steps ≡ steps_made m.world.steps + n) × (length (run_of m (replicate n k)).world.views ≡ length m.world.views)
-  turn_counts m zero k h = (omega arith, refl)
-  turn_counts m (suc n) k h =
-      let s = stepped_one m.lock m.world k h in
-      let r = turn_counts (stepped m k) n k (subst (λ c. k < c) (sym s.1) h) in
+  pub turn_counts : (m : Running V) (n k : ℕ) → (steps_made (run_of m (replicate n k)).steps ≡ steps_made m.steps + n) × ((run_of m (replicate n k)).calls ≡ m.calls)
+  turn_counts m zero k = (omega arith, refl)
+  turn_counts m (suc n) k =
+      let s = stepped_one m k in
+      let r = turn_counts (stepped m k) n k in
       (r.0 ∙ ap (λ c. c + n) s.0 ∙ omega arith, r.1 ∙ s.1)
 
 -- one step more of the same rank stands at the end
@@ -105,7 +74,18 @@ steps-within [] (suc i) = omega arith
 steps-within (x ∷ ts) zero = omega arith
 steps-within (x ∷ ts) (suc i) = let h = steps-within ts i in omega arith
 
--- from any moment of a run on, its trace stays exclusive
-module _ (V : Type 0) (L : LockAt V) (good : LockState V → Type 0) (further : List Event → List Deed → Type 0) (layout : Layout) (laws : LockLaws L.table good further layout) (home : ℕ) where
-  pub stays_exclusive : (w : World V) → RunGood L good layout w → (ks : List ℕ) → IsExclusive (events_of (run_of (put L w) ks).world.trace)
-  stays_exclusive w g ks = is_exclusive (events_of (run_of (put L w) ks).world.trace) (run_good V L good further layout laws home w ks g).exclusive
+-- the ranks of turns that fit are there
+there_append : (n : ℕ) (ks js : List ℕ) → AreThere n ks → AreThere n js → AreThere n (ks ++ js)
+there_append n [] js a b = b
+there_append n (k ∷ ks) js a b = (a.0, there_append n ks js a.1 b)
+
+turn_there : (n : ℕ) (t : Turn) → TurnFits n t → AreThere n (turn_ranks t)
+turn_there n (turn.Steps rank count) low = all_there count where
+  all_there : (count : ℕ) → AreThere n (replicate count rank)
+  all_there zero = tt
+  all_there (suc c) = (low, all_there c)
+turn_there n (turn.Stop rank) low = tt
+
+pub ranks_there : (n : ℕ) (ts : List Turn) → AllByRecursion (TurnFits n) ts → AreThere n (ranks_of ts)
+ranks_there n [] all = tt
+ranks_there n (t ∷ ts) all = there_append n (turn_ranks t) (ranks_of ts) (turn_there n t all.0) (ranks_there n ts all.1)

@@ -4,12 +4,11 @@ use Rattle.std.proofs.Common.{sym, ◌∙◌, ap, subst, ⊎_elim, arith}
 use Rattle.std.proofs.lemmas.Option.{same_Some, slice_get_within}
 use Rattle.std.proofs.lemmas.List.{length-map}
 use Rattle.rl_word.specs.Places.{get_map}
-use Rattle.rl_word.specs.Acts.{Layout, IsLawful, word_of, told, by_card}
+use Rattle.rl_word.specs.Acts.{Layout, IsLawful, word_of, by_card}
 use Rattle.rl_word.specs.declared.acts.Atom.{Atom}
 use Rattle.rl_word.specs.declared.acts.Atom.TheVariants as atom
 use Rattle.rl_step.specs.declared.events.Event.{Event}
 use Rattle.rl_step.specs.declared.events.Stepped.TheVariants.{Moved, Busy}
-use Rattle.rl_whole.specs.Running.{LockAt}
 use Rattle.rl_whole.specs.Split.{answer_of}
 use Rattle.rl_step.specs.Lock.{LockState, LockLaws, Deed, IsHolder, MayStep, MayLearn}
 use Rattle.rl_step.specs.Do.{do_got}
@@ -19,25 +18,19 @@ use Rattle.rl_whole.specs.declared.card_state.CardState.{CardState}
 use Rattle.rl_word.specs.declared.acts.Act.{Act}
 use Rattle.rl_word.specs.declared.acts.Act.TheVariants as act
 use Rattle.rl_whole.specs.declared.effect.Effect.TheVariants.{Work, Stay, Learn}
+use Rattle.rl_whole.specs.Running.{LockAt}
 use Rattle.rl_whole.specs.declared.whole.WholeView.{WholeView}
-use Rattle.rl_whole.specs.Split.{SplitState, LockGood, side_atom, home_of, StandsStill, lock_of, view_of, first_atom, card_atom, HolderFits, skips, effect_at, plan_home, plan_word}
-use Rattle.rl_whole.specs.SplitActs.{first_card, plain_got, told_card}
+use Rattle.rl_whole.specs.Split.{SplitState, LockGood, side_atom, home_of, lock_of, view_of, first_atom, card_atom, HolderFits, skips, effect_at, plan_home, plan_word}
+use Rattle.rl_whole.specs.SplitActs.{first_card}
 use Rattle.rl_whole.specs.ShiftLaws.{shift_got}
-use Rattle.rl_whole.specs.Whole.{side_of, lock_or_work, whole_table, split_of, Good, IsShiftable, IsAnswerShiftable}
-use Rattle.rl_whole.specs.WholeLaws.{next_cases}
+use Rattle.rl_whole.specs.Whole.{side_of, work_side, lock_or_work, work_plan, whole_table, split_of, Good, IsShiftable, IsAnswerShiftable}
+use Rattle.rl_model.specs.Geom.{GeomFits}
+use Rattle.rl_work.specs.Work.{work_atom, CanName, CanTurn}
+use Rattle.rl_work.specs.AtomLaws.{can_name, can_turn}
+use Rattle.rl_whole.specs.LearnLaws.{learns_at}
+use Rattle.rl_whole.specs.Bridge.{OnFront}
+use Rattle.rl_whole.specs.WholeLaws.{next_cases, plan_cases, on_front_at}
 use Rattle.rl_whole.specs.AnswerLaws.{answer_shifts}
-
--- the effect that an act is learnt, by its tests
-first_learns : (a : Act) (home got : ℕ) (b z : Bool) (h : CardState) (t : ℕ) (l : Bool) →
-    (if b then (if z then Stay InCard Moved else Stay Free (Busy home (got - 1))) else Learn Free got (skips a got)) ≡ Learn h t l → (b ≡ false) × (t ≡ got)
-first_learns a home got true true h t l e = cc
-first_learns a home got true false h t l e = cc
-first_learns a home got false z h t l e = (refl, cc)
-
-load_learns : (home got : ℕ) (b : Bool) (h : CardState) (t : ℕ) (l : Bool) →
-    (if b then Learn (ToLeave home) got true else Stay (Loaded got) Moved) ≡ Learn h t l → (b ≡ true) × (t ≡ got)
-load_learns home got true h t l e = (refl, cc)
-load_learns home got false h t l e = cc
 
 -- the work comes with no atom of the lock
 first_works : (a : Act) (home got : ℕ) (b z : Bool) →
@@ -108,7 +101,7 @@ module _ (V : Type 0) (L : LockAt V) (good : LockState V → Type 0) (further : 
   pub got_is : (x : WholeView V) (got : ℕ) (m : MayGet (whole_table L home) (Good L good layout) x got) (at : Atom) → side_atom L.table x.side ≡ Some at →
       got ≡ do_got at (drop L.base m.held.words) m.held.cards
   got_is x got m at e =
-      m.gives ∙ ap (λ z. do_got z m.held.words m.held.cards) (same_Some _ _ (sym m.plans.planned ∙ ap (lock_or_work L.base (L.table.standing x.side.view)) e)) ∙ shift_got L.base at m.held.words m.held.cards
+      m.gives ∙ ap (λ z. do_got z m.held.words m.held.cards) (same_Some _ _ (sym m.plans.planned ∙ ap (λ o. lock_or_work L.base o (work_plan L.site.geom (L.table.standing x.side.view) x.work)) e)) ∙ shift_got L.base at m.held.words m.held.cards
 
   fits_at : (s : SplitState V) (p : Option Act) (h : CardState) (got : ℕ) → LockGood L.table good layout s → length s.sides < 2 ^ 32 →
       ((at : Atom) → card_atom L.table p h ≡ Some at → got ≡ do_got at s.words s.cards) → HolderFits p h got
@@ -126,33 +119,13 @@ module _ (V : Type 0) (L : LockAt V) (good : LockState V → Type 0) (further : 
       let rule = m.plans.is_ruled in
       fits_at (split_of L.base m.held m.views rule.modes rule.past) (L.table.plan x.side.view) x.side.card got rule.lock_part (subst (λ n. n < 2 ^ 32) (sym (length-map m.views side_of)) rule.few) (λ at e. got_is x got m at e)
 
-  pub learns_at : (s : SplitState V) (r : ℕ) (v : V) (p : Option Act) (h : CardState) (got : ℕ) (hand : CardState) (t : ℕ) (lost : Bool) → LockGood L.table good layout s →
-      slice_get s.sides r ≡ Some (record { view = v; card = h }) → L.table.plan v ≡ p → effect_at (plan_home L.table p) p h got ≡ Learn hand t lost →
-      ((at : Atom) → card_atom L.table p h ≡ Some at → got ≡ do_got at s.words s.cards) →
-      (a : Act) × (p ≡ Some a) × (t ≡ told a (slice_index s.words (word_of a)))
-  learns_at s r v p (ToLeave n) got hand t lost g has pl e k = cc
-  learns_at s r v None Free got hand t lost g has pl e k = cc
-  learns_at s r v None InCard got hand t lost g has pl e k = cc
-  learns_at s r v None (Loaded w) got hand t lost g has pl e k = cc
-  learns_at s r v (Some a) Free got hand t lost g has pl e k =
-      let q = first_learns a (home_of L.table (word_of a)) got (by_card a) (got == 0) hand t lost e in
-      (a, refl, q.1 ∙ k (first_atom L.table a) refl ∙ plain_got V L.table a s.words s.cards q.0)
-  learns_at s r v (Some a) InCard got hand t lost g has pl e k =
-      let q = load_learns (home_of L.table (word_of a)) got (skips a got) hand t lost e in
-      let bc : by_card a ≡ true = subst (λ o. StandsStill s.words o InCard) pl (g.still r _ has) in
-      (a, refl, q.1 ∙ k (atom.CardLoad (word_of a)) refl ∙ sym (told_card V L.table a (slice_index s.words (word_of a)) bc))
-  learns_at s r v (Some a) (Loaded w) got hand t lost g has pl e k =
-      let holds : StandsStill s.words (Some a) (Loaded w) = subst (λ o. StandsStill s.words o (Loaded w)) pl (g.still r _ has) in
-      let same : t ≡ told a w = cc in
-      (a, refl, same ∙ ap (told a) (sym holds.2))
-
   pub may_learn : (x : WholeView V) (got : ℕ) (hand : CardState) (t : ℕ) (lost : Bool) → MayGet (whole_table L home) (Good L good layout) x got →
       effect_at (plan_home L.table (L.table.plan x.side.view)) (L.table.plan x.side.view) x.side.card got ≡ Learn hand t lost → MayLearn L.table good x.side.view t
   may_learn x got hand t lost m e =
       let rule = m.plans.is_ruled in
       let s : SplitState V = split_of L.base m.held m.views rule.modes rule.past in
       let has : slice_get s.sides m.rank ≡ Some x.side = get_map side_of m.views m.rank x m.plans.has in
-      let q = learns_at s m.rank x.side.view (L.table.plan x.side.view) x.side.card got hand t lost rule.lock_part has refl e (λ at f. got_is x got m at f) in
+      let q = learns_at V L.table good further layout laws s m.rank x.side.view (L.table.plan x.side.view) x.side.card got hand t lost rule.lock_part has refl e (λ at f. got_is x got m at f) in
       record { state = lock_of s; rank = m.rank; act = q.0; is_good = rule.lock_part.lock; has = get_map view_of s.sides m.rank x.side has; planned = q.1; gives = q.2 }
 
   works_at : (p : Option Act) (h : CardState) (got : ℕ) → effect_at (plan_home L.table p) p h got ≡ Work → card_atom L.table p h ≡ None
@@ -164,11 +137,36 @@ module _ (V : Type 0) (L : LockAt V) (good : LockState V → Type 0) (further : 
   works_at (Some a) InCard got e = absurd (load_works (home_of L.table (word_of a)) got (skips a got) e)
   works_at (Some a) (Loaded w) got e = cc
 
+  -- the atom of a rank whose atom was one of the work
+  pub work_planned : (x : WholeView V) (got : ℕ) (m : MayGet (whole_table L home) (Good L good layout) x got) →
+      effect_at (plan_home L.table (L.table.plan x.side.view)) (L.table.plan x.side.view) x.side.card got ≡ Work → IsHolder (L.table.standing x.side.view) × (work_atom L.site.geom x.work ≡ Some m.atom)
+  work_planned x got m e =
+      let none : side_atom L.table x.side ≡ None = works_at (L.table.plan x.side.view) x.side.card got e in
+      ⊎_elim (λ q. let bad : Some q.0 ≡ None = sym q.1 ∙ none in cc) (λ q. plan_cases V L good further layout laws home L.site.geom (L.table.standing x.side.view) x.work m.atom q.1)
+      (next_cases V L good further layout laws home (side_atom L.table x.side) (work_plan L.site.geom (L.table.standing x.side.view) x.work) m.atom m.plans.planned)
+
   pub work_holds : (x : WholeView V) (got : ℕ) → MayGet (whole_table L home) (Good L good layout) x got →
       effect_at (plan_home L.table (L.table.plan x.side.view)) (L.table.plan x.side.view) x.side.card got ≡ Work → IsHolder (L.table.standing x.side.view)
-  work_holds x got m e =
-      let none : side_atom L.table x.side ≡ None = works_at (L.table.plan x.side.view) x.side.card got e in
-      ⊎_elim (λ q. let bad : Some q.0 ≡ None = sym q.1 ∙ none in cc) (λ q. q.1) (next_cases V L good further layout laws home (L.table.standing x.side.view) (side_atom L.table x.side) m.atom m.plans.planned)
+  work_holds x got m e = (work_planned x got m e).0
+
+  -- the work can name its atom
+  pub work_names : (x : WholeView V) → MayBe (Good L good layout) x → CanName L.site.geom x.work x.work.stage
+  work_names x m =
+      let g = m.is_ruled in
+      can_name L.site _ (map (work_side L.table) m.views) g.work_part m.rank (work_side L.table x) (get_map (work_side L.table) m.views m.rank x m.has) (let f = g.fits in let b = g.base_is in omega arith)
+
+  -- and be turned by what it gave
+  pub work_turns : (x : WholeView V) (got : ℕ) → MayGet (whole_table L home) (Good L good layout) x got →
+      effect_at (plan_home L.table (L.table.plan x.side.view)) (L.table.plan x.side.view) x.side.card got ≡ Work → CanTurn L.site.geom x.work got x.work.stage
+  work_turns x got m e =
+      let g = m.plans.is_ruled in
+      let p = work_planned x got m e in
+      let on : OnFront L.base m.rank m.atom m.held.words m.held.cards = on_front_at V L good further layout laws home m.held m.views g m.rank x m.plans.has m.atom p.1 in
+      subst (λ n. CanTurn L.site.geom x.work n x.work.stage) (sym (m.gives ∙ on.got))
+      (can_turn L.site _ (map (work_side L.table) m.views) g.work_part m.rank (work_side L.table x) (get_map (work_side L.table) m.views m.rank x m.plans.has) (let f = g.fits in let b = g.base_is in omega arith) m.atom m.held.cards p.1)
+
+  pub geom_fits : (x : WholeView V) → MayBe (Good L good layout) x → GeomFits L.site.geom
+  geom_fits x m = m.is_ruled.work_part.geom_fits
 
   word_there : (p : Option Act) (w : ℕ) → ((a : Act) → p ≡ Some a → word_of a < L.table.size) → plan_word p ≡ Some w → w < L.table.size
   word_there None w k e = cc

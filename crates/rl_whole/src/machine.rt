@@ -1,87 +1,89 @@
-//! All of one shard in plain vectors, stepped one rank at a time.
+//! All shards in plain vectors, stepped one rank at a time.
 
-ghost use Rattle.std.specs.Prelude.{◌≡◌, ◌↔◌, ◌-◌, ◌<◌, ◌^◌, ℕ, length, slice_index, IfOk, OnErr};
+ghost use Rattle.std.specs.Prelude.{◌≡◌, ◌↔◌, ◌-◌, ◌<◌, ◌^◌, [], length, map, get_or, slice_index, IfOk, OnErr};
+ghost use Rattle.std.specs.List.{AllByRecursion};
+ghost use Rattle.rl_model.specs.Geom.{GeomFits};
 ghost use Rattle.rl_word.specs.Shapes.{IsProper, layout_of};
-ghost use Rattle.rl_step.specs.Exclusion.{IsExclusive};
 ghost use Rattle.rl_step.specs.Answers.{steps_made};
-ghost use Rattle.rl_step.specs.Lock.{HandsOn};
-ghost use Rattle.rl_step.specs.QueuePromises.{KeepQueues, KeepBudgets, KeepTotals, ServeInOrder, CountTenures};
-ghost use Rattle.rl_whole.specs.RunDeeds.{SaysOfRuns};
-ghost use Rattle.rl_whole.specs.Promises.{RunsExclusively, EachRun, EachClosedRun};
-ghost use Rattle.rl_whole.specs.Whole.{count_word};
-ghost use Rattle.rl_whole.specs.Causes.{StepCause, IsFinished};
-ghost use Rattle.rl_whole.specs.Running.{lock_at, running};
-ghost use Rattle.rl_whole.specs.Run.{started, stepped, answer_of_step, events_of, done_of, has_open_call, call_opened, only_counted};
+ghost use Rattle.rl_ops.specs.Ops.{OpsFit};
+ghost use Rattle.rl_whole.specs.Causes.{StepCause, IsFinished, OnlyCountsBusy};
+ghost use Rattle.rl_whole.specs.Cores.{EachCore, EachHandsOn};
+ghost use Rattle.rl_whole.specs.Promises.{IsSound, StaysSound};
+ghost use Rattle.rl_whole.specs.Records.{journal_at, transcripts_at};
+ghost use Rattle.rl_whole.specs.Run.{done_of, stepped, answer_of_step, has_open_call, trace_of, kept_by};
+ghost use Rattle.rl_whole.specs.Running.{running};
+ghost use Rattle.rl_whole.specs.Start.{start_of};
+ghost use Rattle.rl_whole.specs.State.{cores_of};
 
-use crate::state::{EVENTS, State, make_atom, open_next, opening, zeros};
-use crate::whole::{COUNT_WORD, Whole};
-use rl_step::{Algo, Event, Standing, Stepped, Steps};
+use crate::records;
+use crate::start::{first_shards, none_opened};
+use crate::state::{MachineState, make_step};
+use rl_model::{Entry, Geom};
+use rl_ops::Ops;
+use rl_step::{Algo, Event, Stepped, Steps};
 use rl_word::{Knobs, Shape};
 use std::alloc::{AllocError as OutOfMemory, Global};
 use std::marker::Model;
 
-/// All of one shard, with the steps of its ranks one after the other.
+/// All shards of a table, each behind a lock of its own, with the steps of the ranks one after the other.
 ///
-/// Contracts see its core, which never changes, and its world (`Running` of `specs/Running.antt`): words and cards, views, calls,
-/// the trace and the counts of answers. Whatever steps it has taken, its trace is exclusive.
+/// Contracts see its shards, what its ranks ask for, how many calls each has opened and the counts of answers (`TheMachine` of
+/// `specs/Running.antt`).
 #[derive(Drop)]
 pub struct Machine<A: Algo> {
-    core: Whole<A>,
-    state: State<A>,
+    state: MachineState<A>,
 }
 
 impl<A: Algo> Model for Machine<A> {
-    ghost use Rattle.rl_whole.specs.RunGood.{RunGood};
-    ghost use Rattle.rl_whole.specs.State.{world_of};
-    ghost use Rattle.rl_whole.specs.Running.{TheMachine, lock_at};
+    ghost use Rattle.rl_whole.specs.Running.{TheMachine};
+    ghost use Rattle.rl_whole.specs.State.{machine_view, IsMachine};
 
     ghost Value = { TheMachine A A.View };
 
-    ghost view = { λ m. record { core = m.core; world = world_of m.state } };
+    ghost view = { λ m. machine_view m.state };
 
-    ghost invariant = { λ m. RunGood (lock_at A.table m.core) (A.good m.core.algo) (A.layout m.core.algo) (world_of m.state) };
+    ghost invariant = { λ m. IsMachine A A.View A.table A.good A.layout (machine_view m.state) };
 }
 
 impl<A: Algo> Machine<A> {
     /// The machine before its first step.
     ///
-    /// `shape` says where the ranks sit, `home` is the node that the shard's own words live on, `knobs` are the lock's
-    /// settings, and `given` says for each rank how many calls it has; each call holds the lock, to write. Refused only for
-    /// want of memory.
+    /// `shape` says where the ranks sit, `knobs` are the settings of each shard's lock, `geom` is the size of the table,
+    /// `homes` says for each shard the node that its words live on, and `ops` what each rank asks for, at most 20,000 calls
+    /// in all. The table is empty. Refused only for want of memory.
     pub fn new(
         alloc: Global,
         shape: &Shape,
-        home: u32,
         knobs: Knobs,
-        given: Vec<u32>,
+        geom: Geom,
+        homes: &[u32],
+        ops: Ops,
     ) -> Result<Machine<A>, OutOfMemory>
         requires proper { IsProper shape.now }
-        requires home { home < shape.now.nodes }
         requires knobs { A.suits_knobs shape.now knobs }
-        requires given { length given.items ≡ length shape.now.node_of }
-        ensures made { IfOk result (λ m. running A.table m ≡ started (A.defined shape.now home knobs) shape.now given.items) }
-        ensures promised { IfOk result (λ m. HandsOn (A.further m.core.algo) (A.promised shape.now home knobs)) }
-        ensures layout { IfOk result (λ m. A.layout m.core.algo ≡ layout_of shape.now) }
-        ensures ranks { IfOk result (λ m. length m.world.views ≡ length shape.now.node_of) }
+        requires fits { GeomFits geom }
+        requires many { length homes.now ≡ geom.shards }
+        requires homes { AllByRecursion (λ home. home < shape.now.nodes) homes.now }
+        requires ops { OpsFit (length shape.now.node_of) geom.shards ops }
+        ensures made { IfOk result (λ m. running A.table m ≡ start_of A.defined shape.now knobs geom homes.now ops) }
+        ensures promised { IfOk result (λ m. EachHandsOn A.further A.promised shape.now knobs homes.now (cores_of m)) }
+        ensures layout { IfOk result (λ m. EachCore (λ home core. A.layout core.algo ≡ layout_of shape.now) homes.now (cores_of m)) }
     {
-        let core = Whole::new(alloc, shape, home, knobs)?;
-        let ranks = given.len() as u32;
-        let flat = opening(alloc, &core, ranks, shape.nodes)?;
-        let opened = zeros(alloc, ranks)?;
+        let shards = first_shards(alloc, shape, knobs, geom, homes, &ops)?;
+        let opened = none_opened(alloc, &ops)?;
         Ok(Machine {
-            core,
-            state: State {
-                flat,
-                given,
+            state: MachineState {
+                shards,
+                geom,
+                ops,
                 opened,
-                events: Vec::new(alloc),
                 steps: Steps::none(),
             },
         })
     }
 
-    /// One step of a rank: its next call is opened, where none is open and one is left; then, where a call is open, one atom
-    /// is made.
+    /// One step of a rank: its next block is opened, where no call of it is open and one is left; then, where a call is open,
+    /// one atom is made.
     ///
     /// The answer is `Busy` where the atom was a Take and another rank was in the card of that node, which changes nothing;
     /// `Lost` where it was the compare of a compare-and-swap, which saw another value than its guess; `Waiting` where it was
@@ -91,102 +93,122 @@ impl<A: Algo> Machine<A> {
     /// between which the home's own ranks may act, is what remote memory of today does. Refused only for want of memory,
     /// and then nothing has changed.
     pub fn step(&mut self, rank: u32) -> Result<Stepped, OutOfMemory>
-        requires there { rank < length self.old.world.views }
-        requires few { steps_made self.old.world.steps < 2 ^ 32 - 1 }
-        ensures core { self.new.core ≡ self.old.core }
+        requires there { rank < length self.old.calls }
+        requires few { steps_made self.old.steps < 2 ^ 32 - 1 }
+        ensures cores { cores_of self.new ≡ cores_of self.old }
         ensures stepped { IfOk result (λ _. running A.table self.new ≡ stepped (running A.table self.old) rank) }
         ensures answer { IfOk result (λ answer. answer ≡ answer_of_step (running A.table self.old) rank) }
         ensures cause { IfOk result (StepCause (running A.table self.old) rank) }
         ensures finished { IfOk result (λ answer. (answer ≡ Stepped.Finished) ↔ IsFinished (running A.table self.old) rank) }
-        ensures busy { IfOk result (λ answer. (node holder : ℕ) → answer ≡ Stepped.Busy node holder → self.new.world ≡ only_counted (call_opened (lock_at A.table self.old.core) self.old.world rank) answer) }
+        ensures busy { IfOk result (OnlyCountsBusy (running A.table self.old) rank (running A.table self.new)) }
         ensures kept { OnErr result (self.new ≡ self.old) }
     {
-        self.state.events.reserve(EVENTS)?;
-        open_next(&self.core, &mut self.state, rank);
-        Ok(make_atom(&self.core, &mut self.state, rank))
-    }
-
-    /// The events so far, in the order of the steps, each with the number of its step.
-    pub fn events(&self) -> &[(u32, Event)]
-        ensures events { result.now ≡ self.now.world.trace }
-        ensures exclusive { IsExclusive (events_of result.now) }
-        ensures queues { KeepQueues (A.table self.now.core.algo).queues (events_of result.now) }
-    {
-        self.state.events.as_slice()
-    }
-
-    /// How often each answer came.
-    pub fn steps(&self) -> Steps
-        ensures { result ≡ self.now.world.steps }
-    {
-        self.state.steps
-    }
-
-    /// How many ranks there are.
-    pub fn ranks(&self) -> u32
-        ensures { result ≡ length self.now.world.views }
-    {
-        self.state.given.len() as u32
-    }
-
-    /// How many calls the rank has.
-    pub fn given(&self, rank: u32) -> u32
-        requires { rank < length self.now.world.views }
-        ensures { result ≡ slice_index self.now.world.given rank }
-    {
-        self.state.given[rank as usize]
-    }
-
-    /// How many of the rank's calls have ended their work: those that it has opened, less one that still asks for the lock or
-    /// holds it.
-    pub fn done(&self, rank: u32) -> u32
-        requires { rank < length self.now.world.views }
-        ensures { result ≡ done_of (running A.table self.now) rank }
-    {
-        let opened = self.state.opened[rank as usize];
-        match self
-            .core
-            .algo
-            .standing(self.state.flat.view(rank).side.view)
-        {
-            Standing::Asking | Standing::Writer | Standing::Reader => opened.saturating_sub(1),
-            Standing::Out | Standing::Leaving => opened,
-        }
+        let answer = make_step(&mut self.state, rank)?;
+        Ok(answer)
     }
 
     /// Whether the rank has an open call: it has until the call's last atom was made, a card's Leave among them.
     pub fn is_open(&self, rank: u32) -> bool
-        requires { rank < length self.now.world.views }
+        requires { rank < length self.now.calls }
         ensures { result ≡ has_open_call (running A.table self.now) rank }
     {
-        self.core.is_open(self.state.flat.view(rank))
+        self.state.is_open(rank)
     }
 
-    /// How many updates were made, by the count word. No call of today makes one.
-    pub fn updates(&self) -> u32
-        ensures { result ≡ slice_index self.now.world.held.words count_word }
+    /// The events of a shard so far, in the order of the steps, each with the number of its step.
+    pub fn events(&self, shard: u32) -> &[(u32, Event)]
+        requires { shard < length self.now.shards }
+        ensures { result.now ≡ trace_of (running A.table self.now) shard }
     {
-        self.state.flat.words().value(COUNT_WORD) as u32
+        self.state.shards[shard as usize].events.as_slice()
+    }
+
+    /// The rank's entries on a shard so far, in the order in which they were done.
+    pub fn transcript(&self, shard: u32, rank: u32) -> &[Entry]
+        requires shard { shard < length self.now.shards }
+        requires rank { rank < length self.now.calls }
+        ensures { result.now ≡ get_or (kept_by (running A.table self.now) rank) shard [] }
+    {
+        self.state.shards[shard as usize]
+            .flat
+            .view(rank)
+            .transcript()
+    }
+
+    /// How many updates were done on a shard, as the word that counts them says.
+    pub fn updates(&self, shard: u32) -> u32
+        requires { shard < length self.now.shards }
+        ensures { result ≡ length (journal_at (running A.table self.now) shard) }
+    {
+        records::updates(&self.state.shards[shard as usize])
+    }
+
+    /// The journal of a shard: its updates in the order in which they were done, as its words say. Refused only for want of
+    /// memory.
+    pub fn journal(&self, alloc: Global, shard: u32) -> Result<Vec<Entry>, OutOfMemory>
+        requires { shard < length self.now.shards }
+        ensures { IfOk result (λ entries. entries.items ≡ journal_at (running A.table self.now) shard) }
+    {
+        records::journal(alloc, &self.state.shards[shard as usize])
+    }
+
+    /// A copy of every rank's entries on a shard, rank by rank. Refused only for want of memory.
+    pub fn transcripts(&self, alloc: Global, shard: u32) -> Result<Vec<Vec<Entry>>, OutOfMemory>
+        requires { shard < length self.now.shards }
+        ensures { IfOk result (λ copies. map (λ t. t.items) copies.items ≡ transcripts_at (running A.table self.now) shard) }
+    {
+        let kept = &self.state.shards[shard as usize];
+        let ranks = self.state.ops.by_rank.as_slice().len() as u32;
+        records::transcripts(alloc, kept, ranks)
+    }
+
+    /// How many of its calls the rank has done: its entries on all shards.
+    pub fn done(&self, rank: u32) -> u32
+        requires { rank < length self.now.calls }
+        ensures { result ≡ done_of (running A.table self.now) rank }
+    {
+        self.state.done(rank)
+    }
+
+    /// How often each answer came.
+    pub fn steps(&self) -> Steps
+        ensures { result ≡ self.now.steps }
+    {
+        self.state.steps
+    }
+
+    /// How many calls the rank was given.
+    pub fn given(&self, rank: u32) -> u32
+        requires { rank < length self.now.calls }
+        ensures { result ≡ length (get_or self.now.calls rank []) }
+    {
+        self.state.ops.by_rank.as_slice()[rank as usize].len() as u32
+    }
+
+    /// How many of its calls the rank has opened.
+    pub fn opened(&self, rank: u32) -> u32
+        requires { rank < length self.now.calls }
+        ensures { result ≡ slice_index self.now.opened rank }
+    {
+        self.state.opened[rank as usize]
+    }
+
+    /// What the ranks ask for.
+    pub fn ops(&self) -> &Ops
+        ensures calls { result.now.by_rank ≡ self.now.calls }
+        ensures sizes { result.now.sizes ≡ self.now.sizes }
+    {
+        &self.state.ops
     }
 }
 
-/// Whatever steps follow, in whatever order of the ranks: at most one rank writes at any moment of the whole trace, none reads
-/// beside it, and who touches what the lock guards holds the lock. For every lock.
-pub fn exclusive<A: Algo>(machine: &Machine<A>)
-    ensures { RunsExclusively (running A.table machine.now) }
+/// At every moment, whatever the order of the steps: on each shard at most one rank writes, none reads beside it, and each
+/// queue of the lock keeps its promise; a rank's next atom is one of a card, or a local compare-and-swap, only where the lock
+/// lets the rank make one; journal and transcripts are legal; and each rank's entries are its first calls, each once, in its
+/// order. For every lock. There is nothing to run.
+pub fn soundness<A: Algo>(machine: &Machine<A>)
+    ensures sound { IsSound (running A.table machine.now) }
+    ensures stays { StaysSound (running A.table machine.now) }
 {
-    let _ = &machine.core;
-}
-
-/// Whatever steps follow, in whatever order of the ranks: each queue of the lock serves first who came first, one with a budget
-/// keeps it, and while no call is open a queue was settled and passed as often as it was had. And what the lock says further
-/// holds of the events and the acts of every run from the start. For every lock.
-pub fn queue_laws<A: Algo>(machine: &Machine<A>)
-    ensures budgets { EachRun (running A.table machine.now) KeepBudgets }
-    ensures totals { EachRun (running A.table machine.now) KeepTotals }
-    ensures order { EachRun (running A.table machine.now) ServeInOrder }
-    ensures tenures { EachClosedRun (running A.table machine.now) CountTenures }
-    ensures further { SaysOfRuns (A.further machine.now.core.algo) (lock_at A.table machine.now.core) (A.layout machine.now.core.algo) }
-{
-    let _ = &machine.core;
+    let _ = &machine.state;
 }

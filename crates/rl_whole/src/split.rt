@@ -14,12 +14,12 @@ pub fn word(act: Act) -> u32
     ensures { result ≡ word_of act }
 {
     match act {
-        Act::Load { word } => word,
-        Act::Store { word, .. } => word,
-        Act::LocalCas { word, .. } => word,
-        Act::CardCas { word, .. } => word,
-        Act::CardSwap { word, .. } => word,
-        Act::CardAdd { word, .. } => word,
+        Act::Load { word }
+        | Act::Store { word, .. }
+        | Act::LocalCas { word, .. }
+        | Act::CardCas { word, .. }
+        | Act::CardSwap { word, .. }
+        | Act::CardAdd { word, .. } => word,
     }
 }
 
@@ -27,10 +27,7 @@ pub fn word(act: Act) -> u32
 pub fn word_planned(plan: Option<Act>) -> Option<u32>
     ensures { result ≡ plan_word plan }
 {
-    match plan {
-        None => None,
-        Some(act) => Some(word(act)),
-    }
+    Some(word(plan?))
 }
 
 /// What an act writes where its word has this value.
@@ -39,10 +36,10 @@ fn written(act: Act, value: u64) -> u64
 {
     match act {
         Act::Load { .. } => value,
-        Act::Store { value: new, .. } => new,
-        Act::LocalCas { old, new, .. } => if value == old { new } else { value },
-        Act::CardCas { old, new, .. } => if value == old { new } else { value },
-        Act::CardSwap { value: new, .. } => new,
+        Act::Store { value: new, .. } | Act::CardSwap { value: new, .. } => new,
+        Act::LocalCas { old, new, .. } | Act::CardCas { old, new, .. } => {
+            if value == old { new } else { value }
+        }
         Act::CardAdd { by, .. } => value.wrapping_add(by),
     }
 }
@@ -62,12 +59,8 @@ fn by_card(act: Act) -> bool
     ensures { result ≡ is_by_card act }
 {
     match act {
-        Act::Load { .. } => false,
-        Act::Store { .. } => false,
-        Act::LocalCas { .. } => false,
-        Act::CardCas { .. } => true,
-        Act::CardSwap { .. } => true,
-        Act::CardAdd { .. } => true,
+        Act::Load { .. } | Act::Store { .. } | Act::LocalCas { .. } => false,
+        Act::CardCas { .. } | Act::CardSwap { .. } | Act::CardAdd { .. } => true,
     }
 }
 
@@ -76,9 +69,8 @@ fn skips(act: Act, got: u64) -> bool
     ensures { result ≡ skips_at act got }
 {
     match act {
-        Act::LocalCas { old, .. } => got != old,
-        Act::CardCas { old, .. } => got != old,
-        _ => false,
+        Act::LocalCas { old, .. } | Act::CardCas { old, .. } => got != old,
+        Act::Load { .. } | Act::Store { .. } | Act::CardSwap { .. } | Act::CardAdd { .. } => false,
     }
 }
 
@@ -90,9 +82,9 @@ fn first(home: u32, act: Act) -> Atom
         Act::Load { word } => Atom::Load { word },
         Act::Store { word, value } => Atom::Store { word, value },
         Act::LocalCas { word, old, new } => Atom::LocalCas { word, old, new },
-        Act::CardCas { .. } => Atom::Take { node: home },
-        Act::CardSwap { .. } => Atom::Take { node: home },
-        Act::CardAdd { .. } => Atom::Take { node: home },
+        Act::CardCas { .. } | Act::CardSwap { .. } | Act::CardAdd { .. } => {
+            Atom::Take { node: home }
+        }
     }
 }
 
@@ -102,21 +94,15 @@ pub fn next_atom(home: u32, plan: Option<Act>, card: CardState) -> Option<Atom>
 {
     match card {
         CardState::ToLeave { node } => Some(Atom::Leave { node }),
-        CardState::Free => match plan {
-            None => None,
-            Some(act) => Some(first(home, act)),
-        },
-        CardState::InCard => match plan {
-            None => None,
-            Some(act) => Some(Atom::CardLoad { word: word(act) }),
-        },
-        CardState::Loaded { value } => match plan {
-            None => None,
-            Some(act) => Some(Atom::CardStore {
+        CardState::Free => Some(first(home, plan?)),
+        CardState::InCard => Some(Atom::CardLoad { word: word(plan?) }),
+        CardState::Loaded { value } => {
+            let act = plan?;
+            Some(Atom::CardStore {
                 word: word(act),
                 value: written(act, value),
-            }),
-        },
+            })
+        }
     }
 }
 
@@ -200,9 +186,8 @@ fn guess(act: Act) -> u64
     ensures { result ≡ guess_of act }
 {
     match act {
-        Act::LocalCas { old, .. } => old,
-        Act::CardCas { old, .. } => old,
-        _ => 0,
+        Act::LocalCas { old, .. } | Act::CardCas { old, .. } => old,
+        Act::Load { .. } | Act::Store { .. } | Act::CardSwap { .. } | Act::CardAdd { .. } => 0,
     }
 }
 

@@ -1,77 +1,32 @@
-//! What a machine holds beside its core, and the two halves of a step.
+//! A machine in plain vectors, and the two kinds of its steps.
 
-ghost use Rattle.std.specs.Prelude.{◌≡◌, ◌+◌, ◌-◌, ◌<◌, ◌≤◌, ◌^◌, ◌++◌, length, replicate, vec_len, vec_capacity, IfOk};
+ghost use Rattle.std.specs.Prelude.{◌≡◌, ◌+◌, ◌<◌, ◌≤◌, ◌-◌, ◌^◌, [], true, length, get_or, slice_index, IfOk, OnErr};
+ghost use Rattle.rl_model.specs.Geom.{GeomFits};
 ghost use Rattle.rl_step.specs.Answers.{steps_made};
-ghost use Rattle.rl_whole.specs.Running.{lock_at};
-ghost use Rattle.rl_whole.specs.Run.{opening_held, opening_views, call_opened, atom_made, atom_answer, numbered};
-ghost use Rattle.rl_whole.specs.RunGood.{RunGood};
-ghost use Rattle.rl_whole.specs.State.{world_of};
+ghost use Rattle.rl_whole.specs.Asks.{place_after, block_from, block_shard};
+ghost use Rattle.rl_whole.specs.Run.{done_of, place_of, has_open_call, opens, atom_made, atom_answer, stepped, answer_of_step};
+ghost use Rattle.rl_whole.specs.Running.{running};
+ghost use Rattle.rl_whole.specs.State.{machine_view, cores_of, IsMachine};
 
-use crate::whole::Whole;
-use arrayvec::ArrayVec;
-use rl_step::{Algo, Event, Flat, Stepped, Steps, Words, advance_flat};
-use rl_word::{Atom, Mode};
-use std::alloc::{AllocError as OutOfMemory, Global};
+use crate::shard::{ShardState, open_and_step, step_on};
+use rl_model::{Call, Geom};
+use rl_ops::Ops;
+use rl_step::{Algo, Stepped, Steps};
+use std::alloc::AllocError as OutOfMemory;
 
-/// How many events one atom can have.
-pub const EVENTS: usize = 8;
-
-/// All of one shard but the core.
+/// All of a machine.
 #[derive(Drop)]
-pub struct State<A: Algo> {
-    /// The words, the cards and the ranks' views.
-    pub flat: Flat<Whole<A>>,
-    /// How many calls each rank has.
-    pub given: Vec<u32>,
-    /// How many of them it has opened.
+pub struct MachineState<A: Algo> {
+    /// The shards by number.
+    pub shards: Vec<ShardState<A>>,
+    /// The size of the table.
+    pub geom: Geom,
+    /// What the ranks ask for.
+    pub ops: Ops,
+    /// How many of its calls each rank has opened.
     pub opened: Vec<u32>,
-    /// The events, each with the number of its step.
-    pub events: Vec<(u32, Event)>,
     /// How often each answer came.
     pub steps: Steps,
-}
-
-/// The window and the views of so many ranks before the first step: word 0 is 1, all other words and the cards are 0.
-pub fn opening<A: Algo>(
-    alloc: Global,
-    core: &Whole<A>,
-    ranks: u32,
-    nodes: u32,
-) -> Result<Flat<Whole<A>>, OutOfMemory>
-    requires starts { 0 < core.now.base }
-    requires fits { core.now.base + (A.table core.now.algo).size < 2 ^ 32 }
-    requires ranks { ranks ≡ length (A.layout core.now.algo).node_of }
-    ensures words { IfOk result (λ f. f.words ≡ opening_held (core.now.base + (A.table core.now.algo).size) nodes) }
-    ensures views { IfOk result (λ f. f.views.items ≡ opening_views (A.table core.now.algo) 0 ranks) }
-{
-    let mut views = Vec::new(alloc);
-    for rank in 0..ranks {
-        views.push(core.first(rank))?;
-    }
-    let mut words = Words::new(alloc, core.base + core.algo.words(), nodes)?;
-    words.apply(core.home, 0, Atom::Store { word: 0, value: 1 });
-    Ok(Flat::new(words, views))
-}
-
-/// So many counts of 0.
-pub fn zeros(alloc: Global, count: u32) -> Result<Vec<u32>, OutOfMemory>
-    ensures { IfOk result (λ v. v.items ≡ replicate count 0) }
-{
-    Ok(vec![in alloc; 0; count as usize]?)
-}
-
-/// Opens the rank's next call where none is open and one is left.
-pub fn open_next<A: Algo>(core: &Whole<A>, state: &mut State<A>, rank: u32)
-    requires there { rank < length (world_of state.old).views }
-    requires good { RunGood (lock_at A.table core.now) (A.good core.now.algo) (A.layout core.now.algo) (world_of state.old) }
-    ensures opened { world_of state.new ≡ call_opened (lock_at A.table core.now) (world_of state.old) rank }
-    ensures room { state.new.events ≡ state.old.events }
-{
-    let at = rank as usize;
-    if !core.is_open(state.flat.view(rank)) && state.opened[at] < state.given[at] {
-        core.open_call(state.flat.view_mut(rank), Mode::Write);
-        state.opened[at] += 1;
-    }
 }
 
 /// How many steps were made.
@@ -82,28 +37,158 @@ fn made(steps: Steps) -> u32
     steps.moved + steps.waiting + steps.lost + steps.busy + steps.finished
 }
 
-/// Appends an atom's events with the number of its step. Most atoms have none, and then the steps aren't added up.
-fn note(events: &mut Vec<(u32, Event)>, steps: Steps, noted: &ArrayVec<Event, EVENTS>)
-    requires few { steps_made steps < 2 ^ 32 }
-    requires room { vec_len events.old + length noted.now.items ≤ vec_capacity events.old }
-    ensures { events.new.items ≡ events.old.items ++ numbered (steps_made steps) noted.now.items }
+/// The calls of a rank.
+fn calls_of(ops: &Ops, rank: u32) -> &[Call]
+    requires there { rank < length ops.now.by_rank }
+    ensures { result.now ≡ get_or ops.now.by_rank rank [] }
 {
-    for event in noted.as_slice() {
-        events.push_reserved((made(steps), *event));
+    ops.by_rank.as_slice()[rank as usize].as_slice()
+}
+
+/// The sizes of a rank's calls.
+fn sizes_of(ops: &Ops, rank: u32) -> &[u32]
+    requires there { rank < length ops.now.sizes }
+    ensures { result.now ≡ get_or ops.now.sizes rank [] }
+{
+    ops.sizes.as_slice()[rank as usize].as_slice()
+}
+
+/// The block of a rank that begins with the call of this number.
+fn next_block(ops: &Ops, rank: u32, opened: u32) -> &[Call]
+    requires there { rank < length ops.now.by_rank }
+    requires sized { rank < length ops.now.sizes }
+    requires begins { opened < length (get_or ops.now.sizes rank []) }
+    requires within { opened + slice_index (get_or ops.now.sizes rank []) opened ≤ length (get_or ops.now.by_rank rank []) }
+    ensures { result.now ≡ block_from (get_or ops.now.by_rank rank []) (get_or ops.now.sizes rank []) opened }
+{
+    let calls = calls_of(ops, rank);
+    let size = sizes_of(ops, rank)[opened as usize];
+    &calls[opened as usize..][..size as usize]
+}
+
+/// The shard of a block, which is that of its first call.
+fn block_shard(geom: Geom, block: &[Call]) -> u32
+    requires fits { GeomFits geom }
+    ensures { result ≡ block_shard geom block.now }
+{
+    match block.first() {
+        Some(call) => call.shard(geom),
+        None => 0,
     }
 }
 
-/// Makes the next atom of the rank, if it has one, and counts the step.
-pub fn make_atom<A: Algo>(core: &Whole<A>, state: &mut State<A>, rank: u32) -> Stepped
-    requires there { rank < length (world_of state.old).views }
-    requires good { RunGood (lock_at A.table core.now) (A.good core.now.algo) (A.layout core.now.algo) (world_of state.old) }
-    requires few { steps_made state.old.steps < 2 ^ 32 - 1 }
-    requires room { vec_len state.old.events + 8 ≤ vec_capacity state.old.events }
-    ensures made { world_of state.new ≡ atom_made (lock_at A.table core.now) (world_of state.old) rank }
-    ensures answer { result ≡ atom_answer (lock_at A.table core.now) (world_of state.old) rank }
+/// The shard where a rank stands that has opened so many of its calls: that of the last of them, and shard 0 before the first.
+fn place_after(geom: Geom, calls: &[Call], opened: u32) -> u32
+    requires fits { GeomFits geom }
+    requires within { opened ≤ length calls.now }
+    ensures { result ≡ place_after geom calls.now opened }
 {
-    let after = advance_flat(core, &mut state.flat, rank);
-    note(&mut state.events, state.steps, &after.events);
-    state.steps.count(after.stepped);
-    after.stepped
+    if opened == 0 {
+        0
+    } else {
+        calls[opened as usize - 1].shard(geom)
+    }
+}
+
+impl<A: Algo> MachineState<A> {
+    /// The shard where the rank stands.
+    fn place(&self, rank: u32) -> u32
+        requires there { rank < length self.now.ops.by_rank }
+        requires good { IsMachine A A.View A.table A.good A.layout (machine_view self.now) }
+        ensures place { result ≡ place_of (running A.table (machine_view self.now)) rank }
+        ensures there { result < length self.now.shards.items }
+    {
+        let at = rank as usize;
+        place_after(self.geom, calls_of(&self.ops, rank), self.opened[at])
+    }
+
+    /// Whether a call of the rank is open.
+    pub fn is_open(&self, rank: u32) -> bool
+        requires there { rank < length self.now.ops.by_rank }
+        requires good { IsMachine A A.View A.table A.good A.layout (machine_view self.now) }
+        ensures { result ≡ has_open_call (running A.table (machine_view self.now)) rank }
+    {
+        let shard = &self.shards[self.place(rank) as usize];
+        shard.core.is_open(shard.flat.view(rank))
+    }
+
+    /// How many entries the rank has on all shards.
+    pub fn done(&self, rank: u32) -> u32
+        requires there { rank < length self.now.ops.by_rank }
+        requires good { IsMachine A A.View A.table A.good A.layout (machine_view self.now) }
+        ensures { result ≡ done_of (running A.table (machine_view self.now)) rank }
+    {
+        let mut done = 0;
+        for shard in &self.shards {
+            done += shard.flat.view(rank).transcript().len() as u32;
+        }
+        done
+    }
+
+    /// Whether the rank's next step opens a block: no call is open, and one is left.
+    pub fn opens(&self, rank: u32) -> bool
+        requires there { rank < length self.now.ops.by_rank }
+        requires good { IsMachine A A.View A.table A.good A.layout (machine_view self.now) }
+        ensures { result ≡ opens (running A.table (machine_view self.now)) rank }
+    {
+        let at = rank as usize;
+        !self.is_open(rank) && (self.opened[at] as usize) < calls_of(&self.ops, rank).len()
+    }
+}
+
+/// Makes the next atom of the rank, where it stands, if it has one, and counts the answer.
+pub fn go_on<A: Algo>(state: &mut MachineState<A>, rank: u32) -> Result<Stepped, OutOfMemory>
+    requires there { rank < length state.old.ops.by_rank }
+    requires good { IsMachine A A.View A.table A.good A.layout (machine_view state.old) }
+    requires few { steps_made state.old.steps < 2 ^ 32 - 1 }
+    ensures made { IfOk result (λ _. running A.table (machine_view state.new) ≡ atom_made (running A.table (machine_view state.old)) rank) }
+    ensures answer { IfOk result (λ answer. answer ≡ atom_answer (running A.table (machine_view state.old)) rank) }
+    ensures cores { cores_of (machine_view state.new) ≡ cores_of (machine_view state.old) }
+    ensures kept { OnErr result (machine_view state.new ≡ machine_view state.old) }
+{
+    let place = state.place(rank);
+    let step = made(state.steps);
+    let answer = step_on(&mut state.shards[place as usize], rank, step)?;
+    state.steps.count(answer);
+    Ok(answer)
+}
+
+/// Opens the rank's next block, on the shard of its calls, makes the next atom there, and counts the answer.
+pub fn open_next<A: Algo>(state: &mut MachineState<A>, rank: u32) -> Result<Stepped, OutOfMemory>
+    requires there { rank < length state.old.ops.by_rank }
+    requires good { IsMachine A A.View A.table A.good A.layout (machine_view state.old) }
+    requires few { steps_made state.old.steps < 2 ^ 32 - 1 }
+    requires opens { opens (running A.table (machine_view state.old)) rank ≡ true }
+    ensures made { IfOk result (λ _. running A.table (machine_view state.new) ≡ stepped (running A.table (machine_view state.old)) rank) }
+    ensures answer { IfOk result (λ answer. answer ≡ answer_of_step (running A.table (machine_view state.old)) rank) }
+    ensures cores { cores_of (machine_view state.new) ≡ cores_of (machine_view state.old) }
+    ensures kept { OnErr result (machine_view state.new ≡ machine_view state.old) }
+{
+    let at = rank as usize;
+    let first = state.opened[at];
+    let block = next_block(&state.ops, rank, first);
+    let place = block_shard(state.geom, block);
+    let step = made(state.steps);
+    let shard = &mut state.shards[place as usize];
+    let answer = open_and_step(shard, rank, step, block, first)?;
+    state.opened[at] = first + block.len() as u32;
+    state.steps.count(answer);
+    Ok(answer)
+}
+
+/// One step of a rank: its next block is opened where none is open and one is left; then, where a call is open, one atom is made.
+pub fn make_step<A: Algo>(state: &mut MachineState<A>, rank: u32) -> Result<Stepped, OutOfMemory>
+    requires there { rank < length state.old.ops.by_rank }
+    requires good { IsMachine A A.View A.table A.good A.layout (machine_view state.old) }
+    requires few { steps_made state.old.steps < 2 ^ 32 - 1 }
+    ensures made { IfOk result (λ _. running A.table (machine_view state.new) ≡ stepped (running A.table (machine_view state.old)) rank) }
+    ensures answer { IfOk result (λ answer. answer ≡ answer_of_step (running A.table (machine_view state.old)) rank) }
+    ensures cores { cores_of (machine_view state.new) ≡ cores_of (machine_view state.old) }
+    ensures kept { OnErr result (machine_view state.new ≡ machine_view state.old) }
+{
+    if state.opens(rank) {
+        open_next(state, rank)
+    } else {
+        go_on(state, rank)
+    }
 }

@@ -1,15 +1,17 @@
 //! A rank's whole machine over any lock.
 
-ghost use Rattle.std.specs.Prelude.{◌≡◌, ◌↔◌, ◌∷◌, ◌<◌, ◌^◌, ◌+◌, false, None, length, IfOk};
+ghost use Rattle.std.specs.Prelude.{◌≡◌, ◌↔◌, ◌∷◌, ◌+◌, ◌<◌, ◌≤◌, ℕ, false, None, Some, length, sum, IfOk};
+ghost use Rattle.rl_model.specs.Geom.{GeomFits};
+ghost use Rattle.rl_word.specs.Shapes.{IsProper, layout_of};
 ghost use Rattle.rl_step.specs.Core.{MayBe};
 ghost use Rattle.rl_step.specs.Lock.{HandsOn};
 ghost use Rattle.rl_step.specs.declared.events.Event.TheVariants.{Touch as touched_by};
-ghost use Rattle.rl_whole.specs.Split.{departure};
 ghost use Rattle.rl_whole.specs.Domains.{KeepsToCards, KeepsToLocals};
-ghost use Rattle.rl_word.specs.Shapes.{IsProper, layout_of};
-ghost use Rattle.rl_whole.specs.Whole.{whole_table, lock_base, next_of, is_at_work, is_open, Good};
+ghost use Rattle.rl_whole.specs.Opening.{first_view, opened_in};
 ghost use Rattle.rl_whole.specs.Running.{lock_at};
-ghost use Rattle.rl_whole.specs.Run.{first_view, opened_in};
+ghost use Rattle.rl_whole.specs.Split.{plan_word, plan_home};
+ghost use Rattle.rl_whole.specs.Start.{lock_with, site_with};
+ghost use Rattle.rl_whole.specs.Whole.{whole_table, next_of, is_at_work, is_open, mode_of, rule_of, departure_if};
 ghost use Rattle.rl_whole.specs.WholeLaws.{whole_laws};
 
 use crate::card_state::CardState;
@@ -18,15 +20,11 @@ use crate::shift::{shift, shift_answer};
 use crate::side::Side;
 use crate::split::{answer, effect, next_atom, word_planned};
 use arrayvec::ArrayVec;
+use rl_model::{Call, Entry, Geom};
 use rl_step::{After, Algo, Core, Event, Standing, Stepped};
-use rl_word::{Atom, Knobs, Mode, Shape};
+use rl_word::{Act, Atom, Knobs, Mode, Shape};
+use rl_work::{Work, journal_base};
 use std::alloc::{AllocError as OutOfMemory, Global};
-
-/// The word of the window that counts the updates.
-pub const COUNT_WORD: u32 = 1;
-
-/// How many words of the window stand before the lock's: word 0, which is always 1, and the count.
-const LOCK_BASE: u32 = 2;
 
 /// What a rank knows between two of its atoms.
 #[derive(Drop)]
@@ -35,9 +33,11 @@ pub struct WholeView<V: Copy> {
     pub side: Side<V>,
     /// The rank's number.
     pub rank: u32,
+    /// Its side of the work of its calls, with its transcript.
+    pub work: Work,
 }
 
-/// A rank's machine for one shard: the lock, whose words stand in the window from `base` on, and the work of a call.
+/// A rank's machine for one shard: the lock, whose words stand in the window from `base` on, and the work of a block.
 #[derive(Drop)]
 pub struct Whole<A: Algo> {
     /// The shard's lock.
@@ -46,18 +46,26 @@ pub struct Whole<A: Algo> {
     pub base: u32,
     /// The node that the words before the lock's live on.
     pub home: u32,
+    /// The size of the table.
+    pub geom: Geom,
+    /// The shard's number.
+    pub shard: u32,
+    /// How many updates each rank may make on the shard.
+    pub rooms: Vec<u32>,
 }
 
-/// The events that end a call's work: the load of the count, and the holder's leave.
-fn work_events(rank: u32, standing: Standing) -> ArrayVec<Event, 8>
-    ensures { result.items ≡ touched_by rank false ∷ departure rank standing }
+/// The events of an atom of the work: the touch, and the holder's leave where the work is over with it.
+fn work_events(rank: u32, standing: Standing, write: bool, over: bool) -> ArrayVec<Event, 8>
+    ensures { result.items ≡ touched_by rank write ∷ departure_if rank standing over }
 {
     let mut events = ArrayVec::new();
-    events.push(Event::Touch { rank, write: false });
-    match standing {
-        Standing::Writer => events.push(Event::LeaveW { rank }),
-        Standing::Reader => events.push(Event::LeaveR { rank }),
-        _ => {}
+    events.push(Event::Touch { rank, write });
+    if over {
+        match standing {
+            Standing::Writer => events.push(Event::LeaveW { rank }),
+            Standing::Reader => events.push(Event::LeaveR { rank }),
+            _ => {}
+        }
     }
     events
 }
@@ -75,23 +83,43 @@ fn at_work(standing: Standing, card: CardState) -> bool
     }
 }
 
+/// The mode in which a block asks for the lock: to read for a get alone, and else to write.
+fn mode(calls: &[Call]) -> Mode
+    ensures { result ≡ mode_of calls.now }
+{
+    match calls.first() {
+        Some(call) if call.reads() => Mode::Read,
+        _ => Mode::Write,
+    }
+}
+
+impl<A: Algo> Whole<A> {
+    /// The home of a planned act's word.
+    fn plan_home(&self, plan: Option<Act>) -> u32
+        requires { (word : ℕ) → plan_word plan ≡ Some word → word < (A.table self.now.algo).size }
+        ensures { result ≡ plan_home (A.table self.now.algo) plan }
+    {
+        match word_planned(plan) {
+            Some(word) => self.algo.spot(word).home,
+            None => 0,
+        }
+    }
+}
+
 impl<A: Algo> Core for Whole<A> {
     type View = WholeView<A::View>;
 
     ghost table = { λ c. whole_table (lock_at A.table c) c.home };
 
-    ghost rule = { λ c. Good (lock_at A.table c) (A.good c.algo) (A.layout c.algo) };
+    ghost rule = { rule_of A.table A.good A.layout };
 
     fn next(&self, view: &WholeView<A::View>) -> Option<Atom> {
         let plan = self.algo.plan(view.side.view);
-        let home = match word_planned(plan) {
-            Some(word) => self.algo.spot(word).home,
-            None => 0,
-        };
+        let home = self.plan_home(plan);
         match next_atom(home, plan, view.side.card) {
             Some(atom) => Some(shift(self.base, atom)),
             None => match self.algo.standing(view.side.view) {
-                Standing::Writer | Standing::Reader => Some(Atom::Load { word: COUNT_WORD }),
+                Standing::Writer | Standing::Reader => view.work.next(self.geom),
                 _ => None,
             },
         }
@@ -99,18 +127,21 @@ impl<A: Algo> Core for Whole<A> {
 
     fn after(&self, view: &mut WholeView<A::View>, got: u64) -> After {
         let plan = self.algo.plan(view.side.view);
-        let home = match word_planned(plan) {
-            Some(word) => self.algo.spot(word).home,
-            None => 0,
-        };
+        let home = self.plan_home(plan);
         match effect(home, plan, view.side.card, got) {
             Effect::Work => {
+                let rank = view.rank;
                 let standing = self.algo.standing(view.side.view);
-                view.side.view = self.algo.leave(view.side.view);
+                let write = view.work.stores();
+                let over = view.work.turn(self.geom, self.shard, rank, got);
+                let events = work_events(rank, standing, write, over);
                 view.side.card = CardState::Free;
+                if over {
+                    view.side.view = self.algo.leave(view.side.view);
+                }
                 After {
                     stepped: Stepped::Moved,
-                    events: work_events(view.rank, standing),
+                    events,
                 }
             }
             Effect::Stay { card, stepped } => {
@@ -143,68 +174,105 @@ impl<A: Algo> Core for Whole<A> {
     ghost laws = { λ c. whole_laws _ (lock_at A.table c) (A.good c.algo) (A.further c.algo) (A.layout c.algo) (A.laws c.algo) c.home };
 }
 
+/// How many words an entry of a journal takes.
+pub const ENTRY_WORDS: u32 = 6;
+
+/// The places of a journal: one for each update of each rank.
+fn places(rooms: &[u32]) -> u32
+    requires few { sum rooms.now ≤ 20000 }
+    ensures { result ≡ sum rooms.now }
+{
+    rooms.iter().sum()
+}
+
 impl<A: Algo> Whole<A> {
-    /// The machine of a shard whose home is this node of a proper shape, over the lock that the settings make.
+    /// The machine of a shard whose home is this node of a proper shape, over the lock that the settings make: its number, the
+    /// size of its table, and how many updates each rank may make on it, at most 20,000 in all. Refused only for want of memory.
     pub fn new(
         alloc: Global,
         shape: &Shape,
-        home: u32,
         knobs: Knobs,
+        home: u32,
+        geom: Geom,
+        shard: u32,
+        rooms: Vec<u32>,
     ) -> Result<Whole<A>, OutOfMemory>
         requires proper { IsProper shape.now }
-        requires home { home < shape.now.nodes }
         requires knobs { A.suits_knobs shape.now knobs }
-        ensures table { IfOk result (λ c. A.table c.algo ≡ A.defined shape.now home knobs) }
+        requires home { home < shape.now.nodes }
+        requires fits { GeomFits geom }
+        requires few { sum rooms.items ≤ 20000 }
+        ensures lock { IfOk result (λ c. lock_at A.table c ≡ lock_with (A.defined shape.now home knobs) (site_with geom shard rooms.items)) }
         ensures promised { IfOk result (λ c. HandsOn (A.further c.algo) (A.promised shape.now home knobs)) }
         ensures layout { IfOk result (λ c. A.layout c.algo ≡ layout_of shape.now) }
-        ensures base { IfOk result (λ c. c.base ≡ lock_base) }
-        ensures home { IfOk result (λ c. c.home ≡ home) }
     {
         Ok(Whole {
             algo: A::make(alloc, shape, home, knobs)?,
-            base: LOCK_BASE,
+            base: journal_base(geom) + ENTRY_WORDS * places(rooms.as_slice()),
             home,
+            geom,
+            shard,
+            rooms,
         })
     }
 
-    /// A rank's view before its first call.
-    pub fn first(&self, rank: u32) -> WholeView<A::View>
-        requires { rank < length (A.layout self.now.algo).node_of }
-        ensures { result ≡ first_view (A.table self.now.algo) rank }
+    /// A rank's view before its first call, with room for so many entries in its transcript. Refused only for want of memory.
+    pub fn first(
+        &self,
+        alloc: Global,
+        rank: u32,
+        room: u32,
+    ) -> Result<WholeView<A::View>, OutOfMemory>
+        requires fits { GeomFits self.now.geom }
+        requires there { rank < length (A.layout self.now.algo).node_of }
+        ensures { IfOk result (λ x. x ≡ first_view (lock_at A.table self.now) room rank) }
     {
-        WholeView {
+        Ok(WholeView {
             side: Side {
                 view: self.algo.first(rank),
                 card: CardState::Free,
             },
             rank,
-        }
+            work: Work::new(alloc, self.geom, room)?,
+        })
     }
 
     /// Whether a call of the view is open: it is until its last atom was made, a card's Leave among them.
     pub fn is_open(&self, view: &WholeView<A::View>) -> bool
-        requires { MayBe (Good (lock_at A.table self.now) (A.good self.now.algo) (A.layout self.now.algo)) view.now }
+        requires { MayBe (rule_of A.table A.good A.layout self.now) view.now }
         ensures open { result ≡ is_open (lock_at A.table self.now) view.now }
         ensures atoms { (result ≡ false) ↔ (next_of (lock_at A.table self.now) view.now ≡ None) }
     {
         at_work(self.algo.standing(view.side.view), view.side.card)
     }
 
-    /// Opens a call, where none is open: the lock is asked for in the call's mode.
-    pub fn open_call(&self, view: &mut WholeView<A::View>, mode: Mode)
+    /// Opens a block, where none is open: a call alone, or the calls of a batch. `seq` is the number of its first call. The
+    /// lock is asked for in the block's mode. Takes no memory.
+    pub fn open_block(&self, view: &mut WholeView<A::View>, calls: &[Call], seq: u32)
+        requires few { length calls.now ≤ 8 }
         requires closed { next_of (lock_at A.table self.now) view.old ≡ None }
-        requires possible { MayBe (Good (lock_at A.table self.now) (A.good self.now.algo) (A.layout self.now.algo)) view.old }
-        ensures { view.new ≡ opened_in (A.table self.now.algo) mode view.old }
+        requires possible { MayBe (rule_of A.table A.good A.layout self.now) view.old }
+        ensures { view.new ≡ opened_in (A.table self.now.algo) calls.now seq view.old }
     {
-        view.side.view = self.algo.ask(view.side.view, mode);
+        view.side.view = self.algo.ask(view.side.view, mode(calls));
+        view.work.open(calls, seq);
+    }
+}
+
+impl<V: Copy> WholeView<V> {
+    /// The rank's entries on the shard, in the order in which they were done.
+    pub fn transcript(&self) -> &[Entry]
+        ensures { result.now ≡ self.now.work.transcript.items }
+    {
+        self.work.transcript()
     }
 }
 
 /// Two domains: a rank's next atom is one of a card only where the lock lets the rank make acts through cards, and a local
 /// compare-and-swap only where it lets the rank make one. There is nothing to run.
 pub fn domains<A: Algo>(core: &Whole<A>)
-    ensures cards { KeepsToCards (lock_at A.table core.now) (Good (lock_at A.table core.now) (A.good core.now.algo) (A.layout core.now.algo)) }
-    ensures locals { KeepsToLocals (lock_at A.table core.now) (Good (lock_at A.table core.now) (A.good core.now.algo) (A.layout core.now.algo)) }
+    ensures cards { KeepsToCards (lock_at A.table core.now) (rule_of A.table A.good A.layout core.now) }
+    ensures locals { KeepsToLocals (lock_at A.table core.now) (rule_of A.table A.good A.layout core.now) }
 {
     let _ = &core.algo;
 }

@@ -2,8 +2,9 @@
 use Rattle.std.proofs.Common.{◌≡◌, replicate}
 use Rattle.rl_whole.specs.Running.{running}
 use Rattle.rl_whole.specs.Run.{run_of}
+use Rattle.rl_whole.specs.State.{cores_of}
 use Rattle.rl_whole.proofs.runs.take_steps.Given as goal
 
 abbrev pub invariant-loop : goal.invariant-loop
 invariant-loop g l =
-    (l.machine.core ≡ l.fn.machine.core) × (running g.A.Algo.table l.machine ≡ run_of (running g.A.Algo.table l.fn.machine) (replicate l.counter l.rank))
+    (cores_of l.machine ≡ cores_of l.fn.machine) × (running g.A.Algo.table l.machine ≡ run_of (running g.A.Algo.table l.fn.machine) (replicate l.counter l.rank))

@@ -1,25 +1,21 @@
--- The invariant says it, along the trace.
-use Rattle.std.proofs.Common.{[], sym, subst}
-use Rattle.rl_step.specs.Exclusion.{IsExclusive}
-use Rattle.rl_step.specs.ExclusionLaws.{is_exclusive}
-use Rattle.rl_step.specs.QueueLemmas.{within_bound}
-use Rattle.rl_step.specs.QueuePromises.{KeepQueues}
-use Rattle.rl_whole.specs.Run.{events_of}
-use Rattle.rl_whole.specs.RunDeeds.{runs_within, runs_fifo}
-use Rattle.rl_whole.specs.Running.{lock_at}
-use Rattle.rl_whole.specs.State.{world_of}
+-- The shard's events are those of its value.
+use Rattle.std.proofs.Common.{◌≡◌, ◌<◌, [], length, Some, ap, sym, ◌∙◌, subst, arith}
+use Rattle.std.proofs.lemmas.List.{length-map}
+use Rattle.std.proofs.lemmas.Option.{slice_get-get_or}
+use Rattle.rl_whole.specs.Running.{ShardRun, running}
+use Rattle.rl_whole.specs.Run.{on_shard, trace_of}
+use Rattle.rl_whole.specs.State.{shard_view}
+use Rattle.rl_whole.specs.StateLaws.{is_there}
 use Rattle.rl_whole.proofs.machine.Machine.events.Goals as goal
 
-pub returns-clause-exclusive : goal.returns-clause-exclusive
-returns-clause-exclusive g c =
-    subst (λ t. IsExclusive (events_of t)) (sym c.as_slice.ensures.value) (is_exclusive (events_of (world_of c.self.inside.state).trace) c.self.invariant.exclusive)
-
-pub returns-clause-queues : goal.returns-clause-queues
-returns-clause-queues g c =
-    let core = c.self.inside.core in
-    let w = world_of c.self.inside.state in
-    let within = runs_within _ (lock_at g.A.Algo.table core) (g.A.Algo.good core.algo) (g.A.Algo.further core.algo) (g.A.Algo.layout core.algo) (g.met.A.Algo.laws core.algo) core.home w c.self.invariant [] in
-    let fifo = runs_fifo _ (lock_at g.A.Algo.table core) (g.A.Algo.good core.algo) (g.A.Algo.further core.algo) (g.A.Algo.layout core.algo) (g.met.A.Algo.laws core.algo) core.home w c.self.invariant [] in
-    subst (λ m. KeepQueues (g.A.Algo.table m.core.algo).queues (events_of c.as_slice.result.now)) c.self.view_is
-    (subst (λ t. KeepQueues (g.A.Algo.table core.algo).queues (events_of t)) (sym c.as_slice.ensures.value)
-    (record { budgets = within; totals = λ q budget queue has is. within_bound _ q budget (within q budget queue has is); order = fifo }))
+pub returns : goal.returns
+returns g c =
+    let state = c.self.inside.state in
+    let items = state.shards.items in
+    let shard = c.args.shard in
+    let item = c.index.result.now in
+    let low : shard < length items = (let h = subst (λ m. shard < length m.shards) (sym c.self.view_is) c.requires in let n = length-map items shard_view in omega arith) in
+    let has = slice_get-get_or items shard item low ∙ ap Some (sym c.index.ensures) in
+    let t = is_there _ _ g.A.Algo.table g.A.Algo.good g.A.Algo.layout state c.self.invariant shard item has in
+    subst (λ m. c.as_slice.result.now ≡ trace_of (running g.A.Algo.table m) shard) c.self.view_is
+    (c.as_slice.ensures.value ∙ sym (ap (on_shard [] (λ (S : ShardRun _). S.trace)) t.has))

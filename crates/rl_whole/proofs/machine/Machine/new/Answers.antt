@@ -1,42 +1,32 @@
--- What was made is the start, and the start has all that is true of a run.
-use Rattle.std.proofs.Common.{◌≡◌, ◌<◌, ◌+◌, ◌^◌, ap, sym, ◌∙◌, subst, arith, rules, length, replicate}
-use Rattle.rl_whole.specs.Whole.{count_word}
-use Rattle.rl_whole.specs.Run.{opening_held, opening_views}
-use Rattle.rl_whole.specs.RunGood.{RunGood}
-use Rattle.rl_whole.specs.Running.{lock_at}
-use Rattle.rl_whole.specs.StepLaws.{start_is}
-use Rattle.rl_whole.specs.OpenLaws.{length-opening}
-use Rattle.rl_whole.specs.RunLaws.{start_good}
+-- What was made is the start, and the start has all that is true of a machine.
+use Rattle.std.proofs.Common.{ℕ, List, ◌∙◌, ap, length, map, replicate}
+use Rattle.rl_word.specs.Shapes.{layout_of}
+use Rattle.rl_model.specs.declared.call.Call.{Call}
+use Rattle.rl_model.specs.declared.geom.Geom.{Geom}
+use Rattle.rl_step.specs.declared.tallies.Steps.{Steps}
+use Rattle.rl_whole.specs.CoreLaws.{is_machine}
+use Rattle.rl_whole.specs.OpsBridge.{can_begin}
+use Rattle.rl_whole.specs.Running.{ShardRun, Running}
+use Rattle.rl_whole.specs.Start.{first_shards}
+use Rattle.rl_whole.specs.State.{shard_view}
 use Rattle.rl_whole.proofs.machine.Machine.new.Goals as goal
+
+-- a machine of these parts
+abbrev machine_of : {V : Type 0} → Geom → List (List Call) → List (List ℕ) → List (ShardRun V) → List ℕ → Steps → Running V
+machine_of geom calls sizes shards opened steps = record { shards = shards; geom = geom; calls = calls; sizes = sizes; opened = opened; steps = steps }
 
 pub invariant_of-result : goal.invariant_of-result
 invariant_of-result g c =
-    let core = c.in_ok-core.core in
-    let made = c.in_ok-core.ensures in
-    let T = g.A.Algo.table core.algo in
-    let L = lock_at g.A.Algo.table core in
-    let good = g.A.Algo.good core.algo in
-    let layout = g.A.Algo.layout core.algo in
     let shape = c.args.shape.now in
-    let nodes : layout.nodes ≡ c.shape.inside.nodes = ap (λ l. l.nodes) made.layout ∙ sym (ap (λ s. s.nodes) c.shape.view_is) in
-    let ranks : length c.args.given.items ≡ length layout.node_of = c.requires.given ∙ sym (ap (λ l. length l.node_of) made.layout) in
-    let count : c.len-ranks.result ≡ length c.args.given.items = search rules in
-    let all : c.len-ranks.result ≡ length layout.node_of = count ∙ ranks in
-    let few : length layout.node_of < 2 ^ 32 = subst (λ l. length l.node_of < 2 ^ 32) (sym made.layout) (let f = c.requires.proper.few in omega arith) in
-    let starts : count_word < core.base = subst (λ b. count_word < b) (sym made.base) (omega arith) in
-    let fits : core.base + T.size < 2 ^ 32 = (let few = (g.met.A.Algo.laws core.algo).few_words in let at = made.base in omega arith) in
-    subst (RunGood L good layout)
-    (sym (start_is L layout c.args.given.items c.in_ok-flat.flat.words c.in_ok-flat.flat.views.items c.in_ok-opened.opened.items c.new-2.result.items c.none.result
-    (c.in_ok-flat.ensures.words ∙ ap (opening_held (core.base + T.size)) (sym nodes))
-    (c.in_ok-flat.ensures.views ∙ ap (opening_views T 0) all)
-    (c.in_ok-opened.ensures ∙ ap (λ n. replicate n 0) all)
-    c.new-2.ensures.items c.none.ensures))
-    (start_good _ L good (g.A.Algo.further core.algo) layout (g.met.A.Algo.laws core.algo) core.home c.args.given.items fits starts few ranks)
-
-pub returns-clause-ranks : goal.returns-clause-ranks
-returns-clause-ranks g c =
-    let core = c.in_ok-core.core in
-    let count : c.len-ranks.result ≡ length c.args.given.items = search rules in
-    ap length c.in_ok-flat.ensures.views ∙
-    length-opening _ (lock_at g.A.Algo.table core) (g.A.Algo.good core.algo) (g.A.Algo.further core.algo) (g.A.Algo.layout core.algo) (g.met.A.Algo.laws core.algo) core.home 0 c.len-ranks.result ∙
-    count ∙ c.requires.given
+    let ops = c.args.ops in
+    let geom = c.args.geom in
+    let shards = c.in_ok-shards.shards in
+    let opened = c.in_ok-opened.opened in
+    let steps = c.none.result in
+    let T = λ (home : ℕ). g.A.Algo.defined shape home c.args.knobs in
+    let made = ap (λ z. machine_of geom ops.by_rank ops.sizes z opened.items steps) c.in_ok-shards.ensures.made
+    ∙ ap (λ z. machine_of geom ops.by_rank ops.sizes (first_shards T shape.nodes geom ops.by_rank 0 c.args.homes.now) z steps) c.in_ok-opened.ensures
+    ∙ ap (machine_of geom ops.by_rank ops.sizes (first_shards T shape.nodes geom ops.by_rank 0 c.args.homes.now) (replicate (length ops.by_rank) 0)) c.none.ensures in
+    is_machine _ _ g.A.Algo.table g.A.Algo.good g.A.Algo.further g.A.Algo.layout g.met.A.Algo.laws T (layout_of shape) geom c.args.homes.now ops.by_rank ops.sizes
+    (record { shards = map shard_view shards.items; geom = geom; calls = ops.by_rank; sizes = ops.sizes; opened = opened.items; steps = steps })
+    made c.in_ok-shards.ensures.layout c.requires.fits c.requires.many c.requires.ops.ranks_there c.requires.proper.few (can_begin _ geom ops c.requires.fits c.requires.ops) c.requires.ops.few

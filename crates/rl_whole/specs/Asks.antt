@@ -1,0 +1,56 @@
+-- What a rank asks for, as its list of calls with a size for each: blocks, one after the other.
+use Rattle.std.specs.Prelude.{◌≡◌, ◌<◌, ℕ, zero, suc, ◌+◌, List, [], ◌∷◌, ◌++◌, All, take, drop, length, map, slice_get, slice_index, Option, Some, None, Bool, ◌==◌}
+use Rattle.rl_model.specs.declared.call.Call.{Call}
+use Rattle.rl_model.specs.declared.geom.Geom.{Geom}
+use Rattle.rl_model.specs.Call.{shard_of}
+use Rattle.rl_model.specs.Asked.{Asked, IsAsked}
+use Rattle.rl_journal.specs.Blocks.{batch_of}
+
+-- a call of this shard
+abbrev pub is_on : Geom → ℕ → Call → Bool
+is_on geom s call = shard_of geom call == s
+
+-- the sizes of a block's calls: of the first the number of them all, and 0 of the others
+abbrev pub sizes_in : List Call → List ℕ
+sizes_in [] = []
+sizes_in (call ∷ calls) = suc (length calls) ∷ map (λ _. 0) calls
+
+-- a block that is asked rightly, of one shard
+pub record IsBlockOf (geom : Geom) (block : List Call) : Type 0 where
+  pub is_asked : IsAsked block
+  pub shard : ℕ
+  pub there : shard < geom.shards
+  pub one_shard : All (λ call. shard_of geom call ≡ shard) block
+
+-- calls and their sizes are those of blocks, one after the other
+pub data AreBlocks (geom : Geom) : List Call → List ℕ → Type 0 where
+  none : AreBlocks geom [] []
+  more : (block calls : List Call) (sizes : List ℕ) → IsBlockOf geom block → AreBlocks geom calls sizes → AreBlocks geom (block ++ calls) (sizes_in block ++ sizes)
+
+-- the calls of the block that begins with the call of this number
+abbrev pub block_from : List Call → List ℕ → ℕ → List Call
+block_from calls sizes n = take (slice_index sizes n) (drop n calls)
+
+-- the shard of a block, which is that of its first call
+abbrev pub block_shard : Geom → List Call → ℕ
+block_shard geom [] = 0
+block_shard geom (call ∷ calls) = shard_of geom call
+
+-- where a rank stands that has opened so many calls: at the shard of the last of them, and before the first at shard 0
+abbrev pub call_shard : Geom → Option Call → ℕ
+call_shard geom None = 0
+call_shard geom (Some call) = shard_of geom call
+
+abbrev pub place_after : Geom → List Call → ℕ → ℕ
+place_after geom calls zero = 0
+place_after geom calls (suc n) = call_shard geom (slice_get calls n)
+
+-- the calls with the size of their batch and their place in it, where the call before was of this batch and this place is next
+abbrev pub asked_by : ℕ → ℕ → List Call → List ℕ → List Asked
+asked_by batch part [] sizes = []
+asked_by batch part (call ∷ calls) [] = []
+asked_by batch part (call ∷ calls) (zero ∷ sizes) = record { call = call; batch = batch; part = part } ∷ asked_by batch (part + 1) calls sizes
+asked_by batch part (call ∷ calls) (suc n ∷ sizes) = record { call = call; batch = batch_of (suc n); part = 0 } ∷ asked_by (batch_of (suc n)) 1 calls sizes
+
+abbrev pub asked_of : List Call → List ℕ → List Asked
+asked_of calls sizes = asked_by 0 0 calls sizes

@@ -1,0 +1,84 @@
+//! The shards of a machine before its first step.
+
+ghost use Rattle.std.specs.Prelude.{◌≡◌, ◌<◌, ◌≤◌, length, map, replicate, IfOk};
+ghost use Rattle.std.specs.List.{AllByRecursion};
+ghost use Rattle.rl_model.specs.Geom.{GeomFits};
+ghost use Rattle.rl_word.specs.Shapes.{IsProper, layout_of};
+ghost use Rattle.rl_step.specs.Lock.{HandsOn};
+ghost use Rattle.rl_ops.specs.Ops.{total_calls};
+ghost use Rattle.rl_whole.specs.Cores.{EachCore, EachHandsOn};
+ghost use Rattle.rl_whole.specs.Running.{shard_run};
+ghost use Rattle.rl_whole.specs.Start.{first_shard_of, start_of};
+ghost use Rattle.rl_whole.specs.State.{shard_view, running_shard, shard_cores};
+
+use crate::opening::opening;
+use crate::shard::ShardState;
+use crate::whole::Whole;
+use rl_model::Geom;
+use rl_ops::{Ops, Room};
+use rl_step::Algo;
+use rl_word::{Knobs, Shape};
+use std::alloc::{AllocError as OutOfMemory, Global};
+
+/// So many counts of 0 as there are ranks.
+pub fn none_opened(alloc: Global, ops: &Ops) -> Result<Vec<u32>, OutOfMemory>
+    ensures { IfOk result (λ v. v.items ≡ replicate (length ops.now.by_rank) 0) }
+{
+    Ok(vec![in alloc; 0; ops.by_rank.as_slice().len()]?)
+}
+
+/// The shard with this number, whose words live on this home.
+fn first_shard<A: Algo>(
+    alloc: Global,
+    shape: &Shape,
+    knobs: Knobs,
+    home: u32,
+    geom: Geom,
+    shard: u32,
+    ops: &Ops,
+) -> Result<ShardState<A>, OutOfMemory>
+    requires proper { IsProper shape.now }
+    requires knobs { A.suits_knobs shape.now knobs }
+    requires home { home < shape.now.nodes }
+    requires fits { GeomFits geom }
+    requires there { shard < geom.shards }
+    requires ranks { length ops.now.by_rank ≡ length shape.now.node_of }
+    requires few { total_calls ops.now.by_rank ≤ 20000 }
+    ensures made { IfOk result (λ s. running_shard A.table s ≡ first_shard_of (A.defined shape.now home knobs) shape.now.nodes geom ops.now.by_rank shard) }
+    ensures promised { IfOk result (λ s. HandsOn (A.further s.core.algo) (A.promised shape.now home knobs)) }
+    ensures layout { IfOk result (λ s. A.layout s.core.algo ≡ layout_of shape.now) }
+{
+    let Room { calls, updates } = ops.room(alloc, geom, shard)?;
+    let core = Whole::new(alloc, shape, knobs, home, geom, shard, updates)?;
+    let state = opening(alloc, core, shape.nodes, calls.as_slice())?;
+    Ok(state)
+}
+
+/// All shards, on these homes.
+pub fn first_shards<A: Algo>(
+    alloc: Global,
+    shape: &Shape,
+    knobs: Knobs,
+    geom: Geom,
+    homes: &[u32],
+    ops: &Ops,
+) -> Result<Vec<ShardState<A>>, OutOfMemory>
+    requires proper { IsProper shape.now }
+    requires knobs { A.suits_knobs shape.now knobs }
+    requires fits { GeomFits geom }
+    requires many { length homes.now ≡ geom.shards }
+    requires homes { AllByRecursion (λ home. home < shape.now.nodes) homes.now }
+    requires ranks { length ops.now.by_rank ≡ length shape.now.node_of }
+    requires few { total_calls ops.now.by_rank ≤ 20000 }
+    ensures made { IfOk result (λ shards. map (shard_run A.table) (map shard_view shards.items) ≡ (start_of A.defined shape.now knobs geom homes.now ops.now).shards) }
+    ensures promised { IfOk result (λ shards. EachHandsOn A.further A.promised shape.now knobs homes.now (shard_cores (map shard_view shards.items))) }
+    ensures layout { IfOk result (λ shards. EachCore (λ home core. A.layout core.algo ≡ layout_of shape.now) homes.now (shard_cores (map shard_view shards.items))) }
+{
+    let mut shards = Vec::new(alloc);
+    for shard in 0..geom.shards {
+        let home = homes[shard as usize];
+        let first = first_shard(alloc, shape, knobs, home, geom, shard, ops)?;
+        shards.push(first)?;
+    }
+    Ok(shards)
+}
