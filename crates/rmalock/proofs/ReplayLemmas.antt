@@ -1,10 +1,12 @@
 -- A replay, from what its three files came to.
-use Rattle.std.proofs.Common.{ℕ, List, [], Option, Result, Ok, Err, unwrap_or, ap, Vec, Global}
+use Rattle.std.proofs.Common.{◌≡◌, ℕ, List, [], Option, Result, Ok, Err, IfOk, unwrap_or, ap, sym, Vec, Global}
 use Rattle.rl_place.specs.Places.{ThePlace}
 use Rattle.rl_ops.specs.declared.ops.Ops.{Ops}
 use Rattle.rl_ops.specs.declared.schedule.Schedule.{Schedule}
+use Rattle.rl_history.specs.Naming.{naming_of}
+use Rattle.rl_history.specs.Spelling.{report_spelling}
 use Rattle.rmalock.specs.Replay.{report_of}
-use Rattle.rmalock.specs.Report.{report_spelling}
+use Rattle.rmalock.specs.Headline.{IsReplay, KeepsPromises}
 use Rattle.rmalock.specs.declared.complaint.Complaint.{Complaint}
 use Rattle.rmalock.specs.declared.complaint.Stop.{Stop}
 use Rattle.rmalock.specs.declared.complaint.Stop.TheVariants as stop
@@ -12,6 +14,7 @@ use Rattle.rmalock.specs.Command.{Names}
 use Rattle.rmalock.specs.Reading.{◌>>=◌, Fits, EndsEarly, Ends, WasRead, placed, called, scheduled}
 use Rattle.rmalock.specs.Answer.{WasReplayed, replayed}
 use Rattle.rmalock.proofs.ReadLemmas.{fits_told}
+use Rattle.rmalock.proofs.HeadlineLaws.{is_replay}
 
 -- a step that ends early ends all that follows
 stops_at : {Y : Type 0} (why : Stop) (told : Result Y Complaint) (next : Y → Result (List ℕ) Complaint) → EndsEarly why told → EndsEarly why (told >>= next)
@@ -22,33 +25,42 @@ stops_at stop.Memory told next e = tt
 module _ (file : List ℕ → Option (List ℕ)) (names : Names) where
   -- texts that fit, and what the replay came to for them
   replay_was : (place calls schedule : List ℕ) (result : Result (Vec ℕ Global) Stop) → Fits (file names.place) place → Fits (file names.calls) calls → Fits (file names.schedule) schedule →
-      Ends (λ text. text.items) result (replayed (record { place = place; calls = calls; schedule = schedule })) → WasReplayed file names result
-  replay_was place calls schedule result p c s e =
-      record { texts = record { place = place; calls = calls; schedule = schedule }; are = (p, c, s); ends = e }
+      Ends (λ text. text.items) result (replayed (record { place = place; calls = calls; schedule = schedule })) → IfOk result (λ text. IsReplay (record { place = place; calls = calls; schedule = schedule }) text.items) → WasReplayed file names result
+  replay_was place calls schedule result p c s e kept =
+      record { texts = record { place = place; calls = calls; schedule = schedule }; are = (p, c, s); ends = e; replay = kept }
 
   pub place_stops : (why : Stop) → WasRead {X = ThePlace} (file names.place) (λ place. place) placed (Err why) → WasReplayed file names (Err why)
   unfolding replayed
   place_stops why r =
       replay_was r.bytes (unwrap_or (file names.calls) []) (unwrap_or (file names.schedule) []) (Err why) r.fits (fits_told (file names.calls)) (fits_told (file names.schedule))
-      (stops_at why (placed r.bytes) _ r.ends)
+      (stops_at why (placed r.bytes) _ r.ends) tt
 
   pub calls_stop : (place : ThePlace) (why : Stop) → WasRead {X = ThePlace} (file names.place) (λ place. place) placed (Ok place) →
       WasRead {X = Ops} (file names.calls) (λ ops. ops) (called place) (Err why) → WasReplayed file names (Err why)
   unfolding replayed
   calls_stop place why r c =
       replay_was r.bytes c.bytes (unwrap_or (file names.schedule) []) (Err why) r.fits c.fits (fits_told (file names.schedule))
-      (rw r.ends (stops_at why (called place c.bytes) _ c.ends))
+      (rw r.ends (stops_at why (called place c.bytes) _ c.ends)) tt
 
   pub schedule_stops : (place : ThePlace) (ops : Ops) (why : Stop) → WasRead {X = ThePlace} (file names.place) (λ place. place) placed (Ok place) →
       WasRead {X = Ops} (file names.calls) (λ ops. ops) (called place) (Ok ops) →
       WasRead {X = Schedule} (file names.schedule) (λ schedule. schedule) (scheduled place) (Err why) → WasReplayed file names (Err why)
   unfolding replayed
   schedule_stops place ops why r c s =
-      replay_was r.bytes c.bytes s.bytes (Err why) r.fits c.fits s.fits (rw (r.ends, c.ends) (stops_at why (scheduled place s.bytes) _ s.ends))
+      replay_was r.bytes c.bytes s.bytes (Err why) r.fits c.fits s.fits (rw (r.ends, c.ends) (stops_at why (scheduled place s.bytes) _ s.ends)) tt
 
-  pub all_read : (place : ThePlace) (ops : Ops) (schedule : Schedule) (result : Result (Vec ℕ Global) Stop) → WasRead {X = ThePlace} (file names.place) (λ place. place) placed (Ok place) →
+  -- all files were read, and then memory ran out
+  pub memory_stops : (place : ThePlace) (ops : Ops) (schedule : Schedule) → WasRead {X = ThePlace} (file names.place) (λ place. place) placed (Ok place) →
+      WasRead {X = Ops} (file names.calls) (λ ops. ops) (called place) (Ok ops) →
+      WasRead {X = Schedule} (file names.schedule) (λ schedule. schedule) (scheduled place) (Ok schedule) → WasReplayed file names (Err stop.Memory)
+  memory_stops place ops schedule r c s = replay_was r.bytes c.bytes s.bytes (Err stop.Memory) r.fits c.fits s.fits tt tt
+
+  -- all files were read, and this is the text of the report
+  pub all_read : (place : ThePlace) (ops : Ops) (schedule : Schedule) (text : Vec ℕ Global) → WasRead {X = ThePlace} (file names.place) (λ place. place) placed (Ok place) →
       WasRead {X = Ops} (file names.calls) (λ ops. ops) (called place) (Ok ops) →
       WasRead {X = Schedule} (file names.schedule) (λ schedule. schedule) (scheduled place) (Ok schedule) →
-      Ends (λ text. text.items) result (Ok (report_spelling (report_of place ops schedule))) → WasReplayed file names result
+      text.items ≡ report_spelling (naming_of place) (report_of place ops schedule) → KeepsPromises place ops schedule → WasReplayed file names (Ok text)
   unfolding replayed
-  all_read place ops schedule result r c s e = replay_was r.bytes c.bytes s.bytes result r.fits c.fits s.fits (rw (r.ends, c.ends, s.ends) e)
+  all_read place ops schedule text r c s is kept =
+      replay_was r.bytes c.bytes s.bytes (Ok text) r.fits c.fits s.fits (rw (r.ends, c.ends, s.ends) (ap (λ t. Ok t) (sym is)))
+      (is_replay (record { place = r.bytes; calls = c.bytes; schedule = s.bytes }) place ops schedule text.items r.ends c.ends s.ends is kept)

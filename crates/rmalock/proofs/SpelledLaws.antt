@@ -1,9 +1,6 @@
 -- Files that are read spell what was read.
 use Rattle.std.proofs.Common.{◌≡◌, ℕ, ◌<◌, ◌^◌, List, length, Bool, true, false, nat_le, ◌==◌, Result, Ok, Err, refl, sym, ap, subst, if◌then◌else◌}
-use Rattle.std.proofs.lemmas.Bool.{eqb-true}
 use Rattle.rl_text.specs.declared.causes.Refusal.{Refusal}
-use Rattle.rl_text.proofs.WordLaws.{ok_is}
-use Rattle.rl_text.proofs.FromLaws.{from_bind}
 use Rattle.rl_place.specs.Places.{ThePlace, IsProper}
 use Rattle.rl_place.specs.Reading.{place_at}
 use Rattle.rl_place.specs.Spelling.{place_spelling}
@@ -19,7 +16,6 @@ use Rattle.rl_ops.proofs.ScheduleLaws.{schedule-takes}
 use Rattle.rmalock.specs.declared.complaint.Which.{Which}
 use Rattle.rmalock.specs.declared.complaint.Which.TheVariants as which
 use Rattle.rmalock.specs.declared.complaint.Complaint.{Complaint}
-use Rattle.rmalock.specs.Built.{is_built, only_holds, unless, built_place, built_calls}
 use Rattle.rmalock.specs.Reading.{◌>>=◌, within, refused_in, placed, called, scheduled}
 
 -- what follows a step that went well
@@ -53,34 +49,18 @@ read_ok kind most reading bytes x e =
 -- a placement that was read
 pub record PlaceRead (bytes : List ℕ) (place : ThePlace) : Type 0 where
   pub proper : IsProper place
-  pub built : is_built place.lock ≡ true
   pub spelled : bytes ≡ place_spelling place
-  pub one_shard : place.geom.shards ≡ 1
-
-built_place_ok : (bytes : List ℕ) (place : ThePlace) → built_place bytes ≡ Ok place → PlaceRead bytes place
-unfolding built_place
-built_place_ok bytes place e =
-    from_bind (place_at bytes) _ place e (λ p is rest.
-    from_bind (unless 3 2 (is_built p.lock)) _ place rest (λ u built rest2.
-    from_bind (unless 0 0 (p.geom.shards == 1)) _ place rest2 (λ v alone rest3.
-    let taken = place-takes bytes p is in
-    let one : p.geom.shards ≡ 1 = eqb-true p.geom.shards 1 (passed_with (p.geom.shards == 1) tt v _ alone).0 in
-    subst (λ q. PlaceRead bytes q) (ok_is p place rest3) (record { proper = taken.proper; built = (passed_with (is_built p.lock) tt u _ built).0; spelled = taken.spelled; one_shard = one }))))
 
 pub place_read : (bytes : List ℕ) (place : ThePlace) → placed bytes ≡ Ok place → PlaceRead bytes place
 unfolding placed
-place_read bytes place e = built_place_ok bytes place (read_ok which.Place 4194304 built_place bytes place e)
+place_read bytes place e =
+    let taken = place-takes bytes place (read_ok which.Place 4194304 place_at bytes place e) in
+    record { proper = taken.proper; spelled = taken.spelled }
 
-built_calls_ok : (place : ThePlace) (bytes : List ℕ) (ops : Ops) → length place.paths < 2 ^ 32 → place.geom.shards < 2 ^ 32 → built_calls place bytes ≡ Ok ops → SpellsOps (length place.paths) place.geom.shards ops bytes × (only_holds ops.by_rank ≡ true)
-unfolding built_calls
-built_calls_ok place bytes ops ranks shards e =
-    from_bind (ops_at (length place.paths) place.geom.shards bytes) _ ops e (λ o is rest.
-    from_bind (unless 0 0 (only_holds o.by_rank)) _ ops rest (λ u hold rest2.
-    subst (λ q. SpellsOps (length place.paths) place.geom.shards q bytes × (only_holds q.by_rank ≡ true)) (ok_is o ops rest2) (ops-takes (length place.paths) place.geom.shards bytes o ranks shards is, (passed_with (only_holds o.by_rank) tt u _ hold).0)))
-
-pub calls_read : (place : ThePlace) (bytes : List ℕ) (ops : Ops) → length place.paths < 2 ^ 32 → place.geom.shards < 2 ^ 32 → called place bytes ≡ Ok ops → SpellsOps (length place.paths) place.geom.shards ops bytes × (only_holds ops.by_rank ≡ true)
+pub calls_read : (place : ThePlace) (bytes : List ℕ) (ops : Ops) → length place.paths < 2 ^ 32 → place.geom.shards < 2 ^ 32 → called place bytes ≡ Ok ops → SpellsOps (length place.paths) place.geom.shards ops bytes
 unfolding called
-calls_read place bytes ops ranks shards e = built_calls_ok place bytes ops ranks shards (read_ok which.Calls 4194304 (built_calls place) bytes ops e)
+calls_read place bytes ops ranks shards e =
+    ops-takes (length place.paths) place.geom.shards bytes ops ranks shards (read_ok which.Calls 4194304 (ops_at (length place.paths) place.geom.shards) bytes ops e)
 
 pub schedule_read : (place : ThePlace) (bytes : List ℕ) (schedule : Schedule) → length place.paths < 2 ^ 32 → scheduled place bytes ≡ Ok schedule → ScheduleFits (length place.paths) schedule × (bytes ≡ schedule_spelling schedule)
 unfolding scheduled

@@ -1,7 +1,10 @@
 -- to be believed, in reading order
-pub mod Command
-pub mod Built
+pub mod Locks
 pub mod Replay
-pub mod Report
+pub mod Headline
+pub mod Generate
+pub mod Rounds
+pub mod Summary
+pub mod Command
 pub mod Reading
 pub mod Answer

@@ -4,10 +4,11 @@ use Rattle.rl_text.specs.declared.causes.Refusal.{Refusal}
 use Rattle.rl_text.specs.declared.failing.TextErr.{TextErr}
 use Rattle.rl_text.specs.declared.failing.TextErr.TheVariants as text
 use Rattle.rl_place.specs.Places.{ThePlace}
+use Rattle.rl_place.specs.Reading.{place_at}
 use Rattle.rl_ops.specs.declared.ops.Ops.{Ops}
 use Rattle.rl_ops.specs.declared.schedule.Schedule.{Schedule}
 use Rattle.rl_ops.specs.ScheduleReading.{schedule_at}
-use Rattle.rmalock.specs.Built.{built_place, built_calls}
+use Rattle.rl_ops.specs.OpsReading.{ops_at}
 use Rattle.rmalock.specs.declared.complaint.Which.{Which}
 use Rattle.rmalock.specs.declared.complaint.Which.TheVariants as which
 use Rattle.rmalock.specs.declared.complaint.Trouble.TheVariants.{TooLong, Refused}
@@ -32,10 +33,10 @@ refused_in kind (Err refusal) = Err (record { which = kind; trouble = Refused re
 
 -- the placement, the calls and the schedule of a replay, each from the bytes of its file
 unfoldable pub placed : List ℕ → Result ThePlace Complaint
-placed bytes = within which.Place 4194304 bytes >>= λ text. refused_in which.Place (built_place text)
+placed bytes = within which.Place 4194304 bytes >>= λ text. refused_in which.Place (place_at text)
 
 unfoldable pub called : ThePlace → List ℕ → Result Ops Complaint
-called place bytes = within which.Calls 4194304 bytes >>= λ text. refused_in which.Calls (built_calls place text)
+called place bytes = within which.Calls 4194304 bytes >>= λ text. refused_in which.Calls (ops_at (length place.paths) place.geom.shards text)
 
 unfoldable pub scheduled : ThePlace → List ℕ → Result Schedule Complaint
 scheduled place bytes = within which.Schedule 16777216 bytes >>= λ text. refused_in which.Schedule (schedule_at (length place.paths) text)

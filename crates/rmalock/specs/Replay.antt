@@ -1,84 +1,66 @@
--- A replay: the run of the machine for a placement, calls and a schedule, and the report of it.
-use Rattle.std.specs.Prelude.{ℕ, ◌+◌, List, [], ◌∷◌, ◌++◌, length, map, take, codes, slice_index}
+-- The run of a placement, calls and a schedule, and the report of it.
+use Rattle.std.specs.Prelude.{ℕ, ◌+◌, List, [], ◌∷◌, filter, length, map, Some}
+use Rattle.rl_word.specs.Shapes.{TheShape}
+use Rattle.rl_word.specs.declared.shapes.Knobs.{Knobs}
 use Rattle.rl_model.specs.declared.call.Call.{Call}
-use Rattle.rl_model.specs.declared.entry.Entry.{Entry}
-use Rattle.rl_model.specs.declared.entry.Reply.TheVariants.{Held}
-use Rattle.rl_word.specs.Shapes.{layout_of}
-use Rattle.rl_step.specs.declared.events.Event.{Event}
-use Rattle.rl_step.specs.declared.tallies.Steps.{Steps}
-use Rattle.rl_spin.specs.declared.view.SpinView.{SpinView}
-use Rattle.rl_spin.specs.Spin.{spin_table}
-use Rattle.rl_whole.specs.Whole.{lock_base, count_word}
-use Rattle.rl_whole.specs.Running.{Running}
-use Rattle.rl_whole.specs.Run.{start, run_of, ranks_of, done_of}
+use Rattle.rl_step.specs.Lock.{LockTable}
 use Rattle.rl_place.specs.Places.{ThePlace}
+use Rattle.rl_place.specs.Shapes.{shape_of, knobs_of}
 use Rattle.rl_ops.specs.declared.ops.Ops.{Ops}
 use Rattle.rl_ops.specs.declared.schedule.Schedule.{Schedule}
-use Rattle.rl_place.specs.Shapes.{shape_of}
+use Rattle.rl_history.specs.declared.report.Done.{Done}
+use Rattle.rl_history.specs.Naming.{naming_of}
+use Rattle.rl_history.specs.Reports.{TheShard, TheReport}
+use Rattle.rl_history.specs.Spelling.{is_printed}
+use Rattle.rl_history.specs.Tallies.{tallies_from}
+use Rattle.rl_whole.specs.Running.{ShardRun, Running}
+use Rattle.rl_whole.specs.ShardSteps.{events_of}
+use Rattle.rl_whole.specs.Start.{start_of}
+use Rattle.rl_whole.specs.Run.{done_of, run_of, ranks_of}
+use Rattle.rl_whole.specs.Promises.{journal_on, history_on}
+use Rattle.rmalock.specs.Locks.{kind_of}
 
 -- ---- the run
 
--- the node on which the words of the one shard live
-abbrev pub home_of : ThePlace → ℕ
-home_of place = slice_index place.homes 0
+-- the machine at its start, and at the end of a schedule, for a kind of lock by shape, home and settings
+module _ {V : Type 0} where
+  abbrev pub start_with : (TheShape → ℕ → Knobs → LockTable V) → ThePlace → Ops → Running V
+  start_with defined place ops = start_of defined (shape_of place) (knobs_of place.lock) place.geom place.homes ops
 
--- how many calls each rank is given
-abbrev pub given_of : List (List Call) → List ℕ
-given_of lists = map (λ calls. length calls) lists
+  abbrev pub run_with : (TheShape → ℕ → Knobs → LockTable V) → ThePlace → Ops → Schedule → Running V
+  run_with defined place ops schedule = run_of (start_with defined place ops) (ranks_of schedule.turns)
 
--- the machine at the start, and after exactly the schedule's steps
-abbrev pub replay_start : ThePlace → Ops → Running SpinView
-replay_start place ops =
-    start (record { base = lock_base; table = spin_table (home_of place) }) (layout_of (shape_of place)) (given_of ops.by_rank)
-
-abbrev pub replay_of : ThePlace → Ops → Schedule → Running SpinView
-replay_of place ops schedule = run_of (replay_start place ops) (ranks_of schedule.turns)
+-- for the kind of the placement's lock
+abbrev pub replay_of : (place : ThePlace) → Ops → Schedule → Running (kind_of place.lock).View
+replay_of place ops schedule = run_with (kind_of place.lock).defined place ops schedule
 
 -- ---- its report
 
--- how many of its calls a rank has done, and how many it was given
-pub record Done : Type 0 where
-  pub done : ℕ
-  pub given : ℕ
+-- how many queues a placement's lock has
+abbrev pub queue_count : ThePlace → ℕ
+queue_count place = length (naming_of place).queues
 
--- what a report says: how many updates the shard has had, the calls that were done, what happened with the number of its step,
--- each rank's calls, and how often each answer came
-pub record TheReport : Type 0 where
-  pub lock : List ℕ
-  pub updates : ℕ
-  pub entries : List Entry
-  pub events : List (ℕ × Event)
-  pub ranks : List Done
-  pub steps : Steps
+module _ {V : Type 0} where
+  -- the part of a shard: its history, the tally of each of its queues, and what happened on it but for touches
+  abbrev pub part_of : ℕ → ShardRun V → TheShard
+  part_of queues S =
+      record {
+        updates = length (journal_on S);
+        entries = history_on S;
+        queues = tallies_from 0 queues (events_of S.trace);
+        pairs = [];
+        events = filter (λ e. is_printed e.1) S.trace;
+      }
 
--- the entries of a rank's calls, numbered from one on: each is a hold, which found this count
-abbrev pub entries_of : ℕ → ℕ → ℕ → List Call → List Entry
-entries_of at rank seq [] = []
-entries_of at rank seq (call ∷ calls) =
-    record { shard = 0; rank = rank; seq = seq; call = call; at = at; reply = Held; batch = 0; part = 0 } ∷ entries_of at rank (seq + 1) calls
+  -- how many of its calls each rank has done, from a rank on
+  abbrev pub dones_from : Running V → ℕ → List (List Call) → List Done
+  dones_from m rank [] = []
+  dones_from m rank (calls ∷ lists) = record { done = done_of m rank; given = length calls } ∷ dones_from m (rank + 1) lists
 
--- the calls that the ranks from one on have done: since none is an update they stand rank by rank
-abbrev pub entries_from : {V : Type 0} → Running V → ℕ → List (List Call) → List Entry
-entries_from m rank [] = []
-entries_from m rank (calls ∷ lists) =
-    entries_of (slice_index m.world.held.words count_word) rank 0 (take (done_of m rank) calls) ++ entries_from m (rank + 1) lists
-
-abbrev pub dones_from : {V : Type 0} → Running V → ℕ → List (List Call) → List Done
-dones_from m rank [] = []
-dones_from m rank (calls ∷ lists) = record { done = done_of m rank; given = length calls } ∷ dones_from m (rank + 1) lists
-
--- what a report says of this state
-abbrev pub report_in : {V : Type 0} → List ℕ → Running V → List (List Call) → TheReport
-report_in lock m lists =
-    record {
-      lock = lock;
-      updates = slice_index m.world.held.words count_word;
-      entries = entries_from m 0 lists;
-      events = m.world.trace;
-      ranks = dones_from m 0 lists;
-      steps = m.world.steps;
-    }
+  -- what is reported of a machine whose locks have so many queues
+  abbrev pub report_in : ℕ → Running V → TheReport
+  report_in queues m = record { shards = map (part_of queues) m.shards; done = dones_from m 0 m.calls; steps = Some m.steps }
 
 -- the report of a replay
 abbrev pub report_of : ThePlace → Ops → Schedule → TheReport
-report_of place ops schedule = report_in (codes "spin") (replay_of place ops schedule) ops.by_rank
+report_of place ops schedule = report_in (queue_count place) (replay_of place ops schedule)

@@ -1,11 +1,15 @@
 // What the program answers: a status, and the bytes that belong to it.
-ghost use Rattle.std.specs.Prelude.{◌≡◌, ◌≢◌, map, string_bytes, IfOk, IfErr, Ok, Err, Option, Some};
-ghost use Rattle.rmalock.specs.Command.{form_of, named, usage_text};
-ghost use Rattle.rmalock.specs.Answer.{MayRead, TheAnswer, RisesWithFault, WasAnswered, name_of as name_at, refused_line};
+ghost use Rattle.std.specs.Prelude.{◌≡◌, ◌≢◌, ◌≤◌, map, string_bytes, IsTrue, IfOk, IfErr, Ok, Err, Option, Some};
+ghost use Rattle.rl_place.specs.declared.limits.TheConstants.{MOST_RANKS};
+ghost use Rattle.rl_ops.specs.declared.ops.TheConstants.{MOST_CALLS};
+ghost use Rattle.rmalock.specs.Command.{Replay, Make, Show, asked, form_of, named, usage_text};
+ghost use Rattle.rmalock.specs.Answer.{MayRead, NamesNoFile, TheAnswer, RisesWithFault, WasAnswered, name_of as name_at, refused_line};
 
-use crate::command::{Files, form};
+use crate::command::{Files, Form, form_of_words};
 use crate::complaint::{Quit, Stop, Trouble, Which};
+use crate::making::made_summary;
 use crate::replaying::replayed;
+use crate::showing::shown;
 use rl_io::Source;
 use rl_text::put_refusal;
 use std::alloc::{AllocError, Global};
@@ -68,8 +72,8 @@ fn name_of<'a>(files: &Files<'a>, which: Which) -> &'a str
 }
 
 /// The line that names the file that is refused, the place in it and the cause.
-fn refused(alloc: Global, name: &str, trouble: Trouble) -> Result<Vec<u8>, AllocError>
-    ensures { IfOk result (λ text. text.items ≡ refused_line name.now trouble) }
+fn refused(alloc: Global, name: &str, trouble: Trouble) -> Result<Answer, AllocError>
+    ensures { IfOk result (λ answer. answer ≡ record { status = 2; text = refused_line name.now trouble }) }
 {
     let mut text = Vec::from_slice(alloc, b"refused ")?;
     text.extend_from_slice(name.as_bytes())?;
@@ -79,22 +83,35 @@ fn refused(alloc: Global, name: &str, trouble: Trouble) -> Result<Vec<u8>, Alloc
         Trouble::Refused(refusal) => put_refusal(&mut text, refusal)?,
     }
     text.push(b'\n')?;
-    Ok(text)
+    Ok(Answer::new(2, text))
 }
 
 /// The answer to a replay of these files.
 fn answer_replay<S: Source>(alloc: Global, source: &mut S, files: Files<'_>) -> Result<Answer, Quit>
-    requires { MayRead (S.may_open source.old) (Some (named files)) }
-    ensures answered { WasAnswered (S.file source.old) (Some (named files.entry)) result }
+    requires { MayRead (S.may_open source.old) (Some (Replay (named files))) }
+    ensures answered { WasAnswered (S.file source.old) (Some (Replay (named files.entry))) result }
     ensures faults { RisesWithFault result (S.faults source.old) (S.faults source.new) }
 {
     match replayed(alloc, source, files) {
         Ok(text) => Ok(Answer::new(0, text)),
         Err(Stop::Refused(complaint)) => {
             let name = name_of(&files, complaint.which);
-            let text = refused(alloc, name, complaint.trouble)?;
-            Ok(Answer::new(2, text))
+            Ok(refused(alloc, name, complaint.trouble)?)
         }
+        Err(Stop::Fault) => Err(Quit::Fault),
+        Err(Stop::Memory) => Err(Quit::Memory),
+    }
+}
+
+/// The answer to the shape of the placement in a file.
+fn answer_show<S: Source>(alloc: Global, source: &mut S, place: &str) -> Result<Answer, Quit>
+    requires { MayRead (S.may_open source.old) (Some (Show place.now)) }
+    ensures answered { WasAnswered (S.file source.old) (Some (Show place.now)) result }
+    ensures faults { RisesWithFault result (S.faults source.old) (S.faults source.new) }
+{
+    match shown(alloc, source, place) {
+        Ok(text) => Ok(Answer::new(0, text)),
+        Err(Stop::Refused(complaint)) => Ok(refused(alloc, place, complaint.trouble)?),
         Err(Stop::Fault) => Err(Quit::Fault),
         Err(Stop::Memory) => Err(Quit::Memory),
     }
@@ -109,10 +126,18 @@ pub fn answer_words<S: Source>(
     requires { MayRead (S.may_open source.old) (form_of (map string_bytes words.now)) }
     ensures answered { WasAnswered (S.file source.old) (form_of (map string_bytes words.now)) result }
     ensures faults { RisesWithFault result (S.faults source.old) (S.faults source.new) }
-    ensures unread { form_of (map string_bytes words.now) ≡ None → source.new ≡ source.old }
+    ensures unread { NamesNoFile (form_of (map string_bytes words.now)) → source.new ≡ source.old }
 {
-    match form(words) {
-        Some(files) => answer_replay(alloc, source, files),
+    match form_of_words(words) {
+        Some(Form::Replay(files)) => answer_replay(alloc, source, files),
+        Some(
+            Form::Make {
+                number,
+                ranks,
+                calls,
+            },
+        ) => Ok(Answer::new(0, made_summary(alloc, number, ranks, calls)?)),
+        Some(Form::Show { place }) => answer_show(alloc, source, place),
         None => Ok(usage(alloc)?),
     }
 }

@@ -1,7 +1,12 @@
 // The words of the command line.
-ghost use Rattle.std.specs.Prelude.{◌≡◌, map, string_bytes};
+ghost use Rattle.std.specs.Prelude.{◌≡◌, map, string_bytes, IfSome};
 ghost use Rattle.std.specs.Option.{option_map};
-ghost use Rattle.rmalock.specs.Command.{form_of, named};
+ghost use Rattle.rl_text.specs.Number.{number_of};
+ghost use Rattle.rmalock.specs.Command.{AskFits, asked, make_of, form_of, form_of_one as form_of_one_at, form_of_three as form_of_three_at};
+
+use rl_ops::MOST_CALLS;
+use rl_place::MOST_RANKS;
+use rl_text::number;
 
 /// The files that a replay names, in the order in which they are read.
 #[derive(Clone, Copy)]
@@ -11,22 +16,81 @@ pub struct Files<'a> {
     pub schedule: &'a str,
 }
 
-/// The files of a replay, where the words are `replay PLACE CALLS SCHEDULE`.
-pub fn form(words: &[String]) -> Option<Files<'_>>
-    ensures { option_map named result ≡ form_of (map string_bytes words.now) }
+/// What the words ask for.
+#[derive(Clone, Copy)]
+pub enum Form<'a> {
+    /// The report of a replay.
+    Replay(Files<'a>),
+    /// The summary of so many calls of so many ranks, made from a number.
+    Make { number: u64, ranks: u32, calls: u32 },
+    /// The shape of a placement.
+    Show { place: &'a str },
+}
+
+/// What `make` asks for, where the three words are numbers in their ranges.
+fn make_form<'a>(number_word: &str, ranks: &str, calls: &str) -> Option<Form<'a>>
+    ensures made { option_map asked result ≡ make_of (number_of number_word.now) (number_of ranks.now) (number_of calls.now) }
+    ensures fits { IfSome result (λ form. AskFits (asked form)) }
+{
+    let from = number(number_word.as_bytes())?;
+    let ranks = number(ranks.as_bytes())?;
+    let calls = number(calls.as_bytes())?;
+    if ranks < 1 || ranks > u64::from(MOST_RANKS) || calls > u64::from(MOST_CALLS) {
+        return None;
+    }
+    Some(Form::Make {
+        number: from,
+        ranks: ranks as u32,
+        calls: calls as u32,
+    })
+}
+
+/// What a verb and one word ask for.
+fn form_of_one<'a>(verb: &str, word: &'a str) -> Option<Form<'a>>
+    ensures asked { option_map asked result ≡ form_of_one_at verb.now word.now }
+    ensures fits { IfSome result (λ form. AskFits (asked form)) }
+{
+    match verb {
+        "show" => Some(Form::Show { place: word }),
+        _ => None,
+    }
+}
+
+/// What a verb and three words ask for.
+fn form_of_three<'a>(
+    verb: &str,
+    first: &'a str,
+    second: &'a str,
+    third: &'a str,
+) -> Option<Form<'a>>
+    ensures asked { option_map asked result ≡ form_of_three_at verb.now first.now second.now third.now }
+    ensures fits { IfSome result (λ form. AskFits (asked form)) }
+{
+    match verb {
+        "replay" => Some(Form::Replay(Files {
+            place: first,
+            calls: second,
+            schedule: third,
+        })),
+        "make" => make_form(first, second, third),
+        _ => None,
+    }
+}
+
+/// What the words ask for: `show PLACE`, `replay PLACE CALLS SCHEDULE` or `make NUMBER RANKS CALLS`, where NUMBER is below 2^64,
+/// RANKS 1 to 32 and CALLS at most 20,000. Nothing where they are no form.
+pub fn form_of_words(words: &[String]) -> Option<Form<'_>>
+    ensures asked { option_map asked result ≡ form_of (map string_bytes words.now) }
+    ensures fits { IfSome result (λ form. AskFits (asked form)) }
 {
     match words {
-        [verb, place, calls, schedule] => {
-            if verb.as_str() == "replay" {
-                Some(Files {
-                    place: place.as_str(),
-                    calls: calls.as_str(),
-                    schedule: schedule.as_str(),
-                })
-            } else {
-                None
-            }
-        }
+        [verb, word] => form_of_one(verb.as_str(), word.as_str()),
+        [verb, first, second, third] => form_of_three(
+            verb.as_str(),
+            first.as_str(),
+            second.as_str(),
+            third.as_str(),
+        ),
         _ => None,
     }
 }

@@ -4,18 +4,21 @@
 ghost use Rattle.std.specs.Prelude.{◌≢◌, ◌↔◌, ◌≤◌, None};
 
 mod answer;
-mod built;
 mod command;
 mod complaint;
+mod generating;
 #[cfg(test)]
-mod dmcs_tests;
+mod generating_tests;
+#[cfg(test)]
+mod lock_tests;
+mod making;
 mod offline;
-mod printing;
 mod reading;
 mod replaying;
 mod reporting;
-#[cfg(test)]
-mod spin_tests;
+mod rounds;
+mod showing;
+mod summary;
 #[cfg(test)]
 mod tests;
 #[cfg(test)]

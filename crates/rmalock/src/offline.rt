@@ -1,15 +1,15 @@
 // The top call: what the program does that never waits.
-ghost use Rattle.std.specs.Prelude.{◌≡◌, ◌≢◌, ◌≤◌, ◌<◌, map, string_bytes, None};
+ghost use Rattle.std.specs.Prelude.{◌≡◌, ◌≢◌, ◌≤◌, ◌<◌, map, string_bytes};
 ghost use Rattle.rmalock.specs.Command.{form_of};
-ghost use Rattle.rmalock.specs.Answer.{MayRead, IsDone, StillTells};
+ghost use Rattle.rmalock.specs.Answer.{MayRead, NamesNoFile, IsDone, StillTells};
 
 use crate::answer::answer_words;
 use crate::complaint::Quit;
 use rl_io::{Failed, Sink, Source, write_all};
 use std::alloc::Global;
 
-/// Does what the words of the command line ask for, and gives the status: 0 after a report, 1 after the usage line, where the
-/// words are no form, 2 after the line that refuses a file, 3 where a file could not be read, 4 where a write failed, 5 for want
+/// Does what the words of the command line ask for, and gives the status: 0 after a report, a summary or a shape, 1 after the usage
+/// line, where the words are no form, 2 after the line that refuses a file, 3 where a file could not be read, 4 where a write failed, 5 for want
 /// of memory. A sink with room for the text tells its bytes afterwards as before.
 pub fn offline<S: Source, K: Sink>(
     alloc: Global,
@@ -25,7 +25,7 @@ pub fn offline<S: Source, K: Sink>(
     ensures write_fault { result ≡ 4 → K.faults out.old < K.faults out.new }
     ensures write_quiet { result ≢ 4 → K.faults out.new ≡ K.faults out.old }
     ensures goes_on { StillTells K.tells_on (S.file source.old) (form_of (map string_bytes words.now)) out.old out.new }
-    ensures unread { form_of (map string_bytes words.now) ≡ None → source.new ≡ source.old }
+    ensures unread { NamesNoFile (form_of (map string_bytes words.now)) → source.new ≡ source.old }
 {
     match answer_words(alloc, words, source) {
         Ok(answer) => match write_all(out, answer.text()) {

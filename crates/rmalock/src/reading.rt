@@ -6,11 +6,10 @@ ghost use Rattle.rl_ops.specs.Ops.{OpsFit};
 ghost use Rattle.rl_ops.specs.Schedule.{ScheduleFits};
 ghost use Rattle.rmalock.specs.Reading.{WasRead, Ends, RisesWithFault, stopped_in, within, placed, called, scheduled};
 
-use crate::built::{built_calls, built_place};
 use crate::complaint::{Complaint, Stop, Trouble, Which};
 use rl_io::{ReadErr, Source, read_file};
-use rl_ops::{Ops, Schedule, read_schedule};
-use rl_place::Place;
+use rl_ops::{Ops, Schedule, read_ops, read_schedule};
+use rl_place::{Place, read_place};
 use rl_text::TextErr;
 use std::alloc::Global;
 
@@ -58,23 +57,23 @@ fn stopped(which: Which, error: TextErr) -> Stop
     }
 }
 
-/// The placement of a file, where this program can replay it.
+/// The placement of a file.
 #[tactic(auto, unfolding(crate::specs::Reading::placed))]
 pub fn read_placed<S: Source>(alloc: Global, source: &mut S, name: &str) -> Result<Place, Stop>
     requires { IsTrue (S.may_open source.old name.now) }
     ensures read { WasRead (S.file source.old name.now) (λ place. place) placed result }
-    ensures proper { IfOk result (λ place. IsProper place × (place.geom.shards ≡ 1)) }
+    ensures proper { IfOk result (λ place. IsProper place) }
     ensures faults { RisesWithFault result (S.faults source.old) (S.faults source.new) }
     ensures same { SameFiles S.file S.may_open source.old source.new }
 {
     let bytes = read_within(alloc, source, name, Which::Place, MOST_WORDS)?;
-    match built_place(alloc, bytes.as_slice()) {
+    match read_place(alloc, bytes.as_slice()) {
         Ok(place) => Ok(place),
         Err(error) => Err(stopped(Which::Place, error)),
     }
 }
 
-/// The calls of a file, where this program can replay them.
+/// The calls of a file.
 #[tactic(auto, unfolding(crate::specs::Reading::called))]
 pub fn read_called<S: Source>(
     alloc: Global,
@@ -90,7 +89,8 @@ pub fn read_called<S: Source>(
     ensures same { SameFiles S.file S.may_open source.old source.new }
 {
     let bytes = read_within(alloc, source, name, Which::Calls, MOST_WORDS)?;
-    match built_calls(alloc, place, bytes.as_slice()) {
+    let ranks = place.paths.len() as u32;
+    match read_ops(alloc, ranks, place.geom.shards, bytes.as_slice()) {
         Ok(ops) => Ok(ops),
         Err(error) => Err(stopped(Which::Calls, error)),
     }

@@ -1,49 +1,22 @@
-//! What the tests of all locks share: a shape, and what the steps of a run tell, as one line of text.
+//! What the tests of all locks share: what the steps of a run tell, as one line of text.
 
-ghost use Rattle.std.specs.Prelude.{◌≡◌, ◌-◌, ◌<◌, ◌≤◌, ◌^◌, true, length, IfOk};
-ghost use Rattle.rl_word.specs.OneNode.{one_node as one_node_shape};
-ghost use Rattle.rl_word.specs.Shapes.{IsProper};
+ghost use Rattle.std.specs.Prelude.{◌≡◌, ◌-◌, ◌<◌, ◌^◌, length, true, IfOk};
+ghost use Rattle.rl_place.specs.Places.{IsProper};
+ghost use Rattle.rl_place.specs.Shapes.{shape_of, knobs_of};
+ghost use Rattle.rl_ops.specs.Ops.{OpsFit};
 ghost use Rattle.rl_step.specs.Answers.{steps_made};
 
+use rl_alock::Alock;
+use rl_mcs::Mcs;
+use rl_ops::{Ops, read_ops};
+use rl_place::{Lock, Place, read_place};
+use rl_queue::Dmcs;
+use rl_rw::Rw;
+use rl_spin::Spin;
 use rl_step::{Algo, Event, Stepped, Steps};
+use rl_text::{TEXT_LIMIT, TextErr};
 use rl_whole::Machine;
-use rl_word::{Element, Knobs, Shape};
 use std::alloc::{AllocError as OutOfMemory, Global};
-
-/// No lock of these tests reads a setting.
-pub(crate) const KNOBS: Knobs = Knobs {
-    local: 0,
-    remote: 0,
-    writers: 0,
-    readers: 0,
-    group: 0,
-};
-
-/// So many ranks on node 0.
-pub(crate) fn one_node(alloc: Global, ranks: u32) -> Result<Shape, OutOfMemory>
-    requires some { 0 < ranks }
-    requires few { ranks ≤ 32 }
-    ensures shape { IfOk result (λ s. s ≡ one_node_shape ranks) }
-    ensures proper { IfOk result IsProper }
-{
-    Ok(Shape {
-        node_of: vec![in alloc; 0; ranks as usize]?,
-        nodes: 1,
-        leaf_of: vec![in alloc; 1]?,
-        elements: vec![in alloc;
-            Element {
-                parent: None,
-                first_node: 0,
-                budget: None
-            },
-            Element {
-                parent: Some(0),
-                first_node: 0,
-                budget: None
-            },
-        ]?,
-    })
-}
 
 /// Whether so few steps were made that one more can be.
 fn has_room(steps: Steps) -> bool
@@ -56,17 +29,20 @@ fn has_room(steps: Steps) -> bool
         && steps.finished < 1000
 }
 
-/// One event: `j0` rank 0 joins the queue, `s0` settles it, `p0` is passed it; `+0` enters to write, `*0` looks at the count, `-0`
-/// leaves.
+/// One event: `j1.0` member 0 joins queue 1, `s1.0` settles it, `p1.0` is passed it; `a2` cohort 2 announces itself; `+0` rank 0 enters
+/// to write, `*0` looks at what the lock guards, `!0` writes it, `-0` leaves.
 fn sign(alloc: Global, event: Event) -> Result<String, OutOfMemory> {
     let text = match event {
-        Event::Join { queue: 0, member } => format!(in alloc; "j{member}")?,
-        Event::Settle { queue: 0, member } => format!(in alloc; "s{member}")?,
-        Event::Pass { queue: 0, member } => format!(in alloc; "p{member}")?,
+        Event::Join { queue, member } => format!(in alloc; "j{queue}.{member}")?,
+        Event::Settle { queue, member } => format!(in alloc; "s{queue}.{member}")?,
+        Event::Pass { queue, member } => format!(in alloc; "p{queue}.{member}")?,
+        Event::Announce { cohort } => format!(in alloc; "a{cohort}")?,
         Event::EnterW { rank } => format!(in alloc; "+{rank}")?,
         Event::LeaveW { rank } => format!(in alloc; "-{rank}")?,
         Event::Touch { rank, write: false } => format!(in alloc; "*{rank}")?,
-        _ => format!(in alloc; "?")?,
+        Event::Touch { rank, write: true } => format!(in alloc; "!{rank}")?,
+        Event::EnterR { rank } => format!(in alloc; "<{rank}")?,
+        Event::LeaveR { rank } => format!(in alloc; ">{rank}")?,
     };
     Ok(text)
 }
@@ -94,24 +70,65 @@ fn told(
     Ok(text)
 }
 
-/// What the steps of these ranks tell, one after the other.
-pub(crate) fn run<L: Algo>(
+/// What the steps of these ranks tell, one after the other: the answers, and the events of shard 0.
+fn steps_of<A: Algo>(
     alloc: Global,
-    machine: &mut Machine<L>,
+    mut machine: Machine<A>,
     ranks: &[u8],
-) -> Result<String, OutOfMemory> {
+) -> Result<String, OutOfMemory>
+    requires some { 0 < length machine.shards }
+{
     let mut text = String::new(alloc);
     let mut step = 0u32;
     for digit in ranks {
         let rank = u32::from(digit.saturating_sub(b'0'));
-        if rank < machine.ranks() && has_room(machine.steps()) {
+        let there = machine.ops().by_rank.as_slice().len();
+        if (rank as usize) < there && has_room(machine.steps()) {
             let answer = machine.step(rank)?;
             if step > 0 {
                 text.push_str(" ")?;
             }
-            text.push_str(&told(alloc, step, answer, machine.events())?)?;
+            text.push_str(&told(alloc, step, answer, machine.events(0))?)?;
         }
         step = step.saturating_add(1);
     }
+    Ok(text)
+}
+
+fn run<A: Algo>(alloc: Global, place: &Place, ops: Ops, ranks: &[u8]) -> Result<String, OutOfMemory>
+    requires proper { IsProper place.now }
+    requires knobs { A.suits_knobs (shape_of place.now) (knobs_of place.now.lock) }
+    requires calls { OpsFit (length place.now.paths) place.now.geom.shards ops }
+{
+    let shape = place.shape(alloc)?;
+    let homes = place.homes.as_slice();
+    let machine: Machine<A> = Machine::new(alloc, &shape, place.knobs(), place.geom, homes, ops)?;
+    steps_of(alloc, machine, ranks)
+}
+
+/// What the steps of these ranks tell, over the placement and the calls of these texts.
+pub(crate) fn trial(
+    alloc: Global,
+    place: &str,
+    calls: &str,
+    ranks: &str,
+) -> Result<String, TextErr> {
+    if place.len() >= TEXT_LIMIT as usize || calls.len() >= TEXT_LIMIT as usize {
+        return Err(TextErr::Memory);
+    }
+    let place = read_place(alloc, place.as_bytes())?;
+    let ops = read_ops(
+        alloc,
+        place.paths.len() as u32,
+        place.geom.shards,
+        calls.as_bytes(),
+    )?;
+    let text = match &place.lock {
+        Lock::Spin => run::<Spin>(alloc, &place, ops, ranks.as_bytes())?,
+        Lock::Dmcs => run::<Dmcs>(alloc, &place, ops, ranks.as_bytes())?,
+        Lock::Alock { .. } => run::<Alock>(alloc, &place, ops, ranks.as_bytes())?,
+        Lock::Mcs { .. } => run::<Mcs>(alloc, &place, ops, ranks.as_bytes())?,
+        Lock::Rw { .. } => run::<Rw>(alloc, &place, ops, ranks.as_bytes())?,
+    };
     Ok(text)
 }

@@ -1,7 +1,9 @@
 use Rattle.std.proofs.Common.{◌∙◌, sym, subst, Ok, Err, ap}
 use Rattle.std.proofs.lemmas.Result.{err_from_is_err_and}
 use Rattle.rmalock.specs.Reading.{WasRead, called, scheduled}
-use Rattle.rmalock.proofs.ReplayLemmas.{place_stops, calls_stop, schedule_stops, all_read}
+use Rattle.rl_history.specs.Naming.{naming_of}
+use Rattle.rl_history.specs.Spelling.{report_spelling}
+use Rattle.rmalock.proofs.ReplayLemmas.{place_stops, calls_stop, schedule_stops, memory_stops, all_read}
 use Rattle.rmalock.proofs.replaying.replayed.Goals as goal
 
 pub returns-in_err-place-clause-replayed : goal.returns-in_err-place-clause-replayed
@@ -26,16 +28,25 @@ returns-in_err-schedule-clause-replayed g c =
     (subst (λ told. WasRead told (λ schedule. schedule) (scheduled c.in_ok-place.place) (Err c.in_err-schedule.field-0.0))
     (c.in_ok-ops.ensures.same.files name ∙ c.in_ok-place.ensures.same.files name) c.in_err-schedule.ensures.read))
 
-pub returns-in_err-replay_text-clause-replayed : goal.returns-in_err-replay_text-clause-replayed
-returns-in_err-replay_text-clause-replayed g c =
-    let p = err_from_is_err_and c.from_residual-in_err-replay_text.result c.from_residual-in_err-replay_text.ensures.1 in
+pub returns-in_err-report-clause-replayed : goal.returns-in_err-report-clause-replayed
+returns-in_err-report-clause-replayed g c =
+    let p = err_from_is_err_and c.from_residual-in_err-report.result c.from_residual-in_err-report.ensures.1 in
     let name = c.args.files.schedule.now in
     rw (p.1, p.2)
-    (all_read _ _ _ _ _ _ c.in_ok-place.ensures.read
+    (memory_stops _ _ _ _ _ c.in_ok-place.ensures.read
     (subst (λ told. WasRead told (λ ops. ops) (called c.in_ok-place.place) (Ok c.in_ok-ops.ops)) (c.in_ok-place.ensures.same.files c.args.files.calls.now) c.in_ok-ops.ensures.read)
     (subst (λ told. WasRead told (λ schedule. schedule) (scheduled c.in_ok-place.place) (Ok c.in_ok-schedule.schedule))
-    (c.in_ok-ops.ensures.same.files name ∙ c.in_ok-place.ensures.same.files name) c.in_ok-schedule.ensures.read)
-    tt)
+    (c.in_ok-ops.ensures.same.files name ∙ c.in_ok-place.ensures.same.files name) c.in_ok-schedule.ensures.read))
+
+pub returns-in_err-report_text-clause-replayed : goal.returns-in_err-report_text-clause-replayed
+returns-in_err-report_text-clause-replayed g c =
+    let p = err_from_is_err_and c.from_residual-in_err-report_text.result c.from_residual-in_err-report_text.ensures.1 in
+    let name = c.args.files.schedule.now in
+    rw (p.1, p.2)
+    (memory_stops _ _ _ _ _ c.in_ok-place.ensures.read
+    (subst (λ told. WasRead told (λ ops. ops) (called c.in_ok-place.place) (Ok c.in_ok-ops.ops)) (c.in_ok-place.ensures.same.files c.args.files.calls.now) c.in_ok-ops.ensures.read)
+    (subst (λ told. WasRead told (λ schedule. schedule) (scheduled c.in_ok-place.place) (Ok c.in_ok-schedule.schedule))
+    (c.in_ok-ops.ensures.same.files name ∙ c.in_ok-place.ensures.same.files name) c.in_ok-schedule.ensures.read))
 
 pub returns-clause-replayed : goal.returns-clause-replayed
 returns-clause-replayed g c =
@@ -44,4 +55,4 @@ returns-clause-replayed g c =
     (subst (λ told. WasRead told (λ ops. ops) (called c.in_ok-place.place) (Ok c.in_ok-ops.ops)) (c.in_ok-place.ensures.same.files c.args.files.calls.now) c.in_ok-ops.ensures.read)
     (subst (λ told. WasRead told (λ schedule. schedule) (scheduled c.in_ok-place.place) (Ok c.in_ok-schedule.schedule))
     (c.in_ok-ops.ensures.same.files name ∙ c.in_ok-place.ensures.same.files name) c.in_ok-schedule.ensures.read)
-    (ap (λ text. Ok text) (sym c.in_ok-replay_text.ensures))
+    (c.in_ok-report_text.ensures.text ∙ ap (report_spelling (naming_of c.in_ok-place.place)) c.in_ok-report.ensures.report) c.in_ok-report.ensures.kept

@@ -1,0 +1,85 @@
+-- The summary of a machine that made the calls of a generator in rounds.
+use Rattle.std.specs.Prelude.{ℕ, List, [], ◌∷◌, ◌++◌, length, map, filter, codes, decimal, Bool, true, false, sum_by}
+use Rattle.std.specs.List.{enumerate_from}
+use Rattle.rl_text.specs.Spelling.{text_of}
+use Rattle.rl_model.specs.declared.call.Call.{Call}
+use Rattle.rl_model.specs.declared.call.Call.TheVariants.{Get}
+use Rattle.rl_step.specs.declared.events.Event.{Event}
+use Rattle.rl_step.specs.declared.events.Event.TheVariants.{Settle, Pass}
+use Rattle.rl_history.specs.declared.report.Done.{Done}
+use Rattle.rl_history.specs.Reports.{TheShard, TheReport}
+use Rattle.rl_history.specs.Spelling.{steps_lines}
+use Rattle.rl_whole.specs.Running.{Running}
+use Rattle.rmalock.specs.Locks.{alock}
+use Rattle.rmalock.specs.Replay.{start_with, queue_count, report_in}
+use Rattle.rmalock.specs.Generate.{made_place, made_ops}
+use Rattle.rmalock.specs.Rounds.{all_rounds}
+
+-- ---- the run
+
+-- the machine over the placement and the calls that are made from a number, after rounds of at most 2,000,000 steps
+abbrev pub made_run : ℕ → ℕ → ℕ → Running alock.View
+made_run number ranks calls = all_rounds 2000000 (start_with alock.defined (made_place ranks) (made_ops number ranks calls))
+
+-- what is reported of it
+abbrev pub made_report : ℕ → ℕ → ℕ → TheReport
+made_report number ranks calls = report_in (queue_count (made_place ranks)) (made_run number ranks calls)
+
+-- ---- its summary
+
+abbrev pub is_get : Call → Bool
+is_get (Get key) = true
+is_get _ = false
+
+abbrev pub is_settle : Event → Bool
+is_settle (Settle queue member) = true
+is_settle _ = false
+
+abbrev pub is_pass : Event → Bool
+is_pass (Pass queue member) = true
+is_pass _ = false
+
+-- how many gets a shard's history has, and how often its queues were settled and passed, those of both cohorts together
+abbrev pub reads_of : TheShard → ℕ
+reads_of part = length (filter (λ entry. is_get entry.call) part.entries)
+
+abbrev pub settled_of : TheShard → ℕ
+settled_of part = length (filter (λ event. is_settle event.1) part.events)
+
+abbrev pub passed_of : TheShard → ℕ
+passed_of part = length (filter (λ event. is_pass event.1) part.events)
+
+-- `shard I updates U reads Q settled X passed Y`
+abbrev pub shard_words : ℕ × TheShard → List (List ℕ)
+shard_words shard =
+    codes "shard" ∷ decimal shard.0 ∷ codes "updates" ∷ decimal shard.1.updates ∷ codes "reads" ∷ decimal (reads_of shard.1)
+    ∷ codes "settled" ∷ decimal (settled_of shard.1) ∷ codes "passed" ∷ decimal (passed_of shard.1) ∷ []
+
+-- a line for each shard
+abbrev pub shard_lines : List TheShard → List (List (List ℕ))
+shard_lines parts = map shard_words (enumerate_from 0 parts)
+
+-- how many calls all ranks have done
+abbrev pub all_done : List Done → ℕ
+all_done done = sum_by (λ rank. rank.done) done
+
+-- `ranks R calls C`
+abbrev pub sizes_words : ℕ → ℕ → List (List ℕ)
+sizes_words ranks calls = codes "ranks" ∷ decimal ranks ∷ codes "calls" ∷ decimal calls ∷ []
+
+-- `done D of C`
+abbrev pub done_words : ℕ → ℕ → List (List ℕ)
+done_words done calls = codes "done" ∷ decimal done ∷ codes "of" ∷ decimal calls ∷ []
+
+-- the lines of so many ranks and calls; the steps are told as in a report
+abbrev pub summary_lines : ℕ → ℕ → TheReport → List (List (List ℕ))
+summary_lines ranks calls report =
+    (codes "rmalock-summary" ∷ codes "1" ∷ []) ∷ sizes_words ranks calls
+    ∷ (shard_lines report.shards ++ done_words (all_done report.done) calls ∷ (steps_lines report.steps ++ (codes "end" ∷ []) ∷ []))
+
+abbrev pub summary_spelling : ℕ → ℕ → TheReport → List ℕ
+summary_spelling ranks calls report = text_of (summary_lines ranks calls report)
+
+-- the summary of the calls that are made from a number
+abbrev pub made_summary : ℕ → ℕ → ℕ → List ℕ
+made_summary number ranks calls = summary_spelling ranks calls (made_report number ranks calls)

@@ -1,0 +1,190 @@
+//! Small schedules over each lock, with their answers and events worked out by hand.
+
+use crate::trials::trial;
+use std::alloc::{AllocError as OutOfMemory, Global};
+use std::test::Fail;
+
+/// A placement with this lock, one shard on node 0, and all ranks on node 0, one for each digit; and so many holds for each as its
+/// digit says.
+fn together(alloc: Global, lock: &str, calls: &str) -> Result<(String, String), OutOfMemory> {
+    let mut place = format!(in alloc;
+        "rmalock-place 1\nlevels 1\nlock {lock}\nshards 1\nbuckets 1\noverflow 0\n"
+    )?;
+    let mut text = format!(in alloc; "rmalock-calls 1\n")?;
+    for (rank, digit) in calls.as_bytes().iter().enumerate() {
+        place.push_str(&format!(in alloc; "rank {rank} at 0\n")?)?;
+        for _ in 0..digit.saturating_sub(b'0') {
+            text.push_str(&format!(in alloc; "{rank} hold 0\n")?)?;
+        }
+    }
+    place.push_str("home 0 0\nend\n")?;
+    text.push_str("end\n")?;
+    Ok((place, text))
+}
+
+#[test]
+fn spin(rt: HostRuntime) -> Result<(), Fail> {
+    for (calls, ranks, want) in [
+        ("1", "000000000", "m m m+0 m m*0-0 m m m m"),
+        ("0", "", ""),
+        ("0", "00", "f f"),
+        ("1", "00000000000000", "m m m+0 m m*0-0 m m m m f f f f f"),
+        (
+            "2",
+            "000000000000000000",
+            "m m m+0 m m*0-0 m m m m m m m+0 m m*0-0 m m m m",
+        ),
+        ("11", "001", "m m b0.0"),
+        ("11", "0001", "m m m+0 b0.0"),
+        ("11", "0000111", "m m m+0 m m l0.1 m"),
+        ("11", "000011111", "m m m+0 m m l0.1 m m l0.1"),
+        ("11", "1111000", "m m m+1 m m l0.2 m"),
+        ("11", "0011001", "m m b0.0 b0.0 m+0 m m"),
+        (
+            "11",
+            "000000000111111111",
+            "m m m+0 m m*0-0 m m m m m m m+1 m m*1-1 m m m m",
+        ),
+        (
+            "11",
+            "111111111000000000",
+            "m m m+1 m m*1-1 m m m m m m m+0 m m*0-0 m m m m",
+        ),
+        ("11", "0101010101", "m b0.0 m b0.0 m+0 b0.0 m m m*0-0 l0.1"),
+        (
+            "11",
+            "0000011010000111",
+            "m m m+0 m m*0-0 m l0.1 b0.1 m m m m m m m m+1",
+        ),
+        (
+            "11",
+            "00000000101111",
+            "m m m+0 m m*0-0 m m m b0.0 m m m m+1 m",
+        ),
+        ("10", "0101", "m f m f"),
+        ("01", "0011111111110", "f f m m m+1 m m*1-1 m m m m f f"),
+        ("111", "012012012", "m b0.0 b0.0 m b0.0 b0.0 m+0 b0.0 b0.0"),
+        ("111", "0000111222", "m m m+0 m m l0.1 m m l0.1 m"),
+        ("111", "2222000", "m m m+2 m m l0.3 m"),
+        ("111", "201", "m b0.2 b0.2"),
+    ] {
+        let (place, text) = together(rt.alloc(), "spin", calls)?;
+        let told = trial(rt.alloc(), &place, &text, ranks)?;
+        assert_eq!(rt; told.as_str(), want, "{calls} {ranks}");
+    }
+    Ok(())
+}
+
+/// A joiner that finds the queue taken, a leaver that waits for its link, a rank that is passed to. Behind the volume of four words
+/// stand the tail, word 6, and then the next word and the status word of each rank: words 7 and 8, 9 and 10.
+#[test]
+fn one_queue_of_all_ranks(rt: HostRuntime) -> Result<(), Fail> {
+    for (calls, ranks, want) in [
+        (
+            "1",
+            "0000000000000",
+            "m m m m mj0.0s0.0+0 m m*0-0 m m m m m f",
+        ),
+        // The leaver finds no link, loses its compare-and-swap and waits.
+        (
+            "11",
+            "0000001111111110000001001",
+            "m m m m mj0.0s0.0+0 m m m m l0.1 m m m mj0.1 m m*0-0 m m l1.2 m w7.0 m m mp0.1 m+1",
+        ),
+        // The leaver finds the link, and the one that it passes to has waited.
+        (
+            "11",
+            "000000111111111110001",
+            "m m m m mj0.0s0.0+0 m m m m l0.1 m m m mj0.1 m m w10.0 m*0-0 m mp0.1 m+1",
+        ),
+        // Two joiners meet at the card of the tail.
+        ("11", "0001110", "m m m m m b0.0 m"),
+    ] {
+        let (place, text) = together(rt.alloc(), "dmcs", calls)?;
+        let told = trial(rt.alloc(), &place, &text, ranks)?;
+        assert_eq!(rt; told.as_str(), want, "{calls} {ranks}");
+    }
+    Ok(())
+}
+
+const HOLDS: &str = "rmalock-calls 1\n0 hold 0\n1 hold 0\nend\n";
+
+const HOLDS_OF_THREE: &str = "rmalock-calls 1\n0 hold 0\n1 hold 0\n2 hold 0\nend\n";
+
+const HOLDS_OF_FOUR: &str = "rmalock-calls 1\n0 hold 0\n1 hold 0\n2 hold 0\n3 hold 0\nend\n";
+
+/// A rank at home and one elsewhere, and budgets of 1.
+const BOTH_COHORTS: &str =
+    "rmalock-place 1\nlevels 1\nlock alock\nbudget 1 1\nshards 1\nbuckets 1\noverflow 0\nrank 0 at 0\nrank 1 at 1\nhome 0 0\nend\n";
+
+/// Words 6, 7 and 8 of the window are the tails of the local and of the remote queue and the victim.
+#[test]
+fn two_cohorts(rt: HostRuntime) -> Result<(), Fail> {
+    for (ranks, want) in [
+        // The local rank enters while the remote one has loaded its tail in the card.
+        (
+            "11110000011111",
+            "m m m m m m mj0.0 ma1 ms0.0+0 mj1.1 m ma2 m w8.2",
+        ),
+        // Both announce themselves: who was the victim last waits.
+        (
+            "000111111010011",
+            "m m mj0.0 m m m m mj1.1 m ma1 ma2 m ms0.0+0 m w8.2",
+        ),
+        // The remote rank stops in the card, and the local one does its whole call.
+        ("11100000000", "m m m m m mj0.0 ma1 ms0.0+0 m*0-0 m m"),
+    ] {
+        let told = trial(rt.alloc(), BOTH_COHORTS, HOLDS, ranks)?;
+        assert_eq!(rt; told.as_str(), want, "{ranks}");
+    }
+    Ok(())
+}
+
+/// After the remote rank's announcement two local ones enter, which is the bound: the local budget and once more.
+#[test]
+fn local_ranks_overtake_within_their_bound(rt: HostRuntime) -> Result<(), Fail> {
+    let place =
+        "rmalock-place 1\nlevels 1\nlock alock\nbudget 1 1\nshards 1\nbuckets 1\noverflow 0\nrank 0 at 0\nrank 1 at 0\nrank 2 at 0\nrank 3 at 1\nhome 0 0\nend\n";
+    let told = trial(
+        rt.alloc(),
+        place,
+        HOLDS_OF_FOUR,
+        "000033333330011111222220001111222233",
+    )?;
+    assert_eq!(rt;
+        told.as_str(),
+        "m m mj0.0 ma1 m m m m mj1.3 m ma2 m ms0.0+0 m m l0.1 mj0.1 m m m l0.2 mj0.2 m m*0-0 m mp0.1 m+1 m*1-1 m m m ma1 m w8.1 m ms1.3+3"
+    );
+    Ok(())
+}
+
+/// With budgets of 0 each head settles anew.
+#[test]
+fn no_budget_settles_each_time(rt: HostRuntime) -> Result<(), Fail> {
+    let place =
+        "rmalock-place 1\nlevels 1\nlock alock\nbudget 0 0\nshards 1\nbuckets 1\noverflow 0\nrank 0 at 0\nrank 1 at 0\nhome 0 0\nend\n";
+    let told = trial(rt.alloc(), place, HOLDS, "0000011111000111")?;
+    assert_eq!(rt;
+        told.as_str(),
+        "m m mj0.0 ma1 ms0.0+0 m m l0.1 mj0.1 m m*0-0 m m m ma1 ms0.1+1"
+    );
+    Ok(())
+}
+
+/// Queue 0 is the root's, queues 1 and 2 are those of the two nodes: a node's budget of 1 is used up, and the root passes on.
+#[test]
+fn a_tree_of_two_nodes(rt: HostRuntime) -> Result<(), Fail> {
+    let place =
+        "rmalock-place 1\nlevels 1\nlock mcs\nbudget 1\nshards 1\nbuckets 1\noverflow 0\nrank 0 at 0\nrank 1 at 0\nrank 2 at 1\nrank 3 at 1\nhome 0 0\nend\n";
+    let told = trial(
+        rt.alloc(),
+        place,
+        HOLDS_OF_THREE,
+        "0000000000001111111111222222222222222200011111111112",
+    )?;
+    assert_eq!(rt;
+        told.as_str(),
+        "m m m m mj1.0 m m m m m mj0.1s0.1s1.0+0 m m m m l0.1 m m m mj1.1 m m m m m m mj2.2 m m m m l0.2 m m m mj0.2 m m m*0-0 m mp1.1 m+1 m*1-1 m m m mp0.2 m m m m ms2.2+2"
+    );
+    Ok(())
+}

@@ -1,0 +1,71 @@
+//! The run over a placement and calls that are made from a number.
+ghost use Rattle.std.specs.Prelude.{◌≡◌, ◌≤◌, length, IfOk};
+ghost use Rattle.rl_place.specs.declared.limits.TheConstants.{MOST_RANKS};
+ghost use Rattle.rl_place.specs.Places.{IsProper};
+ghost use Rattle.rl_place.specs.Shapes.{shape_of, knobs_of};
+ghost use Rattle.rl_ops.specs.declared.ops.TheConstants.{MOST_CALLS};
+ghost use Rattle.rl_ops.specs.Ops.{OpsFit};
+ghost use Rattle.rmalock.specs.Replay.{start_with, report_in, queue_count};
+ghost use Rattle.rmalock.specs.Rounds.{all_rounds};
+ghost use Rattle.rmalock.specs.Summary.{made_summary};
+
+use crate::generating::generate;
+use crate::reporting::report_of_machine;
+use crate::rounds::make_rounds;
+use crate::summary::summary_text;
+use rl_alock::Alock;
+use rl_history::Report;
+use rl_ops::Ops;
+use rl_place::Place;
+use rl_step::Algo;
+use rl_whole::Machine;
+use std::alloc::{AllocError as OutOfMemory, Global};
+
+/// A run of rounds has at most so many steps.
+const MOST_STEPS: u32 = 2_000_000;
+
+/// The report of a run of rounds, of at most so many steps, with this kind of lock.
+fn report_of_rounds<A: Algo>(
+    alloc: Global,
+    place: &Place,
+    ops: Ops,
+    most: u32,
+) -> Result<Report, OutOfMemory>
+    requires proper { IsProper place.now }
+    requires knobs { A.suits_knobs (shape_of place.now) (knobs_of place.now.lock) }
+    requires calls { OpsFit (length place.now.paths) place.now.geom.shards ops }
+    ensures report { IfOk result (λ report. report ≡ report_in (queue_count place.now) (all_rounds most (start_with A.defined place.now ops))) }
+    ensures ranks { IfOk result (λ report. length report.done ≡ length place.now.paths) }
+{
+    let shape = place.shape(alloc)?;
+    let homes = place.homes.as_slice();
+    let ranks = place.paths.len() as u32;
+    let mut machine: Machine<A> = Machine::new(
+        alloc,
+        &shape,
+        place.knobs(),
+        place.geom,
+        homes,
+        ops,
+    )?;
+    make_rounds(&mut machine, ranks, most)?;
+    report_of_machine(alloc, place, &machine)
+}
+
+/// The summary of a run of so many calls of so many ranks, all made from a number: rounds of the machine under ALock, until no
+/// call is open or left, or 2,000,000 steps were made. Refused only for want of memory.
+pub fn made_summary(
+    alloc: Global,
+    number: u64,
+    ranks: u32,
+    calls: u32,
+) -> Result<Vec<u8>, OutOfMemory>
+    requires some_ranks { 1 ≤ ranks }
+    requires most_ranks { ranks ≤ MOST_RANKS }
+    requires most_calls { calls ≤ MOST_CALLS }
+    ensures { IfOk result (λ text. text.items ≡ made_summary number ranks calls) }
+{
+    let (place, ops) = generate(alloc, number, ranks, calls)?;
+    let report = report_of_rounds::<Alock>(alloc, &place, ops, MOST_STEPS)?;
+    summary_text(alloc, ranks, calls, &report)
+}

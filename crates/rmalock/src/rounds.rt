@@ -1,0 +1,82 @@
+//! Rounds: the ranks of a machine take turns, one step each.
+ghost use Rattle.std.specs.Prelude.{◌≡◌, ◌≤◌, ◌<◌, length, nat_lt, IfOk};
+ghost use Rattle.rl_step.specs.Answers.{steps_made};
+ghost use Rattle.rl_whole.specs.Running.{running};
+ghost use Rattle.rmalock.specs.Rounds.{has_work as has_work_at, any_has_work as any_has_work_at, goes_on as goes_on_at, turns, all_rounds};
+
+use rl_step::{Algo, Steps};
+use rl_whole::Machine;
+use std::alloc::AllocError as OutOfMemory;
+
+/// Whether fewer steps than the most were made.
+fn may_step(steps: Steps, most: u32) -> bool
+    ensures { result ≡ nat_lt (steps_made steps) most }
+{
+    let made = u64::from(steps.moved)
+        + u64::from(steps.waiting)
+        + u64::from(steps.lost)
+        + u64::from(steps.busy)
+        + u64::from(steps.finished);
+    made < u64::from(most)
+}
+
+/// Whether a rank has an open call, or one left.
+fn has_work<A: Algo>(machine: &Machine<A>, rank: u32) -> bool
+    requires { rank < length machine.now.calls }
+    ensures { result ≡ has_work_at (running A.table machine.now) rank }
+{
+    machine.is_open(rank) || machine.opened(rank) < machine.given(rank)
+}
+
+/// Whether one of the first ranks has an open call, or one left.
+fn any_has_work<A: Algo>(machine: &Machine<A>, ranks: u32) -> bool
+    requires { ranks ≤ length machine.now.calls }
+    ensures { result ≡ any_has_work_at (running A.table machine.now) ranks }
+{
+    for rank in 0..ranks {
+        if has_work(machine, rank) {
+            return true;
+        }
+    }
+    false
+}
+
+/// Whether another round is made, of all ranks and at most so many steps.
+fn goes_on<A: Algo>(machine: &Machine<A>, ranks: u32, most: u32) -> bool
+    requires { ranks ≡ length machine.now.calls }
+    ensures { result ≡ goes_on_at most (running A.table machine.now) }
+{
+    any_has_work(machine, ranks) && may_step(machine.steps(), most)
+}
+
+/// A turn of each of the first ranks, while fewer steps than the most were made.
+fn take_turns<A: Algo>(machine: &mut Machine<A>, ranks: u32, most: u32) -> Result<(), OutOfMemory>
+    requires { ranks ≤ length machine.old.calls }
+    ensures { IfOk result (λ _. running A.table machine.new ≡ turns most (running A.table machine.old) ranks) }
+{
+    for rank in 0..ranks {
+        if may_step(machine.steps(), most) {
+            machine.step(rank)?;
+        }
+    }
+    Ok(())
+}
+
+/// Round after round of all ranks: before each it ends where every rank has no open call and none left, and before each step
+/// where so many steps were made. Refused only for want of memory.
+pub fn make_rounds<A: Algo>(
+    machine: &mut Machine<A>,
+    ranks: u32,
+    most: u32,
+) -> Result<(), OutOfMemory>
+    requires { ranks ≡ length machine.old.calls }
+    ensures { IfOk result (λ _. running A.table machine.new ≡ all_rounds most (running A.table machine.old)) }
+{
+    for _ in 0..most {
+        if !goes_on(machine, ranks, most) {
+            return Ok(());
+        }
+        take_turns(machine, ranks, most)?;
+    }
+    Ok(())
+}
