@@ -1,0 +1,11 @@
+pub mod Effects
+pub mod Joins
+pub mod Kept
+pub mod Made
+pub mod Opened
+pub mod PairLaws
+pub mod RoundBegins
+pub mod RootSeats
+pub mod SplitOff
+pub mod Splits
+pub mod TakenIn
