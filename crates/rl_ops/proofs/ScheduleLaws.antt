@@ -1,5 +1,5 @@
 -- A schedule that is read is spelled so, and one that is spelled so is read.
-use Rattle.std.proofs.Common.{◌≡◌, ◌≢◌, ℕ, ◌+◌, ◌-◌, ◌^◌, ◌<◌, ◌≤◌, Bool, true, false, not, ◌||◌, eqb, List, [], ◌∷◌, ◌++◌, map, fold, sum_by, codes, decimal, None, Result, Ok, Err, IfOk, inl, inr, refl, sym, ap, subst, ◌∙◌, append_assoc, eq-eqb, lit≤, arith}
+use Rattle.std.proofs.Common.{◌≡◌, ◌≢◌, ℕ, ◌+◌, ◌-◌, ◌^◌, ◌<◌, ◌≤◌, Bool, true, false, not, ◌||◌, eqb, List, [], ◌∷◌, ◌++◌, map, fold, length, sum_by, codes, decimal, None, Result, Ok, Err, IfOk, inl, inr, refl, sym, ap, subst, ◌∙◌, append_assoc, eq-eqb, lit≤, arith}
 use Rattle.std.specs.List.{AllByRecursion, join_with_byte}
 use Rattle.std.proofs.lemmas.Bool.{ne_eqb}
 use Rattle.std.proofs.lemmas.List.{append-nil}
@@ -8,7 +8,8 @@ use Rattle.rl_text.specs.declared.causes.Refusal.{Refusal}
 use Rattle.rl_text.specs.declared.causes.Why.{Why}
 use Rattle.rl_text.specs.declared.causes.Why.TheVariants.{Repeat, Order}
 use Rattle.rl_text.specs.declared.failing.TextErr.{TextErr}
-use Rattle.rl_text.specs.Rows.{Row, words, rows_from}
+use Rattle.rl_text.specs.Rows.{Row, Left, words, rows_from}
+use Rattle.rl_text.specs.Short.{pair_row}
 use Rattle.rl_text.specs.Reading.{◌>>=◌, Gives, fault_of, refusal_at, begins, below_at, no_word_at, next_row, header_at}
 use Rattle.rl_text.proofs.TextLaws.{AreLines, IsPlain, rows_of_lines, rows-text, text-lines}
 use Rattle.rl_text.proofs.WordLaws.{ok_is, test_ok, chosen, below-takes, below-again, no_word-takes, no_word-again, words-cons, words-nil, begins-is, begins-takes, decimal-no_word, plain-decimal, next-takes, next-again, header-takes, header-again, words-made}
@@ -20,6 +21,7 @@ use Rattle.rl_ops.specs.declared.schedule.TheConstants.{MOST_STEPS}
 use Rattle.rl_ops.specs.Body.{passed_at, body_lines, gathered}
 use Rattle.rl_ops.specs.Schedule.{turn_words, schedule_lines, schedule_spelling, steps_of, rank_of, TurnFits, StayStopped, ScheduleFits, SpellsSchedule}
 use Rattle.rl_ops.specs.ScheduleReading.{Turned, is_stopped, steps_at, stop_at, turn_after, turn_items, no_turn, with_turn, turns_at, schedule_at, schedule_fault}
+use Rattle.rl_ops.specs.NextTurn.{IsNextTurn}
 use Rattle.rl_ops.proofs.BodyLaws.{FitsAfter, ItemLaws, body-takes, body-again, body-plain}
 
 -- there is room for the steps of a turn
@@ -102,6 +104,24 @@ turn-no_end : (ranks : ℕ) (turned : Turned) (row : Row) (turn : Turn) → rank
 turn-no_end ranks turned row (Steps rank count) small e fits =
     begins-is row (decimal rank) (codes "end") (rw e refl) ∙ decimal-no_word rank (codes "end") (omega (arith, fits.there)) (lit≤ tt)
 turn-no_end ranks turned row (Stop rank) small e fits = begins-is row (codes "stop") (codes "end") (rw e refl)
+
+-- a line of two short numbers is the next turn, where no rank is stopped
+pub short-turn : (ranks : ℕ) (turned : Turned) (old new : Left) (rank count : ℕ) → ranks < 2 ^ 32 → turned.steps ≤ MOST_STEPS → turned.stopped ≡ [] → rank < ranks → count < MOST_STEPS - turned.steps + 1 →
+    old.rows ≡ pair_row (old.read + 1) rank count ∷ new.rows → new.read ≡ old.read + 1 → IsNextTurn ranks turned old new (Steps rank count)
+short-turn ranks turned old new rank count small most none there few rows read =
+    let turn : Turn = Steps rank count in
+    let row : Row = pair_row (old.read + 1) rank count in
+    let fits : TurnFitsAfter ranks turned turn = record { there = there; goes_on = ap (λ stopped. is_stopped stopped rank) none; few = omega arith } in
+    let made : words row ≡ turn_words turn = words-made (old.read + 1) (turn_words turn) (turn-plain ranks turned turn small fits) in
+    record {
+      row = row;
+      next = ap (next_row old.read) rows ∙ next-again old.read row new.rows refl;
+      goes_on = turn-no_end ranks turned row turn small made fits;
+      same = turn-again ranks turned row turn small made fits;
+      read = read;
+      fewer = omega (arith, ap (λ (all : List Row). length all) rows);
+      few = omega arith;
+    }
 
 pub turn_laws : (ranks : ℕ) → ranks < 2 ^ 32 → ItemLaws (turn_items ranks) turn_words (TurnFitsAfter ranks)
 turn_laws ranks small = record {

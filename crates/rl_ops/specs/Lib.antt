@@ -9,4 +9,5 @@ pub mod CallReading
 pub mod OpsReading
 pub mod Schedule
 pub mod ScheduleReading
+pub mod NextTurn
 pub mod Room

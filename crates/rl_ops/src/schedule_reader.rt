@@ -1,9 +1,11 @@
 //! Reading a schedule file.
-ghost use Rattle.std.specs.Prelude.{◌≡◌, ◌≤◌, ◌<◌, ◌+◌, length, Ok, IfOk, OnOk};
+ghost use Rattle.std.specs.Prelude.{◌≡◌, ◌≤◌, ◌<◌, ◌+◌, [], true, length, Ok, IfOk, IfSome, OnOk};
+ghost use Rattle.std.specs.Option.{MatchOption};
 ghost use Rattle.rl_text.specs.Rows.{row_of};
 ghost use Rattle.rl_text.specs.Reading.{Gives};
 ghost use Rattle.rl_ops.specs.Schedule.{steps_of, SpellsSchedule};
 ghost use Rattle.rl_ops.specs.ScheduleReading.{is_stopped, steps_at, stop_at, turn_after, no_turn, after_turn, turns_at, schedule_at};
+ghost use Rattle.rl_ops.specs.NextTurn.{IsNextTurn};
 
 use crate::schedule::{MOST_STEPS, Schedule, Turn, Turns};
 use rl_text::{Line, Lines, Refusal, TEXT_LIMIT, TextErr, Why};
@@ -44,6 +46,13 @@ impl SoFar {
         ensures within { self.now.steps ≤ MOST_STEPS }
     {
         self.stopped.iter().any(|other| *other == rank)
+    }
+
+    // Whether no rank is stopped.
+    fn all_go_on(&self) -> bool
+        ensures { result ≡ true → self.now.stopped ≡ [] }
+    {
+        self.stopped.is_empty()
     }
 
     // How many steps there may still be.
@@ -109,6 +118,18 @@ fn turn_of(line: &Line<'_>, ranks: u32, so_far: &SoFar) -> Result<Turn, Refusal>
     }
 }
 
+// Takes the next line where it is a turn of two short numbers and no rank is stopped: most lines are. `None` takes nothing.
+#[inline(always)]
+fn short_turn(lines: &mut Lines<'_>, ranks: u32, so_far: &SoFar) -> Option<Turn>
+    ensures { MatchOption result (lines.new ≡ lines.old) (IsNextTurn ranks so_far.now lines.old lines.new) }
+{
+    if !so_far.all_go_on() {
+        return None;
+    }
+    let (rank, count) = lines.short_pair(ranks, so_far.steps_left() + 1)?;
+    Some(Turn::Steps { rank, count })
+}
+
 // Turns up to the line `end`.
 fn turns_of(alloc: Global, lines: &mut Lines<'_>, ranks: u32) -> Result<Turns, TextErr>
     ensures { Gives result (turns_at ranks no_turn lines.old.read lines.old.rows) }
@@ -116,6 +137,11 @@ fn turns_of(alloc: Global, lines: &mut Lines<'_>, ranks: u32) -> Result<Turns, T
     let mut turns = Turns::new(alloc);
     let mut so_far = SoFar::new(alloc);
     loop {
+        if let Some(turn) = short_turn(lines, ranks, &so_far) {
+            turns.push(turn)?;
+            so_far.add(turn)?;
+            continue;
+        }
         let line = lines.next_whole()?;
         if line.begins(b"end") {
             lines.end(&line)?;

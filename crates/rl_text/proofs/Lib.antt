@@ -1,6 +1,7 @@
 pub mod Decimals
 pub mod Pieces
 pub mod RowLemmas
+pub mod ShortLaws
 pub mod TextLaws
 pub mod WordLaws
 pub mod FromLaws

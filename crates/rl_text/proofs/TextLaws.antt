@@ -111,6 +111,12 @@ no_newlines-join [] h = tt
 no_newlines-join (w ∷ []) h = no_newlines w h.0
 no_newlines-join (w ∷ v ∷ ws) h = AllByRecursion-append _ w (32 ∷ join_with_byte 32 (v ∷ ws)) (no_newlines w h.0) (refl, no_newlines-join (v ∷ ws) h.1)
 
+-- a line of plain words before others
+pub row-text : (n : ℕ) (ws : List (List ℕ)) (after : List ℕ) → IsPlain ws → rows_from n (join_with_byte 32 ws ++ 10 ∷ after) ≡ record { number = n; text = join_with_byte 32 ws; ended = true } ∷ rows_from (n + 1) after
+row-text n ws after h =
+    let text = join_with_byte 32 ws in
+    rows-ended n (text ++ 10 ∷ after) text after (slice_split_at (λ b. eqb b 10) text 10 after (All-from_recursion _ text (no_newlines-join ws h.1)) refl)
+
 -- lines of plain words are the lines of their text
 pub rows-text : (n : ℕ) (lines : List (List (List ℕ))) → AllByRecursion IsPlain lines → rows_from n (text_of lines) ≡ rows_of_lines n lines
 rows-text n [] h = rows-nil n

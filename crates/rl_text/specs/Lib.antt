@@ -5,6 +5,7 @@ pub mod Number
 pub mod Causes
 pub mod Reading
 pub mod LineWords
+pub mod Short
 pub mod Spelling
 pub mod Printing
 

@@ -22,6 +22,7 @@ mod line_words;
 mod lines;
 mod numbers;
 mod printing;
+mod short;
 
 pub use causes::{Refusal, Why};
 pub use cutting::cut;

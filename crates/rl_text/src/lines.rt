@@ -1,12 +1,14 @@
 //! The lines of a text one after the other.
-ghost use Rattle.std.specs.Prelude.{◌≡◌, ◌<◌, ◌+◌, [], ◌∷◌, length, MatchResult, OnOk, Ok, Err};
+ghost use Rattle.std.specs.Prelude.{◌≡◌, ◌<◌, ◌+◌, [], ◌∷◌, length, MatchResult, OnOk, Ok, Err, IfSome};
 ghost use Rattle.std.specs.Option.{MatchOption};
 ghost use Rattle.rl_text.specs.Rows.{Left, row_of, rows_from};
+ghost use Rattle.rl_text.specs.Short.{pair_row};
 ghost use Rattle.rl_text.specs.Reading.{next_row, next_left, next_begins, end_at, seen, Leaves};
 
 use crate::causes::{Refusal, Why};
 use crate::cutting::cut;
 use crate::line::Line;
+use crate::short::short_line;
 use std::marker::Model;
 
 /// A text has fewer bytes than this, so that each of its lines and each word of a line has a number.
@@ -71,6 +73,25 @@ impl<'a> Lines<'a> {
                     ended: false,
                 })
             }
+        }
+    }
+
+    /// Takes the next line where it is two numbers of at most two digits each, the first below `first` and the second below
+    /// `second`. `None` takes nothing, and says nothing of the line. This is quicker than word by word, since it looks for no
+    /// ends.
+    #[inline(always)]
+    pub fn short_pair(&mut self, first: u32, second: u32) -> Option<(u32, u32)>
+        ensures pair { IfSome result (λ p. self.old.rows ≡ pair_row (self.old.read + 1) p.0 p.1 ∷ self.new.rows) }
+        ensures small { IfSome result (λ p. (p.0 < first) × (p.1 < second)) }
+        ensures read { MatchOption result (self.new ≡ self.old) (λ _. self.new.read ≡ self.old.read + 1) }
+    {
+        let (a, b, after) = short_line(self.rest)?;
+        if a < first && b < second {
+            self.read += 1;
+            self.rest = after;
+            Some((a, b))
+        } else {
+            None
         }
     }
 

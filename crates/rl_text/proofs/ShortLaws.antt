@@ -1,0 +1,31 @@
+-- A line of two numbers at the front of a text, and a number of two digits.
+use Rattle.std.proofs.Common.{◌≡◌, ℕ, ◌+◌, ◌*◌, ◌^◌, ◌<◌, ◌/◌, ◌%◌, ◌-◌, ◌≤◌, List, [], ◌∷◌, ◌++◌, length, get_or, take, drop, decimal, refl, sym, ap, ◌∙◌, arith}
+use Rattle.std.proofs.lemmas.List.{take_all}
+use Rattle.std.proofs.lemmas.Fmt.{decimal_digit, decimal_step}
+use Rattle.rl_text.specs.Rows.{Row, rows_from}
+use Rattle.rl_text.specs.Short.{pair_text, pair_row}
+use Rattle.rl_text.proofs.TextLaws.{row-text}
+use Rattle.rl_text.proofs.WordLaws.{plain-decimal}
+
+pub pair-row : (n a b : ℕ) (text after : List ℕ) → a < 100 → b < 100 → text ≡ pair_text a b ++ 10 ∷ after → rows_from n text ≡ pair_row n a b ∷ rows_from (n + 1) after
+pair-row n a b text after small few e =
+    ap (rows_from n) e ∙ row-text n (decimal a ∷ decimal b ∷ []) after (omega arith, (plain-decimal a (omega arith), (plain-decimal b (omega arith), tt)))
+
+-- a text is its first byte and what follows it
+pub front-rest : (xs : List ℕ) → 1 ≤ length xs → xs ≡ get_or xs 0 0 ∷ take (length xs - 1) (drop 1 xs)
+front-rest [] h = absurd (omega arith)
+front-rest (x ∷ xs) h =
+    let all : length xs ≤ length (x ∷ xs) - 1 = omega arith in
+    ap (λ ys. x ∷ ys) (sym (take_all (length (x ∷ xs) - 1) xs all))
+
+-- a number of one digit, and of two
+pub one-digit : (value byte : ℕ) (text more : List ℕ) → value < 10 → byte ≡ 48 + value → text ≡ byte ∷ more → text ≡ decimal value ++ more
+one-digit value byte text more small is e = rw (e, is, decimal_digit value small) refl
+
+pub two-digits : (tens units first second : ℕ) (text more : List ℕ) → 0 < tens → tens < 10 → units < 10 → first ≡ 48 + tens → second ≡ 48 + units → text ≡ first ∷ second ∷ more →
+    text ≡ decimal (tens * 10 + units) ++ more
+two-digits tens units first second text more some small few is also e =
+    let n = tens * 10 + units in
+    let front : n / 10 ≡ tens = omega arith in
+    let last : n % 10 ≡ units = omega arith in
+    rw (e, is, also, decimal_step n (omega arith) (omega arith), front, last, decimal_digit tens small) refl
