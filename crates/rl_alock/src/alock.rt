@@ -243,6 +243,8 @@ impl Algo for Alock {
 
     ghost has_queues = { λ shape home knobs. refl };
 
+    ghost has_shares = { λ shape home knobs. refl };
+
     ghost suits_knobs = { λ shape knobs. (knobs.local ≤ 1000) × (knobs.remote ≤ 1000) };
 
     /// Makes the lock. Of the settings it reads `local` and `remote`: the budget of each queue, 0 to 1000.

@@ -62,6 +62,8 @@ impl Algo for Mcs {
 
     ghost has_queues = { λ shape home knobs. refl };
 
+    ghost has_shares = { λ shape home knobs. refl };
+
     ghost suits_knobs = { λ shape knobs. IsBudgeted shape };
 
     fn make(alloc: Global, shape: &Shape, home: u32, _knobs: Knobs) -> Result<Self, OutOfMemory> {

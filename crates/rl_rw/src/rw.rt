@@ -184,6 +184,8 @@ impl Algo for Rw {
 
     ghost has_queues = { λ shape home knobs. refl };
 
+    ghost has_shares = { λ shape home knobs. refl };
+
     ghost suits_knobs = { SuitsRw };
 
     /// Makes the lock. Of the settings it reads `writers`, the budget of the root, 0 to 1000; `readers`, how many readers may come to a

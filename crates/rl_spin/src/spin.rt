@@ -47,6 +47,8 @@ impl Algo for Spin {
 
     ghost has_queues = { λ shape home knobs. refl };
 
+    ghost has_shares = { λ shape home knobs. refl };
+
     ghost suits_knobs = { λ shape knobs. Unit {0} };
 
     /// Makes the lock. It reads no setting.

@@ -84,3 +84,11 @@ budget_if (Some queue) = queue.budget
 
 abbrev pub budget_of : LockName → TheShape → ℕ → Knobs → ℕ → Option ℕ
 budget_of name shape home knobs q = budget_if (slice_get (queues_of name shape home knobs) q)
+
+-- readers hold a lock beside each other under RMA-RW alone
+abbrev pub readers_share : LockName → Bool
+readers_share Spin = false
+readers_share Dmcs = false
+readers_share Alock = false
+readers_share Mcs = false
+readers_share Rw = true

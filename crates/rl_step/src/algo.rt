@@ -6,7 +6,7 @@ ghost use Rattle.rl_word.specs.declared.locks.LockName.{LockName as TheName};
 ghost use Rattle.rl_word.specs.declared.shapes.Knobs.{Knobs as TheKnobs};
 ghost use Rattle.rl_word.specs.Acts.{Layout};
 ghost use Rattle.rl_word.specs.Shapes.{TheShape, IsProper, layout_of};
-ghost use Rattle.rl_step.specs.LockQueues.{queues_of};
+ghost use Rattle.rl_step.specs.LockQueues.{queues_of, readers_share};
 ghost use Rattle.rl_step.specs.Lock.{LockTable, LockState, LockLaws, HandsOn, Deed, MayStep, MayLearn, IsHolder};
 
 use crate::events::{Event, Standing};
@@ -54,6 +54,9 @@ pub trait Algo: Sized + Drop {
     /// Its queues are those of the lock of that name: so their members and budgets are the placement's, and not the lock's own
     /// word.
     ghost has_queues: { (shape : TheShape) (home : ℕ) (knobs : TheKnobs) → (defined shape home knobs).queues ≡ queues_of name shape home knobs };
+
+    /// And readers share it where the lock of that name is shared.
+    ghost has_shares: { (shape : TheShape) (home : ℕ) (knobs : TheKnobs) → (defined shape home knobs).shares ≡ readers_share name };
 
     /// The settings that the lock reads are in their ranges, and the shape has what it needs.
     ghost suits_knobs: { TheShape → TheKnobs → Type 0 };

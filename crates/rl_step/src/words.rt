@@ -76,4 +76,12 @@ impl Words {
     {
         self.words[word as usize]
     }
+
+    /// What stands in a node's card: 0 where no rank is in it, and else the rank's number and one.
+    pub fn card(&self, node: u32) -> u64
+        requires { node < length self.now.cards }
+        ensures { result ≡ slice_index self.now.cards node }
+    {
+        self.cards[node as usize]
+    }
 }
