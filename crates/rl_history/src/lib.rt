@@ -29,6 +29,7 @@ mod version;
 
 pub use counting::{tallies, within};
 pub use merging::merge;
+pub use naming::{Naming, QueueName};
 pub use printer::{put_end, report_text};
 pub use reader::{no_report_fault, read_report};
 pub use report::{Done, Report, ShardReport};

@@ -1,11 +1,11 @@
 -- A block: a call alone, or the calls of a batch, which are done all or none.
-use Rattle.std.specs.Prelude.{◌≡◌, ℕ, zero, suc, ◌+◌, ◌≤◌, ◌==◌, nat_le, Bool, true, false, ◌||◌, if◌then◌else◌, List, [], ◌∷◌, ◌++◌, length, map}
+use Rattle.std.specs.Prelude.{◌≡◌, ℕ, zero, suc, ◌+◌, ◌≤◌, ◌==◌, nat_le, Bool, true, false, not, ◌&&◌, ◌||◌, if◌then◌else◌, List, [], ◌∷◌, ◌++◌, length, map}
 use Rattle.rl_model.specs.declared.call.Call.{Call}
 use Rattle.rl_model.specs.declared.entry.Entry.{Entry}
 use Rattle.rl_model.specs.declared.entry.Reply.{Reply}
 use Rattle.rl_model.specs.declared.entry.Reply.TheVariants.{New, Was, Full, Val, Nothing, Sum, Over, No, Held, Undone}
 use Rattle.rl_model.specs.declared.geom.Geom.{Geom}
-use Rattle.rl_model.specs.Call.{is_update}
+use Rattle.rl_model.specs.Call.{is_update, reads}
 pub use Rattle.rl_model.specs.Asked.{AreUpdates}
 use Rattle.rl_model.specs.Table.{Table, apply}
 
@@ -94,3 +94,9 @@ pub record IsBlock (rank batch seq at : ℕ) (b : List Entry) : Type 0 where
   pub whole : length b ≡ size_of batch
   pub few : batch ≤ 8
   pub not_one : batch ≡ 1 → ⊥
+
+-- An entry that stands for a tenure of its shard's lock by a writer: it begins a block; where readers share the lock, a get has it as
+-- a reader, and is none.
+abbrev pub is_tenure : Bool → Entry → Bool
+is_tenure true e = (e.part == 0) && not (reads e.call)
+is_tenure false e = e.part == 0

@@ -4,6 +4,7 @@ pub mod Legal
 pub mod Ranks
 pub mod History
 pub mod Journal
+pub mod Tenures
 -- proved; skip at first
 pub mod Lists
 pub mod BlockLaws
@@ -14,5 +15,6 @@ pub mod HistoryLaws
 pub mod HistoryPlaces
 pub mod HistoryCounts
 pub mod HistorySorted
+pub mod HistoryParts
 pub mod JournalLaws
 pub mod ReadBack

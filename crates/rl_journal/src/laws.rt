@@ -1,12 +1,12 @@
 // What is proved of legal journals, and of their words.
-ghost use Rattle.std.specs.Prelude.{◌≡◌, ◌↔◌, ℕ, Bool, true, false, List, All, count_by, length, slice_get, Some};
+ghost use Rattle.std.specs.Prelude.{◌≡◌, ◌↔◌, ℕ, Bool, true, false, List, All, count_by, filter, length, slice_get, Some};
 ghost use Rattle.std.specs.FinMap as map;
 ghost use Rattle.rl_model.specs.declared.entry.Entry.{Entry};
 ghost use Rattle.rl_model.specs.declared.geom.Geom.{Geom};
 ghost use Rattle.rl_model.specs.declared.entry.Reply.TheVariants.{Undone};
 ghost use Rattle.rl_model.specs.Table.{Table};
 ghost use Rattle.rl_journal.specs.Blocks.{any_stops, in_turn, calls_of, replies_of};
-ghost use Rattle.rl_journal.specs.Legal.{table_after, AnotherStops, IsLegalBlock, IsLegal, IsLegalJournal};
+ghost use Rattle.rl_journal.specs.Legal.{table_after, updates, is_of, AnotherStops, IsLegalBlock, IsLegal, IsLegalJournal};
 ghost use Rattle.rl_journal.specs.Ranks.{IsOwn, count_in};
 ghost use Rattle.rl_journal.specs.History.{history, IsReplay, TellsUpdatesBefore, AreOwn, IsSorted};
 ghost use Rattle.rl_journal.specs.Journal.{spelled, Agrees, journal_in};
@@ -32,6 +32,11 @@ pub fn history_laws()
     // The history has each entry as often as the transcripts have it, whatever test counts them.
     ensures entries { (geom : Geom) (journal : List Entry) (ts : List (List Entry)) (test : Entry → Bool) → IsLegal geom journal ts →
         count_by test (history journal ts) ≡ count_in test ts }
+    // Its updates, in their order, are the journal.
+    ensures updates { (geom : Geom) (journal : List Entry) (ts : List (List Entry)) → IsLegal geom journal ts → filter updates (history journal ts) ≡ journal }
+    // Its entries of a rank, in their order, are that rank's transcript.
+    ensures ranks { (geom : Geom) (journal : List Entry) (ts : List (List Entry)) → IsLegal geom journal ts → AreOwn 0 ts →
+        (k : ℕ) (t : List Entry) → slice_get ts k ≡ Some t → filter (is_of k) (history journal ts) ≡ t }
     // It is ordered by place; at one place gets and holds come first, by rank and then by number.
     ensures sorted { (geom : Geom) (journal : List Entry) (ts : List (List Entry)) → IsLegal geom journal ts → AreOwn 0 ts → IsSorted (history journal ts) }
 {}

@@ -3,6 +3,7 @@ use Rattle.rl_journal.specs.HistoryLaws.{replayed}
 use Rattle.rl_journal.specs.HistoryPlaces.{places_told}
 use Rattle.rl_journal.specs.HistoryCounts.{same_entries}
 use Rattle.rl_journal.specs.HistorySorted.{history_sorted}
+use Rattle.rl_journal.specs.HistoryParts.{updates_are, rank_is}
 use Rattle.rl_journal.proofs.laws.history_laws.Goals as goal
 
 pub returns-clause-replayed : goal.returns-clause-replayed
@@ -16,3 +17,9 @@ returns-clause-entries c = λ geom journal ts test. same_entries test geom journ
 
 pub returns-clause-sorted : goal.returns-clause-sorted
 returns-clause-sorted c = history_sorted
+
+pub returns-clause-updates : goal.returns-clause-updates
+returns-clause-updates c = updates_are
+
+pub returns-clause-ranks : goal.returns-clause-ranks
+returns-clause-ranks c = rank_is
