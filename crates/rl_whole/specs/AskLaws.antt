@@ -13,7 +13,7 @@ use Rattle.rl_model.specs.Asked.{Asked, IsAsked, AreUpdates, asks_update}
 use Rattle.rl_model.proofs.Counts.{count-append, count-cons}
 use Rattle.rl_journal.specs.Blocks.{batch_of}
 use Rattle.rl_work.specs.WorkGood.{places_needed}
-use Rattle.rl_whole.specs.Asks.{is_on, sizes_in, IsBlockOf, AreBlocks, block_from, block_shard, call_shard, place_after, asked_by, asked_of}
+use Rattle.rl_whole.specs.Asks.{is_on, sizes_in, IsBlockOf, AreBlocks, block_from, block_shard, call_shard, place_after, asked_after, asked_of}
 use Rattle.rl_whole.specs.RankGood.{AsksNext}
 
 -- ---- lists
@@ -127,24 +127,24 @@ abbrev asked_from : ℕ → ℕ → List Call → List Asked
 asked_from batch part [] = []
 asked_from batch part (c ∷ cs) = record { call = c; batch = batch; part = part } ∷ asked_from batch (part + 1) cs
 
-asked_tail : (batch part : ℕ) (cs later : List Call) (sizes : List ℕ) → asked_by batch part (cs ++ later) (map (λ (z : Call). 0) cs ++ sizes) ≡ asked_from batch part cs ++ asked_by batch (part + length cs) later sizes
-asked_tail batch part [] later sizes = ap (λ p. asked_by batch p later sizes) (omega arith)
-asked_tail batch part (c ∷ cs) later sizes = ap (λ z. record { call = c; batch = batch; part = part } ∷ z) (asked_tail batch (part + 1) cs later sizes ∙ ap (λ p. asked_from batch (part + 1) cs ++ asked_by batch p later sizes) (omega arith))
+asked_tail : (batch part : ℕ) (cs later : List Call) (sizes : List ℕ) → asked_after batch part (cs ++ later) (map (λ (z : Call). 0) cs ++ sizes) ≡ asked_from batch part cs ++ asked_after batch (part + length cs) later sizes
+asked_tail batch part [] later sizes = ap (λ p. asked_after batch p later sizes) (omega arith)
+asked_tail batch part (c ∷ cs) later sizes = ap (λ z. record { call = c; batch = batch; part = part } ∷ z) (asked_tail batch (part + 1) cs later sizes ∙ ap (λ p. asked_from batch (part + 1) cs ++ asked_after batch p later sizes) (omega arith))
 
 asked_block : (batch part : ℕ) (block later : List Call) (sizes : List ℕ) → 1 ≤ length block →
-    (rest : List Asked) × (asked_by batch part (block ++ later) (sizes_in block ++ sizes) ≡ asked_from (batch_of (length block)) 0 block ++ rest)
+    (rest : List Asked) × (asked_after batch part (block ++ later) (sizes_in block ++ sizes) ≡ asked_from (batch_of (length block)) 0 block ++ rest)
 asked_block batch part [] later sizes h = absurd (omega arith)
 asked_block batch part (c ∷ cs) later sizes h = (
-  asked_by (batch_of (suc (length cs))) (1 + length cs) later sizes,
+  asked_after (batch_of (suc (length cs))) (1 + length cs) later sizes,
   ap (λ z. record { call = c; batch = batch_of (suc (length cs)); part = 0 } ∷ z) (asked_tail (batch_of (suc (length cs))) 1 cs later sizes),
 )
 
 -- the calls behind a number are asked for as they stand, after some batch and place
-asked_drop : (n batch part : ℕ) (calls : List Call) (sizes : List ℕ) → (b p : ℕ) × (drop n (asked_by batch part calls sizes) ≡ asked_by b p (drop n calls) (drop n sizes))
+asked_drop : (n batch part : ℕ) (calls : List Call) (sizes : List ℕ) → (b p : ℕ) × (drop n (asked_after batch part calls sizes) ≡ asked_after b p (drop n calls) (drop n sizes))
 asked_drop zero batch part calls sizes = (batch, part, refl)
 asked_drop (suc n) batch part [] sizes = (batch, part, refl)
 asked_drop (suc n) batch part (c ∷ cs) [] = (batch, part, none_left (drop n cs)) where
-  none_left : (l : List Call) → [] ≡ asked_by batch part l []
+  none_left : (l : List Call) → [] ≡ asked_after batch part l []
   none_left [] = refl
   none_left (c ∷ cs) = refl
 asked_drop (suc n) batch part (c ∷ cs) (zero ∷ ss) = asked_drop n batch (part + 1) cs ss
@@ -159,7 +159,7 @@ pub asks_next : (geom : Geom) (calls : List Call) (sizes : List ℕ) (n : ℕ) (
 asks_next geom calls sizes n b =
     let d = asked_drop n 0 0 calls sizes in
     let k = asked_block d.0 d.1 b.block b.later b.later_sizes b.is_block.is_asked.some in
-    next_from (asked_of calls sizes) n (batch_of (length b.block)) 0 b.block k.0 (d.2 ∙ ap (λ z. asked_by d.0 d.1 z (drop n sizes)) b.calls_are ∙ ap (asked_by d.0 d.1 (b.block ++ b.later)) b.sizes_are ∙ k.1)
+    next_from (asked_of calls sizes) n (batch_of (length b.block)) 0 b.block k.0 (d.2 ∙ ap (λ z. asked_after d.0 d.1 z (drop n sizes)) b.calls_are ∙ ap (asked_after d.0 d.1 (b.block ++ b.later)) b.sizes_are ∙ k.1)
 
 -- ---- how many it adds to a shard
 

@@ -3,8 +3,8 @@ use Rattle.std.specs.Prelude.{◌≡◌, ◌<◌, ℕ, zero, suc, ◌+◌, List,
 use Rattle.rl_model.specs.declared.call.Call.{Call}
 use Rattle.rl_model.specs.declared.geom.Geom.{Geom}
 use Rattle.rl_model.specs.Call.{shard_of}
-use Rattle.rl_model.specs.Asked.{Asked, IsAsked}
-use Rattle.rl_journal.specs.Blocks.{batch_of}
+use Rattle.rl_model.specs.Asked.{IsAsked}
+pub use Rattle.rl_ops.specs.Asked.{asked_after, asked_of}
 
 -- a call of this shard
 abbrev pub is_on : Geom → ℕ → Call → Bool
@@ -44,13 +44,3 @@ call_shard geom (Some call) = shard_of geom call
 abbrev pub place_after : Geom → List Call → ℕ → ℕ
 place_after geom calls zero = 0
 place_after geom calls (suc n) = call_shard geom (slice_get calls n)
-
--- the calls with the size of their batch and their place in it, where the call before was of this batch and this place is next
-abbrev pub asked_by : ℕ → ℕ → List Call → List ℕ → List Asked
-asked_by batch part [] sizes = []
-asked_by batch part (call ∷ calls) [] = []
-asked_by batch part (call ∷ calls) (zero ∷ sizes) = record { call = call; batch = batch; part = part } ∷ asked_by batch (part + 1) calls sizes
-asked_by batch part (call ∷ calls) (suc n ∷ sizes) = record { call = call; batch = batch_of (suc n); part = 0 } ∷ asked_by (batch_of (suc n)) 1 calls sizes
-
-abbrev pub asked_of : List Call → List ℕ → List Asked
-asked_of calls sizes = asked_by 0 0 calls sizes

@@ -7,7 +7,9 @@ pub mod Start
 pub mod Asks
 pub mod ShardSteps
 pub mod Run
+pub mod Whereabouts
 pub mod RunActs
+pub mod Rest
 pub mod Causes
 pub mod Domains
 pub mod Cores
@@ -50,3 +52,5 @@ pub mod OpsBridge
 pub mod CoreLaws
 pub mod RecordLaws
 pub mod ReplayLaws
+pub mod RestLaws
+pub mod IdleLaws

@@ -10,6 +10,7 @@ use Rattle.rl_model.specs.declared.call.Call.{Call}
 use Rattle.rl_model.specs.declared.entry.Entry.{Entry}
 use Rattle.rl_model.specs.declared.geom.Geom.{Geom}
 use Rattle.rl_model.specs.Call.{reads}
+pub use Rattle.rl_journal.specs.Blocks.{is_tenure}
 use Rattle.rl_work.specs.Site.{lock_base}
 use Rattle.rl_work.specs.Work.{TheWork, WorkTurned, stores, work_atom, work_after}
 use Rattle.rl_work.specs.WorkGood.{WorkSide, WorkGood}
@@ -167,11 +168,6 @@ abbrev pub leaves : ℕ → List Event → ℕ
 leaves k [] = 0
 leaves k (LeaveW j ∷ t) = one_if (j == k) + leaves k t
 leaves k (e ∷ t) = leaves k t
-
--- the entry begins a block, of a rank that had the lock as a writer
-abbrev pub is_tenure : Bool → Entry → Bool
-is_tenure true e = (e.part == 0) && not (reads e.call)
-is_tenure false e = e.part == 0
 
 -- The rule of a window: some modes of the last asks, some events and some acts explain it; the lock's part, and the work's part over
 -- the words before the lock's; what ties the two; and the numbers fit the machine's.

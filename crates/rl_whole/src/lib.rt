@@ -20,9 +20,11 @@
 
 mod card_state;
 mod effect;
+mod idle;
 mod machine;
 mod opening;
 mod records;
+mod rest;
 mod runs;
 mod shard;
 mod shift;

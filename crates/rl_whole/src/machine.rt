@@ -1,6 +1,6 @@
 //! All shards in plain vectors, stepped one rank at a time.
 
-ghost use Rattle.std.specs.Prelude.{◌≡◌, ◌↔◌, ◌-◌, ◌<◌, ◌^◌, [], length, map, get_or, slice_index, IfOk, OnErr};
+ghost use Rattle.std.specs.Prelude.{◌≡◌, ◌↔◌, ◌+◌, ◌-◌, ◌<◌, ◌^◌, [], length, map, replicate, get_or, slice_index, IfOk, IfSome, OnErr};
 ghost use Rattle.std.specs.List.{AllByRecursion};
 ghost use Rattle.rl_model.specs.Geom.{GeomFits};
 ghost use Rattle.rl_word.specs.Shapes.{IsProper, layout_of};
@@ -10,20 +10,24 @@ ghost use Rattle.rl_whole.specs.Causes.{StepCause, IsFinished, OnlyCountsBusy};
 ghost use Rattle.rl_whole.specs.Cores.{EachCore, EachHandsOn};
 ghost use Rattle.rl_whole.specs.Promises.{IsSound, StaysSound};
 ghost use Rattle.rl_whole.specs.Records.{journal_at, transcripts_at};
-ghost use Rattle.rl_whole.specs.Run.{done_of, stepped, answer_of_step, has_open_call, trace_of, kept_by};
+ghost use Rattle.rl_whole.specs.Rest.{Rests};
+ghost use Rattle.rl_whole.specs.Run.{done_of, stepped, answer_of_step, run_of, has_open_call, trace_of, kept_by};
 ghost use Rattle.rl_whole.specs.Running.{running};
 ghost use Rattle.rl_whole.specs.Start.{start_of};
 ghost use Rattle.rl_whole.specs.State.{cores_of};
 
 use crate::records;
+use crate::rest::count_more;
 use crate::start::{first_shards, none_opened};
-use crate::state::{MachineState, make_step};
+use crate::state::{MachineState, make_step, move_on};
 use rl_model::{Entry, Geom};
 use rl_ops::Ops;
 use rl_step::{Algo, Event, Stepped, Steps};
 use rl_word::{Knobs, Shape};
 use std::alloc::{AllocError as OutOfMemory, Global};
 use std::marker::Model;
+
+mod whereabouts;
 
 /// All shards of a table, each behind a lock of its own, with the steps of the ranks one after the other.
 ///
@@ -105,6 +109,39 @@ impl<A: Algo> Machine<A> {
     {
         let answer = make_step(&mut self.state, rank)?;
         Ok(answer)
+    }
+
+    /// The answer with which the rank rests, where that is seen at once: Busy where another rank is in the card that it takes, and
+    /// Finished. `None` says nothing of its next step.
+    #[inline(always)]
+    pub(crate) fn resting(&self, rank: u32) -> Option<Stepped>
+        requires { rank < length self.now.calls }
+        ensures { IfSome result (Rests (running A.table self.now) rank) }
+    {
+        self.state.resting(rank)
+    }
+
+    /// One step of a rank, made in full.
+    #[inline(always)]
+    pub(crate) fn move_on(&mut self, rank: u32) -> Result<Stepped, OutOfMemory>
+        requires there { rank < length self.old.calls }
+        requires few { steps_made self.old.steps < 2 ^ 32 - 1 }
+        ensures cores { cores_of self.new ≡ cores_of self.old }
+        ensures stepped { IfOk result (λ _. running A.table self.new ≡ stepped (running A.table self.old) rank) }
+    {
+        let answer = move_on(&mut self.state, rank)?;
+        Ok(answer)
+    }
+
+    /// So many steps of a rank that rests: each is answered so and changes nothing else, so they are counted at once. The rank
+    /// is named for the contract alone.
+    pub(crate) fn rest(&mut self, _rank: u32, answer: Stepped, count: u32)
+        requires rests { Rests (running A.table self.old) _rank answer }
+        requires few { steps_made self.old.steps + count < 2 ^ 32 }
+        ensures cores { cores_of self.new ≡ cores_of self.old }
+        ensures run { running A.table self.new ≡ run_of (running A.table self.old) (replicate count _rank) }
+    {
+        count_more(&mut self.state.steps, answer, count);
     }
 
     /// Whether the rank has an open call: it has until the call's last atom was made, a card's Leave among them.

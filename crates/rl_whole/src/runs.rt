@@ -21,7 +21,7 @@ use rl_step::Algo;
 use rl_word::{Knobs, Shape};
 use std::alloc::{AllocError as OutOfMemory, Global};
 
-/// Takes so many steps of one rank.
+/// Takes so many steps of one rank. Once it is seen to rest, all that are left are counted at once.
 fn take_steps<A: Algo>(machine: &mut Machine<A>, rank: u32, count: u32) -> Result<(), OutOfMemory>
     requires there { rank < length machine.old.calls }
     requires few { steps_made machine.old.steps + count < 2 ^ 32 }
@@ -30,8 +30,12 @@ fn take_steps<A: Algo>(machine: &mut Machine<A>, rank: u32, count: u32) -> Resul
     ensures steps { IfOk result (λ _. steps_made machine.new.steps ≡ steps_made machine.old.steps + count) }
     ensures calls { IfOk result (λ _. machine.new.calls ≡ machine.old.calls) }
 {
-    for _ in 0..count {
-        machine.step(rank)?;
+    for made in 0..count {
+        if let Some(answer) = machine.resting(rank) {
+            machine.rest(rank, answer, count - made);
+            return Ok(());
+        }
+        machine.move_on(rank)?;
     }
     Ok(())
 }

@@ -55,7 +55,7 @@ fn told(act: Act, value: u64) -> u64
 }
 
 /// Whether an act is made through a card.
-fn by_card(act: Act) -> bool
+pub fn by_card(act: Act) -> bool
     ensures { result ≡ is_by_card act }
 {
     match act {

@@ -1,13 +1,15 @@
 //! A machine in plain vectors, and the two kinds of its steps.
 
-ghost use Rattle.std.specs.Prelude.{◌≡◌, ◌+◌, ◌<◌, ◌≤◌, ◌-◌, ◌^◌, [], true, length, get_or, slice_index, IfOk, OnErr};
+ghost use Rattle.std.specs.Prelude.{◌≡◌, ◌+◌, ◌<◌, ◌≤◌, ◌-◌, ◌^◌, [], true, length, get_or, nat_lt, slice_index, IfOk, IfSome, OnErr};
 ghost use Rattle.rl_model.specs.Geom.{GeomFits};
 ghost use Rattle.rl_step.specs.Answers.{steps_made};
 ghost use Rattle.rl_whole.specs.Asks.{place_after, block_from, block_shard};
+ghost use Rattle.rl_whole.specs.Rest.{Rests};
 ghost use Rattle.rl_whole.specs.Run.{done_of, place_of, has_open_call, opens, atom_made, atom_answer, stepped, answer_of_step};
 ghost use Rattle.rl_whole.specs.Running.{running};
 ghost use Rattle.rl_whole.specs.State.{machine_view, cores_of, IsMachine};
 
+use crate::idle::idle;
 use crate::shard::{ShardState, open_and_step, step_on};
 use rl_model::{Call, Geom};
 use rl_ops::Ops;
@@ -92,7 +94,7 @@ fn place_after(geom: Geom, calls: &[Call], opened: u32) -> u32
 
 impl<A: Algo> MachineState<A> {
     /// The shard where the rank stands.
-    fn place(&self, rank: u32) -> u32
+    pub fn place(&self, rank: u32) -> u32
         requires there { rank < length self.now.ops.by_rank }
         requires good { IsMachine A A.View A.table A.good A.layout (machine_view self.now) }
         ensures place { result ≡ place_of (running A.table (machine_view self.now)) rank }
@@ -125,14 +127,42 @@ impl<A: Algo> MachineState<A> {
         done
     }
 
+    /// Whether the rank has a call that it hasn't opened.
+    fn has_left(&self, rank: u32) -> bool
+        requires there { rank < length self.now.ops.by_rank }
+        requires good { IsMachine A A.View A.table A.good A.layout (machine_view self.now) }
+        ensures { result ≡ nat_lt (slice_index self.now.opened.items rank) (length (get_or self.now.ops.by_rank rank [])) }
+    {
+        let at = rank as usize;
+        (self.opened[at] as usize) < calls_of(&self.ops, rank).len()
+    }
+
     /// Whether the rank's next step opens a block: no call is open, and one is left.
     pub fn opens(&self, rank: u32) -> bool
         requires there { rank < length self.now.ops.by_rank }
         requires good { IsMachine A A.View A.table A.good A.layout (machine_view self.now) }
         ensures { result ≡ opens (running A.table (machine_view self.now)) rank }
     {
-        let at = rank as usize;
-        !self.is_open(rank) && (self.opened[at] as usize) < calls_of(&self.ops, rank).len()
+        !self.is_open(rank) && self.has_left(rank)
+    }
+
+    /// The answer with which the rank rests, where that is seen at once: Busy where its next atom is the Take of a card that
+    /// another rank is in, and Finished where no call of it is open and none is left. `None` says nothing of its next step.
+    #[inline(always)]
+    pub fn resting(&self, rank: u32) -> Option<Stepped>
+        requires there { rank < length self.now.ops.by_rank }
+        requires good { IsMachine A A.View A.table A.good A.layout (machine_view self.now) }
+        ensures { IfSome result (Rests (running A.table (machine_view self.now)) rank) }
+    {
+        let shard = &self.shards[self.place(rank) as usize];
+        let view = shard.flat.view(rank);
+        if shard.core.is_open(view) {
+            idle(&shard.core, view, shard.flat.words())
+        } else if self.has_left(rank) {
+            None
+        } else {
+            Some(Stepped::Finished)
+        }
     }
 }
 
@@ -176,8 +206,9 @@ pub fn open_next<A: Algo>(state: &mut MachineState<A>, rank: u32) -> Result<Step
     Ok(answer)
 }
 
-/// One step of a rank: its next block is opened where none is open and one is left; then, where a call is open, one atom is made.
-pub fn make_step<A: Algo>(state: &mut MachineState<A>, rank: u32) -> Result<Stepped, OutOfMemory>
+/// One step of a rank, made in full: its next block is opened where none is open and one is left; then, where a call is open, one
+/// atom is made.
+pub fn move_on<A: Algo>(state: &mut MachineState<A>, rank: u32) -> Result<Stepped, OutOfMemory>
     requires there { rank < length state.old.ops.by_rank }
     requires good { IsMachine A A.View A.table A.good A.layout (machine_view state.old) }
     requires few { steps_made state.old.steps < 2 ^ 32 - 1 }
@@ -190,5 +221,25 @@ pub fn make_step<A: Algo>(state: &mut MachineState<A>, rank: u32) -> Result<Step
         open_next(state, rank)
     } else {
         go_on(state, rank)
+    }
+}
+
+/// One step of a rank: counted alone where it is seen that the rank rests, and else made in full.
+#[inline(always)]
+pub fn make_step<A: Algo>(state: &mut MachineState<A>, rank: u32) -> Result<Stepped, OutOfMemory>
+    requires there { rank < length state.old.ops.by_rank }
+    requires good { IsMachine A A.View A.table A.good A.layout (machine_view state.old) }
+    requires few { steps_made state.old.steps < 2 ^ 32 - 1 }
+    ensures made { IfOk result (λ _. running A.table (machine_view state.new) ≡ stepped (running A.table (machine_view state.old)) rank) }
+    ensures answer { IfOk result (λ answer. answer ≡ answer_of_step (running A.table (machine_view state.old)) rank) }
+    ensures cores { cores_of (machine_view state.new) ≡ cores_of (machine_view state.old) }
+    ensures kept { OnErr result (machine_view state.new ≡ machine_view state.old) }
+{
+    match state.resting(rank) {
+        Some(answer) => {
+            state.steps.count(answer);
+            Ok(answer)
+        }
+        None => move_on(state, rank),
     }
 }

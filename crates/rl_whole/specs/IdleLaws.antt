@@ -1,0 +1,77 @@
+-- A Take that finds another rank in the card is idle.
+use Rattle.std.specs.Prelude.{◌≡◌, ℕ, ◌+◌, ◌-◌, ◌^◌, ◌<◌, ◌==◌, true, false, List, length, if◌then◌else◌, slice_index, slice_set, Some, refl}
+use Rattle.std.proofs.Common.{sym, ◌∙◌, ap, subst, ⊎_elim}
+use Rattle.std.proofs.lemmas.Bool.Decides.{eqb_tells}
+use Rattle.rl_word.specs.Acts.{Layout, word_of, by_card}
+use Rattle.rl_word.specs.declared.acts.Act.{Act}
+use Rattle.rl_word.specs.declared.acts.Act.TheVariants as act
+use Rattle.rl_word.specs.declared.acts.Atom.TheVariants as atom
+use Rattle.rl_step.specs.declared.events.Event.{Event}
+use Rattle.rl_step.specs.declared.events.Stepped.TheVariants.{Moved, Busy}
+use Rattle.rl_step.specs.Core.{MayBe, MayGet, Plans}
+use Rattle.rl_step.specs.Do.{Held}
+use Rattle.rl_step.specs.Lock.{LockState, LockLaws, Deed}
+use Rattle.rl_work.specs.Work.{work_after}
+use Rattle.rl_whole.specs.declared.card_state.CardState.TheVariants.{Free, InCard}
+use Rattle.rl_whole.specs.declared.effect.Effect.TheVariants.{Stay, Learn}
+use Rattle.rl_whole.specs.declared.whole.WholeView.{WholeView}
+use Rattle.rl_whole.specs.Running.{LockAt}
+use Rattle.rl_whole.specs.Split.{home_of, first_at, card_atom, effect_at, plan_home, skips, HolderFits}
+use Rattle.rl_whole.specs.Whole.{Good, lock_or_work, work_plan, next_of, after_of, effect_turned, after_effect, whole_table}
+use Rattle.rl_whole.specs.WholeLaws.{whole_laws}
+use Rattle.rl_whole.specs.WholeOwes.{holder_fits}
+use Rattle.rl_whole.specs.Rest.{IsIdle}
+
+-- a card with a number in it isn't free
+pub not_free : (n : ℕ) → (n ≡ 0 → ⊥) → (n == 0) ≡ false
+not_free n some = ⊎_elim (λ q. absurd (some q.1)) (λ q. q.0) (eqb_tells n 0)
+
+-- an act through a card begins with the Take
+begins_so : (home : ℕ) (a : Act) → by_card a ≡ true → first_at home a ≡ atom.Take home
+begins_so home (act.Load w) b = cc
+begins_so home (act.Store w v) b = cc
+begins_so home (act.LocalCas w old new) b = cc
+begins_so home (act.CardCas w old new) b = refl
+begins_so home (act.CardSwap w v) b = refl
+begins_so home (act.CardAdd w d) b = refl
+
+module _ {V : Type 0} (L : LockAt V) (x : WholeView V) (a : Act) (planned : L.table.plan x.side.view ≡ Some a) (free : x.side.card ≡ Free) (card : by_card a ≡ true) where
+  abbrev node : ℕ
+  node = home_of L.table (word_of a)
+
+  pub take_next : next_of L x ≡ Some (atom.Take node)
+  take_next =
+      ap (λ q. lock_or_work L.base q (work_plan L.site.geom (L.table.standing x.side.view) x.work))
+      (ap (card_atom L.table (L.table.plan x.side.view)) free ∙ ap (λ q. card_atom L.table q Free) planned ∙ ap (λ z. Some z) (begins_so node a card))
+
+  -- it changes nothing where another rank is in the card
+  pub held_idle : (h : Held) (k : ℕ) → (slice_index h.cards node == 0) ≡ false → IsIdle L h k x (next_of L x) (Busy node (slice_index h.cards node - 1))
+  held_idle h k held =
+      let got : ℕ = slice_index h.cards node in
+      let means : effect_at (plan_home L.table (L.table.plan x.side.view)) (L.table.plan x.side.view) x.side.card got ≡ Stay Free (Busy node (got - 1)) =
+      ap (λ c. effect_at (plan_home L.table (L.table.plan x.side.view)) (L.table.plan x.side.view) c got) free
+      ∙ ap (λ q. effect_at (plan_home L.table q) q Free got) planned
+      ∙ ap (λ b. if b then (if got == 0 then Stay InCard Moved else Stay Free (Busy node (got - 1))) else Learn Free got (skips a got)) card
+      ∙ ap (λ z. if z then Stay InCard Moved else Stay Free (Busy node (got - 1))) held in
+      let turned : after_of L x got ≡ effect_turned L x (work_after L.site.geom L.site.shard x.rank x.work got) (Stay Free (Busy node (got - 1))) = after_effect L x got (Stay Free (Busy node (got - 1))) means in
+      subst (λ o. IsIdle L h k x o (Busy node (got - 1))) (sym take_next) (
+        ap (λ b. record { words = h.words; cards = if b then slice_set h.cards node (k + 1) else h.cards }) held,
+        ap (λ z. z.view) turned ∙ ap (λ c. record { side = record { view = x.side.view; card = c }; rank = x.rank; work = x.work }) (sym free),
+        ap (λ z. z.events) turned,
+        ap (λ z. z.stepped) turned,
+      )
+
+  module _ (good : LockState V → Type 0) (further : List Event → List Deed → Type 0) (layout : Layout) (laws : LockLaws L.table good further layout) (home : ℕ) (may : MayBe (Good L good layout) x) where
+    plans : Plans (whole_table L home) (Good L good layout) may.held may.views may.rank x (atom.Take node)
+    plans = record { is_ruled = may.is_ruled; has = may.has; planned = take_next }
+
+    -- the card is there, and what is in it is a rank's number and one
+    pub node_there : node < length may.held.cards
+    node_there = (whole_laws V L good further layout laws home).can may.held may.views may.rank x (atom.Take node) plans
+
+    pub rank_fits : slice_index may.held.cards node < 2 ^ 32 + 1
+    rank_fits =
+        let may_get : MayGet (whole_table L home) (Good L good layout) x (slice_index may.held.cards node) =
+        record { held = may.held; views = may.views; rank = may.rank; atom = atom.Take node; plans = plans; gives = refl } in
+        let fits = holder_fits V L good further layout laws home x (slice_index may.held.cards node) may_get in
+        subst (λ q. HolderFits q Free (slice_index may.held.cards node)) planned (subst (λ c. HolderFits (L.table.plan x.side.view) c (slice_index may.held.cards node)) free fits) card

@@ -1,0 +1,38 @@
+//! Atoms of which it is seen beforehand that they change nothing.
+
+ghost use Rattle.std.specs.Prelude.{◌≡◌, ℕ, IfSome};
+ghost use Rattle.rl_step.specs.Core.{MayBe};
+ghost use Rattle.rl_whole.specs.Running.{lock_at};
+ghost use Rattle.rl_whole.specs.Rest.{IsIdle};
+ghost use Rattle.rl_whole.specs.Whole.{rule_of, next_of};
+
+use crate::card_state::CardState;
+use crate::split::{by_card, word};
+use crate::whole::{Whole, WholeView};
+use rl_step::{Algo, Stepped, Words};
+
+/// The answer of a view's next atom on these words and cards, where the atom is a Take and another rank is in the card: it changes
+/// nothing, and is answered by Busy. `None` says nothing of the atom.
+#[inline(always)]
+pub fn idle<A: Algo>(core: &Whole<A>, view: &WholeView<A::View>, words: &Words) -> Option<Stepped>
+    requires { (s : MayBe (rule_of A.table A.good A.layout core.now) view.now) × (s.held ≡ words.now) }
+    ensures { IfSome result (λ answer. (k : ℕ) → IsIdle (lock_at A.table core.now) words.now k view.now (next_of (lock_at A.table core.now) view.now) answer) }
+{
+    match view.side.card {
+        CardState::Free => {}
+        CardState::InCard | CardState::Loaded { .. } | CardState::ToLeave { .. } => return None,
+    }
+    let act = core.algo.plan(view.side.view)?;
+    if !by_card(act) {
+        return None;
+    }
+    let node = core.algo.spot(word(act)).home;
+    let held = words.card(node);
+    if held == 0 {
+        return None;
+    }
+    Some(Stepped::Busy {
+        node,
+        holder: (held - 1) as u32,
+    })
+}
