@@ -52,6 +52,10 @@ module _ {C V : Type 0} where
   abbrev pub all_given : Window C V → ℕ → RootKnows C V
   all_given w n = record { core = w.core; size = w.size; nodes = w.nodes; given = n; to_come = []; ended = [] }
 
+  -- the window has seats of so many ranks, which are all, and none has ended
+  abbrev pub HasSeats : Window C V → ℕ → Type 0
+  HasSeats w n = (w.root.seat.table_id ≡ w.table.shared.table_id) × (w.root.seat.me ≡ (Root (all_given w n), []))
+
   -- these are the window's seats, all of them, in the order of their ranks
   pub record IsAll (rule : C → Held → List V → Type 0) (w : Window C V) (seats : List (WinSeat C V)) : Type 0 where
     pub table : w.root.seat.table_id ≡ w.table.shared.table_id

@@ -4,13 +4,20 @@ ghost use Rattle.std.specs.Prelude.{◌≡◌, ◌+◌, ℕ, Some, None};
 ghost use Rattle.rl_step.specs.Core.{Performs};
 ghost use Rattle.std.specs.Borrow.{Lends, sem};
 ghost use Rattle.rl_window.specs.contracts.window.WinSeat.{the_row};
-ghost use Rattle.rl_window.specs.Seats.{with_view, IsSeatOf, IsKept, last_view, table_steps};
+ghost use Rattle.rl_window.specs.Seats.{with_view, seat_rank, IsSeatOf, IsKept, last_view, table_steps};
 
 use crate::window::{WinSeat, Window};
 use rl_step::{After, Core};
 use rl_word::Atom;
 
 impl<C: Core> WinSeat<C> {
+    /// The number of the seat's rank.
+    pub fn rank(&self) -> u32
+        ensures { result ≡ seat_rank self.now }
+    {
+        self.rank
+    }
+
     /// Lends the rank's view for reading.
     pub fn view(&self) -> &C::View
         ensures { result.now ≡ self.now.view }

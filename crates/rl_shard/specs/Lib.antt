@@ -1,0 +1,15 @@
+-- to be believed, in reading order
+pub mod Tallies
+pub mod Queues
+pub mod Counting
+pub mod Shards
+pub mod Steps
+pub mod Ends
+-- of the code's own calls
+pub mod Closing
+-- proved; skip at first
+pub mod TallyLaws
+pub mod CountingLaws
+pub mod SeatLaws
+-- for tests
+pub mod Fresh

@@ -1,0 +1,130 @@
+//! A rank's seat at a shard.
+
+ghost use Rattle.std.specs.Prelude.{◌≡◌, ◌↔◌, ◌∷◌, [], Some, None, false, length};
+ghost use Rattle.rl_step.specs.declared.events.Stepped.TheVariants.{Finished};
+ghost use Rattle.rl_work.specs.WorkGood.{IsOpen};
+ghost use Rattle.rl_whole.specs.Opening.{opened_in};
+ghost use Rattle.rl_whole.specs.Running.{lock_at};
+ghost use Rattle.rl_shard.specs.Tallies.{tally_at};
+ghost use Rattle.rl_shard.specs.Shards.{IsOf, IsClosed, core_at, view_at, tallies_at, entries_at, rank_at, steps_at, next_at};
+ghost use Rattle.rl_shard.specs.Steps.{Makes, CauseAt, TurnsAt, IsUnhindered};
+
+use crate::counting::Counting;
+use crate::shard::Shard;
+use crate::stepping::step;
+use rl_model::{Call, Entry};
+use rl_step::{Algo, Stepped, Tally};
+use rl_window::WinSeat;
+
+/// The seat of a rank at a shard: the one right to act as the rank there.
+///
+/// It goes to whatever thread acts for the rank, and the shard is shared by all. A seat that is dropped leaves its shard as it is; the
+/// shard can't be closed any more.
+#[derive(Drop)]
+pub struct Seat<A: Algo> {
+    pub(crate) seat: WinSeat<Counting<A>>,
+}
+
+impl<A: Algo> Seat<A> {
+    /// The number of the rank.
+    pub fn rank(&self) -> u32
+        ensures { result ≡ rank_at self.now }
+    {
+        self.seat.rank()
+    }
+
+    /// The rank's entries on the shard, in the order in which they were done.
+    pub fn transcript(&self) -> &[Entry]
+        ensures { result.now ≡ entries_at self.now }
+    {
+        self.seat.view().whole.transcript()
+    }
+
+    /// How often the rank's acts settled and passed a queue of the lock. One that isn't there was never settled or passed.
+    pub fn tally(&self, queue: usize) -> Tally
+        ensures { result ≡ tally_at queue (tallies_at self.now) }
+    {
+        self.seat.view().tallies.tally(queue)
+    }
+
+    /// How many queues have a tally.
+    pub(crate) fn queues(&self) -> usize
+        ensures { result ≡ length (tallies_at self.now) }
+    {
+        self.seat.view().tallies.len()
+    }
+
+    /// Whether a block is open: it is from `begin` on until its last atom was made, that of leaving a card among them.
+    ///
+    /// The seat is the shard's.
+    pub fn is_open(&self, shard: &Shard<A>) -> bool
+        requires { IsOf A.table A.good A.layout shard.now self.now }
+        ensures { (result ≡ false) ↔ IsClosed A.table shard.now self.now }
+    {
+        shard.window.core().is_open(self.seat.view())
+    }
+
+    /// Opens a call alone, where no block is open. It makes no table step and takes no memory.
+    ///
+    /// The seat is the shard's. The call is one of the shard, its number `seq` greater than those of all the rank's entries here, and
+    /// the seat has room for it: for one more entry, and where it is an update, for one more update.
+    pub fn begin(&mut self, shard: &Shard<A>, call: Call, seq: u32)
+        requires seat { IsOf A.table A.good A.layout shard.now self.old }
+        requires closed { IsClosed A.table shard.now self.old }
+        requires open { IsOpen (lock_at A.table (core_at shard.now)).site (rank_at self.old) (call ∷ []) seq (view_at self.old).work.transcript }
+        ensures seat { IsOf A.table A.good A.layout shard.now self.new }
+        ensures rank { rank_at self.new ≡ rank_at self.old }
+        ensures opened { view_at self.new ≡ opened_in (A.table (core_at shard.now).algo) (call ∷ []) seq (view_at self.old) }
+        ensures tallies { tallies_at self.new ≡ tallies_at self.old }
+        ensures no_step { steps_at self.new ≡ steps_at self.old }
+    {
+        self.begin_batch(shard, &[call], seq);
+    }
+
+    /// Opens a batch, where no block is open. Its calls are done as one: all of them, or none where one is answered that it can't be
+    /// done. It makes no table step and takes no memory.
+    ///
+    /// The seat is the shard's. There are 2 to 8 calls, all updates of the shard. The first has the number `seq`, and the others the
+    /// numbers after it, which are below 2^32; `seq` is greater than the numbers of all the rank's entries here; and the seat has
+    /// room for them: for so many more entries and updates.
+    pub fn begin_batch(&mut self, shard: &Shard<A>, calls: &[Call], seq: u32)
+        requires seat { IsOf A.table A.good A.layout shard.now self.old }
+        requires closed { IsClosed A.table shard.now self.old }
+        requires open { IsOpen (lock_at A.table (core_at shard.now)).site (rank_at self.old) calls.now seq (view_at self.old).work.transcript }
+        ensures seat { IsOf A.table A.good A.layout shard.now self.new }
+        ensures rank { rank_at self.new ≡ rank_at self.old }
+        ensures opened { view_at self.new ≡ opened_in (A.table (core_at shard.now).algo) calls.now seq (view_at self.old) }
+        ensures tallies { tallies_at self.new ≡ tallies_at self.old }
+        ensures no_step { steps_at self.new ≡ steps_at self.old }
+    {
+        shard
+            .window
+            .core()
+            .open_block(self.seat.view_mut(), calls, seq);
+    }
+
+    /// Makes one step of the rank: Finished exactly where no block is open, and then nothing has changed; else its next atom, in
+    /// exactly one table step. It takes no memory and never waits.
+    ///
+    /// The seat is the shard's. Other answers:
+    ///
+    /// - Waiting: the atom was the last load of a waiting round and gave this value of this word, and the round's test isn't met.
+    /// - Lost: the atom compared this guess with the word and saw another value.
+    /// - Busy: the atom would take this node's card, and this rank was in it.
+    /// - Moved: none of these.
+    ///
+    /// A rank that is alone on the shard is never answered Waiting, Lost or Busy.
+    pub fn step(&mut self, shard: &Shard<A>) -> Stepped
+        requires seat { IsOf A.table A.good A.layout shard.now self.old }
+        ensures seat { IsOf A.table A.good A.layout shard.now self.new }
+        ensures rank { rank_at self.new ≡ rank_at self.old }
+        ensures finished { (result ≡ Finished) ↔ IsClosed A.table shard.now self.old }
+        ensures nothing { IsClosed A.table shard.now self.old → self.new ≡ self.old }
+        ensures makes { (at : _) → next_at A.table shard.now self.old ≡ Some at → Makes A.table A.good A.layout shard.now self.old self.new at result }
+        ensures cause { CauseAt A.table A.good A.layout shard.now self.old result }
+        ensures alone { length (A.layout (core_at shard.now).algo).node_of ≡ 1 → IsUnhindered result }
+        ensures turned { TurnsAt A.table shard.now self.old self.new }
+    {
+        step(&shard.window, &mut self.seat).stepped
+    }
+}

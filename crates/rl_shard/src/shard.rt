@@ -1,0 +1,140 @@
+//! A shard that threads share.
+
+ghost use Rattle.std.specs.Prelude.{◌≡◌, ◌≤◌, ◌<◌, ◌^◌, length, map, replicate, sum, IfOk, IfErr, vec_len};
+ghost use Rattle.rl_model.specs.Geom.{GeomFits};
+ghost use Rattle.rl_word.specs.Shapes.{IsProper, layout_of};
+ghost use Rattle.rl_step.specs.Lock.{HandsOn};
+ghost use Rattle.rl_step.specs.LockQueues.{queues_of};
+ghost use Rattle.rl_whole.specs.Running.{lock_at};
+ghost use Rattle.rl_whole.specs.Start.{lock_with, site_with};
+ghost use Rattle.rl_window.specs.Seats.{HasSeats};
+ghost use Rattle.rl_shard.specs.Counting.{counting_rule, first_counted};
+ghost use Rattle.rl_shard.specs.Shards.{IsShardOf, AreOf, AreClosed, core_at, counting_at, counted_at};
+ghost use Rattle.rl_shard.specs.Ends.{IsEnd};
+
+use crate::closed::Closed;
+use crate::closing::{Parts, finish, give_seats, take_parts, take_seats};
+use crate::counting::{CountedView, Counting};
+use crate::opening::{first_views, first_words};
+use crate::seat::Seat;
+use rl_model::Geom;
+use rl_ops::Room;
+use rl_step::Algo;
+use rl_whole::Whole;
+use rl_window::Window;
+use rl_word::{Knobs, Shape};
+use std::alloc::{AllocError as OutOfMemory, Global};
+
+/// One shard of the table, whose window threads share. Its ranks act on it by their seats.
+#[derive(Drop)]
+pub struct Shard<A: Algo> {
+    pub(crate) window: Window<Counting<A>>,
+    pub(crate) alloc: Global,
+}
+
+impl<A: Algo> Shard<A> {
+    /// A shard before its first block, and a seat for each rank, in the order of the ranks.
+    ///
+    /// The shape is proper, and `home` one of its nodes, where the shard's words live; the settings suit the lock. `shard` is the
+    /// shard's number. `room` says for each rank how many entries and how many updates it may make here; the updates are at most 20,000
+    /// in all. `queues` is how many queues the lock has. No block is open, and transcripts and tallies are empty.
+    ///
+    /// # Errors
+    ///
+    /// Want of memory.
+    pub fn new(
+        alloc: Global,
+        shape: &Shape,
+        knobs: Knobs,
+        home: u32,
+        geom: Geom,
+        shard: u32,
+        room: Room,
+        queues: u32,
+    ) -> Result<(Shard<A>, Vec<Seat<A>>), OutOfMemory>
+        requires proper { IsProper shape.now }
+        requires knobs { A.suits_knobs shape.now knobs }
+        requires home { home < shape.now.nodes }
+        requires fits { GeomFits geom }
+        requires calls { vec_len room.calls ≡ length shape.now.node_of }
+        requires updates { (vec_len room.updates ≡ length shape.now.node_of) × (sum room.updates.items ≤ 20000) }
+        requires queues { queues ≡ length (queues_of A.name shape.now home knobs) }
+        ensures lock { IfOk result (λ p. lock_at A.table (core_at p.0) ≡ lock_with (A.defined shape.now home knobs) (site_with geom shard room.updates.items)) }
+        ensures promised { IfOk result (λ p. HandsOn (A.further (core_at p.0).algo) (A.promised shape.now home knobs)) }
+        ensures layout { IfOk result (λ p. A.layout (core_at p.0).algo ≡ layout_of shape.now) }
+        ensures shard { IfOk result (λ p. IsShardOf (length shape.now.node_of) p.0) }
+        ensures seats { IfOk result (λ p. AreOf A.table A.good A.layout p.0 p.1.items) }
+        ensures views { IfOk result (λ p. map counted_at p.1.items ≡ first_counted (lock_at A.table (core_at p.0)) queues room.calls.items) }
+        ensures closed { IfOk result (λ p. AreClosed A.table p.0 p.1.items) }
+    {
+        let Room { calls, updates } = room;
+        let whole = Whole::new(alloc, shape, knobs, home, geom, shard, updates)?;
+        let words = first_words(alloc, &whole)?;
+        let views = first_views(alloc, &whole, calls.as_slice(), queues)?;
+        Shard::open(
+            alloc,
+            Counting { whole },
+            words.as_slice(),
+            shape.nodes,
+            views,
+        )
+    }
+
+    /// The machine of the shard's ranks.
+    pub(crate) fn core(&self) -> &Whole<A>
+        ensures { result.now ≡ core_at self.now }
+    {
+        &self.window.core().whole
+    }
+
+    /// A shard with these words and free cards, and a seat for each view.
+    fn open(
+        alloc: Global,
+        core: Counting<A>,
+        words: &[u64],
+        nodes: u32,
+        views: Vec<CountedView<A::View>>,
+    ) -> Result<(Shard<A>, Vec<Seat<A>>), OutOfMemory>
+        requires rule { counting_rule A.table A.good A.layout core (record { words = words.now; cards = replicate nodes 0 }) views.items }
+        requires some { (0 < length words.now) × (0 < vec_len views) × (vec_len views < 2 ^ 32) }
+        ensures core { IfOk result (λ p. counting_at p.0 ≡ core) }
+        ensures seats { IfOk result (λ p. HasSeats p.0.window (vec_len views) × AreOf A.table A.good A.layout p.0 p.1.items) }
+        ensures views { IfOk result (λ p. map counted_at p.1.items ≡ views.items) }
+    {
+        let mut seats = Vec::with_capacity(alloc, views.len())?;
+        let (window, inner) = Window::new(alloc, core, words, nodes, views)?;
+        give_seats(inner, &mut seats);
+        Ok((Shard { window, alloc }, seats))
+    }
+
+    /// Closes the shard, and gives what it leaves: a legal journal, the table after it, the ranks' transcripts, and the tallies of the
+    /// queues.
+    ///
+    /// These are all the shard's seats, in the order of their ranks, and no block is open.
+    ///
+    /// # Errors
+    ///
+    /// Want of memory, which is taken before anything is closed; a count that doesn't fit 64 bits is treated so too. Shard and seats
+    /// are handed back as they were.
+    pub fn close(self, mut seats: Vec<Seat<A>>) -> Result<Closed, (Shard<A>, Vec<Seat<A>>)>
+        requires shard { IsShardOf (vec_len seats) self }
+        requires seats { AreOf A.table A.good A.layout self seats.items }
+        requires closed { AreClosed A.table self seats.items }
+        ensures end { IfOk result (λ e. IsEnd A.table self seats.items e) }
+        ensures refused { IfErr result (λ p. (p.0 ≡ self) × (p.1.items ≡ seats.items)) }
+    {
+        let Ok(parts) = take_parts(&self, seats.as_slice()) else {
+            return Err((self, seats));
+        };
+        let Parts { closed, mut inner } = parts;
+        take_seats(&mut seats, &mut inner);
+        let Shard { window, alloc } = self;
+        match window.close(inner) {
+            Ok((core, words, views)) => Ok(finish(&core.whole, words.as_slice(), views, closed)),
+            Err((window, inner)) => {
+                give_seats(inner, &mut seats);
+                Err((Shard { window, alloc }, seats))
+            }
+        }
+    }
+}

@@ -1,0 +1,25 @@
+//! One atom through a seat of a window.
+
+ghost use Rattle.std.specs.Prelude.{◌≡◌, ◌≢◌, ◌+◌, [], Some, None};
+ghost use Rattle.rl_step.specs.declared.events.Stepped.TheVariants.{Finished};
+ghost use Rattle.rl_step.specs.Core.{Performs};
+ghost use Rattle.rl_window.specs.Seats.{IsSeatOf, IsKept, core_of, view_of, seat_rank, last_view, table_steps};
+
+use rl_step::{After, Core, advance};
+use rl_window::{WinSeat, Window};
+
+/// Makes the next atom of the seat's rank in one table step, if it has one to make.
+pub fn step<C: Core>(window: &Window<C>, seat: &mut WinSeat<C>) -> After
+    requires seat { IsSeatOf C.rule window.now seat.old }
+    requires kept { IsKept C.rule window.now seat.old }
+    ensures seat { IsSeatOf C.rule window.now seat.new }
+    ensures kept { IsKept C.rule window.now seat.new }
+    ensures rank { seat_rank seat.new ≡ seat_rank seat.old }
+    ensures finished { (C.table (core_of window.now)).next (view_of seat.old) ≡ None → (result.stepped ≡ Finished) × (result.events.items ≡ []) × (seat.new ≡ seat.old) }
+    ensures goes_on { (at : _) → (C.table (core_of window.now)).next (view_of seat.old) ≡ Some at → result.stepped ≢ Finished }
+    ensures one_step { (at : _) → (C.table (core_of window.now)).next (view_of seat.old) ≡ Some at → table_steps seat.new ≡ table_steps seat.old + 1 }
+    ensures made { (at : _) → (C.table (core_of window.now)).next (view_of seat.old) ≡ Some at → Performs (C.table (core_of window.now)) (C.rule (core_of window.now)) (seat_rank seat.old) at (view_of seat.old) (view_of seat.new) None None result.events.items result.stepped }
+{
+    let mut port = window.port(seat);
+    advance(window.core(), &mut port)
+}
