@@ -2,6 +2,7 @@
 //!
 //! - A **source** ([`Source`]) has files by name, of which one at a time is open.
 //! - A **sink** ([`Sink`]) takes bytes at its end.
+//! - A **gate** ([`Gate`]) is told of the calls and the steps of running ranks; [`OpenGate`] lets all of them pass.
 //! - A **fault** is an answer [`Failed`] of the outside. Every source and every sink counts its faults.
 //!   The count never falls, and it rises exactly with a fault.
 //!
@@ -17,12 +18,14 @@
 
 mod failing;
 mod files;
+mod gate;
 mod outside;
 mod real;
 mod sinks;
 mod whole;
 
 pub use files::{MemFiles, SureFiles};
+pub use gate::{Gate, OpenGate};
 pub use outside::{Failed, Sink, Source};
 pub use real::{RealFiles, RealOut};
 pub use sinks::{FixedSink, MemSink};

@@ -4,6 +4,7 @@ ghost use Rattle.rl_io.specs.Sinks.{HasRoom};
 
 use crate::*;
 use std::alloc::AllocError as OutOfMemory;
+use std::sync::atomic::{AtomicU64, Ordering};
 use std::test::*;
 
 const REPORT: &[u8] = b"rmalock-report 1\n";
@@ -136,4 +137,40 @@ fn real_files_and_the_real_output(rt: HostRuntime) -> Result<(), Fail> {
     let mut out = RealOut::new(rt);
     assert!(rt; write_all(&mut out, REPORT).is_ok());
     Ok(())
+}
+
+#[derive(Drop)]
+struct Counting {
+    before: AtomicU64,
+    after: AtomicU64,
+}
+
+impl Gate for Counting {
+    fn before(&self, rank: u32, call: u32) {
+        let told = u64::from(rank) * 10 + u64::from(call);
+        let _ = self.before.fetch_add(told, Ordering::SeqCst);
+    }
+
+    fn after(&self, rank: u32, answer: u32) {
+        let told = u64::from(rank) * 10 + u64::from(answer);
+        let _ = self.after.fetch_add(told, Ordering::SeqCst);
+    }
+}
+
+fn one_call<G: Gate>(gate: &G) {
+    gate.before(3, 4);
+    gate.after(3, 1);
+    gate.after(3, 5);
+}
+
+#[test]
+fn a_gate_is_told_of_calls_and_steps(rt: HostRuntime) {
+    one_call(&OpenGate);
+    let gate = Counting {
+        before: AtomicU64::new(0),
+        after: AtomicU64::new(0),
+    };
+    one_call(&gate);
+    assert_eq!(rt; gate.before.load(Ordering::SeqCst), 34);
+    assert_eq!(rt; gate.after.load(Ordering::SeqCst), 66);
 }

@@ -1,0 +1,53 @@
+use Rattle.std.proofs.Common.{◌≡◌, slice_get, Some, refl, ap, sym, ◌∙◌}
+use Rattle.std.proofs.lemmas.Option.{slice_get-get_or}
+use Rattle.rl_run.specs.CallerLaws.{at_there, at_seat, seat_is, all_closed, steps_on, still_closed}
+use Rattle.rl_run.proofs.caller.Caller.step_last.Goals as goal
+use Rattle.rl_run.proofs.caller.Caller.step_last.Goals.{After-index-shards-at}
+use Rattle.rl_run.proofs.caller.Caller.step_last.Given.{Over}
+
+-- the shard where the last block was opened, and the seat there
+has_shard : (g : Over) (c : After-index-shards-at g) → slice_get c.args.shards.now c.args.self.now.at ≡ Some c.index-shards-at.result
+has_shard g c = slice_get-get_or c.args.shards.now c.args.self.now.at c.index-shards-at.result (at_there g.A.Algo.table g.A.Algo.good g.A.Algo.further g.A.Algo.layout g.met.A.Algo.laws c.args.shards.now c.args.self.now c.requires.caller) ∙ ap Some (sym c.index-shards-at.is)
+
+has_seat : (g : Over) (c : After-index-shards-at g) → slice_get c.args.self.now.seats.items c.args.self.now.at ≡ Some c.index_mut-seat.result.now
+has_seat g c = slice_get-get_or c.args.self.now.seats.items c.args.self.now.at c.index_mut-seat.result.now (at_seat g.A.Algo.table g.A.Algo.good g.A.Algo.further g.A.Algo.layout g.met.A.Algo.laws c.args.shards.now c.args.self.now c.requires.caller) ∙ ap Some (sym c.index_mut-seat.ensures.value)
+
+pub step-requires : goal.step-requires
+step-requires g c =
+    let d = (goal.at.step-requires g c).After-index-shards-at in
+    record { seat = seat_is g.A.Algo.table g.A.Algo.good g.A.Algo.further g.A.Algo.layout g.met.A.Algo.laws c.args.shards.now c.args.self.now c.requires.caller c.args.self.now.at c.index-shards-at.result c.index_mut-seat.result.now (has_shard g d) (has_seat g d) }
+
+pub returns-clause-caller : goal.returns-clause-caller
+returns-clause-caller g c =
+    let d = (goal.at.returns-clause-caller g c).After-index-shards-at in
+    steps_on g.A.Algo.table g.A.Algo.good g.A.Algo.further g.A.Algo.layout g.met.A.Algo.laws c.args.shards.now c.args.self.now c.requires.caller c.index-shards-at.result c.index_mut-seat.result.now c.step.new.self (has_shard g d) (has_seat g d) c.step.ensures.seat c.step.ensures.rank c.step.ensures.turned
+
+pub returns-clause-steps : goal.returns-clause-steps
+returns-clause-steps g c =
+    let d = (goal.at.returns-clause-steps g c).After-index-shards-at in
+    record {
+      opened_is = refl;
+      at_is = refl;
+      shard = c.index-shards-at.result;
+      old = c.index_mut-seat.result.now;
+      new = c.step.new.self;
+      has_shard = has_shard g d;
+      has_old = has_seat g d;
+      seats_are = refl;
+      step = record { finished = c.step.ensures.finished; nothing = c.step.ensures.nothing; makes = c.step.ensures.makes; cause = c.step.ensures.cause };
+    }
+
+pub returns-clause-finished : goal.returns-clause-finished
+returns-clause-finished g c =
+    let d = (goal.at.returns-clause-finished g c).After-index-shards-at in
+    λ f. all_closed g.A.Algo.table g.A.Algo.good g.A.Algo.further g.A.Algo.layout g.met.A.Algo.laws c.args.shards.now c.args.self.now c.requires.caller c.index-shards-at.result c.index_mut-seat.result.now (has_shard g d) (has_seat g d) (c.step.ensures.finished.0 f)
+
+pub returns-clause-still : goal.returns-clause-still
+returns-clause-still g c =
+    let d = (goal.at.returns-clause-still g c).After-index-shards-at in
+    λ closed. still_closed g.A.Algo.table g.A.Algo.good g.A.Algo.further g.A.Algo.layout g.met.A.Algo.laws c.args.shards.now c.args.self.now c.requires.caller c.index_mut-seat.result.now c.step.new.self (has_seat g d) (c.step.ensures.nothing (closed c.args.self.now.at c.index-shards-at.result c.index_mut-seat.result.now (has_shard g d) (has_seat g d))) closed
+
+pub returns-clause-closed : goal.returns-clause-closed
+returns-clause-closed g c =
+    let d = (goal.at.returns-clause-closed g c).After-index-shards-at in
+    λ closed. c.step.ensures.finished.1 (closed c.args.self.now.at c.index-shards-at.result c.index_mut-seat.result.now (has_shard g d) (has_seat g d))

@@ -1,0 +1,61 @@
+//! The shards of a run after its last step, and the report of it.
+
+ghost use Rattle.std.specs.Prelude.{◌≡◌, map, All, IfOk, vec_items, vec_len};
+ghost use Rattle.rl_shard.specs.Shards.{IsShardOf};
+ghost use Rattle.rl_shard.specs.Ends.{IsEnd};
+ghost use Rattle.rl_run.specs.Callers.{seats_of};
+ghost use Rattle.rl_run.specs.Rows.{IsGrid, IsColumn, AreEnded};
+ghost use Rattle.rl_run.specs.Runs.{IsShutSeat};
+
+use crate::caller::Caller;
+use crate::rows::first_seats;
+use rl_shard::{Closed, Seat, Shard};
+use rl_step::Algo;
+use std::alloc::{AllocError as OutOfMemory, Global};
+
+/// The seats of each rank.
+pub fn rows_of<A: Algo>(
+    alloc: Global,
+    mut callers: Vec<Caller<A>>,
+) -> Result<Vec<Vec<Seat<A>>>, OutOfMemory>
+    ensures { IfOk result (λ rows. map vec_items rows.items ≡ map seats_of callers.items) }
+{
+    let mut rows = Vec::with_capacity(alloc, callers.len())?;
+    while callers.len() > 0 {
+        let caller = callers.remove(0);
+        rows.push_reserved(caller.seats());
+    }
+    Ok(rows)
+}
+
+// Closes one shard, with its seats in the order of the ranks.
+fn close_one<A: Algo>(shard: Shard<A>, column: Vec<Seat<A>>) -> Result<Closed, OutOfMemory>
+    requires rooted { IsShardOf (vec_len column) shard }
+    requires column { IsColumn (IsShutSeat A.table A.good A.layout) shard column.items }
+    ensures { IfOk result (λ e. IsEnd A.table shard column.items e) }
+{
+    match shard.close(column) {
+        Ok(closed) => Ok(closed),
+        Err(_) => Err(OutOfMemory),
+    }
+}
+
+/// Closes the shards one after the other, each with its seats in the order of the ranks. Refused only for want of memory.
+pub fn close_all<A: Algo>(
+    alloc: Global,
+    mut shards: Vec<Shard<A>>,
+    mut rows: Vec<Vec<Seat<A>>>,
+) -> Result<Vec<Closed>, OutOfMemory>
+    requires rooted { All (IsShardOf (vec_len rows)) shards.items }
+    requires grid { IsGrid (IsShutSeat A.table A.good A.layout) shards.items (map vec_items rows.items) }
+    ensures { IfOk result (λ ends. AreEnded (IsEnd A.table) shards.items (map vec_items rows.items) ends.items) }
+{
+    let mut ends = Vec::with_capacity(alloc, shards.len())?;
+    while shards.len() > 0 {
+        let shard = shards.remove(0);
+        let (column, rest) = first_seats(alloc, rows)?;
+        rows = rest;
+        ends.push_reserved(close_one(shard, column)?);
+    }
+    Ok(ends)
+}

@@ -1,0 +1,90 @@
+//! The shards of a run before its first step, and the callers of its ranks.
+
+ghost use Rattle.std.specs.Prelude.{◌≡◌, ◌≤◌, ◌<◌, ℕ, [], length, map, replicate, All, IfOk, vec_items, vec_len};
+ghost use Rattle.std.specs.List.{AllByRecursion};
+ghost use Rattle.rl_model.specs.Geom.{GeomFits};
+ghost use Rattle.rl_word.specs.Shapes.{IsProper};
+ghost use Rattle.rl_step.specs.LockQueues.{queues_of};
+ghost use Rattle.rl_ops.specs.Ops.{total_calls};
+ghost use Rattle.rl_run.specs.Runs.{AreNew, MayWork, made_of, wanted};
+
+use crate::caller::Caller;
+use crate::rows::deal_seats;
+use rl_model::{Call, Geom};
+use rl_ops::Ops;
+use rl_shard::{Seat, Shard};
+use rl_step::Algo;
+use rl_word::{Knobs, Shape};
+use std::alloc::{AllocError as OutOfMemory, Global};
+
+// So many empty rows.
+fn empty_rows<T: Drop>(alloc: Global, ranks: usize) -> Result<Vec<Vec<T>>, OutOfMemory>
+    ensures { IfOk result (λ rows. map vec_items rows.items ≡ replicate ranks []) }
+{
+    let mut rows = Vec::new(alloc);
+    for _ in 0..ranks {
+        rows.push(Vec::new(alloc))?;
+    }
+    Ok(rows)
+}
+
+/// The shards of a table on these homes, and the seats of each rank, in the order of the shards. `queues` is how many queues the lock
+/// of a shard has. Refused only for want of memory.
+pub fn open_all<A: Algo>(
+    alloc: Global,
+    shape: &Shape,
+    knobs: Knobs,
+    geom: Geom,
+    homes: &[u32],
+    ops: &Ops,
+    queues: u32,
+) -> Result<(Vec<Shard<A>>, Vec<Vec<Seat<A>>>), OutOfMemory>
+    requires proper { IsProper shape.now }
+    requires knobs { A.suits_knobs shape.now knobs }
+    requires fits { GeomFits geom }
+    requires many { length homes.now ≡ geom.shards }
+    requires homes { AllByRecursion (λ home. home < shape.now.nodes) homes.now }
+    requires ranks { length ops.now.by_rank ≡ length shape.now.node_of }
+    requires few { total_calls ops.now.by_rank ≤ 20000 }
+    requires queues { (home : ℕ) → queues ≡ length (queues_of A.name shape.now home knobs) }
+    ensures all { IfOk result (λ p. length p.0.items ≡ geom.shards) }
+    ensures made { IfOk result (λ p. AreNew A.defined A.table A.good A.layout shape.now knobs geom homes.now ops.now.by_rank p.0.items (map vec_items p.1.items)) }
+{
+    let mut shards = Vec::new(alloc);
+    let mut rows = empty_rows(alloc, ops.by_rank.as_slice().len())?;
+    for number in 0..geom.shards {
+        let home = homes[number as usize];
+        let room = ops.room(alloc, geom, number)?;
+        let (shard, seats) = Shard::new(alloc, shape, knobs, home, geom, number, room, queues)?;
+        rows = deal_seats(alloc, rows, seats)?;
+        shards.push(shard)?;
+    }
+    Ok((shards, rows))
+}
+
+/// A caller for each rank, of its calls with their sizes and its row of seats. Refused only for want of memory.
+pub fn callers_of<A: Algo>(
+    alloc: Global,
+    geom: Geom,
+    mut calls: Vec<Vec<Call>>,
+    mut sizes: Vec<Vec<u32>>,
+    mut rows: Vec<Vec<Seat<A>>>,
+) -> Result<Vec<Caller<A>>, OutOfMemory>
+    requires sizes { vec_len sizes ≡ vec_len calls }
+    requires rows { vec_len rows ≡ vec_len calls }
+    requires few { vec_len calls ≤ 32 }
+    ensures made { IfOk result (λ callers. map made_of callers.items ≡ wanted geom 0 (map vec_items calls.items) (map vec_items sizes.items) (map vec_items rows.items)) }
+    ensures may { IfOk result (λ callers. All (MayWork A.table A.good A.layout) callers.items) }
+{
+    let mut callers = Vec::with_capacity(alloc, calls.len())?;
+    let mut rank = 0;
+    while calls.len() > 0 {
+        let own = calls.remove(0);
+        let own_sizes = sizes.remove(0);
+        let seats = rows.remove(0);
+        let caller = Caller::new(rank, own, own_sizes, geom, seats);
+        callers.push_reserved(caller);
+        rank += 1;
+    }
+    Ok(callers)
+}

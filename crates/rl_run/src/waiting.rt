@@ -1,0 +1,67 @@
+//! How a caller waits for other ranks.
+
+use crossbeam_utils::Backoff;
+use rl_step::Stepped;
+
+/// So many steps in a row that moved tell that the waiting is over.
+const CALM_STEPS: u32 = 4;
+
+/// Backs off after steps that didn't get on: it spins, longer each time, and then gives the processor to other threads.
+///
+/// After a Lost the next step is made first, since that leaves the card, which the holder of the lock may need to give it up. One
+/// step that moved is no sign that the waiting is over, as a waiting round may have two loads; so spinning begins anew only after
+/// four of them in a row. Both matter where there are more threads than processors: without them a run takes a hundred times as
+/// long.
+#[derive(Drop)]
+pub struct Patience {
+    backoff: Backoff,
+    /// How many of the last steps moved, up to four.
+    calm: u32,
+    /// The last step was Lost, and it wasn't waited for yet.
+    lost: bool,
+}
+
+impl Patience {
+    /// Nothing was waited for yet.
+    pub fn new() -> Patience {
+        Patience {
+            backoff: Backoff::new(),
+            calm: 0,
+            lost: false,
+        }
+    }
+
+    /// Waits as long as the answer of the last step asks for.
+    pub fn after(&mut self, stepped: &Stepped) {
+        match stepped {
+            Stepped::Lost { .. } => {
+                if self.lost {
+                    self.wait();
+                }
+                self.lost = true;
+                self.calm = 0;
+            }
+            Stepped::Waiting { .. } | Stepped::Busy { .. } => self.wait(),
+            Stepped::Moved | Stepped::Finished => self.go_on(),
+        }
+    }
+
+    // The rank got on; where that was the step after a Lost, it waits now.
+    fn go_on(&mut self) {
+        if self.lost {
+            self.wait();
+        } else if self.calm < CALM_STEPS {
+            self.calm += 1;
+            if self.calm == CALM_STEPS {
+                self.backoff.reset();
+            }
+        }
+    }
+
+    // Waits, each time longer.
+    fn wait(&mut self) {
+        self.lost = false;
+        self.calm = 0;
+        self.backoff.snooze();
+    }
+}

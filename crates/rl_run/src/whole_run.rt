@@ -1,0 +1,105 @@
+//! A run of all calls of a placement's ranks, from its shards to its report.
+
+ghost use Rattle.std.specs.Prelude.{◌≡◌, ◌≤◌, ◌<◌, ◌^◌, All, IfOk, length, map, vec_len};
+ghost use Rattle.rl_place.specs.LockWords.{name_of};
+ghost use Rattle.rl_place.specs.Places.{IsProper};
+ghost use Rattle.rl_place.specs.Shapes.{shape_of, knobs_of};
+ghost use Rattle.rl_ops.specs.Ops.{OpsFit, total_calls};
+ghost use Rattle.rl_history.specs.Lawful.{IsLawful};
+ghost use Rattle.rl_run.specs.Runs.{told};
+ghost use Rattle.rl_run.specs.Told.{NumbersFit, all_done, part_of as part_told};
+
+use crate::opening::{callers_of, open_all};
+use crate::reporting::part_of;
+use crate::run::run_callers;
+use rl_history::{Done, Naming, Report, ShardReport};
+use rl_io::Gate;
+use rl_ops::Ops;
+use rl_place::Place;
+use rl_shard::Closed;
+use rl_step::Algo;
+use std::alloc::{AllocError as OutOfMemory, Global};
+use std::sync::Wait;
+use std::thread::Threads;
+
+/// What each rank has done once it has done all its calls.
+fn all_dones(alloc: Global, ops: &Ops) -> Result<Vec<Done>, OutOfMemory>
+    requires { total_calls ops.now.by_rank ≤ 20000 }
+    ensures { IfOk result (λ dones. dones.items ≡ all_done ops.now) }
+{
+    let mut dones = Vec::new(alloc);
+    for calls in ops.by_rank.as_slice() {
+        let count = calls.len() as u32;
+        dones.push(Done {
+            done: count,
+            given: count,
+        })?;
+    }
+    Ok(dones)
+}
+
+/// The parts of the report that closed shards give, in their order.
+fn parts_of(alloc: Global, mut ends: Vec<Closed>) -> Result<Vec<ShardReport>, OutOfMemory>
+    requires { All (λ e. vec_len e.journal < 2 ^ 32) ends.items }
+    ensures parts { IfOk result (λ parts. parts.items ≡ map part_told (map told ends.items)) }
+    ensures numbers { IfOk result (λ _. All NumbersFit (map told ends.items)) }
+{
+    let mut parts = Vec::new(alloc);
+    while ends.len() > 0 {
+        let closed = ends.remove(0);
+        parts.push(part_of(alloc, closed)?)?;
+    }
+    Ok(parts)
+}
+
+/// Runs all calls of a placement's ranks, a thread for each rank, and gives the report.
+///
+/// `A` is the placement's kind of lock. Each shard is a window that the threads share, each rank has a caller with a seat at each
+/// shard, and the gate stands at the callers' blocks and steps. The report tells of a history that one thread could have made, which
+/// holds all calls of each rank, once and in its order; which of several it is depends on how the threads come to their steps. It
+/// waits for its threads. Refused only for want of memory, which is asked for before the first step and after the last.
+pub fn run_all<A: Algo + Send + Sync, G: Gate, R: Threads + Wait + Sync>(
+    rt: &R,
+    alloc: Global,
+    place: &Place,
+    ops: Ops,
+    gate: &G,
+) -> Result<Report, OutOfMemory>
+where
+    A::View: Send + Sync,
+    requires proper { IsProper place.now }
+    requires knobs { A.suits_knobs (shape_of place.now) (knobs_of place.now.lock) }
+    requires kind { A.name ≡ name_of place.now.lock }
+    requires calls { OpsFit (length place.now.paths) place.now.geom.shards ops }
+    ensures lawful { IfOk result (λ report. IsLawful place.now ops report) }
+{
+    let shape = place.shape(alloc)?;
+    let naming = Naming::of(alloc, place)?;
+    let queues = naming.queues.as_slice().len() as u32;
+    let done = all_dones(alloc, &ops)?;
+    let homes = place.homes.as_slice();
+    let (shards, rows) = open_all::<A>(
+        alloc,
+        &shape,
+        place.knobs(),
+        place.geom,
+        homes,
+        &ops,
+        queues,
+    )?;
+    let Ops { by_rank, sizes } = ops;
+    let callers = callers_of::<A>(
+        alloc,
+        place.geom,
+        by_rank.into_vec(),
+        sizes.into_vec(),
+        rows,
+    )?;
+    let ends = run_callers(rt, alloc, shards, callers, gate)?;
+    let parts = parts_of(alloc, ends)?;
+    Ok(Report {
+        shards: parts,
+        done,
+        steps: None,
+    })
+}
