@@ -1,0 +1,4 @@
+pub mod ReadLemmas
+mod ReplayLemmas
+-- for the crates above
+pub mod BudgetLaws
