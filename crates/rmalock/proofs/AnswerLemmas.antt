@@ -1,14 +1,14 @@
 -- The answers to what isn't a replay: to words that are no form, to `make` and to `show`.
 use Rattle.std.proofs.Common.{◌≡◌, ℕ, List, [], Option, Some, None, Result, Ok, Err, IfOk, Vec, Global, ap, sym, subst, ◌∙◌}
-use Rattle.rmalock.specs.declared.complaint.Complaint.{Complaint}
+use Rattle.rl_replay.specs.declared.complaint.Complaint.{Complaint}
 use Rattle.rmalock.specs.declared.complaint.Quit.{Quit}
-use Rattle.rmalock.specs.declared.complaint.Stop.{Stop}
-use Rattle.rmalock.specs.declared.complaint.Stop.TheVariants.{Refused}
+use Rattle.rl_replay.specs.declared.complaint.Stop.{Stop}
+use Rattle.rl_replay.specs.declared.complaint.Stop.TheVariants.{Refused}
 use Rattle.rmalock.specs.Command.{Asked, Make, Show, usage_text}
-use Rattle.rmalock.specs.Headline.{Texts}
-use Rattle.rmalock.specs.Reading.{WasRead}
+use Rattle.rl_replay.specs.Files.{Texts, refused_line}
+use Rattle.rl_replay.specs.Reading.{WasRead}
 use Rattle.rmalock.specs.Summary.{made_summary}
-use Rattle.rmalock.specs.Answer.{shown, TheAnswer, Gives, WasAnswered, answer_to, refused_line}
+use Rattle.rmalock.specs.Answer.{shown, TheAnswer, Gives, WasAnswered, answer_to}
 
 -- what is said where the status is 0 goes without saying where nothing is asked of it
 nothing_kept : (result : Result TheAnswer Quit) → IfOk result (λ answer. answer.status ≡ 0 → Unit {0})

@@ -6,13 +6,14 @@ use Rattle.rl_ops.specs.declared.schedule.Schedule.{Schedule}
 use Rattle.rl_history.specs.Naming.{naming_of}
 use Rattle.rl_history.specs.Spelling.{report_spelling}
 use Rattle.rl_io.specs.Outside.{Appends}
-use Rattle.rmalock.specs.declared.complaint.Complaint.{Complaint}
-use Rattle.rmalock.specs.declared.complaint.Which.{Which}
+use Rattle.rl_replay.specs.declared.complaint.Complaint.{Complaint}
+use Rattle.rl_replay.specs.declared.complaint.Which.{Which}
 use Rattle.rmalock.specs.Command.{Asked, Replay, Make, Show}
 use Rattle.rmalock.specs.Replay.{report_of}
-use Rattle.rmalock.specs.Headline.{Texts, KeepsPromises, IsReplay}
-use Rattle.rmalock.specs.Reading.{placed, called, scheduled}
-use Rattle.rmalock.specs.Answer.{shown, TheAnswer, replayed, name_of, answer_to, answer_in, KeepsItsPromises, WasAnswered, IsDone}
+use Rattle.rl_replay.specs.Files.{Texts, name_of}
+use Rattle.rmalock.specs.Headline.{KeepsPromises, IsReplay}
+use Rattle.rl_replay.specs.Reading.{placed, called, scheduled}
+use Rattle.rmalock.specs.Answer.{shown, TheAnswer, replayed, answer_to, answer_in, KeepsItsPromises, WasAnswered, IsDone}
 use Rattle.rmalock.proofs.SpelledLaws.{PlaceRead, place_read, calls_read, schedule_read}
 
 -- texts that are replayed

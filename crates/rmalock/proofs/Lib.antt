@@ -1,11 +1,10 @@
-mod ReadLemmas
 mod RunLaws
 mod KeptLaws
-mod BudgetLaws
 mod ReportLaws
 mod SpelledLaws
 mod HeadlineLaws
 mod ReplayLemmas
+mod RunningLemmas
 mod AnswerLemmas
 mod DrawLaws
 mod DealtLaws

@@ -7,13 +7,13 @@ use Rattle.rl_history.specs.Naming.{naming_of}
 use Rattle.rl_history.specs.Spelling.{report_spelling}
 use Rattle.rmalock.specs.Replay.{report_of}
 use Rattle.rmalock.specs.Headline.{IsReplay, KeepsPromises}
-use Rattle.rmalock.specs.declared.complaint.Complaint.{Complaint}
-use Rattle.rmalock.specs.declared.complaint.Stop.{Stop}
-use Rattle.rmalock.specs.declared.complaint.Stop.TheVariants as stop
-use Rattle.rmalock.specs.Command.{Names}
-use Rattle.rmalock.specs.Reading.{◌>>=◌, Fits, EndsEarly, Ends, WasRead, placed, called, scheduled}
+use Rattle.rl_replay.specs.declared.complaint.Complaint.{Complaint}
+use Rattle.rl_replay.specs.declared.complaint.Stop.{Stop}
+use Rattle.rl_replay.specs.declared.complaint.Stop.TheVariants as stop
+use Rattle.rl_replay.specs.Files.{Names}
+use Rattle.rl_replay.specs.Reading.{◌>>=◌, Fits, EndsEarly, Ends, WasRead, placed, called, scheduled}
 use Rattle.rmalock.specs.Answer.{WasReplayed, replayed}
-use Rattle.rmalock.proofs.ReadLemmas.{fits_told}
+use Rattle.rl_replay.proofs.ReadLemmas.{fits_told}
 use Rattle.rmalock.proofs.HeadlineLaws.{is_replay}
 
 -- a step that ends early ends all that follows

@@ -5,19 +5,20 @@ use Rattle.rl_place.specs.ShapeText.{shape_spelling}
 use Rattle.rl_history.specs.Naming.{naming_of}
 use Rattle.rl_history.specs.Spelling.{report_spelling}
 use Rattle.rmalock.specs.Replay.{report_of}
-use Rattle.rmalock.specs.Headline.{Texts, IsReplay}
+use Rattle.rl_replay.specs.Files.{Names, Texts, name_of, refused_line}
+use Rattle.rmalock.specs.Headline.{IsReplay}
 use Rattle.std.specs.Global.{Vec}
 use Rattle.rl_io.specs.Outside.{Appends, GoesOn}
-use Rattle.rmalock.specs.declared.complaint.Which.{Which}
-use Rattle.rmalock.specs.declared.complaint.Which.TheVariants as which
-use Rattle.rmalock.specs.declared.complaint.Trouble.{Trouble}
-use Rattle.rmalock.specs.declared.complaint.Trouble.TheVariants.{TooLong, Refused}
-use Rattle.rmalock.specs.declared.complaint.Complaint.{Complaint}
-use Rattle.rmalock.specs.declared.complaint.Stop.{Stop}
+use Rattle.rl_replay.specs.declared.complaint.Which.{Which}
+use Rattle.rl_replay.specs.declared.complaint.Which.TheVariants as which
+use Rattle.rl_replay.specs.declared.complaint.Trouble.{Trouble}
+use Rattle.rl_replay.specs.declared.complaint.Trouble.TheVariants.{TooLong, Refused}
+use Rattle.rl_replay.specs.declared.complaint.Complaint.{Complaint}
+use Rattle.rl_replay.specs.declared.complaint.Stop.{Stop}
 use Rattle.rmalock.specs.declared.complaint.Quit.{Quit}
 use Rattle.rmalock.specs.declared.complaint.Quit.TheVariants as quit
-use Rattle.rmalock.specs.Command.{Names, Asked, Replay, Make, Show, form_of, usage_text}
-use Rattle.rmalock.specs.Reading.{◌>>=◌, placed, called, scheduled, Fits, Ends}
+use Rattle.rmalock.specs.Command.{Asked, Replay, Make, Show, form_of, usage_text}
+use Rattle.rl_replay.specs.Reading.{◌>>=◌, placed, called, scheduled, Fits, Ends}
 use Rattle.rmalock.specs.Summary.{made_summary}
 
 -- a status, and the bytes that belong to it
@@ -38,21 +39,6 @@ unfoldable pub shown : List ℕ → Result (List ℕ) Complaint
 shown bytes = do
   place ← placed bytes
   Ok (shape_spelling place)
-
--- the name of a file of a replay, as the command line gives it
-abbrev pub name_of : Names → Which → List ℕ
-name_of names which.Place = names.place
-name_of names which.Calls = names.calls
-name_of names which.Schedule = names.schedule
-
--- a place in a file, and a cause
-abbrev pub trouble_words : Trouble → List (List ℕ)
-trouble_words TooLong = codes "0" ∷ codes "0" ∷ codes "toolong" ∷ []
-trouble_words (Refused refusal) = refusal_words refusal
-
--- `refused NAME LINE WORD WHY`
-abbrev pub refused_line : List ℕ → Trouble → List ℕ
-refused_line name trouble = line_text (codes "refused" ∷ name ∷ trouble_words trouble)
 
 -- what is written, where files have these names: the text, or the first complaint
 abbrev pub answer_to : (Which → List ℕ) → Result (List ℕ) Complaint → TheAnswer

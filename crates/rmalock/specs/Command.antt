@@ -2,18 +2,10 @@
 use Rattle.std.specs.Prelude.{ℕ, ◌≤◌, List, [], ◌∷◌, ◌++◌, codes, nat_le, ◌&&◌, Option, Some, None, if◌then◌else◌}
 use Rattle.std.specs.Str.{bytes_eq}
 use Rattle.rl_text.specs.Number.{number_of}
-use Rattle.rmalock.specs.declared.command.Files.{Files}
+use Rattle.rl_replay.specs.Files.{Names, named}
+use Rattle.rmalock.specs.declared.command.RunFiles.{RunFiles}
 use Rattle.rmalock.specs.declared.command.Form.{Form}
 use Rattle.rmalock.specs.declared.command.Form.TheVariants as form
-
--- the names of the files of a replay
-pub record Names : Type 0 where
-  pub place : List ℕ
-  pub calls : List ℕ
-  pub schedule : List ℕ
-
-abbrev pub named : Files → Names
-named files = record { place = files.place.now; calls = files.calls.now; schedule = files.schedule.now }
 
 -- what is asked for
 pub data Asked : Type 0 where
@@ -57,3 +49,21 @@ abbrev pub form_of : List (List ℕ) → Option Asked
 form_of (verb ∷ word ∷ []) = form_of_one verb word
 form_of (verb ∷ first ∷ second ∷ third ∷ []) = form_of_three verb first second third
 form_of _ = None
+
+-- ---- a run, which may wait, and so is asked for apart
+
+-- the names of its files
+pub record RunNames : Type 0 where
+  pub place : List ℕ
+  pub calls : List ℕ
+
+abbrev pub run_named : RunFiles → RunNames
+run_named files = record { place = files.place.now; calls = files.calls.now }
+
+abbrev pub run_of_two : List ℕ → List ℕ → List ℕ → Option RunNames
+run_of_two verb place calls = if bytes_eq verb (codes "run") then Some (record { place = place; calls = calls }) else None
+
+-- `run PLACE CALLS`; other words ask for no run
+abbrev pub run_of : List (List ℕ) → Option RunNames
+run_of (verb ∷ place ∷ calls ∷ []) = run_of_two verb place calls
+run_of _ = None

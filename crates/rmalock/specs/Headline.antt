@@ -17,6 +17,7 @@ use Rattle.rl_ops.specs.declared.ops.Ops.{Ops}
 use Rattle.rl_ops.specs.declared.schedule.Schedule.{Schedule}
 use Rattle.rl_ops.specs.Ops.{SpellsOps}
 use Rattle.rl_ops.specs.Schedule.{ScheduleFits, schedule_spelling}
+use Rattle.rl_replay.specs.Files.{Texts}
 use Rattle.rl_history.specs.Naming.{naming_of}
 use Rattle.rl_history.specs.Spelling.{report_spelling}
 use Rattle.rl_whole.specs.Running.{ShardRun, Running}
@@ -28,12 +29,6 @@ use Rattle.rl_whole.specs.RunActs.{EachSays}
 use Rattle.rl_whole.specs.Promises.{journal_on, history_on, EachKeepsQueues}
 use Rattle.rmalock.specs.Locks.{kind_of}
 use Rattle.rmalock.specs.Replay.{start_with, run_with, report_of}
-
--- the bytes of the named files
-pub record Texts : Type 0 where
-  pub place : List ℕ
-  pub calls : List ℕ
-  pub schedule : List ℕ
 
 -- of each shard of a machine
 abbrev pub OnShards : {V : Type 0} → Running V → (ShardRun V → Type 0) → Type 0

@@ -2,9 +2,10 @@
 pub mod Locks
 pub mod Replay
 pub mod Headline
+pub mod RunHeadline
 pub mod Generate
 pub mod Rounds
 pub mod Summary
 pub mod Command
-pub mod Reading
 pub mod Answer
+pub mod RunAnswer

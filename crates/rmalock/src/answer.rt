@@ -2,16 +2,17 @@
 ghost use Rattle.std.specs.Prelude.{◌≡◌, ◌≢◌, ◌≤◌, map, string_bytes, IsTrue, IfOk, IfErr, Ok, Err, Option, Some};
 ghost use Rattle.rl_place.specs.declared.limits.TheConstants.{MOST_RANKS};
 ghost use Rattle.rl_ops.specs.declared.ops.TheConstants.{MOST_CALLS};
-ghost use Rattle.rmalock.specs.Command.{Replay, Make, Show, asked, form_of, named, usage_text};
-ghost use Rattle.rmalock.specs.Answer.{MayRead, NamesNoFile, TheAnswer, RisesWithFault, WasAnswered, name_of as name_at, refused_line};
+ghost use Rattle.rl_replay.specs.Files.{named, refused_line};
+ghost use Rattle.rmalock.specs.Command.{Replay, Make, Show, asked, form_of, usage_text};
+ghost use Rattle.rmalock.specs.Answer.{MayRead, NamesNoFile, TheAnswer, RisesWithFault, WasAnswered};
 
-use crate::command::{Files, Form, form_of_words};
-use crate::complaint::{Quit, Stop, Trouble, Which};
+use crate::command::{Form, form_of_words};
+use crate::complaint::Quit;
 use crate::making::made_summary;
 use crate::replaying::replayed;
 use crate::showing::shown;
 use rl_io::Source;
-use rl_text::put_refusal;
+use rl_replay::{Files, Stop, Trouble, refusal_line};
 use std::alloc::{AllocError, Global};
 use std::marker::Model;
 
@@ -61,28 +62,11 @@ fn usage(alloc: Global) -> Result<Answer, AllocError>
     Ok(Answer::new(1, text))
 }
 
-fn name_of<'a>(files: &Files<'a>, which: Which) -> &'a str
-    ensures { result.now ≡ name_at (named files.now) which }
-{
-    match which {
-        Which::Place => files.place,
-        Which::Calls => files.calls,
-        Which::Schedule => files.schedule,
-    }
-}
-
 /// The line that names the file that is refused, the place in it and the cause.
-fn refused(alloc: Global, name: &str, trouble: Trouble) -> Result<Answer, AllocError>
+pub fn refused(alloc: Global, name: &str, trouble: Trouble) -> Result<Answer, AllocError>
     ensures { IfOk result (λ answer. answer ≡ record { status = 2; text = refused_line name.now trouble }) }
 {
-    let mut text = Vec::from_slice(alloc, b"refused ")?;
-    text.extend_from_slice(name.as_bytes())?;
-    text.push(b' ')?;
-    match trouble {
-        Trouble::TooLong => text.extend_from_slice(b"0 0 toolong")?,
-        Trouble::Refused(refusal) => put_refusal(&mut text, refusal)?,
-    }
-    text.push(b'\n')?;
+    let text = refusal_line(alloc, name, trouble)?;
     Ok(Answer::new(2, text))
 }
 
@@ -95,7 +79,7 @@ fn answer_replay<S: Source>(alloc: Global, source: &mut S, files: Files<'_>) -> 
     match replayed(alloc, source, files) {
         Ok(text) => Ok(Answer::new(0, text)),
         Err(Stop::Refused(complaint)) => {
-            let name = name_of(&files, complaint.which);
+            let name = files.name(complaint.which);
             Ok(refused(alloc, name, complaint.trouble)?)
         }
         Err(Stop::Fault) => Err(Quit::Fault),

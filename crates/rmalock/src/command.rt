@@ -2,18 +2,18 @@
 ghost use Rattle.std.specs.Prelude.{◌≡◌, map, string_bytes, IfSome};
 ghost use Rattle.std.specs.Option.{option_map};
 ghost use Rattle.rl_text.specs.Number.{number_of};
-ghost use Rattle.rmalock.specs.Command.{AskFits, asked, make_of, form_of, form_of_one as form_of_one_at, form_of_three as form_of_three_at};
+ghost use Rattle.rmalock.specs.Command.{AskFits, asked, run_named, run_of, run_of_two, make_of, form_of, form_of_one as form_of_one_at, form_of_three as form_of_three_at};
 
 use rl_ops::MOST_CALLS;
 use rl_place::MOST_RANKS;
+use rl_replay::Files;
 use rl_text::number;
 
-/// The files that a replay names, in the order in which they are read.
+/// The files that a run names, in the order in which they are read.
 #[derive(Clone, Copy)]
-pub struct Files<'a> {
+pub struct RunFiles<'a> {
     pub place: &'a str,
     pub calls: &'a str,
-    pub schedule: &'a str,
 }
 
 /// What the words ask for.
@@ -91,6 +91,26 @@ pub fn form_of_words(words: &[String]) -> Option<Form<'_>>
             second.as_str(),
             third.as_str(),
         ),
+        _ => None,
+    }
+}
+
+/// The files of a run, where the verb asks for one.
+fn run_files_of<'a>(verb: &str, place: &'a str, calls: &'a str) -> Option<RunFiles<'a>>
+    ensures { option_map run_named result ≡ run_of_two verb.now place.now calls.now }
+{
+    match verb {
+        "run" => Some(RunFiles { place, calls }),
+        _ => None,
+    }
+}
+
+/// The files that `run PLACE CALLS` names. Nothing where the words ask for no run.
+pub fn run_files(words: &[String]) -> Option<RunFiles<'_>>
+    ensures { option_map run_named result ≡ run_of (map string_bytes words.now) }
+{
+    match words {
+        [verb, place, calls] => run_files_of(verb.as_str(), place.as_str(), calls.as_str()),
         _ => None,
     }
 }

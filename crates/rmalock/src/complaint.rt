@@ -1,45 +1,8 @@
-// Why a file is refused, and why a program ends early.
+// Why a program ends with no answer.
 ghost use Rattle.std.specs.Prelude.{◌≡◌};
-ghost use Rattle.rmalock.specs.declared.complaint.Stop.TheVariants.{Memory};
 ghost use Rattle.rmalock.specs.declared.complaint.Quit.TheVariants.{Memory as out_of_memory};
 
-use rl_text::Refusal;
-use std::alloc::{AllocError, AllocFailed};
-
-/// The files of a replay, in the order in which they are read.
-#[derive(Clone, Copy, PartialEq, Eq, Debug)]
-pub enum Which {
-    Place,
-    Calls,
-    Schedule,
-}
-
-/// Why a file is refused.
-#[derive(Clone, Copy, PartialEq, Eq, Debug)]
-pub enum Trouble {
-    /// It has more bytes than a file of its kind may have.
-    TooLong,
-    /// It isn't a text of its kind, or one that this program doesn't do.
-    Refused(Refusal),
-}
-
-/// The first file that is refused, and why.
-#[derive(Clone, Copy, PartialEq, Eq, Debug)]
-pub struct Complaint {
-    pub which: Which,
-    pub trouble: Trouble,
-}
-
-/// What ends a replay before its report stands.
-#[derive(Clone, Copy, PartialEq, Eq, Debug)]
-pub enum Stop {
-    /// A file is refused.
-    Refused(Complaint),
-    /// A file could not be opened or read.
-    Fault,
-    /// Want of memory.
-    Memory,
-}
+use std::alloc::AllocError;
 
 /// What ends the program with no answer.
 #[derive(Clone, Copy, PartialEq, Eq, Debug)]
@@ -55,21 +18,5 @@ impl From<AllocError> for Quit {
 
     fn from(_want: AllocError) -> Quit {
         Quit::Memory
-    }
-}
-
-impl From<AllocError> for Stop {
-    ghost from_gives = { λ _ stop. stop ≡ Memory };
-
-    fn from(_want: AllocError) -> Stop {
-        Stop::Memory
-    }
-}
-
-impl<T: Drop> From<AllocFailed<T>> for Stop {
-    ghost from_gives = { λ _ stop. stop ≡ Memory };
-
-    fn from(_want: AllocFailed<T>) -> Stop {
-        Stop::Memory
     }
 }

@@ -4,7 +4,7 @@ use Rattle.rl_place.specs.declared.lock.Lock.TheVariants as lock
 use Rattle.rmalock.specs.Locks.{kind_of}
 use Rattle.rmalock.specs.Replay.{run_with, report_in, queue_count}
 use Rattle.rmalock.specs.Headline.{IsKept}
-use Rattle.rmalock.proofs.BudgetLaws.{budgeted, suits_rw}
+use Rattle.rl_replay.proofs.BudgetLaws.{budgeted, suits_rw}
 use Rattle.rmalock.proofs.replaying.replay_report.Goals as goal
 
 pub report_with-requires-in-Mcs-clause-knobs : goal.report_with-requires-in-Mcs-clause-knobs

@@ -1,6 +1,6 @@
 use Rattle.std.proofs.Common.{◌∙◌, sym, subst, Ok, Err, ap}
 use Rattle.std.proofs.lemmas.Result.{err_from_is_err_and}
-use Rattle.rmalock.specs.Reading.{WasRead, called, scheduled}
+use Rattle.rl_replay.specs.Reading.{WasRead, called, scheduled}
 use Rattle.rl_history.specs.Naming.{naming_of}
 use Rattle.rl_history.specs.Spelling.{report_spelling}
 use Rattle.rmalock.proofs.ReplayLemmas.{place_stops, calls_stop, schedule_stops, memory_stops, all_read}

@@ -1,5 +1,5 @@
 use Rattle.std.proofs.Common.{ap, sym, ◌∙◌}
-use Rattle.rmalock.proofs.BudgetLaws.{budgeted, suits_rw}
+use Rattle.rl_replay.proofs.BudgetLaws.{budgeted, suits_rw}
 use Rattle.rmalock.proofs.trials.trial.Goals as goal
 
 pub run-requires-in-Mcs-clause-knobs : goal.run-requires-in-Mcs-clause-knobs

@@ -1,0 +1,504 @@
+//! Worked cases of runs by threads, with values from their definition, and gates that lead the ranks.
+
+use crate::program::rmalock;
+use crate::running::run_report;
+use crate::trials::trial;
+use rl_history::Report;
+use rl_io::{FixedSink, Gate, OpenGate, SureFiles};
+use rl_model::Reply;
+use rl_ops::read_ops;
+use rl_place::read_place;
+use rl_text::{TEXT_LIMIT, TextErr};
+use std::alloc::AllocError as OutOfMemory;
+use std::process::Abort;
+use std::sync::Wait;
+use std::sync::atomic::{AtomicU64, Ordering};
+use std::test::*;
+use std::thread::Threads;
+
+/// So often a gate looks whether it is a rank's turn, before it gives up.
+const MOST_LOOKS: u64 = 50_000_000;
+
+/// Lets the ranks on in the order of a list of turns, one step each, and notes the answers.
+#[derive(Drop)]
+struct Led {
+    turns: Vec<u32>,
+    answers: Vec<AtomicU64>,
+    made: AtomicU64,
+    missed: AtomicU64,
+}
+
+impl Led {
+    fn new<R: AllocGlobal>(rt: &R, turns: &[(u32, u32)]) -> Result<Led, OutOfMemory> {
+        let mut list = Vec::new(rt.alloc());
+        let mut answers = Vec::new(rt.alloc());
+        for (rank, count) in turns {
+            for _ in 0..*count {
+                list.push(*rank)?;
+                answers.push(AtomicU64::new(0))?;
+            }
+        }
+        Ok(Led {
+            turns: list,
+            answers,
+            made: AtomicU64::new(0),
+            missed: AtomicU64::new(0),
+        })
+    }
+
+    /// Returns once the next turn is the rank's, or no turn is left, or after so many looks, which it notes.
+    fn wait_for(&self, rank: u32) {
+        for _ in 0..MOST_LOOKS {
+            match self.turns.get(self.made.load(Ordering::SeqCst) as usize) {
+                Some(next) if *next != rank => {}
+                _ => return,
+            }
+        }
+        self.missed.store(1, Ordering::SeqCst);
+    }
+}
+
+impl Gate for Led {
+    fn before(&self, rank: u32, call: u32) {
+        if call == 0 {
+            self.wait_for(rank);
+        }
+    }
+
+    fn after(&self, rank: u32, answer: u32) {
+        if answer == 5 {
+            return;
+        }
+        let turn = self.made.load(Ordering::SeqCst);
+        if let Some(note) = self.answers.get(turn as usize) {
+            note.store(u64::from(answer), Ordering::SeqCst);
+            self.made.fetch_add(1, Ordering::SeqCst);
+            self.wait_for(rank);
+        }
+    }
+}
+
+/// Lets two ranks on to a call of the same number only together.
+#[derive(Drop)]
+struct Both {
+    asked: [AtomicU64; 2],
+    missed: AtomicU64,
+}
+
+impl Gate for Both {
+    fn before(&self, rank: u32, call: u32) {
+        let (mine, other) = match rank {
+            0 => (&self.asked[0], &self.asked[1]),
+            _ => (&self.asked[1], &self.asked[0]),
+        };
+        mine.store(u64::from(call) + 1, Ordering::SeqCst);
+        for _ in 0..MOST_LOOKS {
+            if other.load(Ordering::SeqCst) > u64::from(call) {
+                return;
+            }
+        }
+        self.missed.store(1, Ordering::SeqCst);
+    }
+
+    fn after(&self, _rank: u32, _answer: u32) {}
+}
+
+/// The status and the text of `run p c`, over files and a sink that never fail, with a gate that is always open.
+fn run_of<R: Threads + Wait + Sync + AllocGlobal>(
+    rt: &R,
+    place: &str,
+    calls: &str,
+) -> Result<(u8, Vec<u8>), OutOfMemory> {
+    let mut words = Vec::new(rt.alloc());
+    let mut files = Vec::new(rt.alloc());
+    words.push(String::from_str(rt.alloc(), "run")?)?;
+    for (name, text) in [("p", place), ("c", calls)] {
+        words.push(String::from_str(rt.alloc(), name)?)?;
+        let bytes = Vec::from_slice(rt.alloc(), text.as_bytes())?;
+        files.push((String::from_str(rt.alloc(), name)?, bytes))?;
+    }
+    let mut source = SureFiles::new(files);
+    let mut out = FixedSink::new(rt.alloc(), 65_536)?;
+    let status = rmalock(
+        rt,
+        rt.alloc(),
+        words.as_slice(),
+        &mut source,
+        &mut out,
+        &OpenGate,
+    );
+    Ok((status, Vec::from_slice(rt.alloc(), out.bytes())?))
+}
+
+/// The report of a run of these texts, with a gate.
+fn report_of<G: Gate, R: Threads + Wait + Sync + AllocGlobal>(
+    rt: &R,
+    place: &str,
+    calls: &str,
+    gate: &G,
+) -> Result<Report, Fail> {
+    if place.len() >= TEXT_LIMIT as usize || calls.len() >= TEXT_LIMIT as usize {
+        return Err(TextErr::Memory.into());
+    }
+    let place = read_place(rt.alloc(), place.as_bytes())?;
+    let ranks = place.paths.len() as u32;
+    let ops = read_ops(rt.alloc(), ranks, place.geom.shards, calls.as_bytes())?;
+    Ok(run_report(rt, rt.alloc(), &place, ops, gate)?)
+}
+
+/// A placement with this lock, of one shard with so many buckets and cells on node 0, and ranks on these nodes.
+fn one_shard<R: AllocGlobal>(
+    rt: &R,
+    lock: &str,
+    size: &str,
+    nodes: &str,
+) -> Result<String, OutOfMemory> {
+    let mut place = format!(in rt.alloc();
+        "rmalock-place 1\nlevels 1\nlock {lock}\nshards 1\n{size}\n"
+    )?;
+    for (rank, node) in nodes.as_bytes().iter().enumerate() {
+        let node = node.saturating_sub(b'0');
+        place.push_str(&format!(in rt.alloc(); "rank {rank} at {node}\n")?)?;
+    }
+    place.push_str("home 0 0\nend\n")?;
+    Ok(place)
+}
+
+const SMALL: &str = "buckets 1\noverflow 0";
+
+/// One rank alone: what its calls come to doesn't depend on threads.
+#[test]
+fn one_rank_runs(rt: HostRuntime) -> Result<(), Fail> {
+    let cases = [
+        (
+            "buckets 1\noverflow 1",
+            "rmalock-calls 1\n0 put 0 1\n0 put 1 2\n0 put 2 3\n0 put 1 9\n0 del 0\n0 put 2 3\nend\n",
+            "shard 0 updates 6 entries 6\nentry 0 0 0 put 0 1 = new\nentry 1 0 1 put 1 2 = new\nentry 2 0 2 put 2 3 = full\nentry 3 0 3 put 1 9 = was 2\nentry 4 0 4 del 0 = was 1\nentry 5 0 5 put 2 3 = new\npair 1 9\npair 2 3\nrank 0 done 6 of 6\n",
+        ),
+        (
+            "buckets 2\noverflow 0",
+            "rmalock-calls 1\n0 put 0 1\n0 put 1 1\n0 put 2 1\nend\n",
+            "shard 0 updates 3 entries 3\nentry 0 0 0 put 0 1 = new\nentry 1 0 1 put 1 1 = new\nentry 2 0 2 put 2 1 = full\npair 0 1\npair 1 1\nrank 0 done 3 of 3\n",
+        ),
+        (
+            SMALL,
+            "rmalock-calls 1\n0 put 18446744073709551615 18446744073709551615\n0 add 18446744073709551615 1\n0 add 18446744073709551615 0\nend\n",
+            "shard 0 updates 3 entries 3\nentry 0 0 0 put 18446744073709551615 18446744073709551615 = new\nentry 1 0 1 add 18446744073709551615 1 = over 18446744073709551615\nentry 2 0 2 add 18446744073709551615 0 = sum 18446744073709551615\npair 18446744073709551615 18446744073709551615\nrank 0 done 3 of 3\n",
+        ),
+        (
+            "buckets 2\noverflow 0",
+            "rmalock-calls 1\n0 get 5\n0 put 5 1\n0 cas 5 1 2\n0 cas 5 1 3\n0 cas 6 0 0\n0 del 6\n0 get 5\n0 get 6\n0 hold 0\nend\n",
+            "shard 0 updates 5 entries 9\nentry 0 0 0 get 5 = none\nentry 0 0 1 put 5 1 = new\nentry 1 0 2 cas 5 1 2 = was 1\nentry 2 0 3 cas 5 1 3 = no 2\nentry 3 0 4 cas 6 0 0 = none\nentry 4 0 5 del 6 = none\nentry 5 0 6 get 5 = val 2\nentry 5 0 7 get 6 = none\nentry 5 0 8 hold 0 = held\npair 5 2\nrank 0 done 9 of 9\n",
+        ),
+        // a batch that finds no room is undone as a whole
+        (
+            SMALL,
+            "rmalock-calls 2\n0 put 0 1\n0 batch 2\n0 put 0 5\n0 put 1 6\n0 batch 2\n0 del 0\n0 put 1 7\nend\n",
+            "shard 0 updates 5 entries 5\nentry 0 0 0 put 0 1 = new\nentry 1 0 1 put 0 5 = undone part 0 of 2\nentry 2 0 2 put 1 6 = full part 1 of 2\nentry 3 0 3 del 0 = was 1 part 0 of 2\nentry 4 0 4 put 1 7 = new part 1 of 2\npair 1 7\nrank 0 done 5 of 5\n",
+        ),
+        // and so is one whose sum is too large
+        (
+            SMALL,
+            "rmalock-calls 2\n0 put 0 18446744073709551615\n0 batch 2\n0 put 0 5\n0 add 0 18446744073709551615\n0 get 0\nend\n",
+            "shard 0 updates 3 entries 4\nentry 0 0 0 put 0 18446744073709551615 = new\nentry 1 0 1 put 0 5 = undone part 0 of 2\nentry 2 0 2 add 0 18446744073709551615 = over 5 part 1 of 2\nentry 3 0 3 get 0 = val 18446744073709551615\npair 0 18446744073709551615\nrank 0 done 4 of 4\n",
+        ),
+    ];
+    for (size, calls, want) in cases {
+        let place = one_shard(&rt, "spin", size, "0")?;
+        let (status, text) = run_of(&rt, &place, calls)?;
+        assert_eq!(rt; status, 0);
+        let report = format!(in rt.alloc();
+            "rmalock-report 2\nrun spin\nranks 1 shards 1\n{want}end\n"
+        )?;
+        assert_eq!(rt; text.as_slice(), report.as_bytes());
+    }
+    Ok(())
+}
+
+/// The reply of a rank's call on shard 0, and the count that it looked at.
+fn reply_of(report: &Report, rank: u32, seq: u32) -> Option<(u32, Reply)> {
+    for entry in report.shards.as_slice().first()?.entries.as_slice() {
+        if entry.rank == rank && entry.seq == seq {
+            return Some((entry.at, entry.reply));
+        }
+    }
+    None
+}
+
+/// Two ranks that go on to each of their calls only together: they run side by side, or the gate gives up.
+#[test]
+fn two_ranks_wait_for_each_other(rt: HostRuntime) -> Result<(), Fail> {
+    for lock in ["alock\nbudget 4 4", "spin", "dmcs", "mcs\nbudget 4"] {
+        let place = one_shard(&rt, lock, "buckets 2\noverflow 0", "01")?;
+        let calls = "rmalock-calls 1\n0 put 0 5\n0 get 0\n1 put 1 6\n1 get 1\nend\n";
+        for _ in 0..10 {
+            let gate = Both {
+                asked: [AtomicU64::new(0), AtomicU64::new(0)],
+                missed: AtomicU64::new(0),
+            };
+            let report = report_of(&rt, &place, calls, &gate)?;
+            assert_eq!(rt; gate.missed.load(Ordering::SeqCst), 0);
+            assert!(rt; matches!(reply_of(&report, 0, 1), Some((_, Reply::Val(5)))));
+            assert!(rt; matches!(reply_of(&report, 1, 1), Some((_, Reply::Val(6)))));
+        }
+    }
+    Ok(())
+}
+
+/// The number of an answer, by its sign in what a trial tells.
+fn answer_of(sign: &str) -> u64 {
+    match sign.as_bytes().first() {
+        Some(b'm') => 1,
+        Some(b'w') => 2,
+        Some(b'l') => 3,
+        Some(b'b') => 4,
+        _ => 0,
+    }
+}
+
+/// Runs these texts led by turns, and looks that the ranks got the answers that the machine gives for the same turns, of each kind so
+/// many: moved, waiting, lost, busy.
+fn run_led<R: Threads + Wait + Sync + AllocGlobal + Abort>(
+    rt: &R,
+    place: &str,
+    calls: &str,
+    turns: &[(u32, u32)],
+    counts: [u64; 4],
+) -> Result<Report, Fail> {
+    let mut ranks = String::new(rt.alloc());
+    for (rank, count) in turns {
+        for _ in 0..*count {
+            ranks.push_str(&format!(in rt.alloc(); "{rank}")?)?;
+        }
+    }
+    let told = trial(rt.alloc(), place, calls, &ranks)?;
+    let gate = Led::new(rt, turns)?;
+    let report = report_of(rt, place, calls, &gate)?;
+    assert_eq!(rt; gate.missed.load(Ordering::SeqCst), 0);
+    let mut seen = [0u64; 5];
+    let mut signs = told.as_str().split(' ');
+    for note in gate.answers.as_slice() {
+        let answer = note.load(Ordering::SeqCst);
+        assert_eq!(rt; answer, answer_of(signs.next().unwrap_or("")));
+        if let Some(count) = seen.get_mut(answer as usize) {
+            *count = count.saturating_add(1);
+        }
+    }
+    for (count, want) in seen.iter().skip(1).zip(counts.iter()) {
+        assert_eq!(rt; *count, *want);
+    }
+    for done in report.done.as_slice() {
+        assert_eq!(rt; done.done, done.given);
+    }
+    Ok(report)
+}
+
+const HOLDS_OF_TWO: &str = "rmalock-calls 1\n0 hold 0\n1 hold 0\nend\n";
+
+const HOLDS_OF_THREE: &str = "rmalock-calls 1\n0 hold 0\n1 hold 0\n2 hold 0\nend\n";
+
+const HOLDS_OF_FOUR: &str = "rmalock-calls 1\n0 hold 0\n1 hold 0\n2 hold 0\n3 hold 0\nend\n";
+
+/// Runs that are led through the worked schedules of each lock.
+#[test]
+fn runs_led_by_turns(rt: HostRuntime) -> Result<(), Fail> {
+    let cases = [
+        (
+            "spin",
+            "00",
+            HOLDS_OF_TWO,
+            [(0, 2), (1, 1)].as_slice(),
+            [2, 0, 0, 1],
+        ),
+        (
+            "spin",
+            "00",
+            HOLDS_OF_TWO,
+            [(0, 4), (1, 3)].as_slice(),
+            [6, 0, 1, 0],
+        ),
+        (
+            "dmcs",
+            "00",
+            HOLDS_OF_TWO,
+            [(0, 6), (1, 9), (0, 6), (1, 1), (0, 2), (1, 1)].as_slice(),
+            [22, 1, 2, 0],
+        ),
+        (
+            "alock\nbudget 1 1",
+            "01",
+            HOLDS_OF_TWO,
+            [(1, 4), (0, 5), (1, 5)].as_slice(),
+            [13, 1, 0, 0],
+        ),
+        (
+            "alock\nbudget 1 1",
+            "01",
+            HOLDS_OF_TWO,
+            [(0, 3), (1, 6), (0, 1), (1, 1), (0, 2), (1, 2)].as_slice(),
+            [14, 1, 0, 0],
+        ),
+        (
+            "alock\nbudget 0 0",
+            "00",
+            HOLDS_OF_TWO,
+            [(0, 5), (1, 5), (0, 3), (1, 3)].as_slice(),
+            [15, 0, 1, 0],
+        ),
+        (
+            "mcs\nbudget 1",
+            "0011",
+            HOLDS_OF_THREE,
+            [(0, 12), (1, 10), (2, 16), (0, 3), (1, 10), (2, 1)].as_slice(),
+            [50, 0, 2, 0],
+        ),
+        (
+            "rw\nbudget 1\nwriters 1\nreaders 1000\ngroup 32",
+            "0120",
+            "rmalock-calls 1\n0 hold 0\n1 hold 0\n2 hold 0\n3 get 0\nend\n",
+            [
+                (0, 18),
+                (1, 16),
+                (2, 16),
+                (3, 11),
+                (0, 9),
+                (1, 18),
+                (3, 5),
+                (2, 7),
+            ]
+            .as_slice(),
+            [96, 2, 2, 0],
+        ),
+    ];
+    for (lock, nodes, calls, turns, counts) in cases {
+        let place = one_shard(&rt, lock, SMALL, nodes)?;
+        for _ in 0..5 {
+            let _report = run_led(&rt, &place, calls, turns, counts)?;
+        }
+    }
+    Ok(())
+}
+
+/// Two cohorts, led until the budget of the local one is used up; what the ranks do afterwards is theirs.
+#[test]
+fn a_budget_is_used_up_by_turns(rt: HostRuntime) -> Result<(), Fail> {
+    let place = one_shard(&rt, "alock\nbudget 1 1", SMALL, "0001")?;
+    let turns = [
+        (0, 4),
+        (3, 7),
+        (0, 2),
+        (1, 5),
+        (2, 5),
+        (0, 3),
+        (1, 4),
+        (2, 4),
+        (3, 2),
+    ];
+    for _ in 0..5 {
+        let report = run_led(&rt, &place, HOLDS_OF_FOUR, turns.as_slice(), [33, 1, 2, 0])?;
+        if let Some(shard) = report.shards.as_slice().first() {
+            assert_eq!(rt; shard.queues.len(), 2);
+            assert!(rt;
+                shard
+                    .queues
+                    .as_slice()
+                    .iter()
+                    .map(|t| (t.settled, t.passed))
+                    .eq([(2, 1), (1, 0)])
+            );
+        }
+    }
+    Ok(())
+}
+
+/// The reply follows the order in which the gate lets the ranks go.
+#[test]
+fn who_goes_first(rt: HostRuntime) -> Result<(), Fail> {
+    let place = one_shard(&rt, "spin", SMALL, "00")?;
+    let calls = "rmalock-calls 1\n0 put 0 1\n1 get 0\nend\n";
+    for _ in 0..5 {
+        let report = run_led(&rt, &place, calls, [(0, 3)].as_slice(), [3, 0, 0, 0])?;
+        assert!(rt; matches!(reply_of(&report, 1, 0), Some((1, Reply::Val(1)))));
+        let report = run_led(&rt, &place, calls, [(1, 3)].as_slice(), [3, 0, 0, 0])?;
+        assert!(rt; matches!(reply_of(&report, 1, 0), Some((0, Reply::Nothing))));
+    }
+    Ok(())
+}
+
+/// A placement with this lock, four nodes in pairs, two ranks on each, and four shards, one at home on each.
+fn eight_ranks<R: AllocGlobal>(rt: &R, lock: &str) -> Result<String, OutOfMemory> {
+    format!(in rt.alloc();
+        "rmalock-place 1\nlevels 2\nlock {lock}\nshards 4\nbuckets 64\noverflow 64\nrank 0 at 0.0\nrank 1 at 0.0\nrank 2 at 0.1\nrank 3 at 0.1\nrank 4 at 1.0\nrank 5 at 1.0\nrank 6 at 1.1\nrank 7 at 1.1\nhome 0 0.0\nhome 1 0.1\nhome 2 1.0\nhome 3 1.1\nend\n"
+    )
+}
+
+/// Eight ranks put keys of their own and get each again: a rank reads its own write.
+#[test]
+fn ranks_read_their_own_writes(rt: HostRuntime) -> Result<(), Fail> {
+    let mut calls = format!(in rt.alloc(); "rmalock-calls 1\n")?;
+    for rank in 0..8u32 {
+        for i in 0..25u32 {
+            let key = 8 * (i % 12) + rank;
+            let value = 2 * i;
+            calls.push_str(&format!(in rt.alloc();
+                "{rank} put {key} {value}\n{rank} get {key}\n"
+            )?)?;
+        }
+    }
+    calls.push_str("end\n")?;
+    for lock in [
+        "rw\nbudget 4 4\nwriters 4\nreaders 16\ngroup 2",
+        "mcs\nbudget 4 4",
+    ] {
+        let place = eight_ranks(&rt, lock)?;
+        for _ in 0..5 {
+            let report = report_of(&rt, &place, &calls, &OpenGate)?;
+            let mut gets = 0u32;
+            for shard in report.shards.as_slice() {
+                for entry in shard.entries.as_slice() {
+                    match entry.reply {
+                        Reply::Val(value) => {
+                            assert_eq!(rt; Some(value), u64::from(entry.seq).checked_sub(1));
+                            gets = gets.saturating_add(1);
+                        }
+                        reply => assert!(rt; matches!(reply, Reply::New | Reply::Was(_))),
+                    }
+                }
+            }
+            assert_eq!(rt; gets, 200);
+            for done in report.done.as_slice() {
+                assert!(rt; done.done == 50 && done.given == 50);
+            }
+        }
+    }
+    Ok(())
+}
+
+/// Eight ranks make batches of two puts on keys of their own, which all have room.
+#[test]
+fn batches_of_eight_ranks(rt: HostRuntime) -> Result<(), Fail> {
+    let mut calls = format!(in rt.alloc(); "rmalock-calls 2\n")?;
+    for rank in 0..8u32 {
+        let other = rank + 8;
+        for i in 0..20u32 {
+            calls.push_str(&format!(in rt.alloc();
+                "{rank} batch 2\n{rank} put {rank} {i}\n{rank} put {other} {i}\n"
+            )?)?;
+        }
+    }
+    calls.push_str("end\n")?;
+    let place = eight_ranks(&rt, "rw\nbudget 4 4\nwriters 4\nreaders 16\ngroup 2")?;
+    for _ in 0..5 {
+        let report = report_of(&rt, &place, &calls, &OpenGate)?;
+        for shard in report.shards.as_slice() {
+            for entry in shard.entries.as_slice() {
+                assert!(rt; matches!(entry.reply, Reply::New | Reply::Was(_)));
+                assert_eq!(rt; entry.batch, 2);
+            }
+        }
+        for done in report.done.as_slice() {
+            assert!(rt; done.done == 40 && done.given == 40);
+        }
+    }
+    Ok(())
+}
