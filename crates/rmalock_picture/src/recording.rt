@@ -1,0 +1,146 @@
+//! A machine is made, makes the steps of a schedule, and each step is taken down.
+ghost use Rattle.std.specs.Prelude.{◌≡◌, ◌+◌, ◌-◌, ◌<◌, ◌≤◌, ◌^◌, length, vec_len, IfOk};
+ghost use Rattle.rl_place.specs.Places.{IsProper};
+ghost use Rattle.rl_place.specs.Shapes.{shape_of, knobs_of};
+ghost use Rattle.rl_ops.specs.Ops.{OpsFit};
+ghost use Rattle.rl_ops.specs.Schedule.{ScheduleFits, TurnFits};
+ghost use Rattle.rl_step.specs.Answers.{steps_made};
+
+use crate::asking::Window;
+use crate::lanes::{Cell, Lane, Moment};
+use rl_ops::{Ops, Schedule, Turn};
+use rl_place::Place;
+use rl_step::{Algo, Event};
+use rl_whole::Machine;
+use std::alloc::{AllocError as OutOfMemory, Global};
+
+/// A lane for each of so many ranks.
+fn first_lanes(alloc: Global, ranks: u32, first: u32) -> Result<Vec<Lane>, OutOfMemory>
+    ensures { IfOk result (λ lanes. vec_len lanes ≡ ranks) }
+{
+    let mut lanes = Vec::new(alloc);
+    for _ in 0..ranks {
+        lanes.push(Lane::new(alloc, first))?;
+    }
+    Ok(lanes)
+}
+
+/// The events of one step, which are the last of a shard's.
+fn events_of_step(events: &[(u32, Event)], step: u32) -> &[(u32, Event)] {
+    let mut first = events.len();
+    while first > 0 && events[first - 1].0 == step {
+        first -= 1;
+    }
+    &events[first..]
+}
+
+/// Makes one step of a rank, the step with this number, and takes it down.
+fn make_step<A: Algo>(
+    machine: &mut Machine<A>,
+    lane: &mut Lane,
+    rank: u32,
+    step: u32,
+) -> Result<(), OutOfMemory>
+    requires there { rank < length machine.old.calls }
+    requires few { steps_made machine.old.steps < 2 ^ 32 - 1 }
+    ensures ranks { IfOk result (λ _. length machine.new.calls ≡ length machine.old.calls) }
+    ensures counted { IfOk result (λ _. steps_made machine.new.steps ≡ steps_made machine.old.steps + 1) }
+{
+    let answer = machine.step(rank)?;
+    let shard = machine.place(rank);
+    let moment = Moment {
+        cell: Cell { step, answer },
+        shard,
+        standing: machine.standing(rank),
+        card: machine.card(rank),
+    };
+    lane.note(moment, events_of_step(machine.events(shard), step))?;
+    Ok(())
+}
+
+/// Makes so many steps of a rank, as far as the window goes; the first has this number. Gives the number of the next one.
+fn make_steps<A: Algo>(
+    machine: &mut Machine<A>,
+    lanes: &mut Vec<Lane>,
+    rank: u32,
+    count: u32,
+    first: u32,
+    until: u32,
+) -> Result<u32, OutOfMemory>
+    requires there { rank < length machine.old.calls }
+    requires lanes { vec_len lanes.old ≡ length machine.old.calls }
+    requires counted { steps_made machine.old.steps ≡ first }
+    requires few { until ≤ 2000000 }
+    ensures ranks { IfOk result (λ _. length machine.new.calls ≡ length machine.old.calls) }
+    ensures lanes { IfOk result (λ _. vec_len lanes.new ≡ vec_len lanes.old) }
+    ensures counted { IfOk result (λ step. steps_made machine.new.steps ≡ step) }
+{
+    let mut step = first;
+    for _ in 0..count {
+        if step >= until {
+            return Ok(step);
+        }
+        make_step(machine, &mut lanes[rank as usize], rank, step)?;
+        step += 1;
+    }
+    Ok(step)
+}
+
+/// Makes the steps of a turn, as far as the window goes. A stop has none.
+fn make_turn<A: Algo>(
+    machine: &mut Machine<A>,
+    lanes: &mut Vec<Lane>,
+    turn: Turn,
+    step: u32,
+    until: u32,
+) -> Result<u32, OutOfMemory>
+    requires there { TurnFits (length machine.old.calls) turn }
+    requires lanes { vec_len lanes.old ≡ length machine.old.calls }
+    requires counted { steps_made machine.old.steps ≡ step }
+    requires few { until ≤ 2000000 }
+    ensures ranks { IfOk result (λ _. length machine.new.calls ≡ length machine.old.calls) }
+    ensures lanes { IfOk result (λ _. vec_len lanes.new ≡ vec_len lanes.old) }
+    ensures counted { IfOk result (λ step. steps_made machine.new.steps ≡ step) }
+{
+    match turn {
+        Turn::Steps { rank, count } => make_steps(machine, lanes, rank, count, step, until),
+        Turn::Stop { .. } => Ok(step),
+    }
+}
+
+/// What is seen of the replay of a placement, calls and a schedule in a window of its steps: a lane for each rank. Refused
+/// only for want of memory.
+pub fn record<A: Algo>(
+    alloc: Global,
+    place: &Place,
+    ops: Ops,
+    schedule: &Schedule,
+    window: Window,
+) -> Result<Vec<Lane>, OutOfMemory>
+    requires proper { IsProper place.now }
+    requires knobs { A.suits_knobs (shape_of place.now) (knobs_of place.now.lock) }
+    requires calls { OpsFit (length place.now.paths) place.now.geom.shards ops }
+    requires schedule { ScheduleFits (length place.now.paths) schedule.now }
+    requires few { window.to ≤ 2000000 }
+{
+    let shape = place.shape(alloc)?;
+    let homes = place.homes.as_slice();
+    let ranks = place.paths.len() as u32;
+    let mut lanes = first_lanes(alloc, ranks, window.from)?;
+    let mut machine: Machine<A> = Machine::new(
+        alloc,
+        &shape,
+        place.knobs(),
+        place.geom,
+        homes,
+        ops,
+    )?;
+    let mut step = 0;
+    for turn in schedule.turns.as_slice() {
+        step = make_turn(&mut machine, &mut lanes, *turn, step, window.to)?;
+    }
+    for lane in lanes.iter_mut() {
+        lane.end(step)?;
+    }
+    Ok(lanes)
+}
