@@ -14,7 +14,7 @@ use Rattle.rl_step.specs.declared.events.Standing.TheVariants as standing
 use Rattle.rl_step.specs.declared.events.Stepped.{Stepped}
 use Rattle.rl_step.specs.declared.events.Stepped.TheVariants.{Moved, Waiting, Lost, Busy, Finished}
 use Rattle.rl_step.specs.Lock.{LockTable, LockState, LockLaws, Deed, Acts, FindsOld, found}
-use Rattle.rl_step.specs.Do.{Held}
+use Rattle.rl_step.specs.Do.{TheWindow}
 use Rattle.rl_work.specs.EndLaws.{IsPlain, plain_atom}
 use Rattle.rl_whole.specs.declared.card_state.CardState.{CardState}
 use Rattle.rl_whole.specs.declared.card_state.CardState.TheVariants.{Free, InCard, Loaded, ToLeave}
@@ -86,7 +86,7 @@ none_some : (n : ℕ) → None ≡ Some n → ⊥
 none_some n e = cc
 
 module _ (V : Type 0) (L : LockAt V) (good : LockState V → Type 0) (further : List Event → List Deed → Type 0) (layout : Layout) (laws : LockLaws L.table good further layout) (home : ℕ) (one : length layout.node_of ≡ 1) where
-  module _ (h : Held) (vs : List (WholeView V)) (r : ℕ) (x : WholeView V) (g : Good L good layout h vs) (has : slice_get vs r ≡ Some x) where
+  module _ (h : TheWindow) (vs : List (WholeView V)) (r : ℕ) (x : WholeView V) (g : Good L good layout h vs) (has : slice_get vs r ≡ Some x) where
     acts : (a : Act) → L.table.plan x.side.view ≡ Some a → Acts L.table good (lock_of (split_of L.base h vs g.modes g.past)) r x.side.view a
     acts a planned = record { is_good = g.lock_part.lock; has = get_map view_of (map side_of vs) r (side_of x) (get_map side_of vs r x has); planned = planned }
 

@@ -11,7 +11,7 @@ use Rattle.rl_step.specs.declared.events.Event.{Event}
 use Rattle.rl_step.specs.declared.events.Standing.{Standing}
 use Rattle.rl_step.specs.declared.events.Standing.TheVariants.{Out}
 use Rattle.rl_step.specs.Lock.{LockTable, LockState, LockLaws, Deed, IsHolder}
-use Rattle.rl_step.specs.Do.{Held}
+use Rattle.rl_step.specs.Do.{TheWindow}
 use Rattle.rl_step.specs.Core.{MayBe}
 use Rattle.rl_journal.specs.Journal.{entry_of, six_from}
 use Rattle.rl_journal.specs.Legal.{table_after}
@@ -48,7 +48,7 @@ module _ (V : Type 0) (L : LockAt V) (good : LockState V → Type 0) (further : 
       out_rests L.site (take L.base m.held.words) g.work_part.journal g.work_part.before m.rank (work_side L.table x) x.work.stage (g.work_part.fits m.rank (work_side L.table x) side)
       (closed_is_out V L good further layout laws home x m e)
 
-  module _ (h : Held) (vs : List (WholeView V)) (g : Good L good layout h vs) (closed : (r : ℕ) (x : WholeView V) → slice_get vs r ≡ Some x → next_of L x ≡ None) where
+  module _ (h : TheWindow) (vs : List (WholeView V)) (g : Good L good layout h vs) (closed : (r : ℕ) (x : WholeView V) → slice_get vs r ≡ Some x → next_of L x ≡ None) where
     -- and the volume is that of the table after the whole journal
     pub volume_left : IsVolume L.site.geom L.site.shard (volume_of L.site.geom (take L.base h.words)) (table_after L.site.geom finite.empty g.work_part.journal)
     volume_left =
@@ -67,7 +67,7 @@ volume_before n b words h =
     ap (λ k. take n (drop 2 (take k words))) split ∙ ap (take n) (drop-take 2 (b - 2) words) ∙ take-take n (b - 2) (drop 2 words) (omega arith)
 
 module _ {A V : Type 0} (table : A → LockTable V) (good : A → LockState V → Type 0) (further : A → List Event → List Deed → Type 0) (layout : A → Layout) (laws : (a : A) → LockLaws (table a) (good a) (further a) (layout a)) (core : Whole A V) (words : List ℕ) (is : IsLeft table good layout core words) where
-  abbrev held : Held
+  abbrev held : TheWindow
   held = record { words = words; cards = is.cards }
 
   -- the count is the journal's length, for which there was room

@@ -13,7 +13,7 @@ use Rattle.rl_model.specs.declared.entry.Entry.{Entry}
 use Rattle.rl_step.specs.declared.events.Event.{Event}
 use Rattle.rl_step.specs.declared.tallies.Tally.{Tally}
 use Rattle.rl_step.specs.Lock.{LockTable, LockState, LockLaws, Deed, AllOut}
-use Rattle.rl_step.specs.Do.{Held}
+use Rattle.rl_step.specs.Do.{TheWindow}
 use Rattle.rl_step.specs.Queues.{QueueOf, IsWithinBudget, settled, passed, tenures}
 use Rattle.rl_step.specs.QueueLemmas.{within_bound}
 use Rattle.rl_journal.specs.Legal.{IsLegal, table_after}
@@ -58,7 +58,7 @@ pub same_kept : {V : Type 0} (vs : List (CountedView V)) → map entries_in vs �
 same_kept [] = refl
 same_kept (x ∷ vs) = ap (λ z. entries_in x ∷ z) (same_kept vs)
 
-module _ (V : Type 0) (L : LockAt V) (good : LockState V → Type 0) (further : List Event → List Deed → Type 0) (layout : Layout) (laws : LockLaws L.table good further layout) (home : ℕ) (h : Held) (vs : List (CountedView V)) (g : CountGood L good layout h vs) where
+module _ (V : Type 0) (L : LockAt V) (good : LockState V → Type 0) (further : List Event → List Deed → Type 0) (layout : Layout) (laws : LockLaws L.table good further layout) (home : ℕ) (h : TheWindow) (vs : List (CountedView V)) (g : CountGood L good layout h vs) where
   -- the journal and the transcripts
   abbrev the_journal : List Entry
   the_journal = journal_of L.site (take L.base h.words)

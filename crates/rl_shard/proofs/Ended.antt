@@ -8,7 +8,7 @@ use Rattle.rl_model.specs.declared.entry.Entry.{Entry}
 use Rattle.rl_step.specs.declared.events.Event.{Event}
 use Rattle.rl_step.specs.declared.tallies.Tally.{Tally}
 use Rattle.rl_step.specs.Lock.{LockTable, LockState, LockLaws, Deed}
-use Rattle.rl_step.specs.Do.{Held}
+use Rattle.rl_step.specs.Do.{TheWindow}
 use Rattle.rl_journal.specs.Legal.{IsLegal, table_after}
 use Rattle.rl_journal.specs.History.{history, IsSorted}
 use Rattle.rl_journal.specs.HistoryLaws.{replayed}
@@ -67,7 +67,7 @@ module _ {A V : Type 0} where
     is_end e journal pairs transcripts sums some =
         let core : Whole A V = core_at shard in
         let L : LockAt V = lock_at table core in
-        let h : Held = record { words = words; cards = cards } in
+        let h : TheWindow = record { words = words; cards = cards } in
         let first = some_at seats 0 some in
         let each : length (tallies_at first.0) ≡ length L.table.queues = rule.each 0 (counted_at first.0) (ap (λ l. slice_get l 0) is ∙ get_map counted_at seats 0 first.0 first.1) in
         let totals : AreTotals seats (length L.table.queues) e.queues.items = subst (λ n. AreTotals seats n e.queues.items) each (sums first.0 first.1) in

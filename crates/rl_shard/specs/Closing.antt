@@ -5,7 +5,7 @@ use Rattle.rl_word.specs.Acts.{Layout}
 use Rattle.rl_model.specs.declared.entry.Entry.{Entry}
 use Rattle.rl_step.specs.declared.tallies.Tally.{Tally}
 use Rattle.rl_step.specs.Lock.{LockTable, LockState}
-use Rattle.rl_step.specs.Do.{Held}
+use Rattle.rl_step.specs.Do.{TheWindow}
 use Rattle.rl_journal.specs.Legal.{table_after}
 use Rattle.rl_work.specs.Rule.{journal_of}
 use Rattle.rl_whole.specs.declared.whole.Whole.{Whole}

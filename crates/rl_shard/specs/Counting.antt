@@ -3,7 +3,7 @@ use Rattle.std.specs.Prelude.{◌≡◌, ◌⊎◌, ◌≤◌, ◌<◌, ℕ, ◌
 use Rattle.rl_word.specs.Acts.{Layout}
 use Rattle.rl_step.specs.declared.events.Standing.{Standing}
 use Rattle.rl_step.specs.Lock.{LockTable, LockState}
-use Rattle.rl_step.specs.Do.{Held}
+use Rattle.rl_step.specs.Do.{TheWindow}
 use Rattle.rl_step.specs.Core.{CoreTable, Turned}
 use Rattle.rl_step.specs.Queues.{settled, passed}
 use Rattle.rl_whole.specs.declared.whole.WholeView.{WholeView}
@@ -57,7 +57,7 @@ module _ {V : Type 0} where
 
   -- The rule of a window: that of the whole machine, by some events; each rank has a tally of each queue; the members of the queues are
   -- there; and each queue was settled and passed in these events as often as the ranks have counted.
-  pub record CountGood (L : LockAt V) (good : LockState V → Type 0) (layout : Layout) (h : Held) (vs : List (CountedView V)) : Type 0 where
+  pub record CountGood (L : LockAt V) (good : LockState V → Type 0) (layout : Layout) (h : TheWindow) (vs : List (CountedView V)) : Type 0 where
     pub rule : Good L good layout h (map whole_of vs)
     pub each : (r : ℕ) (x : CountedView V) → slice_get vs r ≡ Some x → length x.tallies ≡ length L.table.queues
     pub members : AreMembersThere L.table.queues (length layout.node_of)
@@ -65,7 +65,7 @@ module _ {V : Type 0} where
     pub passed_are : (q : ℕ) → q < length L.table.queues → ComeTo (passed_by q) vs (passed q rule.past.trace)
 
 -- the rule of the window of a core
-abbrev pub counting_rule : {A V : Type 0} → (A → LockTable V) → (A → LockState V → Type 0) → (A → Layout) → Counting A V → Held → List (CountedView V) → Type 0
+abbrev pub counting_rule : {A V : Type 0} → (A → LockTable V) → (A → LockState V → Type 0) → (A → Layout) → Counting A V → TheWindow → List (CountedView V) → Type 0
 counting_rule table good layout core = CountGood (lock_at table core.whole) (good core.whole.algo) (layout core.whole.algo)
 
 -- the views of all ranks before their first block: each with room for so many entries, and a tally of nothing for each of so many queues

@@ -9,7 +9,7 @@ use Rattle.rl_model.specs.declared.call.Call.{Call}
 use Rattle.rl_step.specs.declared.events.Event.{Event}
 use Rattle.rl_step.specs.declared.tallies.Tally.{Tally}
 use Rattle.rl_step.specs.Lock.{LockTable, LockState, LockLaws, Deed}
-use Rattle.rl_step.specs.Do.{Held, do_atom, do_got}
+use Rattle.rl_step.specs.Do.{TheWindow, do_atom, do_got}
 use Rattle.rl_step.specs.Core.{CoreLaws, Plans, MayBe, MayGet}
 use Rattle.rl_step.specs.Queues.{settled, passed}
 use Rattle.rl_step.specs.QueueLemmas.{settled-append, passed-append}
@@ -28,7 +28,7 @@ use Rattle.rl_shard.specs.TallyLaws.{Rises, length_all, settles_all, passes_all,
 
 module _ (V : Type 0) (L : LockAt V) (good : LockState V → Type 0) (further : List Event → List Deed → Type 0) (layout : Layout) (laws : LockLaws L.table good further layout) (home : ℕ) where
   -- a change of one rank's view keeps the rule, where it keeps that of the whole machine with these events more, and the tallies count them
-  counts_on : (h k : Held) (vs : List (CountedView V)) (r : ℕ) (x y : CountedView V) (es : List Event) (g : CountGood L good layout h vs) → slice_get vs r ≡ Some x → y.tallies ≡ all_noted es x.tallies →
+  counts_on : (h k : TheWindow) (vs : List (CountedView V)) (r : ℕ) (x y : CountedView V) (es : List Event) (g : CountGood L good layout h vs) → slice_get vs r ≡ Some x → y.tallies ≡ all_noted es x.tallies →
       (q : Good L good layout k (slice_set (map whole_of vs) r y.whole)) → q.past.trace ≡ g.rule.past.trace ++ es → CountGood L good layout k (slice_set vs r y)
   counts_on h k vs r x y es g has tallies q trace =
       let moved = map_set whole_of vs r y in
@@ -47,7 +47,7 @@ module _ (V : Type 0) (L : LockAt V) (good : LockState V → Type 0) (further : 
             (subst (λ t. Rises (passed_by i x) (passed i es) (tally_at i t).passed) (sym tallies) (passes_all i es x.tallies (omega arith))) (g.passed_are i low));
       }
 
-  atom_keeps : (h : Held) (vs : List (CountedView V)) (r : ℕ) (x : CountedView V) (at : Atom) → CountGood L good layout h vs → slice_get vs r ≡ Some x → next_of L x.whole ≡ Some at →
+  atom_keeps : (h : TheWindow) (vs : List (CountedView V)) (r : ℕ) (x : CountedView V) (at : Atom) → CountGood L good layout h vs → slice_get vs r ≡ Some x → next_of L x.whole ≡ Some at →
       CountGood L good layout (do_atom r at h) (slice_set vs r (counted_after L x (do_got at h.words h.cards)).view)
   atom_keeps h vs r x at g has e =
       let q = keeps_at V L good further layout laws home h (map whole_of vs) r x.whole at g.rule (get_map whole_of vs r x has) e in
@@ -57,7 +57,7 @@ module _ (V : Type 0) (L : LockAt V) (good : LockState V → Type 0) (further : 
   pub whole_may_be : (x : CountedView V) → MayBe (CountGood L good layout) x → MayBe (Good L good layout) x.whole
   whole_may_be x m = record { held = m.held; views = map whole_of m.views; rank = m.rank; is_ruled = m.is_ruled.rule; has = get_map whole_of m.views m.rank x m.has }
 
-  whole_plans : (h : Held) (vs : List (CountedView V)) (r : ℕ) (x : CountedView V) (at : Atom) → Plans (counted_table L home) (CountGood L good layout) h vs r x at → Plans (whole_table L home) (Good L good layout) h (map whole_of vs) r x.whole at
+  whole_plans : (h : TheWindow) (vs : List (CountedView V)) (r : ℕ) (x : CountedView V) (at : Atom) → Plans (counted_table L home) (CountGood L good layout) h vs r x at → Plans (whole_table L home) (Good L good layout) h (map whole_of vs) r x.whole at
   whole_plans h vs r x at p = record { is_ruled = p.is_ruled.rule; has = get_map whole_of vs r x p.has; planned = p.planned }
 
   pub whole_may_get : (x : CountedView V) (got : ℕ) → MayGet (counted_table L home) (CountGood L good layout) x got → MayGet (whole_table L home) (Good L good layout) x.whole got
@@ -74,7 +74,7 @@ module _ (V : Type 0) (L : LockAt V) (good : LockState V → Type 0) (further : 
       }
 
   -- a block that is opened where none is open
-  pub open_counts : (h : Held) (vs : List (CountedView V)) (r : ℕ) (x : CountedView V) (calls : List Call) (seq : ℕ) → CountGood L good layout h vs → slice_get vs r ≡ Some x → next_of L x.whole ≡ None →
+  pub open_counts : (h : TheWindow) (vs : List (CountedView V)) (r : ℕ) (x : CountedView V) (calls : List Call) (seq : ℕ) → CountGood L good layout h vs → slice_get vs r ≡ Some x → next_of L x.whole ≡ None →
       IsOpen L.site r calls seq x.whole.work.transcript → CountGood L good layout h (slice_set vs r (record x { whole = opened_in L.table calls seq x.whole }))
   open_counts h vs r x calls seq g has none o =
       let q = open_keeps V L good further layout laws home h (map whole_of vs) r x.whole calls seq g.rule (get_map whole_of vs r x has) none o in

@@ -10,7 +10,7 @@ use Rattle.rl_step.specs.declared.events.Event.{Event}
 use Rattle.rl_step.specs.declared.events.Stepped.{Stepped}
 use Rattle.rl_step.specs.declared.events.Stepped.TheVariants.{Finished}
 use Rattle.rl_step.specs.Lock.{LockTable, LockState, LockLaws, Deed}
-use Rattle.rl_step.specs.Do.{Held, do_got}
+use Rattle.rl_step.specs.Do.{TheWindow, do_got}
 use Rattle.rl_step.specs.Core.{MayBe, MayGet, Performs}
 use Rattle.rl_work.specs.WorkGood.{IsOpen, IsOwnTranscript}
 use Rattle.rl_whole.specs.declared.whole.Whole.{Whole}
@@ -92,7 +92,7 @@ module _ {A V : Type 0} (table : A → LockTable V) (good : A → LockState V �
 
     -- some state under the rule has the seat's view at its rank
     pub record IsSeen : Type 0 where
-      pub held : Held
+      pub held : TheWindow
       pub views : List (CountedView V)
       pub is_ruled : CountGood the_lock (good (core_at shard).algo) (layout (core_at shard).algo) held views
       pub has : slice_get views (rank_at s) ≡ Some (counted_at s)

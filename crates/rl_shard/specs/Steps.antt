@@ -6,7 +6,7 @@ use Rattle.rl_step.specs.declared.events.Event.{Event}
 use Rattle.rl_step.specs.declared.events.Stepped.{Stepped}
 use Rattle.rl_step.specs.declared.events.Stepped.TheVariants.{Moved, Waiting, Lost, Busy, Finished}
 use Rattle.rl_step.specs.Lock.{LockTable, LockState}
-use Rattle.rl_step.specs.Do.{Held}
+use Rattle.rl_step.specs.Do.{TheWindow}
 use Rattle.rl_step.specs.Core.{Performs}
 use Rattle.rl_whole.specs.Running.{LockAt, lock_at}
 use Rattle.rl_whole.specs.Whole.{next_of}
@@ -21,7 +21,7 @@ use Rattle.rl_shard.specs.Shards.{counting_at, core_at, counted_at, view_at, ran
 -- Some state of the window that meets the rule has the rank's view, and there the answer has its cause: by the rank's next atom, and by
 -- what that finds in the state. Nobody can know more of words that others change at any moment.
 pub record HasCause {V : Type 0} (L : LockAt V) (good : LockState V → Type 0) (layout : Layout) (rank : ℕ) (x : CountedView V) (answer : Stepped) : Type 0 where
-  pub held : Held
+  pub held : TheWindow
   pub views : List (CountedView V)
   pub is_ruled : CountGood L good layout held views
   pub has : slice_get views rank ≡ Some x

@@ -1,7 +1,7 @@
 //! What holds of a shard between any two table steps, whatever its ranks do.
 
 ghost use Rattle.std.specs.Prelude.{◌≡◌, ℕ, List, map, Some};
-ghost use Rattle.rl_step.specs.Do.{Held};
+ghost use Rattle.rl_step.specs.Do.{TheWindow};
 ghost use Rattle.rl_whole.specs.Changes.{AloneIn};
 ghost use Rattle.rl_whole.specs.Domains.{IsCardAtom, IsLocalAtom, UsesLocals};
 ghost use Rattle.rl_whole.specs.Split.{UsesCards};
@@ -14,7 +14,7 @@ use rl_step::Algo;
 /// Exclusion: in each state of the window that meets its rule, and so between any two table steps, one rank at most is in as a
 /// writer, and none as a reader beside it. There is nothing to run.
 pub fn exclusion<A: Algo>(shard: &Shard<A>)
-    ensures { (h : Held) (vs : List _) → counting_rule A.table A.good A.layout (counting_at shard.now) h vs → AloneIn (map (standing_of (A.table (core_at shard.now).algo)) vs) }
+    ensures { (h : TheWindow) (vs : List _) → counting_rule A.table A.good A.layout (counting_at shard.now) h vs → AloneIn (map (standing_of (A.table (core_at shard.now).algo)) vs) }
 {
     let _ = &shard.window;
 }

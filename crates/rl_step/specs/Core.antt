@@ -5,7 +5,7 @@ use Rattle.rl_word.specs.declared.acts.Atom.TheVariants.{Load, Store, LocalCas, 
 use Rattle.rl_step.specs.declared.events.Event.{Event}
 use Rattle.rl_step.specs.declared.events.Stepped.{Stepped}
 use Rattle.rl_step.specs.declared.events.Stepped.TheVariants.{Finished}
-use Rattle.rl_step.specs.Do.{Held, do_atom, do_got, CanDo}
+use Rattle.rl_step.specs.Do.{TheWindow, do_atom, do_got, CanDo}
 
 -- what an atom leaves: the rank's view, what happened with the atom, and its answer
 pub record Turned (V : Type 0) : Type 0 where
@@ -41,22 +41,22 @@ abbrev pub home_at : (ℕ → ℕ) → Atom → ℕ
 home_at home at = home_for home (card_word_of at)
 
 -- some state that meets the rule has this view
-pub record MayBe {V : Type 0} (rule : Held → List V → Type 0) (v : V) : Type 0 where
-  pub held : Held
+pub record MayBe {V : Type 0} (rule : TheWindow → List V → Type 0) (v : V) : Type 0 where
+  pub held : TheWindow
   pub views : List V
   pub rank : ℕ
   pub is_ruled : rule held views
   pub has : slice_get views rank ≡ Some v
 
 -- in a state that meets the rule, rank r has the view v, whose next atom is at
-pub record Plans {V : Type 0} (C : CoreTable V) (rule : Held → List V → Type 0) (h : Held) (vs : List V) (r : ℕ) (v : V) (at : Atom) : Type 0 where
+pub record Plans {V : Type 0} (C : CoreTable V) (rule : TheWindow → List V → Type 0) (h : TheWindow) (vs : List V) (r : ℕ) (v : V) (at : Atom) : Type 0 where
   pub is_ruled : rule h vs
   pub has : slice_get vs r ≡ Some v
   pub planned : C.next v ≡ Some at
 
 -- some state that meets the rule has this view and gives got for its next atom
-pub record MayGet {V : Type 0} (C : CoreTable V) (rule : Held → List V → Type 0) (v : V) (got : ℕ) : Type 0 where
-  pub held : Held
+pub record MayGet {V : Type 0} (C : CoreTable V) (rule : TheWindow → List V → Type 0) (v : V) (got : ℕ) : Type 0 where
+  pub held : TheWindow
   pub views : List V
   pub rank : ℕ
   pub atom : Atom
@@ -64,16 +64,16 @@ pub record MayGet {V : Type 0} (C : CoreTable V) (rule : Held → List V → Typ
   pub gives : got ≡ do_got atom held.words held.cards
 
 -- The laws of a core: of its table and of its rule, which speaks of the words, the cards and the views of all ranks.
-pub record CoreLaws {V : Type 0} (C : CoreTable V) (rule : Held → List V → Type 0) : Type 0 where
+pub record CoreLaws {V : Type 0} (C : CoreTable V) (rule : TheWindow → List V → Type 0) : Type 0 where
   -- the rule knows how many words there are
-  pub sized : (h : Held) (vs : List V) → rule h vs → length h.words ≡ C.size
+  pub sized : (h : TheWindow) (vs : List V) → rule h vs → length h.words ≡ C.size
   -- each planned atom can be made
-  pub can : (h : Held) (vs : List V) (r : ℕ) (v : V) (at : Atom) → Plans C rule h vs r v at → CanDo (home_at C.home at) r at h.words h.cards
+  pub can : (h : TheWindow) (vs : List V) (r : ℕ) (v : V) (at : Atom) → Plans C rule h vs r v at → CanDo (home_at C.home at) r at h.words h.cards
   -- and keeps the rule, where it finds a number of 64 bits, as words and cards always are
-  pub keeps : (h : Held) (vs : List V) (r : ℕ) (v : V) (at : Atom) → Plans C rule h vs r v at → do_got at h.words h.cards < 2 ^ 64 →
+  pub keeps : (h : TheWindow) (vs : List V) (r : ℕ) (v : V) (at : Atom) → Plans C rule h vs r v at → do_got at h.words h.cards < 2 ^ 64 →
       rule (do_atom r at h) (slice_set vs r (C.after v (do_got at h.words h.cards)).view)
   -- no atom is answered as if none was made
-  pub goes_on : (h : Held) (vs : List V) (r : ℕ) (v : V) (at : Atom) → Plans C rule h vs r v at → (C.after v (do_got at h.words h.cards)).stepped ≡ Finished → ⊥
+  pub goes_on : (h : TheWindow) (vs : List V) (r : ℕ) (v : V) (at : Atom) → Plans C rule h vs r v at → (C.after v (do_got at h.words h.cards)).stepped ≡ Finished → ⊥
 
 -- the answer of an atom that found got, and what happened with it, are the table's
 pub record Answers {V : Type 0} (C : CoreTable V) (v : V) (got : ℕ) (events : List Event) (stepped : Stepped) : Type 0 where
@@ -82,16 +82,16 @@ pub record Answers {V : Type 0} (C : CoreTable V) (v : V) (got : ℕ) (events : 
 
 -- What the rank's atom at changes, whatever port it is made on: the view v becomes w, as it is after a number that some state
 -- under the rule gives; and where the port tells its words, they change as the atom says, and the number is what it gives.
-pub record Performs {V : Type 0} (C : CoreTable V) (rule : Held → List V → Type 0) (rank : ℕ) (at : Atom) (v w : V) (told_old told_new : Option Held) (events : List Event) (stepped : Stepped) : Type 0 where
+pub record Performs {V : Type 0} (C : CoreTable V) (rule : TheWindow → List V → Type 0) (rank : ℕ) (at : Atom) (v w : V) (told_old told_new : Option TheWindow) (events : List Event) (stepped : Stepped) : Type 0 where
   pub got : ℕ
   pub may_get : MayGet C rule v got
   pub same_rank : may_get.rank ≡ rank
   pub view : w ≡ (C.after v got).view
   pub answer : Answers C v got events stepped
-  pub told : (h : Held) → told_old ≡ Some h → (told_new ≡ Some (do_atom rank at h)) × (got ≡ do_got at h.words h.cards)
+  pub told : (h : TheWindow) → told_old ≡ Some h → (told_new ≡ Some (do_atom rank at h)) × (got ≡ do_got at h.words h.cards)
 
 -- what a made atom changes of plain words and views
-pub record MadeFlat {V : Type 0} (C : CoreTable V) (h k : Held) (vs ws : List V) (r : ℕ) (v : V) (at : Atom) (events : List Event) (stepped : Stepped) : Type 0 where
+pub record MadeFlat {V : Type 0} (C : CoreTable V) (h k : TheWindow) (vs ws : List V) (r : ℕ) (v : V) (at : Atom) (events : List Event) (stepped : Stepped) : Type 0 where
   pub held : k ≡ do_atom r at h
   pub views : ws ≡ slice_set vs r (C.after v (do_got at h.words h.cards)).view
   pub answer : Answers C v (do_got at h.words h.cards) events stepped

@@ -7,7 +7,7 @@ use Rattle.rl_word.specs.declared.acts.Atom.TheVariants.{Load, Store, LocalCas, 
 use Rattle.rl_step.specs.declared.events.Event.{Event}
 use Rattle.rl_step.specs.declared.events.Stepped.{Stepped}
 use Rattle.rl_step.specs.declared.events.Stepped.TheVariants.{Finished}
-use Rattle.rl_step.specs.Do.{Held, do_atom, do_got, CanDo}
+use Rattle.rl_step.specs.Do.{TheWindow, do_atom, do_got, CanDo}
 use Rattle.rl_step.specs.Core.{CoreTable, CoreLaws, Plans, MayGet, Performs, MadeFlat, card_word_of}
 
 -- the word of a card load or store is there
@@ -25,8 +25,8 @@ pub lent_view : {V : Type 0} (vs : List V) (r : ℕ) (u v d : V) → u ≡ get_o
 lent_view vs r u v d e h = e ∙ get_or_from_slice_get vs r v d h
 
 -- the rule after an atom, from what its parts are known to be; u is the view that it was made with
-pub rule_after : {V : Type 0} (C : CoreTable V) (rule : Held → List V → Type 0) → CoreLaws C rule →
-    (h k : Held) (vs : List V) (r : ℕ) (u v w : V) (at : Atom) (got : ℕ) → Plans C rule h vs r v at → u ≡ v →
+pub rule_after : {V : Type 0} (C : CoreTable V) (rule : TheWindow → List V → Type 0) → CoreLaws C rule →
+    (h k : TheWindow) (vs : List V) (r : ℕ) (u v w : V) (at : Atom) (got : ℕ) → Plans C rule h vs r v at → u ≡ v →
     k ≡ do_atom r at h → got ≡ do_got at h.words h.cards → got < 2 ^ 64 → w ≡ (C.after u got).view → rule k (slice_set vs r w)
 rule_after C rule laws h k vs r u v w at got p eu ek eg low ew =
     subst (λ z. rule z (slice_set vs r w)) (sym ek)
@@ -34,7 +34,7 @@ rule_after C rule laws h k vs r u v w at got p eu ek eg low ew =
     (laws.keeps h vs r v at p (subst (λ n. n < 2 ^ 64) eg low)))
 
 -- what an atom changes that was made on told words, with the view u, and left the view x
-pub performs_made : {V : Type 0} (C : CoreTable V) (rule : Held → List V → Type 0) (h k : Held) (vs : List V) (r : ℕ) (u v x w : V) (at : Atom) (got : ℕ) (events : List Event) (stepped : Stepped) →
+pub performs_made : {V : Type 0} (C : CoreTable V) (rule : TheWindow → List V → Type 0) (h k : TheWindow) (vs : List V) (r : ℕ) (u v x w : V) (at : Atom) (got : ℕ) (events : List Event) (stepped : Stepped) →
     Plans C rule h vs r v at → u ≡ v → w ≡ x → k ≡ do_atom r at h → got ≡ do_got at h.words h.cards → x ≡ (C.after u got).view →
     events ≡ (C.after u got).events → stepped ≡ (C.after u got).stepped → Performs C rule r at v w (Some h) (Some k) events stepped
 performs_made C rule h k vs r u v x w at got events stepped p eu ex ek eg ew ev es =
@@ -49,15 +49,15 @@ performs_made C rule h k vs r u v x w at got events stepped p eu ex ek eg ew ev 
     }
 
 -- an atom that was made isn't answered as if none was
-pub performs_answers : {V : Type 0} (C : CoreTable V) (rule : Held → List V → Type 0) → CoreLaws C rule →
-    (r : ℕ) (v w : V) (at : Atom) (old new : Option Held) (events : List Event) (stepped : Stepped) →
+pub performs_answers : {V : Type 0} (C : CoreTable V) (rule : TheWindow → List V → Type 0) → CoreLaws C rule →
+    (r : ℕ) (v w : V) (at : Atom) (old new : Option TheWindow) (events : List Event) (stepped : Stepped) →
     Performs C rule r at v w old new events stepped → stepped ≡ Finished → ⊥
 performs_answers C rule laws r v w at old new events stepped p e =
     let m : MayGet C rule v p.got = p.may_get in
     laws.goes_on m.held m.views m.rank v m.atom m.plans (ap (λ n. (C.after v n).stepped) (sym m.gives) ∙ sym p.answer.same_answer ∙ e)
 
 -- what a made atom changes of plain words and views, from what its port says
-pub made_flat : {V : Type 0} (C : CoreTable V) (rule : Held → List V → Type 0) (h k : Held) (vs ws : List V) (r : ℕ) (v : V) (at : Atom) (events : List Event) (stepped : Stepped) →
+pub made_flat : {V : Type 0} (C : CoreTable V) (rule : TheWindow → List V → Type 0) (h k : TheWindow) (vs ws : List V) (r : ℕ) (v : V) (at : Atom) (events : List Event) (stepped : Stepped) →
     ((x y : V) (b : Atom) → slice_get vs r ≡ Some x → slice_get ws r ≡ Some y → C.next x ≡ Some b → Performs C rule r b x y (Some h) (Some k) events stepped) →
     ((y : V) → slice_get ws r ≡ Some y → ws ≡ slice_set vs r y) → r < length ws → slice_get vs r ≡ Some v → C.next v ≡ Some at → MadeFlat C h k vs ws r v at events stepped
 made_flat C rule h k vs ws r v at events stepped made frame there has next =

@@ -3,8 +3,8 @@ use Rattle.std.specs.Prelude.{◌≡◌, ℕ, ◌+◌, ◌<◌, ◌==◌, List, 
 use Rattle.rl_word.specs.declared.acts.Atom.{Atom}
 use Rattle.rl_word.specs.declared.acts.Atom.TheVariants.{Load, Store, LocalCas, Take, CardLoad, CardStore, Leave}
 
--- a window: its words, and one card for each node, which is 0 while it is free and one more than the rank that is in it
-pub record Held : Type 0 where
+-- the value of a window: its words, and one card for each node, which is 0 while it is free and one more than the rank that is in it
+pub record TheWindow : Type 0 where
   pub words : List ℕ
   pub cards : List ℕ
 
@@ -39,7 +39,7 @@ do_got (CardStore w v) ws cs = 0
 do_got (Leave n) ws cs = 0
 
 -- the window after the rank's atom
-abbrev pub do_atom : ℕ → Atom → Held → Held
+abbrev pub do_atom : ℕ → Atom → TheWindow → TheWindow
 do_atom rank at s = record { words = do_words at s.words; cards = do_cards rank at s.cards }
 
 -- The rank can make the atom: its word or node is there; a load or store through a card wants the rank in the card of the

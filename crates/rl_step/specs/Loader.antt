@@ -5,16 +5,16 @@ use Rattle.std.proofs.lemmas.Option.{same_Some}
 use Rattle.rl_word.specs.declared.acts.Atom.{Atom}
 use Rattle.rl_word.specs.declared.acts.Atom.TheVariants.{Load}
 use Rattle.rl_step.specs.declared.events.Stepped.TheVariants.{Moved, Finished}
-use Rattle.rl_step.specs.Do.{Held, do_atom, CanDo}
+use Rattle.rl_step.specs.Do.{TheWindow, do_atom, CanDo}
 use Rattle.rl_step.specs.Core.{home_at}
 
 -- the load can be made, and leaves one word
-pub can_load : (h : Held) (r : ℕ) (at : Atom) → length h.words ≡ 1 → Some (Load 0) ≡ Some at → CanDo (home_at (λ w. 0) at) r at h.words h.cards
+pub can_load : (h : TheWindow) (r : ℕ) (at : Atom) → length h.words ≡ 1 → Some (Load 0) ≡ Some at → CanDo (home_at (λ w. 0) at) r at h.words h.cards
 can_load h r at one e =
     let there : 0 < length h.words = omega (arith, one) in
     subst (λ z. CanDo (home_at (λ w. 0) z) r z h.words h.cards) (same_Some _ _ e) there
 
-pub load_keeps : (h : Held) (r : ℕ) (at : Atom) → length h.words ≡ 1 → Some (Load 0) ≡ Some at → length (do_atom r at h).words ≡ 1
+pub load_keeps : (h : TheWindow) (r : ℕ) (at : Atom) → length h.words ≡ 1 → Some (Load 0) ≡ Some at → length (do_atom r at h).words ≡ 1
 load_keeps h r at one e = subst (λ z. length (do_atom r z h).words ≡ 1) (same_Some _ _ e) one
 
 -- an atom is never answered Finished

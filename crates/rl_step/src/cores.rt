@@ -1,7 +1,7 @@
 //! What a core is: a rank's whole machine, whose atoms are the smallest steps.
 
 ghost use Rattle.std.specs.Prelude.{◌≡◌, ◌<◌, List};
-ghost use Rattle.rl_step.specs.Do.{Held};
+ghost use Rattle.rl_step.specs.Do.{TheWindow};
 ghost use Rattle.rl_step.specs.Core.{CoreTable, CoreLaws, MayBe, MayGet};
 
 use crate::events::After;
@@ -18,7 +18,7 @@ pub trait Core: Drop {
     ghost table: { Self → CoreTable Self.View };
 
     /// The rule.
-    ghost rule: { Self → Held → List Self.View → Type 0 };
+    ghost rule: { Self → TheWindow → List Self.View → Type 0 };
 
     /// The next atom of a rank; none exactly where it has no call open.
     fn next(&self, view: &Self::View) -> Option<Atom>

@@ -2,7 +2,7 @@
 
 ghost use Rattle.std.specs.Prelude.{◌≡◌, ◌≢◌, ℕ, Option, None, Some, []};
 ghost use Rattle.rl_step.specs.declared.events.Stepped.TheVariants.{Finished as finished};
-ghost use Rattle.rl_step.specs.Do.{Held};
+ghost use Rattle.rl_step.specs.Do.{TheWindow};
 ghost use Rattle.rl_step.specs.Core.{MayBe, Performs};
 
 use crate::cores::Core;
@@ -27,7 +27,7 @@ pub trait Port<C: Core> {
     ghost rank_of: { Self → ℕ };
 
     /// The words and cards, where the port tells them.
-    ghost told: { Self → Option Held };
+    ghost told: { Self → Option TheWindow };
 
     /// The two are one port at two times.
     ghost frame: { Self → Self → Type 0 };

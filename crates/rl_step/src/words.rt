@@ -15,9 +15,9 @@ pub struct Words {
 }
 
 impl Model for Words {
-    ghost use Rattle.rl_step.specs.Do.{Held};
+    ghost use Rattle.rl_step.specs.Do.{TheWindow};
 
-    ghost Value = { Held };
+    ghost Value = { TheWindow };
 
     ghost view = { λ a. record { words = a.words.items; cards = a.cards.items } };
 }

@@ -12,7 +12,7 @@ use Rattle.rl_word.specs.Acts.{word_of, written, told, by_card, Layout}
 use Rattle.rl_step.specs.declared.events.Event.{Event}
 use Rattle.rl_step.specs.declared.events.Stepped.{Stepped}
 use Rattle.rl_step.specs.Lock.{LockState, LockLaws, Deed, IsLoad, PlansLoad}
-use Rattle.rl_step.specs.Do.{Held, do_got}
+use Rattle.rl_step.specs.Do.{TheWindow, do_got}
 use Rattle.rl_work.specs.Work.{WorkTurned, work_after}
 use Rattle.rl_work.specs.EndLaws.{IsPlain, plain_atom}
 use Rattle.rl_whole.specs.Running.{LockAt}
@@ -145,12 +145,12 @@ plain_told (act.CardSwap w v) g got e s = cc
 plain_told (act.CardAdd w d) g got e s = cc
 
 -- where the planned act's round has to be made again after what it found, it is a load, and so is the next act
-abbrev pub BeginsAgain : {V : Type 0} → LockAt V → Held → V → Type 0
+abbrev pub BeginsAgain : {V : Type 0} → LockAt V → TheWindow → V → Type 0
 BeginsAgain L h v =
     (a : Act) → L.table.plan v ≡ Some a → (L.table.learn v (told a (slice_index h.words (L.base + word_of a)))).waits ≡ true →
     IsLoad a × PlansLoad (L.table.plan (L.table.learn v (told a (slice_index h.words (L.base + word_of a)))).view)
 
-module _ (V : Type 0) (L : LockAt V) (h : Held) (v : V) (rounds : BeginsAgain L h v) where
+module _ (V : Type 0) (L : LockAt V) (h : TheWindow) (v : V) (rounds : BeginsAgain L h v) where
   -- an atom that neither compares nor loads goes on, but for a Take
   plain_sailing : (at : Atom) → ((node : ℕ) → at ≡ atom.Take node → slice_index h.cards node ≡ 0) → (IsCompare at → ⊥) → ((word : ℕ) → at ≡ atom.Load word → ⊥) → GoesOn L h v at
   plain_sailing at free no_compare no_load =
@@ -306,7 +306,7 @@ answer_is L x got =
 
 module _ (V : Type 0) (L : LockAt V) (good : LockState V → Type 0) (further : List Event → List Deed → Type 0) (layout : Layout) (laws : LockLaws L.table good further layout) (home : ℕ) where
   -- by the lock's law
-  rounds_of : (h : Held) (vs : List (WholeView V)) (r : ℕ) (x : WholeView V) → Good L good layout h vs → slice_get vs r ≡ Some x → BeginsAgain L h x.side.view
+  rounds_of : (h : TheWindow) (vs : List (WholeView V)) (r : ℕ) (x : WholeView V) → Good L good layout h vs → slice_get vs r ≡ Some x → BeginsAgain L h x.side.view
   rounds_of h vs r x g has a pl e =
       let s : SplitState V = split_of L.base h vs g.modes g.past in
       let here : told a (slice_index s.words (word_of a)) ≡ told a (slice_index h.words (L.base + word_of a)) = ap (told a) (get_or-drop L.base h.words (word_of a) 0) in
@@ -314,7 +314,7 @@ module _ (V : Type 0) (L : LockAt V) (good : LockState V → Type 0) (further : 
       (ap (λ z. (L.table.learn x.side.view z).waits) here ∙ e) in
       (law.0, subst (λ z. PlansLoad (L.table.plan (L.table.learn x.side.view z).view)) here law.1)
 
-  pub answer_cause : (h : Held) (vs : List (WholeView V)) (r : ℕ) (x : WholeView V) (at : Atom) → Good L good layout h vs → slice_get vs r ≡ Some x → next_of L x ≡ Some at →
+  pub answer_cause : (h : TheWindow) (vs : List (WholeView V)) (r : ℕ) (x : WholeView V) (at : Atom) → Good L good layout h vs → slice_get vs r ≡ Some x → next_of L x ≡ Some at →
       Cause L h x.side.view (Some at) (after_of L x (do_got at h.words h.cards)).stepped
   answer_cause h vs r x at g has e =
       let still = g.lock_part.still r x.side (get_map side_of vs r x has) in

@@ -8,7 +8,7 @@ use Rattle.rl_word.specs.Acts.{word_of}
 use Rattle.rl_step.specs.declared.events.Stepped.{Stepped}
 use Rattle.rl_step.specs.declared.events.Stepped.TheVariants.{Moved, Waiting, Lost, Busy, Finished}
 use Rattle.rl_step.specs.Lock.{PlansLoad}
-use Rattle.rl_step.specs.Do.{Held}
+use Rattle.rl_step.specs.Do.{TheWindow}
 use Rattle.rl_whole.specs.Running.{LockAt, ShardRun, Running}
 use Rattle.rl_whole.specs.declared.whole.WholeView.{WholeView}
 use Rattle.rl_whole.specs.Whole.{next_of}
@@ -24,7 +24,7 @@ Compares base (act.CardSwap w v) at guess = ⊥
 Compares base (act.CardAdd w d) at guess = ⊥
 
 -- a rank with the lock view v has lost a compare: its act compares here, and the word had another value than the guess
-pub record HasLost {V : Type 0} (L : LockAt V) (h : Held) (v : V) (at : Atom) (guess seen : ℕ) : Type 0 where
+pub record HasLost {V : Type 0} (L : LockAt V) (h : TheWindow) (v : V) (at : Atom) (guess seen : ℕ) : Type 0 where
   pub act : Act
   pub planned : L.table.plan v ≡ Some act
   pub compares : Compares L.base act at guess
@@ -33,7 +33,7 @@ pub record HasLost {V : Type 0} (L : LockAt V) (h : Held) (v : V) (at : Atom) (g
 
 -- it has to wait on: it loaded this word, which had this value, the test of the waiting round isn't met, and it stands at the
 -- load with which the round begins
-pub record HasToWait {V : Type 0} (L : LockAt V) (h : Held) (v : V) (at : Atom) (word value : ℕ) : Type 0 where
+pub record HasToWait {V : Type 0} (L : LockAt V) (h : TheWindow) (v : V) (at : Atom) (word value : ℕ) : Type 0 where
   pub act : Act
   pub planned : L.table.plan v ≡ Some act
   pub same_word : word ≡ L.base + word_of act
@@ -43,7 +43,7 @@ pub record HasToWait {V : Type 0} (L : LockAt V) (h : Held) (v : V) (at : Atom) 
   pub again : PlansLoad (L.table.plan (L.table.learn v value).view)
 
 -- it goes on: no Take that found the card held, no compare that was lost, no test of a waiting round that isn't met
-pub record GoesOn {V : Type 0} (L : LockAt V) (h : Held) (v : V) (at : Atom) : Type 0 where
+pub record GoesOn {V : Type 0} (L : LockAt V) (h : TheWindow) (v : V) (at : Atom) : Type 0 where
   pub free : (node : ℕ) → at ≡ atom.Take node → slice_index h.cards node ≡ 0
   pub won : (guess seen : ℕ) → HasLost L h v at guess seen → ⊥
   pub met : (word value : ℕ) → HasToWait L h v at word value → ⊥
@@ -51,7 +51,7 @@ pub record GoesOn {V : Type 0} (L : LockAt V) (h : Held) (v : V) (at : Atom) : T
 -- The cause of an answer, for a rank with the lock view v whose next atom is given, on these words and cards: Finished where it has
 -- none, and else of the atom made. Busy: a Take found the holder's number in the card. An atom of the work is answered Moved: while
 -- the rank works no act of the lock is planned.
-abbrev pub Cause : {V : Type 0} → LockAt V → Held → V → Option Atom → Stepped → Type 0
+abbrev pub Cause : {V : Type 0} → LockAt V → TheWindow → V → Option Atom → Stepped → Type 0
 Cause L h v None Moved = ⊥
 Cause L h v None (Waiting w value) = ⊥
 Cause L h v None (Lost guess seen) = ⊥

@@ -14,7 +14,7 @@ use Rattle.rl_whole.specs.declared.card_state.CardState.{CardState}
 use Rattle.rl_whole.specs.declared.card_state.CardState.TheVariants.{Free, InCard, Loaded, ToLeave}
 use Rattle.rl_whole.specs.declared.side.Side.{Side}
 use Rattle.rl_step.specs.Core.{MayBe}
-use Rattle.rl_step.specs.Do.{Held}
+use Rattle.rl_step.specs.Do.{TheWindow}
 use Rattle.rl_whole.specs.Running.{LockAt, ShardRun}
 use Rattle.rl_whole.specs.declared.whole.WholeView.{WholeView}
 use Rattle.rl_whole.specs.Whole.{shifted, work_plan, next_of, side_of, Good}
@@ -47,10 +47,10 @@ UsesLocals T r = (a : Act) × IsLocalAct a × (T.may_make r a ≡ true)
 
 -- in every state under the rule a rank's next atom is one of a card only where it may make acts through cards, and a local
 -- compare-and-swap only where it may make one
-abbrev pub KeepsToCards : {V : Type 0} → LockAt V → (Held → List (WholeView V) → Type 0) → Type 0
+abbrev pub KeepsToCards : {V : Type 0} → LockAt V → (TheWindow → List (WholeView V) → Type 0) → Type 0
 KeepsToCards L rule = (x : _) (at : Atom) → MayBe rule x → next_of L x ≡ Some at → IsCardAtom at → UsesCards L.table x.rank
 
-abbrev pub KeepsToLocals : {V : Type 0} → LockAt V → (Held → List (WholeView V) → Type 0) → Type 0
+abbrev pub KeepsToLocals : {V : Type 0} → LockAt V → (TheWindow → List (WholeView V) → Type 0) → Type 0
 KeepsToLocals L rule = (x : _) (at : Atom) → MayBe rule x → next_of L x ≡ Some at → IsLocalAtom at → UsesLocals L.table x.rank
 
 -- so on a shard: whichever atom a rank comes to make there
@@ -162,7 +162,7 @@ module _ (V : Type 0) (L : LockAt V) (good : LockState V → Type 0) (further : 
       (next_cases V L good further layout laws home (side_atom L.table x.side) (work_plan L.site.geom (L.table.standing x.side.view) x.work) at e)
 
   -- so each shard under the rule keeps them
-  pub keeps_domains : (h : Held) (vs : List (WholeView V)) (trace : List (ℕ × Event)) → Good L good layout h vs → KeepsDomains (record { lock = L; held = h; views = vs; trace = trace })
+  pub keeps_domains : (h : TheWindow) (vs : List (WholeView V)) (trace : List (ℕ × Event)) → Good L good layout h vs → KeepsDomains (record { lock = L; held = h; views = vs; trace = trace })
   keeps_domains h vs trace rule =
       record {
         cards = λ k x at has next is. subst (UsesCards L.table) (rule.own k x has) (next_card_allowed x at (record { held = h; views = vs; rank = k; is_ruled = rule; has = has }) next is);

@@ -9,7 +9,7 @@ use Rattle.rl_word.specs.declared.acts.Atom.TheVariants as atom
 use Rattle.rl_step.specs.declared.events.Event.{Event}
 use Rattle.rl_step.specs.declared.events.Stepped.TheVariants.{Moved, Busy}
 use Rattle.rl_step.specs.Core.{MayBe, MayGet, Plans}
-use Rattle.rl_step.specs.Do.{Held}
+use Rattle.rl_step.specs.Do.{TheWindow}
 use Rattle.rl_step.specs.Lock.{LockState, LockLaws, Deed}
 use Rattle.rl_work.specs.Work.{work_after}
 use Rattle.rl_whole.specs.declared.card_state.CardState.TheVariants.{Free, InCard}
@@ -45,7 +45,7 @@ module _ {V : Type 0} (L : LockAt V) (x : WholeView V) (a : Act) (planned : L.ta
       (ap (card_atom L.table (L.table.plan x.side.view)) free ∙ ap (λ q. card_atom L.table q Free) planned ∙ ap (λ z. Some z) (begins_so node a card))
 
   -- it changes nothing where another rank is in the card
-  pub held_idle : (h : Held) (k : ℕ) → (slice_index h.cards node == 0) ≡ false → IsIdle L h k x (next_of L x) (Busy node (slice_index h.cards node - 1))
+  pub held_idle : (h : TheWindow) (k : ℕ) → (slice_index h.cards node == 0) ≡ false → IsIdle L h k x (next_of L x) (Busy node (slice_index h.cards node - 1))
   held_idle h k held =
       let got : ℕ = slice_index h.cards node in
       let means : effect_at (plan_home L.table (L.table.plan x.side.view)) (L.table.plan x.side.view) x.side.card got ≡ Stay Free (Busy node (got - 1)) =

@@ -14,7 +14,7 @@ use Rattle.rl_step.specs.declared.events.Event.{Event}
 use Rattle.rl_step.specs.declared.events.Standing.{Standing}
 use Rattle.rl_step.specs.declared.events.Standing.TheVariants.{Out, Asking, Writer, Reader, Leaving}
 use Rattle.rl_step.specs.Lock.{LockState, LockLaws, Deed, Rests, IsHolder, first_views}
-use Rattle.rl_step.specs.Do.{Held}
+use Rattle.rl_step.specs.Do.{TheWindow}
 use Rattle.rl_step.specs.Core.{MayBe}
 use Rattle.rl_work.specs.Site.{lock_base}
 use Rattle.rl_work.specs.Work.{TheWork, with_block, work_atom}
@@ -107,7 +107,7 @@ module _ (V : Type 0) (L : LockAt V) (good : LockState V → Type 0) (further : 
   plan_none Leaving w e h = absurd h
 
   -- opening a call where none is open keeps the rule, and the rank was out
-  pub open_keeps : (h : Held) (vs : List (WholeView V)) (r : ℕ) (x : WholeView V) (c : List Call) (seq : ℕ) (g : Good L good layout h vs) → slice_get vs r ≡ Some x → next_of L x ≡ None →
+  pub open_keeps : (h : TheWindow) (vs : List (WholeView V)) (r : ℕ) (x : WholeView V) (c : List Call) (seq : ℕ) (g : Good L good layout h vs) → slice_get vs r ≡ Some x → next_of L x ≡ None →
       IsOpen L.site r c seq x.work.transcript →
       (q : Good L good layout h (slice_set vs r (opened_in L.table c seq x))) × (q.past ≡ g.past) × (L.table.standing x.side.view ≡ Out)
   open_keeps h vs r x c seq g has e o =
@@ -148,7 +148,7 @@ module _ (V : Type 0) (L : LockAt V) (good : LockState V → Type 0) (further : 
       )
 
   -- where the machine has no atom the rank is out and in no card
-  module _ (h : Held) (vs : List (WholeView V)) (r : ℕ) (x : WholeView V) (g : Good L good layout h vs) (has : slice_get vs r ≡ Some x) where
+  module _ (h : TheWindow) (vs : List (WholeView V)) (r : ℕ) (x : WholeView V) (g : Good L good layout h vs) (has : slice_get vs r ≡ Some x) where
     closed_parts : next_of L x ≡ None → (L.table.standing x.side.view ≡ Out) × (x.side.card ≡ Free)
     closed_parts e =
         let here : slice_get (map side_of vs) r ≡ Some x.side = get_map side_of vs r x has in

@@ -2,7 +2,7 @@
 use Rattle.std.specs.Prelude.{◌≡◌, ℕ, ◌+◌, List, [], ◌∷◌, ◌++◌, replicate, slice_get, Some}
 use Rattle.rl_model.specs.declared.call.Call.{Call}
 use Rattle.rl_step.specs.Lock.{LockTable}
-use Rattle.rl_step.specs.Do.{Held}
+use Rattle.rl_step.specs.Do.{TheWindow}
 use Rattle.rl_work.specs.Site.{Site}
 use Rattle.rl_work.specs.Work.{first_work, with_block}
 use Rattle.rl_work.specs.WorkGood.{opening_words}
@@ -12,7 +12,7 @@ use Rattle.rl_whole.specs.declared.whole.WholeView.{WholeView}
 use Rattle.rl_whole.specs.Whole.{mode_of}
 
 -- the words and cards at the start: word 0 is 1, the count is 0, the volume is that of the empty table, and all else is 0
-abbrev pub opening_held : Site → ℕ → ℕ → Held
+abbrev pub opening_held : Site → ℕ → ℕ → TheWindow
 opening_held site size nodes = record { words = opening_words site ++ replicate size 0; cards = replicate nodes 0 }
 
 module _ {V : Type 0} where

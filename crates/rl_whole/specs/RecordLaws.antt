@@ -13,7 +13,7 @@ use Rattle.rl_journal.specs.Legal.{IsLegalJournal, IsLegalBlock}
 use Rattle.rl_journal.specs.LegalLaws.{IsIn, in_journal}
 use Rattle.rl_step.specs.declared.events.Event.{Event}
 use Rattle.rl_step.specs.Lock.{LockTable, LockState, LockLaws, Deed}
-use Rattle.rl_step.specs.Do.{Held}
+use Rattle.rl_step.specs.Do.{TheWindow}
 use Rattle.rl_work.specs.Site.{places, count_word, journal_base, lock_base}
 use Rattle.rl_work.specs.Rule.{journal_of}
 use Rattle.rl_work.specs.RoomLaws.{journal_short}
@@ -58,7 +58,7 @@ part_low geom journal p e legal get =
     let low : size_of l.batch ≤ 8 = size_low l.batch l.is.few in
     omega arith
 
-module _ (V : Type 0) (L : LockAt V) (good : LockState V → Type 0) (layout : Layout) (h : Held) (vs : List (WholeView V)) (g : Good L good layout h vs) where
+module _ (V : Type 0) (L : LockAt V) (good : LockState V → Type 0) (layout : Layout) (h : TheWindow) (vs : List (WholeView V)) (g : Good L good layout h vs) where
   -- the words before the lock's, and the journal that they say
   abbrev front : List ℕ
   front = take L.base h.words

@@ -5,7 +5,7 @@ use Rattle.rl_step.specs.declared.events.Stepped.{Stepped}
 use Rattle.rl_step.specs.declared.events.Stepped.TheVariants.{Moved, Waiting, Lost, Busy, Finished}
 use Rattle.rl_step.specs.declared.tallies.Steps.{Steps}
 use Rattle.rl_step.specs.Answers.{counted}
-use Rattle.rl_step.specs.Do.{Held, do_atom, do_got}
+use Rattle.rl_step.specs.Do.{TheWindow, do_atom, do_got}
 use Rattle.rl_whole.specs.declared.whole.WholeView.{WholeView}
 use Rattle.rl_whole.specs.Running.{LockAt, Running}
 use Rattle.rl_whole.specs.Whole.{after_of}
@@ -30,7 +30,7 @@ Rests m k answer = (answer_of_step m k ≡ answer) × ((counts : Steps) → step
 
 -- rank k's atom, of the view x, leaves words, cards and the view as they are, nothing happens with it, and this is its answer; without
 -- an atom that is Finished
-abbrev pub IsIdle : {V : Type 0} → LockAt V → Held → ℕ → WholeView V → Option Atom → Stepped → Type 0
+abbrev pub IsIdle : {V : Type 0} → LockAt V → TheWindow → ℕ → WholeView V → Option Atom → Stepped → Type 0
 IsIdle L h k x None answer = Finished ≡ answer
 IsIdle L h k x (Some at) answer =
     (do_atom k at h ≡ h) × ((after_of L x (do_got at h.words h.cards)).view ≡ x) × ((after_of L x (do_got at h.words h.cards)).events ≡ []) ×

@@ -5,7 +5,7 @@ use Rattle.rl_model.specs.declared.geom.Geom.{Geom}
 use Rattle.rl_step.specs.declared.events.Event.{Event}
 use Rattle.rl_step.specs.declared.tallies.Steps.{Steps}
 use Rattle.rl_step.specs.Lock.{LockTable}
-use Rattle.rl_step.specs.Do.{Held}
+use Rattle.rl_step.specs.Do.{TheWindow}
 use Rattle.rl_work.specs.Site.{Site}
 use Rattle.rl_whole.specs.declared.whole.Whole.{Whole}
 use Rattle.rl_whole.specs.declared.whole.WholeView.{WholeView}
@@ -25,7 +25,7 @@ lock_at table core = record { base = core.base; table = table core.algo; site = 
 -- their steps
 pub record ShardRun (V : Type 0) : Type 0 where
   pub lock : LockAt V
-  pub held : Held
+  pub held : TheWindow
   pub views : List (WholeView V)
   pub trace : List (ℕ × Event)
 
@@ -43,7 +43,7 @@ pub record Running (V : Type 0) : Type 0 where
 -- of a type can't hold; so it is read off the core.
 pub record TheShard (A V : Type 0) : Type 0 where
   pub core : Whole A V
-  pub held : Held
+  pub held : TheWindow
   pub views : List (WholeView V)
   pub trace : List (ℕ × Event)
 

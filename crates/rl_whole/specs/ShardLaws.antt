@@ -11,7 +11,7 @@ use Rattle.rl_step.specs.declared.events.Event.TheVariants.{Touch}
 use Rattle.rl_step.specs.declared.events.Standing.{Standing}
 use Rattle.rl_step.specs.declared.events.Standing.TheVariants.{Out, Writer, Reader}
 use Rattle.rl_step.specs.Lock.{LockState, LockLaws, Deed, IsHolder}
-use Rattle.rl_step.specs.Do.{Held, do_atom, do_got}
+use Rattle.rl_step.specs.Do.{TheWindow, do_atom, do_got}
 use Rattle.rl_step.specs.Core.{MayBe, MayGet}
 use Rattle.rl_step.specs.Exclusion.{IsExclusive, ExclusiveFrom, writers_of, readers_of, nobody}
 use Rattle.rl_step.specs.ExclusionLaws.{exclusive_append, writers_append, readers_append, is_exclusive}
@@ -49,7 +49,7 @@ not_open true left e = cc
 module _ (V : Type 0) (L : LockAt V) (good : LockState V → Type 0) (further : List Event → List Deed → Type 0) (layout : Layout) (laws : LockLaws L.table good further layout) (home : ℕ) where
   -- what an atom does to its rank's standing
   -- a reader stores nothing
-  reader_loads : (h : Held) (vs : List (WholeView V)) (r : ℕ) (x : WholeView V) → Good L good layout h vs → slice_get vs r ≡ Some x → (b : Bool) → stores x.work.stage ≡ b → stand L.table x ≡ Reader → b ≡ false
+  reader_loads : (h : TheWindow) (vs : List (WholeView V)) (r : ℕ) (x : WholeView V) → Good L good layout h vs → slice_get vs r ≡ Some x → (b : Bool) → stores x.work.stage ≡ b → stand L.table x ≡ Reader → b ≡ false
   reader_loads h vs r x g has true e reads =
       let writes : stand L.table x ≡ Writer = stores_alone L.site (take L.base h.words) (map (work_side L.table) vs) g.work_part r (work_side L.table x) (get_map (work_side L.table) vs r x has) e in
       let clash : Reader ≡ Writer = sym reads ∙ writes in cc
@@ -59,7 +59,7 @@ module _ (V : Type 0) (L : LockAt V) (good : LockState V → Type 0) (further : 
   left_stands x holds true = laws.leave_leaves x.side.view holds
   left_stands x holds false = refl
 
-  change_effect : (h : Held) (vs : List (WholeView V)) (r : ℕ) (x : WholeView V) (at : Atom) (g : Good L good layout h vs) → slice_get vs r ≡ Some x → next_of L x ≡ Some at → (w : WorkTurned) (t : Effect) →
+  change_effect : (h : TheWindow) (vs : List (WholeView V)) (r : ℕ) (x : WholeView V) (at : Atom) (g : Good L good layout h vs) → slice_get vs r ≡ Some x → next_of L x ≡ Some at → (w : WorkTurned) (t : Effect) →
       effect_at (plan_home L.table (L.table.plan x.side.view)) (L.table.plan x.side.view) x.side.card (do_got at h.words h.cards) ≡ t →
       Change r (stand L.table x) (stand L.table (effect_turned L x w t).view) (effect_turned L x w t).events
   change_effect h vs r x at g has e w Work q =
@@ -79,12 +79,12 @@ module _ (V : Type 0) (L : LockAt V) (good : LockState V → Type 0) (further : 
       subst (λ k. Change r (stand L.table x) (L.table.standing (L.table.learn x.side.view k).view) (L.table.learn x.side.view k).events) (sym l.2)
       (shift_change r _ _ _ (laws.shifts (lock_of s) r x.side.view l.0 (record { is_good = g.lock_part.lock; has = get_map view_of s.sides r x.side here; planned = l.1 })))
 
-  pub atom_change : (h : Held) (vs : List (WholeView V)) (r : ℕ) (x : WholeView V) (at : Atom) (g : Good L good layout h vs) → slice_get vs r ≡ Some x → next_of L x ≡ Some at →
+  pub atom_change : (h : TheWindow) (vs : List (WholeView V)) (r : ℕ) (x : WholeView V) (at : Atom) (g : Good L good layout h vs) → slice_get vs r ≡ Some x → next_of L x ≡ Some at →
       Change r (stand L.table x) (stand L.table (after_of L x (do_got at h.words h.cards)).view) (after_of L x (do_got at h.words h.cards)).events
   atom_change h vs r x at g has e = change_effect h vs r x at g has e (work_after L.site.geom L.site.shard x.rank x.work (do_got at h.words h.cards)) (effect_at (plan_home L.table (L.table.plan x.side.view)) (L.table.plan x.side.view) x.side.card (do_got at h.words h.cards)) refl
 
   -- at most one rank stands as writer
-  pub alone_in : (h : Held) (vs : List (WholeView V)) → Good L good layout h vs → AloneIn (map (stand L.table) vs)
+  pub alone_in : (h : TheWindow) (vs : List (WholeView V)) → Good L good layout h vs → AloneIn (map (stand L.table) vs)
   alone_in h vs g =
       let find : (i : ℕ) (st : Standing) → slice_get (map (stand L.table) vs) i ≡ Some st → (v : V) × (slice_get (map view_of (map side_of vs)) i ≡ Some v) × (L.table.standing v ≡ st) =
       λ i st e. let x = get_map_back (stand L.table) vs i st e in (x.0.side.view, get_map view_of (map side_of vs) i x.0.side (get_map side_of vs i x.0 x.1), x.2) in
@@ -97,15 +97,15 @@ module _ (V : Type 0) (L : LockAt V) (good : LockState V → Type 0) (further : 
       }
 
   -- the view of a rank is one that some state under the rule has
-  pub may_be : (h : Held) (vs : List (WholeView V)) (k : ℕ) (x : WholeView V) → Good L good layout h vs → slice_get vs k ≡ Some x → MayBe (Good L good layout) x
+  pub may_be : (h : TheWindow) (vs : List (WholeView V)) (k : ℕ) (x : WholeView V) → Good L good layout h vs → slice_get vs k ≡ Some x → MayBe (Good L good layout) x
   may_be h vs k x g has = record { held = h; views = vs; rank = k; is_ruled = g; has = has }
 
   -- a shard with this lock
-  abbrev pub shard_with : Held → List (WholeView V) → List (ℕ × Event) → ShardRun V
+  abbrev pub shard_with : TheWindow → List (WholeView V) → List (ℕ × Event) → ShardRun V
   shard_with h vs t = record { lock = L; held = h; views = vs; trace = t }
 
   -- an atom of a rank keeps all that is true of a shard
-  atom_good : (h : Held) (vs : List (WholeView V)) (trace : List (ℕ × Event)) (k step : ℕ) (x : WholeView V) (at : Atom) (ds : List Deed) → ShardGood good layout ds (shard_with h vs trace) → slice_get vs k ≡ Some x → next_of L x ≡ Some at →
+  atom_good : (h : TheWindow) (vs : List (WholeView V)) (trace : List (ℕ × Event)) (k step : ℕ) (x : WholeView V) (at : Atom) (ds : List Deed) → ShardGood good layout ds (shard_with h vs trace) → slice_get vs k ≡ Some x → next_of L x ≡ Some at →
       ShardGood good layout (ds ++ deeds_to (shard_with h vs trace) x (Some at)) (makes (shard_with h vs trace) k step x (Some at))
   atom_good h vs trace k step x at ds g has e =
       let t : List Event = events_of trace in
@@ -128,18 +128,18 @@ module _ (V : Type 0) (L : LockAt V) (good : LockState V → Type 0) (further : 
         exclusive = subst (ExclusiveFrom nobody nobody) (sym more) (exclusive_append nobody nobody t es g.exclusive went.exclusive);
       }
 
-  made_good : (h : Held) (vs : List (WholeView V)) (trace : List (ℕ × Event)) (k step : ℕ) (x : WholeView V) (o : Option Atom) (ds : List Deed) → next_of L x ≡ o → ShardGood good layout ds (shard_with h vs trace) → slice_get vs k ≡ Some x →
+  made_good : (h : TheWindow) (vs : List (WholeView V)) (trace : List (ℕ × Event)) (k step : ℕ) (x : WholeView V) (o : Option Atom) (ds : List Deed) → next_of L x ≡ o → ShardGood good layout ds (shard_with h vs trace) → slice_get vs k ≡ Some x →
       ShardGood good layout (ds ++ deeds_to (shard_with h vs trace) x o) (makes (shard_with h vs trace) k step x o)
   made_good h vs trace k step x None ds e g has = subst (λ z. ShardGood good layout z (shard_with h vs trace)) (sym (append-nil ds)) g
   made_good h vs trace k step x (Some at) ds e g has = atom_good h vs trace k step x at ds g has e
 
-  pub made_at_good : (h : Held) (vs : List (WholeView V)) (trace : List (ℕ × Event)) (k step : ℕ) (o : Option (WholeView V)) (ds : List Deed) → slice_get vs k ≡ o → ShardGood good layout ds (shard_with h vs trace) →
+  pub made_at_good : (h : TheWindow) (vs : List (WholeView V)) (trace : List (ℕ × Event)) (k step : ℕ) (o : Option (WholeView V)) (ds : List Deed) → slice_get vs k ≡ o → ShardGood good layout ds (shard_with h vs trace) →
       ShardGood good layout (ds ++ deeds_at (shard_with h vs trace) o) (made_at (shard_with h vs trace) k step o)
   made_at_good h vs trace k step None ds e g = subst (λ z. ShardGood good layout z (shard_with h vs trace)) (sym (append-nil ds)) g
   made_at_good h vs trace k step (Some x) ds e g = made_good h vs trace k step x (next_of L x) ds refl g e
 
   -- so does a block that is opened
-  pub open_good : (h : Held) (vs : List (WholeView V)) (trace : List (ℕ × Event)) (k : ℕ) (x : WholeView V) (block : List Call) (seq : ℕ) (ds : List Deed) → ShardGood good layout ds (shard_with h vs trace) → slice_get vs k ≡ Some x →
+  pub open_good : (h : TheWindow) (vs : List (WholeView V)) (trace : List (ℕ × Event)) (k : ℕ) (x : WholeView V) (block : List Call) (seq : ℕ) (ds : List Deed) → ShardGood good layout ds (shard_with h vs trace) → slice_get vs k ≡ Some x →
       next_of L x ≡ None → IsOpen L.site k block seq x.work.transcript → ShardGood good layout ds (opened_at (shard_with h vs trace) k block seq (Some x))
   open_good h vs trace k x block seq ds g has e fits =
       let t : List Event = events_of trace in
@@ -159,5 +159,5 @@ module _ (V : Type 0) (L : LockAt V) (good : LockState V → Type 0) (further : 
       }
 
   -- the trace is exclusive
-  pub shard_exclusive : (h : Held) (vs : List (WholeView V)) (trace : List (ℕ × Event)) (ds : List Deed) → ShardGood good layout ds (shard_with h vs trace) → IsExclusive (events_of trace)
+  pub shard_exclusive : (h : TheWindow) (vs : List (WholeView V)) (trace : List (ℕ × Event)) (ds : List Deed) → ShardGood good layout ds (shard_with h vs trace) → IsExclusive (events_of trace)
   shard_exclusive h vs trace ds g = is_exclusive (events_of trace) g.exclusive

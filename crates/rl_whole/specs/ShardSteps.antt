@@ -7,7 +7,7 @@ use Rattle.rl_step.specs.declared.events.Event.{Event}
 use Rattle.rl_step.specs.declared.events.Stepped.{Stepped}
 use Rattle.rl_step.specs.declared.events.Stepped.TheVariants.{Finished}
 use Rattle.rl_step.specs.Lock.{Deed}
-use Rattle.rl_step.specs.Do.{Held, do_atom, do_got}
+use Rattle.rl_step.specs.Do.{TheWindow, do_atom, do_got}
 use Rattle.rl_whole.specs.declared.whole.WholeView.{WholeView}
 use Rattle.rl_whole.specs.Opening.{opened_in}
 use Rattle.rl_whole.specs.Running.{LockAt, ShardRun}
@@ -50,7 +50,7 @@ module _ {V : Type 0} where
   atom_on k step S = made_at S k step (slice_get S.views k)
 
   -- the answer of an atom that finds these words and cards; Finished where there is none
-  abbrev pub answer_to : LockAt V → Held → WholeView V → Option Atom → Stepped
+  abbrev pub answer_to : LockAt V → TheWindow → WholeView V → Option Atom → Stepped
   answer_to L h x None = Finished
   answer_to L h x (Some at) = (after_of L x (do_got at h.words h.cards)).stepped
 

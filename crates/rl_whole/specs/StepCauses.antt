@@ -14,7 +14,7 @@ use Rattle.rl_step.specs.declared.events.Stepped.TheVariants.{Moved, Busy, Finis
 use Rattle.rl_step.specs.Answers.{counted, steps_made}
 use Rattle.rl_step.specs.Core.{MayBe}
 use Rattle.rl_step.specs.Lock.{LockTable, LockState, LockLaws, Deed}
-use Rattle.rl_step.specs.Do.{Held, do_atom, do_got}
+use Rattle.rl_step.specs.Do.{TheWindow, do_atom, do_got}
 use Rattle.rl_work.specs.Work.{WorkTurned, work_after}
 use Rattle.rl_whole.specs.declared.card_state.CardState.{CardState}
 use Rattle.rl_whole.specs.declared.card_state.CardState.TheVariants.{Free, InCard, Loaded, ToLeave}
@@ -98,7 +98,7 @@ module _ {V : Type 0} where
       ∙ ap (λ z. record { lock = S.lock; held = S.held; views = S.views; trace = z }) trace
 
   -- an answer of Finished means that there was no atom
-  finished_to : (L : LockAt V) (h : Held) (x : WholeView V) (o : Option Atom) → answer_to L h x o ≡ Finished → o ≡ None
+  finished_to : (L : LockAt V) (h : TheWindow) (x : WholeView V) (o : Option Atom) → answer_to L h x o ≡ Finished → o ≡ None
   finished_to L h x None q = refl
   finished_to L h x (Some at) q = absurd (atom_goes_on L x (do_got at h.words h.cards) q)
 

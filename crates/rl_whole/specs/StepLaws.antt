@@ -7,28 +7,28 @@ use Rattle.rl_word.specs.declared.acts.Atom.{Atom}
 use Rattle.rl_step.specs.declared.events.Event.{Event}
 use Rattle.rl_step.specs.declared.events.Stepped.{Stepped}
 use Rattle.rl_step.specs.declared.events.Stepped.TheVariants.{Finished}
-use Rattle.rl_step.specs.Do.{Held, do_atom, do_got}
+use Rattle.rl_step.specs.Do.{TheWindow, do_atom, do_got}
 use Rattle.rl_whole.specs.Running.{ShardRun}
 use Rattle.rl_whole.specs.declared.whole.WholeView.{WholeView}
 use Rattle.rl_whole.specs.Whole.{next_of, after_of}
 use Rattle.rl_whole.specs.ShardSteps.{numbered, makes, made_at, atom_on, answer_to, answer_at, answer_on}
 
 -- the shard with its lock as it was, and all else new
-abbrev pub shard_by : {V : Type 0} → ShardRun V → Held → List (WholeView V) → List (ℕ × Event) → ShardRun V
+abbrev pub shard_by : {V : Type 0} → ShardRun V → TheWindow → List (WholeView V) → List (ℕ × Event) → ShardRun V
 shard_by S h vs t = record { lock = S.lock; held = h; views = vs; trace = t }
 
-same_shard : {V : Type 0} (S : ShardRun V) (h k : Held) (vs us : List (WholeView V)) (t u : List (ℕ × Event)) → h ≡ k → vs ≡ us → t ≡ u → shard_by S h vs t ≡ shard_by S k us u
+same_shard : {V : Type 0} (S : ShardRun V) (h k : TheWindow) (vs us : List (WholeView V)) (t u : List (ℕ × Event)) → h ≡ k → vs ≡ us → t ≡ u → shard_by S h vs t ≡ shard_by S k us u
 same_shard S h k vs us t u eh ev et = ap (λ z. shard_by S z vs t) eh ∙ ap (λ z. shard_by S k z t) ev ∙ ap (λ z. shard_by S k us z) et
 
 -- what an advance of rank k left, by its clauses: words and cards h, views vs, events es and the answer
-pub record Advances {V : Type 0} (S : ShardRun V) (k : ℕ) (h : Held) (vs : List (WholeView V)) (es : List Event) (answer : Stepped) : Type 0 where
+pub record Advances {V : Type 0} (S : ShardRun V) (k : ℕ) (h : TheWindow) (vs : List (WholeView V)) (es : List Event) (answer : Stepped) : Type 0 where
   pub there : k < length S.views
   pub finished : (x : WholeView V) → slice_get S.views k ≡ Some x → next_of S.lock x ≡ None → (answer ≡ Finished) × (es ≡ []) × (h ≡ S.held) × (vs ≡ S.views)
   pub made : (x : WholeView V) (at : Atom) → slice_get S.views k ≡ Some x → next_of S.lock x ≡ Some at →
       (h ≡ do_atom k at S.held) × (vs ≡ slice_set S.views k (after_of S.lock x (do_got at S.held.words S.held.cards)).view) ×
       (es ≡ (after_of S.lock x (do_got at S.held.words S.held.cards)).events) × (answer ≡ (after_of S.lock x (do_got at S.held.words S.held.cards)).stepped)
 
-module _ {V : Type 0} (S : ShardRun V) (k step : ℕ) (h : Held) (vs : List (WholeView V)) (es : List Event) (answer : Stepped) where
+module _ {V : Type 0} (S : ShardRun V) (k step : ℕ) (h : TheWindow) (vs : List (WholeView V)) (es : List Event) (answer : Stepped) where
   by_next : Advances S k h vs es answer → (x : WholeView V) (o : Option Atom) → slice_get S.views k ≡ Some x → next_of S.lock x ≡ o →
       (shard_by S h vs (S.trace ++ numbered step es) ≡ makes S k step x o) × (answer ≡ answer_to S.lock S.held x o)
   by_next a x None has e =

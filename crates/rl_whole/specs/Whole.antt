@@ -21,7 +21,7 @@ use Rattle.rl_step.specs.declared.events.Standing.TheVariants as standing
 use Rattle.rl_step.specs.declared.events.Stepped.{Stepped}
 use Rattle.rl_step.specs.declared.events.Stepped.TheVariants.{Moved, Waiting, Lost, Busy, Finished}
 use Rattle.rl_step.specs.Lock.{LockTable, LockState, Deed}
-use Rattle.rl_step.specs.Do.{Held}
+use Rattle.rl_step.specs.Do.{TheWindow}
 use Rattle.rl_step.specs.Core.{CoreTable, Turned}
 use Rattle.rl_whole.specs.declared.card_state.CardState.{CardState}
 use Rattle.rl_whole.specs.declared.card_state.CardState.TheVariants.{Free, InCard, Loaded, ToLeave}
@@ -136,7 +136,7 @@ abbrev pub made_deeds : {V : Type 0} → LockTable V → WholeView V → ℕ →
 made_deeds T x got = (side_after T x.rank x.side got).deeds
 
 -- the lock's part of a window
-abbrev pub split_of : {V : Type 0} → ℕ → Held → List (WholeView V) → List Mode → Past → SplitState V
+abbrev pub split_of : {V : Type 0} → ℕ → TheWindow → List (WholeView V) → List Mode → Past → SplitState V
 split_of base h vs modes past = record { words = drop base h.words; cards = h.cards; sides = map side_of vs; modes = modes; past = past }
 
 -- the work's side of a view
@@ -171,7 +171,7 @@ leaves k (e ∷ t) = leaves k t
 
 -- The rule of a window: some modes of the last asks, some events and some acts explain it; the lock's part, and the work's part over
 -- the words before the lock's; what ties the two; and the numbers fit the machine's.
-pub record Good {V : Type 0} (L : LockAt V) (good : LockState V → Type 0) (layout : Layout) (h : Held) (vs : List (WholeView V)) : Type 0 where
+pub record Good {V : Type 0} (L : LockAt V) (good : LockState V → Type 0) (layout : Layout) (h : TheWindow) (vs : List (WholeView V)) : Type 0 where
   pub modes : List Mode
   pub past : Past
   pub lock_part : LockGood L.table good layout (split_of L.base h vs modes past)
@@ -187,7 +187,7 @@ pub record Good {V : Type 0} (L : LockAt V) (good : LockState V → Type 0) (lay
   pub few : length vs < 2 ^ 32
 
 -- the rule of the window of a core
-abbrev pub rule_of : {A V : Type 0} → (A → LockTable V) → (A → LockState V → Type 0) → (A → Layout) → Whole A V → Held → List (WholeView V) → Type 0
+abbrev pub rule_of : {A V : Type 0} → (A → LockTable V) → (A → LockState V → Type 0) → (A → Layout) → Whole A V → TheWindow → List (WholeView V) → Type 0
 rule_of table good layout core = Good (lock_at table core) (good core.algo) (layout core.algo)
 
 -- a lock word that an atom names fits, once it is shifted

@@ -20,7 +20,7 @@ use Rattle.rl_step.specs.declared.events.Event.TheVariants.{Touch}
 use Rattle.rl_step.specs.declared.events.Standing.{Standing}
 use Rattle.rl_step.specs.declared.events.Standing.TheVariants as standing
 use Rattle.rl_step.specs.Lock.{LockState, LockLaws, Deed, IsHolder, Suits, holds_only}
-use Rattle.rl_step.specs.Do.{Held, do_got, do_atom, do_words, CanDo}
+use Rattle.rl_step.specs.Do.{TheWindow, do_got, do_atom, do_words, CanDo}
 use Rattle.rl_step.specs.Core.{CoreLaws, Turned, home_at}
 use Rattle.rl_work.specs.Work.{TheWork, WorkTurned, batch_in, stores, work_atom, work_after}
 use Rattle.rl_model.specs.Asked.{asks_update}
@@ -133,7 +133,7 @@ module _ (V : Type 0) (L : LockAt V) (good : LockState V → Type 0) (further : 
       (there L.base w ws c.0, subst (λ n. n < length cs) (sym (shift_home L home w)) c.1, subst (λ n. slice_index cs n ≡ r + 1) (sym (shift_home L home w)) c.2)
   shift_can r (atom.Leave n) ws cs c = c
 
-  module _ (h : Held) (vs : List (WholeView V)) (g : Good L good layout h vs) where
+  module _ (h : TheWindow) (vs : List (WholeView V)) (g : Good L good layout h vs) where
     s : SplitState V
     s = split_of L.base h vs g.modes g.past
 
@@ -344,7 +344,7 @@ module _ (V : Type 0) (L : LockAt V) (good : LockState V → Type 0) (further : 
   next_cases (Some b) w at e = inl (b, refl, same_Some _ _ e)
   next_cases None w at e = inr (refl, e)
 
-  pub keeps_at : (h : Held) (vs : List (WholeView V)) (r : ℕ) (x : WholeView V) (at : Atom) (g : Good L good layout h vs) → slice_get vs r ≡ Some x → next_of L x ≡ Some at →
+  pub keeps_at : (h : TheWindow) (vs : List (WholeView V)) (r : ℕ) (x : WholeView V) (at : Atom) (g : Good L good layout h vs) → slice_get vs r ≡ Some x → next_of L x ≡ Some at →
       Kept h vs g r at (after_of L x (do_got at h.words h.cards)) (made_deeds L.table x (do_got at h.words h.cards))
   keeps_at h vs r x at g has e =
       ⊎_elim
@@ -362,7 +362,7 @@ module _ (V : Type 0) (L : LockAt V) (good : LockState V → Type 0) (further : 
   work_can r (atom.CardStore w v) ws cs le p c = absurd p
   work_can r (atom.Leave n) ws cs le p c = absurd p
 
-  can_at : (h : Held) (vs : List (WholeView V)) (r : ℕ) (x : WholeView V) (at : Atom) → Good L good layout h vs → slice_get vs r ≡ Some x → next_of L x ≡ Some at →
+  can_at : (h : TheWindow) (vs : List (WholeView V)) (r : ℕ) (x : WholeView V) (at : Atom) → Good L good layout h vs → slice_get vs r ≡ Some x → next_of L x ≡ Some at →
       CanDo (home_at (home_of_word L home) at) r at h.words h.cards
   can_at h vs r x at g has e =
       ⊎_elim

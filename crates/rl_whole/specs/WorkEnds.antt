@@ -10,7 +10,7 @@ use Rattle.rl_step.specs.declared.events.Event.{Event}
 use Rattle.rl_step.specs.declared.events.Standing.{Standing}
 use Rattle.rl_step.specs.declared.events.Standing.TheVariants.{Out, Asking, Writer, Reader, Leaving}
 use Rattle.rl_step.specs.Lock.{LockState, LockLaws, Deed, IsHolder, Shift}
-use Rattle.rl_step.specs.Do.{Held, do_got}
+use Rattle.rl_step.specs.Do.{TheWindow, do_got}
 use Rattle.rl_step.specs.Core.{MayGet}
 use Rattle.rl_work.specs.Work.{TheWork, WorkTurned, batch_in, work_after}
 use Rattle.rl_work.specs.AtomLaws.{entry_calls, few_replies}
@@ -71,7 +71,7 @@ holder_works Reader h = refl
 holder_works Leaving h = absurd h
 
 module _ (V : Type 0) (L : LockAt V) (good : LockState V → Type 0) (further : List Event → List Deed → Type 0) (layout : Layout) (laws : LockLaws L.table good further layout) (home : ℕ) where
-  module _ (h : Held) (vs : List (WholeView V)) (r : ℕ) (x : WholeView V) (at : Atom) (g : Good L good layout h vs) (has : slice_get vs r ≡ Some x) (e : next_of L x ≡ Some at) where
+  module _ (h : TheWindow) (vs : List (WholeView V)) (r : ℕ) (x : WholeView V) (at : Atom) (g : Good L good layout h vs) (has : slice_get vs r ≡ Some x) (e : next_of L x ≡ Some at) where
     abbrev may_get : MayGet (whole_table L home) (Good L good layout) x (do_got at h.words h.cards)
     may_get = record { held = h; views = vs; rank = r; atom = at; plans = record { is_ruled = g; has = has; planned = e }; gives = refl }
 

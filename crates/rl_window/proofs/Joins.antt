@@ -6,7 +6,7 @@ use mathlib.Core.Option.{some}
 use lib.ListN.{get_elem?}
 use Rattle.atomic_table.specs.Table.{Me, Joins, Seen, Final}
 use Rattle.atomic_table.proofs.Lists.{at_set, set_else}
-use Rattle.rl_step.specs.Do.{Held}
+use Rattle.rl_step.specs.Do.{TheWindow}
 use Rattle.rl_window.specs.declared.knows.Setup.{Setup}
 use Rattle.rl_window.specs.declared.knows.RootKnows.{RootKnows}
 use Rattle.rl_window.specs.declared.knows.RankKnows.{RankKnows}
@@ -15,7 +15,7 @@ use Rattle.rl_window.specs.declared.knows.Knows.TheVariants.{Root, Rank, Spent}
 use Rattle.rl_window.specs.Rule.{Keeps, Fits, IsRuled}
 use Rattle.rl_window.specs.Plays.{with_ended, CanEnd}
 
-module _ {C V : Type 0} (rule : C → Held → List V → Type 0) where
+module _ {C V : Type 0} (rule : C → TheWindow → List V → Type 0) where
   -- what another seat knows stays so, where the rank `joined` ends
   left_fit : (core : C) (size nodes : ℕ) (views : List V) (given joined j : ℕ) (v : V) → j ≢ 0 → j ≢ joined + 1 → (k : Knows C V) → Fits core size nodes views given joined j k → Fits core size nodes (set views joined v) given (joined + 1) j k
   left_fit core size nodes views given joined j v root other (Root r) f = absurd (root f.0)

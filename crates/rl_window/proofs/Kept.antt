@@ -10,7 +10,7 @@ use Rattle.atomic_table.proofs.Lists.{at_set}
 use Rattle.rl_word.specs.Places.{get_set_same, get_set_other}
 use Rattle.rl_word.specs.declared.acts.Atom.{Atom}
 use Rattle.rl_word.specs.declared.acts.Atom.TheVariants.{Load, Store, LocalCas, Take, CardLoad, CardStore, Leave}
-use Rattle.rl_step.specs.Do.{Held, do_got, do_atom, CanDo}
+use Rattle.rl_step.specs.Do.{TheWindow, do_got, do_atom, CanDo}
 use Rattle.rl_step.specs.Core.{CoreTable, CoreLaws, Plans, home_at}
 use Rattle.rl_window.specs.declared.knows.Setup.{Setup}
 use Rattle.rl_window.specs.declared.knows.RankKnows.{RankKnows}
@@ -31,7 +31,7 @@ module _ {C V : Type 0} where
       let apart : r.rank ≢ n = λ e. other (f.0 ∙ ap (λ (x : ℕ). x + 1) e) in (f.0, f.1, f.2, f.3, f.4, f.5, get_set_other views n r.rank w apart ∙ f.6)
   others_fit core size nodes views given joined j n w low high other Spent f = tt
 
-  module _ (rule : C → Held → List V → Type 0) (table : C → CoreTable V) (laws : (c : C) → CoreLaws (table c) (rule c)) where
+  module _ (rule : C → TheWindow → List V → Type 0) (table : C → CoreTable V) (laws : (c : C) → CoreLaws (table c) (rule c)) where
     abbrev pub St : Type 0
     St = State ℕ (Knows C V)
 
@@ -47,7 +47,7 @@ module _ {C V : Type 0} where
     done key s R id r v a i f g c at same plan acts small =
         let F = R.each id (Rank r) at in
         let n : ℕ = get_or s.words i 0 in
-        let h : Held = R.held in
+        let h : TheWindow = R.held in
         let w : V = ((table r.core).after v (g n)).view in
         let low : r.rank < length R.views = slice_get_within R.views r.rank r.view F.6 in
         let ruled : rule r.core h R.views = subst (λ (x : C). rule x h R.views) (sym F.1) R.kept.0 in

@@ -5,7 +5,7 @@ use Rattle.atomic_table.specs.declared.shared.Seat.{Seat}
 use Rattle.rl_word.specs.declared.acts.Atom.{Atom}
 use Rattle.rl_step.specs.declared.events.Event.{Event}
 use Rattle.rl_step.specs.declared.events.Stepped.{Stepped}
-use Rattle.rl_step.specs.Do.{Held}
+use Rattle.rl_step.specs.Do.{TheWindow}
 use Rattle.rl_step.specs.Core.{CoreTable, Performs}
 use Rattle.rl_window.specs.declared.knows.Knows.{Knows}
 use Rattle.rl_window.specs.declared.knows.Knows.TheVariants.{Rank}
@@ -16,7 +16,7 @@ use Rattle.rl_window.specs.Plays.{Moves, IsRankAt, rank_knows, last_of, steps_of
 use Rattle.rl_window.specs.Seats.{IsSeatOf}
 use Rattle.rl_window.specs.SeatLemmas.{plain_may_get}
 
-module _ {C V : Type 0} (rule : C → Held → List V → Type 0) (table : C → CoreTable V) where
+module _ {C V : Type 0} (rule : C → TheWindow → List V → Type 0) (table : C → CoreTable V) where
   -- what a step tells, where the seat is a rank's
   abbrev pub RankMoves : C → ℕ → ℕ → ℕ → V → ℕ → ℕ → Knows C V → Type 0
   RankMoves core size nodes rank v got steps k =

@@ -6,7 +6,7 @@ use lib.ListN.{get_elem?}
 use Rattle.atomic_table.specs.Table.{Me, opening}
 use Rattle.atomic_table.specs.declared.shared.Seat.{Seat}
 use Rattle.rl_word.specs.Places.{get_map}
-use Rattle.rl_step.specs.Do.{Held}
+use Rattle.rl_step.specs.Do.{TheWindow}
 use Rattle.rl_window.specs.declared.knows.Setup.{Setup}
 use Rattle.rl_window.specs.declared.knows.Knows.{Knows}
 use Rattle.rl_window.specs.declared.knows.Knows.TheVariants.{Root, Rank}
@@ -17,12 +17,12 @@ use Rattle.rl_window.specs.Plays.{rank_knows, last_of, steps_of}
 use Rattle.rl_window.specs.SeatLemmas.{kept_still}
 use Rattle.rl_window.specs.Seats.{IsOpening, IsAll, AreNew, AreKept, view_of, last_view}
 
-module _ {C V : Type 0} (rule : C → Held → List V → Type 0) where
+module _ {C V : Type 0} (rule : C → TheWindow → List V → Type 0) where
   root_fits : (key : Setup C V) (id : ℕ) (k : Knows C V) → get_elem? (opening_root key ∷ []) id ≡ some k → Fits key.core key.size key.nodes key.views.items 0 0 id k
   root_fits key zero k e = subst (Fits key.core key.size key.nodes key.views.items 0 0 0) (some-injective (opening_root key) k e) (refl, refl, refl, refl, refl, refl, refl)
   root_fits key (suc id) k e = absurd (some-ne-none k (sym e))
 
-  pub opens : (key : Setup C V) (all : List ℕ) (h : Held) → all ≡ h.words ++ h.cards → length h.words ≡ key.size → length h.cards ≡ key.nodes → rule key.core h key.views.items → IsRuled rule key (opening all [] (opening_root key))
+  pub opens : (key : Setup C V) (all : List ℕ) (h : TheWindow) → all ≡ h.words ++ h.cards → length h.words ≡ key.size → length h.cards ≡ key.nodes → rule key.core h key.views.items → IsRuled rule key (opening all [] (opening_root key))
   opens key all h laid wide deep kept = record {
     held = h;
     views = key.views.items;
@@ -36,7 +36,7 @@ module _ {C V : Type 0} (rule : C → Held → List V → Type 0) where
     each = root_fits key;
   }
 
-  pub all_split_off : (w : Window C V) (seats : List (WinSeat C V)) (key : Setup C V) (h : Held) → length h.words ≡ key.size → length h.cards ≡ key.nodes → rule key.core h key.views.items
+  pub all_split_off : (w : Window C V) (seats : List (WinSeat C V)) (key : Setup C V) (h : TheWindow) → length h.words ≡ key.size → length h.cards ≡ key.nodes → rule key.core h key.views.items
       → (root : Seat ℕ (Knows C V)) → IsOpening key w.table.shared.table_id root [] seats → w.root.seat ≡ root → key.core ≡ w.core → key.size ≡ w.size → key.nodes ≡ w.nodes → IsAll rule w seats × AreNew seats × AreKept rule w seats
   all_split_off w seats key h wide deep kept root D is e1 e2 e3 =
       let knows : (i : ℕ) (s : WinSeat C V) → slice_get seats i ≡ Some s → s.seat.me.0 ≡ Rank (record { core = key.core; size = key.size; nodes = key.nodes; rank = i; view = s.view; steps = 0 }) = λ i s e. ap (λ (m : Me ℕ (Knows C V)). m.0) (D.each i s e).2 in (
@@ -68,6 +68,6 @@ module _ {C V : Type 0} (rule : C → Held → List V → Type 0) where
         λ i s e. kept_still rule w s (ap (last_of s.view) (knows i s e)),
       )
 
-  pub all_split_off_at : (w : Window C V) (seats : List (WinSeat C V)) (told key : Setup C V) → told ≡ key → (h : Held) → length h.words ≡ key.size → length h.cards ≡ key.nodes → rule key.core h key.views.items
+  pub all_split_off_at : (w : Window C V) (seats : List (WinSeat C V)) (told key : Setup C V) → told ≡ key → (h : TheWindow) → length h.words ≡ key.size → length h.cards ≡ key.nodes → rule key.core h key.views.items
       → (root : Seat ℕ (Knows C V)) → IsOpening told w.table.shared.table_id root [] seats → w.root.seat ≡ root → key.core ≡ w.core → key.size ≡ w.size → key.nodes ≡ w.nodes → IsAll rule w seats × AreNew seats × AreKept rule w seats
   all_split_off_at w seats told key is h wide deep kept root D r e1 e2 e3 = all_split_off w seats key h wide deep kept root (subst (λ (k : Setup C V). IsOpening k w.table.shared.table_id root [] seats) is D) r e1 e2 e3

@@ -1,12 +1,12 @@
 -- The two seats of a window, before and after steps.
 use Rattle.std.proofs.Common.{◌≡◌, ℕ, zero, suc, List, [], ◌∷◌, ◌++◌, length, slice_get, Some, refl, ap, ◌∙◌, subst, arith}
 use Rattle.std.proofs.lemmas.Option.{same_Some}
-use Rattle.rl_step.specs.Do.{Held}
+use Rattle.rl_step.specs.Do.{TheWindow}
 use Rattle.rl_window.specs.declared.window.Window.{Window}
 use Rattle.rl_window.specs.declared.window.WinSeat.{WinSeat}
 use Rattle.rl_window.specs.Seats.{IsSeatOf, IsKept, IsAll, AreKept}
 
-module _ {C V : Type 0} (rule : C → Held → List V → Type 0) (w : Window C V) where
+module _ {C V : Type 0} (rule : C → TheWindow → List V → Type 0) (w : Window C V) where
   -- these two are the window's seats
   pub record ArePair (a b : WinSeat C V) : Type 0 where
     pub all : IsAll rule w (a ∷ b ∷ [])

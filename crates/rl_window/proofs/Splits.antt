@@ -4,7 +4,7 @@ use mathlib.Core.Option.{some, some-injective, some-ne-none}
 use lib.ListN.{get_elem?}
 use Rattle.atomic_table.specs.Table.{Me, Splits}
 use Rattle.atomic_table.proofs.Lists.{at_set}
-use Rattle.rl_step.specs.Do.{Held}
+use Rattle.rl_step.specs.Do.{TheWindow}
 use Rattle.rl_window.specs.declared.knows.Setup.{Setup}
 use Rattle.rl_window.specs.declared.knows.RootKnows.{RootKnows}
 use Rattle.rl_window.specs.declared.knows.Knows.{Knows}
@@ -34,7 +34,7 @@ module _ {C V : Type 0} where
   still_fit core size nodes views given joined j other (Rank r) f = (f.0, f.1, f.2, f.3, f.4, (let h = f.5 in omega arith), f.6)
   still_fit core size nodes views given joined j other Spent f = tt
 
-  splits_at : (rule : C → Held → List V → Type 0) (key : Setup C V) (id : ℕ) (r : RootKnows C V) (v : V) (rest : List V) → r.to_come ≡ v ∷ rest
+  splits_at : (rule : C → TheWindow → List V → Type 0) (key : Setup C V) (id : ℕ) (r : RootKnows C V) (v : V) (rest : List V) → r.to_come ≡ v ∷ rest
       → Splits (IsRuled rule key) id (Root r) (Root (record r { given = r.given + 1; to_come = drop 1 r.to_come }))
       (Rank (record { core = r.core; size = r.size; nodes = r.nodes; rank = r.given; view = v; steps = 0 }))
   splits_at rule key id r v rest more s R at =
@@ -63,7 +63,7 @@ module _ {C V : Type 0} where
             (at_end (set s.views id left) right k j e);
       }
 
-  pub splits : (rule : C → Held → List V → Type 0) (key : Setup C V) (id : ℕ) (r : RootKnows C V) (v : V) (rest : List V) (me : Me ℕ (Knows C V)) → me ≡ (Root r, []) → r.to_come ≡ v ∷ rest
+  pub splits : (rule : C → TheWindow → List V → Type 0) (key : Setup C V) (id : ℕ) (r : RootKnows C V) (v : V) (rest : List V) (me : Me ℕ (Knows C V)) → me ≡ (Root r, []) → r.to_come ≡ v ∷ rest
       → Splits (IsRuled rule key) id me.0 (without_next me.0) (next_seat me.0)
   splits rule key id r v rest me is more = let base = splits_at rule key id r v rest more in
       let cut : Splits (IsRuled rule key) id (Root r) (without_next (Root r)) (next_seat (Root r)) = subst (λ (l : List V). Splits (IsRuled rule key) id (Root r) (without_next (Root r)) (first_of r l)) (sym more) base in

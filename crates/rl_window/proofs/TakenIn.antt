@@ -5,7 +5,7 @@ use lib.ListN.{get_elem?}
 use Rattle.atomic_table.specs.Table.{Me, Final, Seen}
 use Rattle.atomic_table.specs.Seated.{TableId}
 use Rattle.atomic_table.specs.declared.shared.Seat.{Seat}
-use Rattle.rl_step.specs.Do.{Held}
+use Rattle.rl_step.specs.Do.{TheWindow}
 use Rattle.rl_window.specs.declared.knows.Setup.{Setup}
 use Rattle.rl_window.specs.declared.knows.RootKnows.{RootKnows}
 use Rattle.rl_window.specs.declared.knows.Knows.{Knows}
@@ -17,7 +17,7 @@ use Rattle.rl_window.specs.Plays.{with_ended, CanEnd, steps_of}
 use Rattle.rl_window.specs.Seats.{IsClosing, IsAll, AreKept, view_of, last_view}
 use Rattle.rl_window.proofs.Joins.{last}
 
-module _ {C V : Type 0} (rule : C → Held → List V → Type 0) (key : Setup C V) (table : TableId) where
+module _ {C V : Type 0} (rule : C → TheWindow → List V → Type 0) (key : Setup C V) (table : TableId) where
   pub next_joins : (root : Seat ℕ (Knows C V)) (left : List (WinSeat C V)) (views : List V) → IsClosing rule key table root left views → (s : WinSeat C V) (rest : List (WinSeat C V)) → left ≡ s ∷ rest
       → (s.seat.table_id ≡ table) × CanEnd rule root.me s.seat.me s.view
   next_joins root left views E s rest more = let e = E.each 0 s (ap (λ (l : List (WinSeat C V)). slice_get l 0) more) in let r = e.1 in
@@ -43,7 +43,7 @@ module _ {C V : Type 0} (rule : C → Held → List V → Type 0) (key : Setup C
   pub closed : (id : ℕ) (root : Seat ℕ (Knows C V)) (views : List V) (ws xs : List ℕ) → IsClosing rule key table root [] views → Final (Seen (IsRuled rule key) id root.me.0) ws xs → (cards : List ℕ) × rule key.core (record { words = take key.size ws; cards = cards }) views
   closed id root views ws xs E F = last rule key id (record { core = key.core; size = key.size; nodes = key.nodes; given = length views + length {A = WinSeat C V} []; to_come = []; ended = views }) root.me ws xs E.root_is refl (omega arith) F
 
-pub begins : {C V : Type 0} (rule : C → Held → List V → Type 0) (w : Window C V) (seats : List (WinSeat C V)) (key : Setup C V) → IsAll rule w seats → AreKept rule w seats → key.core ≡ w.core → key.size ≡ w.size → key.nodes ≡ w.nodes
+pub begins : {C V : Type 0} (rule : C → TheWindow → List V → Type 0) (w : Window C V) (seats : List (WinSeat C V)) (key : Setup C V) → IsAll rule w seats → AreKept rule w seats → key.core ≡ w.core → key.size ≡ w.size → key.nodes ≡ w.nodes
     → (root : Seat ℕ (Knows C V)) → root ≡ w.root.seat → IsClosing rule key w.table.shared.table_id root seats []
 begins rule w seats key A K e1 e2 e3 root is = record {
   table_is = ap (λ (z : Seat ℕ (Knows _ _)). z.table_id) is ∙ A.table;
@@ -59,7 +59,7 @@ more_taken (y ∷ ys) zero x e = λ j. sym (some-injective y x e) j ∷ []
 more_taken (y ∷ ys) (suc i) x e = ap (λ l. y ∷ l) (more_taken ys i x e) ∙ ap (λ (n : ℕ). take n (y ∷ ys)) (sym (suc-add i 1))
 
 -- the same, said of the window's own core and number of words
-pub closed_window : {C V : Type 0} (rule : C → Held → List V → Type 0) (w : Window C V) (key : Setup C V) (table : TableId) (id : ℕ) (root : Seat ℕ (Knows C V)) (views : List V) (ws xs got : List ℕ) → key.core ≡ w.core → key.size ≡ w.size
+pub closed_window : {C V : Type 0} (rule : C → TheWindow → List V → Type 0) (w : Window C V) (key : Setup C V) (table : TableId) (id : ℕ) (root : Seat ℕ (Knows C V)) (views : List V) (ws xs got : List ℕ) → key.core ≡ w.core → key.size ≡ w.size
     → got ≡ take w.size ws → IsClosing rule key table root [] views → Final (Seen (IsRuled rule key) id root.me.0) ws xs → (cards : List ℕ) × rule w.core (record { words = got; cards = cards }) views
 closed_window rule w key table id root views ws xs got e1 e2 is E F =
     let r = closed rule key table id root views ws xs E F in

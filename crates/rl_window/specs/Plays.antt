@@ -1,7 +1,7 @@
 -- What each table step changes of what its seat knows, and what it tells.
 use Rattle.std.specs.Prelude.{◌≡◌, ℕ, ◌+◌, List, [], ◌∷◌, ◌++◌, length, drop, Option, Some, None}
 use Rattle.atomic_table.specs.Table.{Me}
-use Rattle.rl_step.specs.Do.{Held}
+use Rattle.rl_step.specs.Do.{TheWindow}
 use Rattle.rl_step.specs.Core.{CoreTable}
 use Rattle.rl_window.specs.Rule.{sized, MayBeAt, MayGetAt, Keeps}
 use Rattle.rl_window.specs.declared.knows.RootKnows.{RootKnows}
@@ -16,13 +16,13 @@ module _ {C V : Type 0} where
 
   -- a rank's seat goes on by one atom, which v had next: some state can give got for it, some state has the view after it, and the
   -- seat knows that
-  abbrev pub Moves : (C → Held → List V → Type 0) → (C → CoreTable V) → V → ℕ → Knows C V → Knows C V → Type 0
+  abbrev pub Moves : (C → TheWindow → List V → Type 0) → (C → CoreTable V) → V → ℕ → Knows C V → Knows C V → Type 0
   Moves rule table v got (Rank r) k =
       MayGetAt (table r.core) (sized (rule r.core) r.size r.nodes) r.rank v got × MayBeAt (sized (rule r.core) r.size r.nodes) r.rank ((table r.core).after v got).view × (k ≡ after_step table r v got)
   Moves rule table v got _ k = Unit {0}
 
   -- the same, where the call tells the view
-  abbrev pub Told : (C → Held → List V → Type 0) → (C → CoreTable V) → Option V → ℕ → Knows C V → Knows C V → Type 0
+  abbrev pub Told : (C → TheWindow → List V → Type 0) → (C → CoreTable V) → Option V → ℕ → Knows C V → Knows C V → Type 0
   Told rule table (Some v) got k k' = Moves rule table v got k k'
   Told rule table None got k k' = Unit {0}
 
@@ -64,5 +64,5 @@ module _ {C V : Type 0} where
   IsRankAt core size nodes rank v me = me ≡ (rank_knows core size nodes rank v me.0, [])
 
   -- a rank's seat is the next to be joined to the root seat, and its view goes from the one in the table to v as the rule allows
-  abbrev pub CanEnd : (C → Held → List V → Type 0) → Me ℕ (Knows C V) → Me ℕ (Knows C V) → V → Type 0
+  abbrev pub CanEnd : (C → TheWindow → List V → Type 0) → Me ℕ (Knows C V) → Me ℕ (Knows C V) → V → Type 0
   CanEnd rule root me v = (q : RootKnows C V) × (r : RankKnows C V) × (root ≡ (Root q, [])) × (me ≡ (Rank r, [])) × (r.rank ≡ length q.ended) × (r.core ≡ q.core) × Keeps (rule r.core) r.rank r.view v

@@ -7,7 +7,7 @@ use Rattle.rl_word.specs.Places.{get_set_same, get_set_cases}
 use Rattle.rl_word.specs.declared.acts.Atom.{Atom}
 use Rattle.rl_word.specs.declared.acts.Atom.TheVariants.{Load, Store, LocalCas, Take, CardLoad, CardStore, Leave}
 use Rattle.rl_step.specs.declared.events.Stepped.TheVariants.{Moved, Lost, Finished}
-use Rattle.rl_step.specs.Do.{Held, do_atom, do_got, do_words, do_cards, CanDo}
+use Rattle.rl_step.specs.Do.{TheWindow, do_atom, do_got, do_words, do_cards, CanDo}
 use Rattle.rl_step.specs.Core.{Turned, CoreTable, CoreLaws, home_at}
 use Rattle.rl_window.specs.AtomLengths.{as_many_words, as_many_cards}
 
@@ -41,12 +41,12 @@ CanGoOn r None ws cs = Unit {0}
 CanGoOn r (Some at) ws cs = CanDo 0 r at ws cs
 
 -- three words and a card, and each rank can make its next atom
-pub record GoOn (h : Held) (vs : List (Option Atom)) : Type 0 where
+pub record GoOn (h : TheWindow) (vs : List (Option Atom)) : Type 0 where
   pub words : length h.words ≡ 3
   pub cards : length h.cards ≡ 1
   pub each : (r : ℕ) (v : Option Atom) → slice_get vs r ≡ Some v → CanGoOn r v h.words h.cards
 
-abbrev pub rounds_rule : {C : Type 0} → C → Held → List (Option Atom) → Type 0
+abbrev pub rounds_rule : {C : Type 0} → C → TheWindow → List (Option Atom) → Type 0
 rounds_rule c h vs = GoOn h vs
 
 -- the only home
@@ -116,7 +116,7 @@ another_goes_on : (r o : ℕ) (at : Atom) (v : Option Atom) (ws cs : List ℕ) �
 another_goes_on r o at None ws cs ne one can go = tt
 another_goes_on r o at (Some b) ws cs ne one can go = still_can o b ws cs (do_words at ws) (do_cards r at cs) (as_many_words at ws) (as_many_cards r at cs) one (stays_in r o at ws cs ne one can) go
 
-go_on_after : (h : Held) (vs : List (Option Atom)) (r : ℕ) (at : Atom) → GoOn h vs → slice_get vs r ≡ Some (Some at) → GoOn (do_atom r at h) (slice_set vs r (turned at (do_got at h.words h.cards)).view)
+go_on_after : (h : TheWindow) (vs : List (Option Atom)) (r : ℕ) (at : Atom) → GoOn h vs → slice_get vs r ≡ Some (Some at) → GoOn (do_atom r at h) (slice_set vs r (turned at (do_got at h.words h.cards)).view)
 go_on_after h vs r at g has =
     let can : CanDo 0 r at h.words h.cards = g.each r (Some at) has in record {
       words = as_many_words at h.words ∙ g.words;

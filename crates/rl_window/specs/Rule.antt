@@ -3,7 +3,7 @@ use Rattle.std.specs.Prelude.{◌≡◌, ℕ, ◌+◌, ◌<◌, ◌≤◌, List,
 use mathlib.Core.Option.{some}
 use lib.ListN.{get_elem?}
 use Rattle.atomic_table.specs.Table.{State}
-use Rattle.rl_step.specs.Do.{Held}
+use Rattle.rl_step.specs.Do.{TheWindow}
 use Rattle.rl_step.specs.Core.{CoreTable, MayBe, MayGet}
 use Rattle.rl_window.specs.declared.knows.Setup.{Setup}
 use Rattle.rl_window.specs.declared.knows.Knows.{Knows}
@@ -11,7 +11,7 @@ use Rattle.rl_window.specs.declared.knows.Knows.TheVariants.{Root, Rank, Spent}
 
 module _ {V : Type 0} where
   -- the core's rule, with so many words and cards
-  abbrev pub sized : (Held → List V → Type 0) → ℕ → ℕ → Held → List V → Type 0
+  abbrev pub sized : (TheWindow → List V → Type 0) → ℕ → ℕ → TheWindow → List V → Type 0
   sized rule size nodes h vs = rule h vs × (length h.words ≡ size) × (length h.cards ≡ nodes)
 
 module _ {C V : Type 0} where
@@ -30,8 +30,8 @@ module _ {C V : Type 0} where
 
   -- The table's words are words and cards of some window, and there is one view for each rank, with which they meet the core's rule;
   -- each seat knows the part of the views that is its own.
-  pub record IsRuled (rule : C → Held → List V → Type 0) (key : Setup C V) (s : State ℕ (Knows C V)) : Type 0 where
-    pub held : Held
+  pub record IsRuled (rule : C → TheWindow → List V → Type 0) (key : Setup C V) (s : State ℕ (Knows C V)) : Type 0 where
+    pub held : TheWindow
     pub views : List V
     -- so many seats were split off, and of these so many joined again
     pub given : ℕ
@@ -45,13 +45,13 @@ module _ {C V : Type 0} where
 
 module _ {V : Type 0} where
   -- some state under the rule has this view at this rank
-  abbrev pub MayBeAt : (Held → List V → Type 0) → ℕ → V → Type 0
+  abbrev pub MayBeAt : (TheWindow → List V → Type 0) → ℕ → V → Type 0
   MayBeAt rule r v = (m : MayBe rule v) × (m.rank ≡ r)
 
   -- some state under the rule has this view at this rank, and gives got for its next atom
-  abbrev pub MayGetAt : CoreTable V → (Held → List V → Type 0) → ℕ → V → ℕ → Type 0
+  abbrev pub MayGetAt : CoreTable V → (TheWindow → List V → Type 0) → ℕ → V → ℕ → Type 0
   MayGetAt T rule r v got = (m : MayGet T rule v got) × (m.rank ≡ r)
 
   -- whatever the words, the cards and the other views, the rule stays when the view of the rank goes from v to w
-  abbrev pub Keeps : (Held → List V → Type 0) → ℕ → V → V → Type 0
-  Keeps rule r v w = (h : Held) (vs : List V) → rule h vs → slice_get vs r ≡ Some v → rule h (slice_set vs r w)
+  abbrev pub Keeps : (TheWindow → List V → Type 0) → ℕ → V → V → Type 0
+  Keeps rule r v w = (h : TheWindow) (vs : List V) → rule h vs → slice_get vs r ≡ Some v → rule h (slice_set vs r w)

@@ -3,7 +3,7 @@ use Rattle.std.specs.Prelude.{◌≡◌, ℕ, List, [], slice_get, slice_set, So
 use Rattle.std.proofs.Common.{sym, subst, ap, ◌∙◌, set-set, ⊎_elim, length-set}
 use Rattle.atomic_table.specs.Table.{Me}
 use Rattle.rl_word.specs.Places.{get_set_same, get_set_cases, set_same_get}
-use Rattle.rl_step.specs.Do.{Held}
+use Rattle.rl_step.specs.Do.{TheWindow}
 use Rattle.rl_step.specs.Core.{CoreTable, MayBe}
 use Rattle.rl_window.specs.declared.knows.Knows.{Knows}
 use Rattle.rl_window.specs.declared.knows.Knows.TheVariants.{Root, Rank}
@@ -14,7 +14,7 @@ use Rattle.rl_window.specs.Plays.{last_of, steps_of}
 use Rattle.rl_window.specs.Seats.{last_view, IsSeatOf, IsKept, IsAll, AreNew, AreKept, all_given, table_steps, with_view}
 use Rattle.rl_window.specs.Ports.{IsFit}
 
-module _ {V : Type 0} (rule : Held → List V → Type 0) where
+module _ {V : Type 0} (rule : TheWindow → List V → Type 0) where
   -- some state under the rule has a view that was changed as the rule allows
   pub may_be_on : (size nodes r : ℕ) (v w : V) → MayBeAt (sized rule size nodes) r v → Keeps rule r v w → MayBeAt (sized rule size nodes) r w
   may_be_on size nodes r v w may_be same =
@@ -39,7 +39,7 @@ module _ {V : Type 0} (rule : Held → List V → Type 0) where
   pub keeps_still : (r : ℕ) (v : V) → Keeps rule r v v
   keeps_still r v h vs ruled at = subst (rule h) (sym (set_same_get vs r v at)) ruled
 
-module _ {C V : Type 0} (rule : C → Held → List V → Type 0) (w : Window C V) where
+module _ {C V : Type 0} (rule : C → TheWindow → List V → Type 0) (w : Window C V) where
   -- some state under the rule has the seat's view
   pub seat_may_be : (s : WinSeat C V) → IsSeatOf rule w s → IsKept rule w s → MayBeAt (sized (rule w.core) w.size w.nodes) s.rank s.view
   seat_may_be s S kept = may_be_on (rule w.core) w.size w.nodes s.rank (last_view s) s.view S.may_be kept
@@ -77,11 +77,11 @@ module _ {C V : Type 0} (rule : C → Held → List V → Type 0) (w : Window C 
       subst (λ x. Keeps (rule w.core) s.rank x v) (sym (reviewed s v S).1) (keeps_on (rule w.core) s.rank (last_view s) s.view v kept more)
 
 -- what a port that fits says of its seat, wherever the window and the seat are read
-pub fit_seat : {C V : Type 0} (rule : C → Held → List V → Type 0) (w w' : Window C V) (s s' : WinSeat C V) (c : C) → IsFit rule w' s' c → w' ≡ w → s' ≡ s → IsSeatOf rule w s
+pub fit_seat : {C V : Type 0} (rule : C → TheWindow → List V → Type 0) (w w' : Window C V) (s s' : WinSeat C V) (c : C) → IsFit rule w' s' c → w' ≡ w → s' ≡ s → IsSeatOf rule w s
 fit_seat rule w w' s s' c F ew es = subst (λ x. IsSeatOf rule x s) ew (subst (IsSeatOf rule w') es F.seat)
 
 -- all seats are still the window's, where one of them went on
-pub all_after : {C V : Type 0} (rule : C → Held → List V → Type 0) (w : Window C V) (seats : List (WinSeat C V)) (i : ℕ) (s s' : WinSeat C V) → IsAll rule w seats × AreKept rule w seats → slice_get seats i ≡ Some s →
+pub all_after : {C V : Type 0} (rule : C → TheWindow → List V → Type 0) (w : Window C V) (seats : List (WinSeat C V)) (i : ℕ) (s s' : WinSeat C V) → IsAll rule w seats × AreKept rule w seats → slice_get seats i ≡ Some s →
     s'.rank ≡ s.rank → IsSeatOf rule w s' → IsKept rule w s' → IsAll rule w (slice_set seats i s') × AreKept rule w (slice_set seats i s')
 all_after rule w seats i s s' all has rank S K = (
   record {

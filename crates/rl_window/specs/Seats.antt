@@ -1,6 +1,6 @@
 -- A rank's seat at a window, and all its seats.
 use Rattle.std.specs.Prelude.{◌≡◌, ℕ, ◌+◌, List, [], ◌++◌, length, map, slice_get, Some}
-use Rattle.rl_step.specs.Do.{Held}
+use Rattle.rl_step.specs.Do.{TheWindow}
 use Rattle.rl_window.specs.declared.knows.RootKnows.{RootKnows}
 use Rattle.rl_window.specs.declared.knows.Setup.{Setup}
 use Rattle.rl_window.specs.declared.knows.RankKnows.{RankKnows}
@@ -26,7 +26,7 @@ module _ {C V : Type 0} where
   abbrev pub with_view : WinSeat C V → V → WinSeat C V
   with_view s v = record s { view = v }
 
-  module _ (rule : C → Held → List V → Type 0) (w : Window C V) (s : WinSeat C V) where
+  module _ (rule : C → TheWindow → List V → Type 0) (w : Window C V) (s : WinSeat C V) where
     -- the seat is this window's and its rank's, and some state under the rule has its last view
     pub record IsSeatOf : Type 0 where
       pub table : s.seat.table_id ≡ w.table.shared.table_id
@@ -57,7 +57,7 @@ module _ {C V : Type 0} where
   HasSeats w n = (w.root.seat.table_id ≡ w.table.shared.table_id) × (w.root.seat.me ≡ (Root (all_given w n), []))
 
   -- these are the window's seats, all of them, in the order of their ranks
-  pub record IsAll (rule : C → Held → List V → Type 0) (w : Window C V) (seats : List (WinSeat C V)) : Type 0 where
+  pub record IsAll (rule : C → TheWindow → List V → Type 0) (w : Window C V) (seats : List (WinSeat C V)) : Type 0 where
     pub table : w.root.seat.table_id ≡ w.table.shared.table_id
     pub root : w.root.seat.me ≡ (Root (all_given w (length seats)), [])
     pub each : (i : ℕ) (s : WinSeat C V) → slice_get seats i ≡ Some s → (s.rank ≡ i) × IsSeatOf rule w s
@@ -67,7 +67,7 @@ module _ {C V : Type 0} where
   AreNew seats = (i : ℕ) (s : WinSeat C V) → slice_get seats i ≡ Some s → (last_view s ≡ s.view) × (table_steps s ≡ 0)
 
   -- each seat's view is the one after its last table step, changed at most in a way that keeps the rule
-  abbrev pub AreKept : (C → Held → List V → Type 0) → Window C V → List (WinSeat C V) → Type 0
+  abbrev pub AreKept : (C → TheWindow → List V → Type 0) → Window C V → List (WinSeat C V) → Type 0
   AreKept rule w seats = (i : ℕ) (s : WinSeat C V) → slice_get seats i ≡ Some s → IsKept rule w s
 
   -- a window that is being opened: these seats are split off and new, and the other views are to come
@@ -79,7 +79,7 @@ module _ {C V : Type 0} where
     pub all : map view_of seats ++ left ≡ key.views.items
 
   -- a window that is being closed: these seats are left, and the others have ended with these views
-  pub record IsClosing (rule : C → Held → List V → Type 0) (key : Setup C V) (table : TableId) (root : Seat ℕ (Knows C V)) (left : List (WinSeat C V)) (views : List V) : Type 0 where
+  pub record IsClosing (rule : C → TheWindow → List V → Type 0) (key : Setup C V) (table : TableId) (root : Seat ℕ (Knows C V)) (left : List (WinSeat C V)) (views : List V) : Type 0 where
     pub table_is : root.table_id ≡ table
     pub root_is : root.me ≡ (Root (record { core = key.core; size = key.size; nodes = key.nodes; given = length views + length left; to_come = []; ended = views }), [])
     pub each : (i : ℕ) (s : WinSeat C V) → slice_get left i ≡ Some s

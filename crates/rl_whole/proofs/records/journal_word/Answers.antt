@@ -1,6 +1,6 @@
 -- The words of a place of the journal stand before the lock's.
 use Rattle.std.proofs.Common.{◌+◌, ◌*◌, ◌≤◌, length, slice_index, ap, ◌∙◌, arith}
-use Rattle.rl_step.specs.Do.{Held}
+use Rattle.rl_step.specs.Do.{TheWindow}
 use Rattle.rl_work.specs.Site.{journal_base}
 use Rattle.rl_whole.specs.Running.{lock_at}
 use Rattle.rl_whole.specs.RecordLaws.{place_low}
@@ -30,7 +30,7 @@ overflow_add-first-2 g c =
 pub value-requires : goal.value-requires
 value-requires g c =
     let l = low g (goal.at.value-requires g c).After-journal_base in
-    let all = ap (λ (h : Held). length h.words) c.words.ensures in
+    let all = ap (λ (h : TheWindow). length h.words) c.words.ensures in
     let long = c.requires.ruled.all_words in
     let b = c.journal_base.ensures in
     let w = c.requires.word in
@@ -39,5 +39,5 @@ value-requires g c =
 pub returns : goal.returns
 returns g c =
     let geom = c.args.shard.now.core.geom in
-    c.value.ensures ∙ ap (λ (h : Held). slice_index h.words (c.journal_base.result + 6 * c.args.at + c.args.word)) c.words.ensures
+    c.value.ensures ∙ ap (λ (h : TheWindow). slice_index h.words (c.journal_base.result + 6 * c.args.at + c.args.word)) c.words.ensures
     ∙ ap (λ b. slice_index c.args.shard.now.flat.words.words (b + 6 * c.args.at + c.args.word)) c.journal_base.ensures

@@ -1,6 +1,6 @@
 -- The count is the length of the journal.
 use Rattle.std.proofs.Common.{◌≡◌, ◌∙◌, ap, length, slice_index, arith}
-use Rattle.rl_step.specs.Do.{Held}
+use Rattle.rl_step.specs.Do.{TheWindow}
 use Rattle.rl_whole.specs.Promises.{journal_on}
 use Rattle.rl_whole.specs.Running.{lock_at, shard_run}
 use Rattle.rl_whole.specs.State.{shard_view}
@@ -12,7 +12,7 @@ use Rattle.rl_whole.proofs.records.updates.Given.{Over}
 count : (g : Over) (c : After-value g) → c.value.result ≡ length (journal_on (shard_run g.A.Algo.table (shard_view c.args.shard.now)))
 count g c =
     let s = c.args.shard.now in
-    c.value.ensures ∙ ap (λ (h : Held). slice_index h.words 1) c.words.ensures ∙ count_is _ (lock_at g.A.Algo.table s.core) _ _ s.flat.words s.flat.views.items c.requires
+    c.value.ensures ∙ ap (λ (h : TheWindow). slice_index h.words 1) c.words.ensures ∙ count_is _ (lock_at g.A.Algo.table s.core) _ _ s.flat.words s.flat.views.items c.requires
 
 pub overflow_cast-result : goal.overflow_cast-result
 overflow_cast-result g c =
