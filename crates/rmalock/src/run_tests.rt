@@ -3,6 +3,7 @@
 use crate::program::rmalock;
 use crate::running::run_report;
 use crate::trials::trial;
+use crossbeam_utils::Backoff;
 use rl_history::Report;
 use rl_io::{FixedSink, Gate, OpenGate, SureFiles};
 use rl_model::Reply;
@@ -16,8 +17,9 @@ use std::sync::atomic::{AtomicU64, Ordering};
 use std::test::*;
 use std::thread::Threads;
 
-/// So often a gate looks whether it is a rank's turn, before it gives up.
-const MOST_LOOKS: u64 = 50_000_000;
+/// So often a gate looks whether it is a rank's turn, before it gives up. Between two looks it lets other threads have the processor,
+/// so that on a busy machine a rank that is waited for comes to its turn.
+const MOST_LOOKS: u64 = 10_000_000;
 
 /// Lets the ranks on in the order of a list of turns, one step each, and notes the answers.
 #[derive(Drop)]
@@ -48,9 +50,10 @@ impl Led {
 
     /// Returns once the next turn is the rank's, or no turn is left, or after so many looks, which it notes.
     fn wait_for(&self, rank: u32) {
+        let backoff = Backoff::new();
         for _ in 0..MOST_LOOKS {
             match self.turns.get(self.made.load(Ordering::SeqCst) as usize) {
-                Some(next) if *next != rank => {}
+                Some(next) if *next != rank => backoff.snooze(),
                 _ => return,
             }
         }
@@ -92,10 +95,12 @@ impl Gate for Both {
             _ => (&self.asked[1], &self.asked[0]),
         };
         mine.store(u64::from(call) + 1, Ordering::SeqCst);
+        let backoff = Backoff::new();
         for _ in 0..MOST_LOOKS {
             if other.load(Ordering::SeqCst) > u64::from(call) {
                 return;
             }
+            backoff.snooze();
         }
         self.missed.store(1, Ordering::SeqCst);
     }
