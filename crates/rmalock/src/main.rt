@@ -14,6 +14,8 @@ mod offline;
 mod program;
 mod replaying;
 mod reporting;
+#[cfg(test)]
+mod robust_tests;
 mod rounds;
 #[cfg(test)]
 mod run_tests;

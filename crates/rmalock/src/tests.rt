@@ -1,29 +1,29 @@
 //! Worked cases of the program, with values from its definition.
 
 use crate::offline::offline;
-use rl_io::{FixedSink, MemFiles, MemSink, SureFiles};
+use rl_io::{FixedSink, SureFiles};
 use std::alloc::AllocError as OutOfMemory;
 use std::test::*;
 
-const ONE_RANK: &str =
+pub(crate) const ONE_RANK: &str =
     "rmalock-place 1\nlevels 1\nlock spin\nshards 1\nbuckets 1\noverflow 0\nrank 0 at 0\nhome 0 0\nend\n";
 
 const TWO_RANKS: &str =
     "rmalock-place 1\nlevels 1\nlock spin\nshards 1\nbuckets 1\noverflow 0\nrank 0 at 0\nrank 1 at 0\nhome 0 0\nend\n";
 
-const ONE_HOLD: &str = "rmalock-calls 1\n0 hold 0\nend\n";
+pub(crate) const ONE_HOLD: &str = "rmalock-calls 1\n0 hold 0\nend\n";
 
 const TWO_HOLDS: &str = "rmalock-calls 1\n0 hold 0\n1 hold 0\nend\n";
 
-const NINE_STEPS: &str = "rmalock-schedule 1\n0 9\nend\n";
+pub(crate) const NINE_STEPS: &str = "rmalock-schedule 1\n0 9\nend\n";
 
-const HELD_ONCE: &str =
+pub(crate) const HELD_ONCE: &str =
     "rmalock-report 2\nreplay spin\nranks 1 shards 1\nshard 0 updates 0 entries 1\nentry 0 0 0 hold 0 = held\nevent 2 enter-w 0\nevent 4 leave-w 0\nrank 0 done 1 of 1\nsteps 9 moved 9 waiting 0 lost 0 busy 0 finished 0\nend\n";
 
 const USAGE: &str =
     "usage: rmalock run PLACE CALLS | replay PLACE CALLS SCHEDULE | make NUMBER RANKS CALLS | check PLACE CALLS REPORT | show PLACE\n";
 
-fn words(rt: &HostRuntime, line: &[&str]) -> Result<Vec<String>, OutOfMemory> {
+pub(crate) fn words<R: AllocGlobal>(rt: &R, line: &[&str]) -> Result<Vec<String>, OutOfMemory> {
     let mut words = Vec::new(rt.alloc());
     for word in line {
         words.push(String::from_str(rt.alloc(), word)?)?;
@@ -31,15 +31,19 @@ fn words(rt: &HostRuntime, line: &[&str]) -> Result<Vec<String>, OutOfMemory> {
     Ok(words)
 }
 
-fn named(rt: &HostRuntime, name: &str, text: &str) -> Result<(String, Vec<u8>), OutOfMemory> {
+pub(crate) fn named<R: AllocGlobal>(
+    rt: &R,
+    name: &str,
+    text: &str,
+) -> Result<(String, Vec<u8>), OutOfMemory> {
     let name = String::from_str(rt.alloc(), name)?;
     let bytes = Vec::from_slice(rt.alloc(), text.as_bytes())?;
     Ok((name, bytes))
 }
 
 /// The files `p`, `c` and `s`.
-fn files(
-    rt: &HostRuntime,
+pub(crate) fn files<R: AllocGlobal>(
+    rt: &R,
     place: &str,
     calls: &str,
     schedule: &str,
@@ -51,19 +55,27 @@ fn files(
     Ok(files)
 }
 
-/// The status and the text of `replay p c s`, over files and a sink that never fail. The lines of the schedule come without the first.
-fn replay_of(
+/// The status and the text of `replay p c s`, over these files and a sink, which never fail.
+pub(crate) fn replay_held(
+    rt: &HostRuntime,
+    held: Vec<(String, Vec<u8>)>,
+) -> Result<(u8, Vec<u8>), OutOfMemory> {
+    let line = words(rt, &["replay", "p", "c", "s"])?;
+    let mut source = SureFiles::new(held);
+    let mut out = FixedSink::new(rt.alloc(), 4096)?;
+    let status = offline(rt.alloc(), line.as_slice(), &mut source, &mut out);
+    Ok((status, Vec::from_slice(rt.alloc(), out.bytes())?))
+}
+
+/// The same over files of these texts. The lines of the schedule come without the first.
+pub(crate) fn replay_of(
     rt: &HostRuntime,
     place: &str,
     calls: &str,
     turns: &str,
 ) -> Result<(u8, Vec<u8>), OutOfMemory> {
     let schedule = format!(in rt.alloc(); "rmalock-schedule 1\n{turns}")?;
-    let line = words(rt, &["replay", "p", "c", "s"])?;
-    let mut source = SureFiles::new(files(rt, place, calls, &schedule)?);
-    let mut out = FixedSink::new(rt.alloc(), 4096)?;
-    let status = offline(rt.alloc(), line.as_slice(), &mut source, &mut out);
-    Ok((status, Vec::from_slice(rt.alloc(), out.bytes())?))
+    replay_held(rt, files(rt, place, calls, &schedule)?)
 }
 
 #[test]
@@ -376,48 +388,5 @@ fn a_shape(rt: HostRuntime) -> Result<(), Fail> {
     let status = offline(rt.alloc(), line.as_slice(), &mut source, &mut out);
     assert_eq!(rt; status, 0);
     assert_eq!(rt; out.bytes(), shape.as_bytes());
-    Ok(())
-}
-
-/// The second read of the calls file fails: nothing is written.
-#[test]
-fn a_read_fails(rt: HostRuntime) -> Result<(), Fail> {
-    let line = words(&rt, &["replay", "p", "c", "s"])?;
-    let failing = Vec::from_slice(rt.alloc(), &[5])?;
-    let held = files(&rt, ONE_RANK, ONE_HOLD, NINE_STEPS)?;
-    let mut source = MemFiles::new(held, 4096, failing);
-    let mut out = FixedSink::new(rt.alloc(), 4096)?;
-    let status = offline(rt.alloc(), line.as_slice(), &mut source, &mut out);
-    assert_eq!(rt; status, 3);
-    assert!(rt; out.bytes().is_empty());
-    Ok(())
-}
-
-/// The second write fails: the first piece of four bytes was written.
-#[test]
-fn a_write_fails(rt: HostRuntime) -> Result<(), Fail> {
-    let line = words(&rt, &["replay", "p", "c", "s"])?;
-    let mut source = SureFiles::new(files(&rt, ONE_RANK, ONE_HOLD, NINE_STEPS)?);
-    let failing = Vec::from_slice(rt.alloc(), &[1])?;
-    let mut out = MemSink::new(rt.alloc(), 4096, 4, failing)?;
-    let status = offline(rt.alloc(), line.as_slice(), &mut source, &mut out);
-    assert_eq!(rt; status, 4);
-    assert_eq!(rt; out.bytes(), b"rmal".as_slice());
-    Ok(())
-}
-
-/// A calls file of one byte more than the most.
-#[test]
-fn a_file_is_too_long(rt: HostRuntime) -> Result<(), Fail> {
-    let line = words(&rt, &["replay", "p", "c", "s"])?;
-    let mut held = Vec::new(rt.alloc());
-    held.push(named(&rt, "p", ONE_RANK)?)?;
-    let long = vec![in rt.alloc(); 10u8; 4_194_305]?;
-    held.push((String::from_str(rt.alloc(), "c")?, long))?;
-    let mut source = SureFiles::new(held);
-    let mut out = FixedSink::new(rt.alloc(), 4096)?;
-    let status = offline(rt.alloc(), line.as_slice(), &mut source, &mut out);
-    assert_eq!(rt; status, 2);
-    assert_eq!(rt; out.bytes(), b"refused c 0 0 toolong\n".as_slice());
     Ok(())
 }
