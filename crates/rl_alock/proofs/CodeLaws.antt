@@ -7,7 +7,7 @@ use Rattle.rl_word.specs.Acts.{word_of, told}
 use Rattle.rl_step.specs.Lock.{LockState}
 use Rattle.rl_step.specs.Queues.{tenures}
 use Rattle.rl_queue.specs.declared.view.Phase.{Phase}
-use Rattle.rl_queue.specs.declared.view.Phase.TheVariants.{Idle, Clear, Reset, Swing, Link, Wait, Settle, Granted, Look, Close, Await, Hand, Above}
+use Rattle.rl_queue.specs.declared.view.Phase.TheVariants.{Settle}
 use Rattle.rl_queue.specs.Queue.{TheNames, plan_at, turn_at, PlanFits, GotFits}
 use Rattle.rl_queue.specs.QueueFits.{plan_fits, learn_fits}
 use Rattle.rl_queue.specs.QueueTurns.{turn_all}
@@ -23,34 +23,12 @@ use Rattle.rl_alock.specs.AlockLaws.{rank_there}
 
 -- away from the entry a rank's act is its queue's, and so is what it learns
 pub plan_away : (N : TheNames) (c : Cohort) (m : ℕ) (p : Phase) (st : Entry) → p ≢ Settle → alock_plan N c m p st ≡ plan_at N m p
-plan_away N c m Idle st ne = refl
-plan_away N c m Clear st ne = refl
-plan_away N c m Reset st ne = refl
-plan_away N c m (Swing guess) st ne = refl
-plan_away N c m (Link guess) st ne = refl
-plan_away N c m Wait st ne = refl
 plan_away N c m Settle st ne = absurd (ne refl)
-plan_away N c m (Granted left) st ne = refl
-plan_away N c m (Look left upper) st ne = refl
-plan_away N c m (Close left) st ne = refl
-plan_away N c m (Await left) st ne = refl
-plan_away N c m (Hand succ left) st ne = refl
-plan_away N c m (Above succ) st ne = refl
+plan_away N c m _ st ne = refl
 
 pub learn_away : (N : TheNames) (c : Cohort) (m : ℕ) (p : Phase) (st : Entry) (got : ℕ) → p ≢ Settle → alock_learn N c m p st got ≡ told_turn m (turn_at N m p got)
-learn_away N c m Idle st got ne = refl
-learn_away N c m Clear st got ne = refl
-learn_away N c m Reset st got ne = refl
-learn_away N c m (Swing guess) st got ne = refl
-learn_away N c m (Link guess) st got ne = refl
-learn_away N c m Wait st got ne = refl
 learn_away N c m Settle st got ne = absurd (ne refl)
-learn_away N c m (Granted left) st got ne = refl
-learn_away N c m (Look left upper) st got ne = refl
-learn_away N c m (Close left) st got ne = refl
-learn_away N c m (Await left) st got ne = refl
-learn_away N c m (Hand succ left) st got ne = refl
-learn_away N c m (Above succ) st got ne = refl
+learn_away N c m _ st got ne = refl
 
 -- an act of a queue gives one event at most
 pub few_events : (N : TheNames) (m : ℕ) (p : Phase) (got : ℕ) → length (turn_at N m p got).events ≤ 1

@@ -1,7 +1,7 @@
 -- An act keeps a state of ALock good: an act of a queue, and an act of the entry.
-use Rattle.std.specs.Prelude.{◌≡◌, ◌≢◌, ◌⊎◌, ℕ, true, List, ◌++◌, length, slice_get, slice_index, slice_set, Some, refl}
-use Rattle.std.proofs.Common.{sym, ◌∙◌, ap, subst, ⊎_elim, arith, length-set, append_assoc}
-use Rattle.rl_word.specs.Places.{get_set_cases, same_or_not}
+use Rattle.std.specs.Prelude.{◌≡◌, ◌≢◌, ℕ, true, List, ◌++◌, length, slice_get, slice_index, slice_set, Some, refl}
+use Rattle.std.proofs.Common.{sym, ◌∙◌, ap, subst, arith, length-set, append_assoc}
+use Rattle.rl_word.specs.Places.{same_or_not}
 use Rattle.rl_word.specs.Acts.{word_of, written, told}
 use Rattle.rl_word.specs.declared.acts.Act.{Act}
 use Rattle.rl_step.specs.declared.events.Event.{Event}
@@ -9,7 +9,7 @@ use Rattle.rl_step.specs.Lock.{LockState}
 use Rattle.rl_step.specs.Queues.{tenures}
 use Rattle.rl_step.specs.QueueLemmas.{tenures-append}
 use Rattle.rl_queue.specs.declared.view.Phase.{Phase}
-use Rattle.rl_queue.specs.declared.view.Phase.TheVariants.{Idle, Clear, Reset, Swing, Link, Wait, Settle, Granted, Look, Close, Await, Hand, Above}
+use Rattle.rl_queue.specs.declared.view.Phase.TheVariants.{Idle, Granted}
 use Rattle.rl_queue.specs.Queue.{TheNames, Turn, status_word, plan_at, turn_at}
 use Rattle.rl_queue.specs.Lane.{served}
 use Rattle.rl_queue.specs.QueueLaws.{QueueGood, still_keeps}
@@ -26,6 +26,7 @@ use Rattle.rl_alock.specs.AlockViews.{phase_get, mine_is, moves_mine, moves_othe
 use Rattle.rl_alock.specs.AlockWords.{named_in, cohorts_apart}
 use Rattle.rl_alock.specs.AlockTurns.{entry_all}
 use Rattle.rl_queue.specs.QueueTurns.{turn_all}
+use Rattle.rl_queue.specs.RankViewLaws.{each_set}
 
 -- some line makes a cohort's queue good
 abbrev pub HasLine : Cohorts → Cohort → List ℕ → (ℕ → Phase) → List Event → ℕ → Type 0
@@ -43,15 +44,13 @@ EntryOf K ws vs = Entered (cohort_of K) (phase_at vs) (entry_at vs) (status_at K
 pub stays_good : (K : Cohorts) (s t : LockState AlockView) (r : ℕ) (v w : AlockView) → AlockGood K s → slice_get s.views r ≡ Some v → length t.words ≡ length s.words → t.views ≡ slice_set s.views r w → length t.modes ≡ length s.modes →
     w.queue.member ≡ r → Flat w.queue.phase → (ranks_of K ≡ 1 → w.entry ≢ Victim) → Lines K t.words (slice_set s.views r w) t.trace → EntryOf K t.words (slice_set s.views r w) → AlockGood K t
 stays_good K s t r v w g has ew ev em name flat late q en =
-    let cases : (i : ℕ) (u : AlockView) → slice_get t.views i ≡ Some u → ((i ≡ r) × (u ≡ w)) ⊎ ((i ≢ r) × (slice_get s.views i ≡ Some u)) =
-    λ i u h. get_set_cases s.views r i w u (subst (λ vs. slice_get vs i ≡ Some u) ev h) in
     record {
       all_words = ew ∙ g.all_words;
       all_views = ap length ev ∙ length-set s.views r w ∙ g.all_views;
       all_modes = em ∙ g.all_modes;
-      own = λ i u h. ⊎_elim (λ p. ap (λ z. z.queue.member) p.1 ∙ name ∙ sym p.0) (λ p. g.own i u p.1) (cases i u h);
-      flat = λ i u h. ⊎_elim (λ p. subst (λ z. Flat z.queue.phase) (sym p.1) flat) (λ p. g.flat i u p.1) (cases i u h);
-      lonely = λ one i u h. ⊎_elim (λ p. subst (λ z. z.entry ≢ Victim) (sym p.1) (late one)) (λ p. g.lonely one i u p.1) (cases i u h);
+      own = each_set (λ i u. u.queue.member ≡ i) s.views t.views r w ev name (λ i u ne h. g.own i u h);
+      flat = each_set (λ i u. Flat u.queue.phase) s.views t.views r w ev flat (λ i u ne h. g.flat i u h);
+      lonely = λ one. each_set (λ i u. u.entry ≢ Victim) s.views t.views r w ev (late one) (λ i u ne h. g.lonely one i u h);
       line = λ c. (q c).0;
       queue = λ c. subst (λ z. QueueGood (names_of K c) (InCohort K c) t.words (phases_of K c z) (q c).0 t.trace (tenures (queue_in K c) t.trace)) (sym ev) (q c).1;
       entered = subst (λ z. EntryOf K t.words z) (sym ev) en;
@@ -67,18 +66,7 @@ quiet K c ws ph t es z q =
 -- a rank at the first place of the entry hasn't announced
 pub not_announced : (p : Phase) → Announced p Announce → ⊥
 not_announced Idle h = h
-not_announced Clear h = h
-not_announced Reset h = h
-not_announced (Swing g) h = h
-not_announced (Link g) h = h
-not_announced Wait h = h
-not_announced Settle h = h
-not_announced (Granted left) h = h
-not_announced (Look left u) h = h
-not_announced (Close left) h = h
-not_announced (Await left) h = h
-not_announced (Hand succ left) h = h
-not_announced (Above succ) h = h
+not_announced _ h = h
 
 pub granted_not : (left : ℕ) (st : Entry) → Announced (Granted left) st → ⊥
 granted_not left st h = h

@@ -9,7 +9,7 @@ use Rattle.rl_step.specs.declared.events.Standing.TheVariants as standing
 use Rattle.rl_step.specs.Lock.{LockState, LockLaws, Told, acted, Acts}
 use Rattle.rl_step.specs.Queues.{tenures}
 use Rattle.rl_queue.specs.declared.view.Phase.{Phase}
-use Rattle.rl_queue.specs.declared.view.Phase.TheVariants.{Idle, Clear, Reset, Swing, Link, Wait, Settle, Granted, Look, Close, Await, Hand, Above}
+use Rattle.rl_queue.specs.declared.view.Phase.TheVariants.{Idle, Clear, Settle, Granted, Look, Above}
 use Rattle.rl_queue.specs.Choices.{other_test}
 use Rattle.rl_queue.specs.Queue.{leave_at}
 use Rattle.rl_queue.specs.LaneLaws.{IsFirst}
@@ -73,11 +73,6 @@ module _ (K : Cohorts) where
   act_over : (s : LockState AlockView) (k : ℕ) (p : Phase) (st : Entry) (a : Act) (c o : Cohort) → c ≢ o → AlockGood K s → slice_get s.views k ≡ Some (at_entry k p st) → alock_plan (names_of K (cohort_of K k)) (cohort_of K k) k p st ≡ Some a → Overtaken K c o s.words s.views s.trace →
       Overtaken K c o (acted (alock_table K) s k (at_entry k p st) a).words (acted (alock_table K) s k (at_entry k p st) a).views (acted (alock_table K) s k (at_entry k p st) a).trace
   act_over s k Idle st a c o ne g has pl ov = cc
-  act_over s k Clear st a c o ne g has pl ov = queue_overtakes K c o s k Clear st a ne g has pl ov
-  act_over s k Reset st a c o ne g has pl ov = queue_overtakes K c o s k Reset st a ne g has pl ov
-  act_over s k (Swing x) st a c o ne g has pl ov = queue_overtakes K c o s k (Swing x) st a ne g has pl ov
-  act_over s k (Link x) st a c o ne g has pl ov = queue_overtakes K c o s k (Link x) st a ne g has pl ov
-  act_over s k Wait st a c o ne g has pl ov = queue_overtakes K c o s k Wait st a ne g has pl ov
   act_over s k Settle Announce a c o ne g has pl ov =
       subst (λ z. Overtaken K c o (acted (alock_table K) s k (at_entry k Settle Announce) z).words (acted (alock_table K) s k (at_entry k Settle Announce) z).views (acted (alock_table K) s k (at_entry k Settle Announce) z).trace) (same_Some _ _ pl)
       (announce_overtakes K c o ne s k g has ov)
@@ -100,11 +95,8 @@ module _ (K : Cohorts) where
       let not_mine : (slice_index s.words 2 == cohort_no o) ≡ false = other_test (slice_index s.words 2) (cohort_no o) (λ q. z (q ∙ ap cohort_no (sym e))) in
       pot_by K o s.words s.views k Settle Victim (phase_get s.views k (at_entry k Settle Victim) has) (entry_get s.views k (at_entry k Settle Victim) has) ∙ ap (λ y. pot (budget_in K o) y Victim Settle (status_at K s.words k)) not_mine) ov))
   act_over s k (Granted x) st a c o ne g has pl ov = cc
-  act_over s k (Look x u) st a c o ne g has pl ov = queue_overtakes K c o s k (Look x u) st a ne g has pl ov
-  act_over s k (Close x) st a c o ne g has pl ov = queue_overtakes K c o s k (Close x) st a ne g has pl ov
-  act_over s k (Await x) st a c o ne g has pl ov = queue_overtakes K c o s k (Await x) st a ne g has pl ov
-  act_over s k (Hand x y) st a c o ne g has pl ov = queue_overtakes K c o s k (Hand x y) st a ne g has pl ov
   act_over s k (Above x) st a c o ne g has pl ov = cc
+  act_over s k p st a c o ne g has pl ov = queue_overtakes K c o s k p st a ne g has pl ov
 
   ask_over : (s : LockState AlockView) (k : ℕ) (p : Phase) (st : Entry) (c o : Cohort) (ne : c ≢ o) → slice_get s.views k ≡ Some (at_entry k p st) → p ≡ Idle → Overtaken K c o s.words s.views s.trace → Overtaken K c o s.words (slice_set s.views k (at_entry k Clear Announce)) s.trace
   ask_over s k p st c o ne has e ov =
@@ -113,20 +105,9 @@ module _ (K : Cohorts) where
 
   leave_over : (s : LockState AlockView) (k : ℕ) (p : Phase) (st : Entry) (c o : Cohort) (ne : c ≢ o) → slice_get s.views k ≡ Some (at_entry k p st) → standing_of p ≡ standing.Writer → Overtaken K c o s.words s.views s.trace →
       Overtaken K c o s.words (slice_set s.views k (at_entry k (leave_at p false) Announce)) (s.trace ++ event.LeaveW k ∷ [])
-  leave_over s k Idle st c o ne has e ov = cc
-  leave_over s k Clear st c o ne has e ov = cc
-  leave_over s k Reset st c o ne has e ov = cc
-  leave_over s k (Swing x) st c o ne has e ov = cc
-  leave_over s k (Link x) st c o ne has e ov = cc
-  leave_over s k Wait st c o ne has e ov = cc
-  leave_over s k Settle st c o ne has e ov = cc
   leave_over s k (Granted left) st c o ne has e ov =
       still_overtakes K c o ne s.words s.views s.trace (event.LeaveW k ∷ []) k (at_entry k (Granted left) st) (at_entry k (Look left false) Announce) has (λ x. refl) (λ x l. (l, tt)) (λ x. x) (λ B x y. omega arith) ov
-  leave_over s k (Look x u) st c o ne has e ov = cc
-  leave_over s k (Close x) st c o ne has e ov = cc
-  leave_over s k (Await x) st c o ne has e ov = cc
-  leave_over s k (Hand x y) st c o ne has e ov = cc
-  leave_over s k (Above x) st c o ne has e ov = cc
+  leave_over s k _ st c o ne has e ov = cc
 
   touch_over : (s : LockState AlockView) (k : ℕ) (w : Bool) (c o : Cohort) (ne : c ≢ o) → Overtaken K c o s.words s.views s.trace → Overtaken K c o s.words s.views (s.trace ++ event.Touch k w ∷ [])
   touch_over s k w c o ne ov =

@@ -55,7 +55,6 @@ module _ (K : Cohorts) (k : ℕ) where
 
   queue_fits : (p : Phase) (st : Entry) (a : Act) (got : ℕ) → plan_at (names_of K (cohort_of K k)) k p ≡ Some a → Flat p → k < ranks_of K → ((s left : ℕ) → p ≡ Hand s left → InCohort K (cohort_of K k) s) →
       LearnFits K k p (told_turn k (turn_at (names_of K (cohort_of K k)) k p got))
-  queue_fits Idle st a got pl f lt hs = cc
   queue_fits Clear st a got pl f lt hs = plain_fits Clear Reset false refl
   queue_fits Reset st a got pl f lt hs = plain_fits Reset (Swing 0) false refl
   queue_fits (Swing guess) st a got pl f lt hs =
@@ -71,8 +70,6 @@ module _ (K : Cohorts) (k : ℕ) where
       let B : Option ℕ = (names_of K (cohort_of K k)).budget in
       choose (λ u. LearnFits K k Wait (told_turn k u)) (got == 0) (waits_at Wait) (if got == 1 then moves_to Settle else moves_to (Granted (code_left B got))) (plain_fits Wait Wait true refl)
       (choose (λ u. LearnFits K k Wait (told_turn k u)) (got == 1) (moves_to Settle) (moves_to (Granted (code_left B got))) (plain_fits Wait Settle false refl) (plain_fits Wait (Granted (code_left B got)) false refl))
-  queue_fits Settle st a got pl f lt hs = cc
-  queue_fits (Granted left) st a got pl f lt hs = cc
   queue_fits (Look left true) st a got pl f lt hs = absurd f
   queue_fits (Look left false) st a got pl f lt hs =
       choose (λ q. LearnFits K k (Look left false) (told_turn k (moves_to q))) (got == 0) (Close left) (Hand (got - 1) left) (plain_fits (Look left false) (Close left) false refl) (plain_fits (Look left false) (Hand (got - 1) left) false refl)
@@ -84,7 +81,7 @@ module _ (K : Cohorts) (k : ℕ) where
       let m = member_of K (cohort_of K k) s (hs s left refl) in
       choose (λ u. LearnFits K k (Hand s left) (told_turn k u)) (left == 0) (moves_to Idle) (moves_with Idle (event.Pass (tail_no (cohort_of K k)) s)) (plain_fits (Hand s left) Idle false refl)
       (record { shift = refl; order = tt; few = omega arith; names = (m, tt) })
-  queue_fits (Above succ) st a got pl f lt hs = cc
+  queue_fits _ st a got pl f lt hs = cc
 
   cohort_there : (c : Cohort) → (alock_table K).cohort (cohort_no c) ≡ true
   cohort_there Local = refl
@@ -108,34 +105,17 @@ module _ (K : Cohorts) (k : ℕ) where
   pub learn_fits_at : (p : Phase) (st : Entry) (a : Act) (got : ℕ) → alock_plan (names_of K (cohort_of K k)) (cohort_of K k) k p st ≡ Some a → Flat p → k < ranks_of K → ((s left : ℕ) → p ≡ Hand s left → InCohort K (cohort_of K k) s) →
       LearnFits K k p (alock_learn (names_of K (cohort_of K k)) (cohort_of K k) k p st got)
   learn_fits_at Idle st a got pl f lt hs = cc
-  learn_fits_at Clear st a got pl f lt hs = queue_fits Clear st a got pl f lt hs
-  learn_fits_at Reset st a got pl f lt hs = queue_fits Reset st a got pl f lt hs
-  learn_fits_at (Swing guess) st a got pl f lt hs = queue_fits (Swing guess) st a got pl f lt hs
-  learn_fits_at (Link guess) st a got pl f lt hs = queue_fits (Link guess) st a got pl f lt hs
-  learn_fits_at Wait st a got pl f lt hs = queue_fits Wait st a got pl f lt hs
   learn_fits_at Settle st a got pl f lt hs = entry_fits st got lt
   learn_fits_at (Granted left) st a got pl f lt hs = cc
-  learn_fits_at (Look left u) st a got pl f lt hs = queue_fits (Look left u) st a got pl f lt hs
-  learn_fits_at (Close left) st a got pl f lt hs = queue_fits (Close left) st a got pl f lt hs
-  learn_fits_at (Await left) st a got pl f lt hs = queue_fits (Await left) st a got pl f lt hs
-  learn_fits_at (Hand succ left) st a got pl f lt hs = queue_fits (Hand succ left) st a got pl f lt hs
   learn_fits_at (Above succ) st a got pl f lt hs = cc
+  learn_fits_at p st a got pl f lt hs = queue_fits p st a got pl f lt hs
 
 -- no act is planned exactly where a rank is out or inside
 pub plan_rests : (N : TheNames) (c : Cohort) (k : ℕ) (p : Phase) (st : Entry) → Flat p → (alock_plan N c k p st ≡ None) ↔ Rests (standing_of p)
 plan_rests N c k Idle st f = (λ e. tt, λ t. refl)
-plan_rests N c k Clear st f = (λ e. cc, λ t. absurd t)
-plan_rests N c k Reset st f = (λ e. cc, λ t. absurd t)
-plan_rests N c k (Swing guess) st f = (λ e. cc, λ t. absurd t)
-plan_rests N c k (Link guess) st f = (λ e. cc, λ t. absurd t)
-plan_rests N c k Wait st f = (λ e. cc, λ t. absurd t)
-plan_rests N c k Settle st f = (λ e. cc, λ t. absurd t)
 plan_rests N c k (Granted left) st f = (λ e. tt, λ t. refl)
-plan_rests N c k (Look left u) st f = (λ e. cc, λ t. absurd t)
-plan_rests N c k (Close left) st f = (λ e. cc, λ t. absurd t)
-plan_rests N c k (Await left) st f = (λ e. cc, λ t. absurd t)
-plan_rests N c k (Hand succ left) st f = (λ e. cc, λ t. absurd t)
 plan_rests N c k (Above succ) st f = absurd f
+plan_rests N c k _ st f = (λ e. cc, λ t. absurd t)
 
 -- Where the words live, and which acts on them are lawful.
 pub layout_in : Cohorts → ℕ → Layout
@@ -183,7 +163,6 @@ module _ (K : Cohorts) (nodes : ℕ) (seated : Seated (record { node_of = K.node
   -- each planned act is lawful, and in its rank's domain
   pub lawful_in : (k : ℕ) (p : Phase) (st : Entry) (a : Act) → k < ranks_of K → ((g : ℕ) → p ≡ Link g → g - 1 < ranks_of K) → ((s left : ℕ) → p ≡ Hand s left → s < ranks_of K) →
       alock_plan (names_of K (cohort_of K k)) (cohort_of K k) k p st ≡ Some a → MayMake k a
-  lawful_in k Idle st a lt gs hs pl = cc
   lawful_in k Clear st a lt gs hs pl = subst (MayMake k) (same_Some _ _ pl) (let e = next_is K (cohort_of K k) k lt in stores k _ _ (omega arith) (omega arith))
   lawful_in k Reset st a lt gs hs pl = subst (MayMake k) (same_Some _ _ pl) (let e = status_is K (cohort_of K k) k lt in stores k _ _ (omega arith) (omega arith))
   lawful_in k (Swing guess) st a lt gs hs pl = subst (MayMake k) (same_Some _ _ pl) (swaps k guess (k + 1) (cohort_of K k) refl)
@@ -192,9 +171,8 @@ module _ (K : Cohorts) (nodes : ℕ) (seated : Seated (record { node_of = K.node
   lawful_in k Settle Announce a lt gs hs pl = subst (MayMake k) (same_Some _ _ pl) (stores k 2 _ (omega arith) (omega arith))
   lawful_in k Settle Tail a lt gs hs pl = subst (MayMake k) (same_Some _ _ pl) (loads k _ (tail_small (other (cohort_of K k))))
   lawful_in k Settle Victim a lt gs hs pl = subst (MayMake k) (same_Some _ _ pl) (loads k 2 (omega arith))
-  lawful_in k (Granted left) st a lt gs hs pl = cc
   lawful_in k (Look left u) st a lt gs hs pl = subst (MayMake k) (same_Some _ _ pl) (let e = next_is K (cohort_of K k) k lt in loads k _ (omega arith))
   lawful_in k (Close left) st a lt gs hs pl = subst (MayMake k) (same_Some _ _ pl) (swaps k (k + 1) 0 (cohort_of K k) refl)
   lawful_in k (Await left) st a lt gs hs pl = subst (MayMake k) (same_Some _ _ pl) (let e = next_is K (cohort_of K k) k lt in loads k _ (omega arith))
   lawful_in k (Hand succ left) st a lt gs hs pl = subst (MayMake k) (same_Some _ _ pl) (let h = hs succ left refl in let e = status_is K (cohort_of K k) succ h in stores k _ _ (omega arith) (omega arith))
-  lawful_in k (Above succ) st a lt gs hs pl = cc
+  lawful_in k _ st a lt gs hs pl = cc

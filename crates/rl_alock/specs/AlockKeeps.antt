@@ -13,7 +13,7 @@ use Rattle.rl_step.specs.declared.events.Event.TheVariants as event
 use Rattle.rl_step.specs.Lock.{LockState, acted, Told}
 use Rattle.rl_step.specs.Queues.{tenures}
 use Rattle.rl_queue.specs.declared.view.Phase.{Phase}
-use Rattle.rl_queue.specs.declared.view.Phase.TheVariants.{Idle, Clear, Reset, Swing, Link, Wait, Settle, Granted, Look, Close, Await, Hand, Above}
+use Rattle.rl_queue.specs.declared.view.Phase.TheVariants.{Idle, Clear, Reset, Swing, Settle, Granted, Above}
 use Rattle.rl_queue.specs.Queue.{TheNames, Turn, status_word, plan_at, turn_at}
 use Rattle.rl_queue.specs.Lane.{Listed, lane_of, served}
 use Rattle.rl_queue.specs.LaneLaws.{in_line}
@@ -151,15 +151,7 @@ module _ (K : Cohorts) where
   announced_listed Clear st h = h
   announced_listed Reset st h = h
   announced_listed (Swing g) st h = h
-  announced_listed (Link g) st h = tt
-  announced_listed Wait st h = tt
-  announced_listed Settle st h = tt
-  announced_listed (Granted left) st h = tt
-  announced_listed (Look left u) st h = tt
-  announced_listed (Close left) st h = tt
-  announced_listed (Await left) st h = tt
-  announced_listed (Hand succ left) st h = tt
-  announced_listed (Above succ) st h = tt
+  announced_listed _ st h = tt
 
   -- the entry once rank k has settled, where it may
   settled_entry : (ws : List ℕ) (vs : List AlockView) (k : ℕ) (st : Entry) → slice_get vs k ≡ Some (at_entry k Settle st) → EntryOf K ws vs →
@@ -268,11 +260,6 @@ module _ (K : Cohorts) where
   pub act_keeps_at : (s : LockState AlockView) (k : ℕ) (p : Phase) (st : Entry) (a : Act) → AlockGood K s → slice_get s.views k ≡ Some (at_entry k p st) → alock_plan (names_of K (cohort_of K k)) (cohort_of K k) k p st ≡ Some a →
       AlockGood K (acted (alock_table K) s k (at_entry k p st) a)
   act_keeps_at s k Idle st a g has pl = cc
-  act_keeps_at s k Clear st a g has pl = queue_good s k Clear st a g has pl
-  act_keeps_at s k Reset st a g has pl = queue_good s k Reset st a g has pl
-  act_keeps_at s k (Swing guess) st a g has pl = queue_good s k (Swing guess) st a g has pl
-  act_keeps_at s k (Link guess) st a g has pl = queue_good s k (Link guess) st a g has pl
-  act_keeps_at s k Wait st a g has pl = queue_good s k Wait st a g has pl
   act_keeps_at s k Settle Announce a g has pl = subst (λ z. AlockGood K (acted (alock_table K) s k (at_entry k Settle Announce) z)) (same_Some _ _ pl) (announce_good s k g has)
   act_keeps_at s k Settle Tail a g has pl =
       let o : ℕ = tail_no (other (cohort_of K k)) in
@@ -295,8 +282,5 @@ module _ (K : Cohorts) where
       (λ z. look_good s k Victim Tail 2 act got true (λ one e. cc) g has tt)
       (λ z. settle_good s k Victim 2 act got g has (may_settle (cohort_of K) (phase_at s.views) (entry_at s.views) (status_at K s.words) got k g.entered said z)))
   act_keeps_at s k (Granted left) st a g has pl = cc
-  act_keeps_at s k (Look left u) st a g has pl = queue_good s k (Look left u) st a g has pl
-  act_keeps_at s k (Close left) st a g has pl = queue_good s k (Close left) st a g has pl
-  act_keeps_at s k (Await left) st a g has pl = queue_good s k (Await left) st a g has pl
-  act_keeps_at s k (Hand succ left) st a g has pl = queue_good s k (Hand succ left) st a g has pl
   act_keeps_at s k (Above succ) st a g has pl = cc
+  act_keeps_at s k p st a g has pl = queue_good s k p st a g has pl

@@ -15,7 +15,7 @@ use Rattle.rl_step.specs.LockLemmas.{length-first_views, first_views_at}
 use Rattle.rl_step.specs.Queues.{QueueOf, IsFifo, IsWithin, settled, passed, tenures, count}
 use Rattle.rl_step.specs.QueueLemmas.{tenures-append}
 use Rattle.rl_queue.specs.declared.view.Phase.{Phase}
-use Rattle.rl_queue.specs.declared.view.Phase.TheVariants.{Idle, Clear, Reset, Swing, Link, Wait, Settle, Granted, Look, Close, Await, Hand, Above}
+use Rattle.rl_queue.specs.declared.view.Phase.TheVariants.{Idle, Clear, Link, Settle, Granted, Look, Hand}
 use Rattle.rl_queue.specs.Choices.{choose}
 use Rattle.rl_queue.specs.Queue.{next_word, status_word, plan_at, turn_at}
 use Rattle.rl_queue.specs.Lane.{SuitsAlone, Listed, Busy, Own, served}
@@ -144,19 +144,8 @@ module _ (K : Cohorts) where
       (quiet_entry s r (Granted left) (Look left false) st g has (λ x h. refl) (λ h. h))
 
   leave_at_writer : (s : LockState AlockView) (r : ℕ) (p : Phase) (st : Entry) → AlockGood K s → slice_get s.views r ≡ Some (at_entry r p st) → standing_of p ≡ standing.Writer → AlockGood K (left_state (alock_table K) s r (at_entry r p st) (event.LeaveW r))
-  leave_at_writer s r Idle st g has e = cc
-  leave_at_writer s r Clear st g has e = cc
-  leave_at_writer s r Reset st g has e = cc
-  leave_at_writer s r (Swing x) st g has e = cc
-  leave_at_writer s r (Link x) st g has e = cc
-  leave_at_writer s r Wait st g has e = cc
-  leave_at_writer s r Settle st g has e = cc
   leave_at_writer s r (Granted left) st g has e = leave_good s r (Granted left) st left g has
-  leave_at_writer s r (Look left u) st g has e = cc
-  leave_at_writer s r (Close left) st g has e = cc
-  leave_at_writer s r (Await left) st g has e = cc
-  leave_at_writer s r (Hand succ left) st g has e = cc
-  leave_at_writer s r (Above succ) st g has e = cc
+  leave_at_writer s r _ st g has e = cc
 
   touch_good : (s : LockState AlockView) (r : ℕ) (w : Bool) → AlockGood K s → AlockGood K (touched s r w)
   touch_good s r w g =
@@ -222,52 +211,19 @@ module _ (K : Cohorts) where
   entry_waits s r Victim got one g has = absurd (g.lonely one r _ has refl)
 
   finds_all : (s : LockState AlockView) (r : ℕ) (p : Phase) (st : Entry) (a : Act) → ranks_of K ≡ 1 → AlockGood K s → slice_get s.views r ≡ Some (at_entry r p st) → alock_plan (names_of K (cohort_of K r)) (cohort_of K r) r p st ≡ Some a → FindsOld a (slice_index s.words (word_of a))
-  finds_all s r Idle st a one g has pl = finds_at s r Idle st a one g has pl
-  finds_all s r Clear st a one g has pl = finds_at s r Clear st a one g has pl
-  finds_all s r Reset st a one g has pl = finds_at s r Reset st a one g has pl
-  finds_all s r (Swing x) st a one g has pl = finds_at s r (Swing x) st a one g has pl
-  finds_all s r (Link x) st a one g has pl = finds_at s r (Link x) st a one g has pl
-  finds_all s r Wait st a one g has pl = finds_at s r Wait st a one g has pl
   finds_all s r Settle Announce a one g has pl = subst (λ z. FindsOld z (slice_index s.words (word_of z))) (same_Some _ _ pl) tt
   finds_all s r Settle Tail a one g has pl = subst (λ z. FindsOld z (slice_index s.words (word_of z))) (same_Some _ _ pl) tt
   finds_all s r Settle Victim a one g has pl = subst (λ z. FindsOld z (slice_index s.words (word_of z))) (same_Some _ _ pl) tt
-  finds_all s r (Granted x) st a one g has pl = finds_at s r (Granted x) st a one g has pl
-  finds_all s r (Look x u) st a one g has pl = finds_at s r (Look x u) st a one g has pl
-  finds_all s r (Close x) st a one g has pl = finds_at s r (Close x) st a one g has pl
-  finds_all s r (Await x) st a one g has pl = finds_at s r (Await x) st a one g has pl
-  finds_all s r (Hand x y) st a one g has pl = finds_at s r (Hand x y) st a one g has pl
-  finds_all s r (Above x) st a one g has pl = finds_at s r (Above x) st a one g has pl
+  finds_all s r p st a one g has pl = finds_at s r p st a one g has pl
 
   goes_all : (s : LockState AlockView) (r : ℕ) (p : Phase) (st : Entry) (got : ℕ) → ranks_of K ≡ 1 → AlockGood K s → slice_get s.views r ≡ Some (at_entry r p st) → (alock_learn (names_of K (cohort_of K r)) (cohort_of K r) r p st got).waits ≡ false
-  goes_all s r Idle st got one g has = goes_at s r Idle st got one g has
-  goes_all s r Clear st got one g has = goes_at s r Clear st got one g has
-  goes_all s r Reset st got one g has = goes_at s r Reset st got one g has
-  goes_all s r (Swing x) st got one g has = goes_at s r (Swing x) st got one g has
-  goes_all s r (Link x) st got one g has = goes_at s r (Link x) st got one g has
-  goes_all s r Wait st got one g has = goes_at s r Wait st got one g has
   goes_all s r Settle st got one g has = entry_waits s r st got one g has
-  goes_all s r (Granted x) st got one g has = goes_at s r (Granted x) st got one g has
-  goes_all s r (Look x u) st got one g has = goes_at s r (Look x u) st got one g has
-  goes_all s r (Close x) st got one g has = goes_at s r (Close x) st got one g has
-  goes_all s r (Await x) st got one g has = goes_at s r (Await x) st got one g has
-  goes_all s r (Hand x y) st got one g has = goes_at s r (Hand x y) st got one g has
-  goes_all s r (Above x) st got one g has = goes_at s r (Above x) st got one g has
+  goes_all s r p st got one g has = goes_at s r p st got one g has
 
   -- a rank waits on after a load alone, and stands at a load again
   loads_again : (m : ℕ) (p : Phase) (st : Entry) → PlansLoad (plan_at (names_of K (cohort_of K m)) m p) → PlansLoad (alock_plan (names_of K (cohort_of K m)) (cohort_of K m) m p st)
-  loads_again m Idle st h = h
-  loads_again m Clear st h = h
-  loads_again m Reset st h = h
-  loads_again m (Swing x) st h = h
-  loads_again m (Link x) st h = h
-  loads_again m Wait st h = h
   loads_again m Settle st h = absurd h
-  loads_again m (Granted x) st h = h
-  loads_again m (Look x u) st h = h
-  loads_again m (Close x) st h = h
-  loads_again m (Await x) st h = h
-  loads_again m (Hand x y) st h = h
-  loads_again m (Above x) st h = h
+  loads_again m _ st h = h
 
   turn_again : (m : ℕ) (p : Phase) (a : Act) (got : ℕ) → plan_at (names_of K (cohort_of K m)) m p ≡ Some a → (turn_at (names_of K (cohort_of K m)) m p got).waits ≡ true →
       IsLoad a × PlansLoad (alock_plan (names_of K (cohort_of K m)) (cohort_of K m) m (turn_at (names_of K (cohort_of K m)) m p got).phase Announce)
@@ -287,19 +243,8 @@ module _ (K : Cohorts) where
 
   again_all : (m : ℕ) (p : Phase) (st : Entry) (a : Act) (got : ℕ) → alock_plan (names_of K (cohort_of K m)) (cohort_of K m) m p st ≡ Some a → (alock_learn (names_of K (cohort_of K m)) (cohort_of K m) m p st got).waits ≡ true →
       IsLoad a × PlansLoad ((alock_table K).plan (alock_learn (names_of K (cohort_of K m)) (cohort_of K m) m p st got).view)
-  again_all m Idle st a got pl e = turn_again m Idle a got pl e
-  again_all m Clear st a got pl e = turn_again m Clear a got pl e
-  again_all m Reset st a got pl e = turn_again m Reset a got pl e
-  again_all m (Swing x) st a got pl e = turn_again m (Swing x) a got pl e
-  again_all m (Link x) st a got pl e = turn_again m (Link x) a got pl e
-  again_all m Wait st a got pl e = turn_again m Wait a got pl e
   again_all m Settle st a got pl e = entry_again m st a got pl e
-  again_all m (Granted x) st a got pl e = turn_again m (Granted x) a got pl e
-  again_all m (Look x u) st a got pl e = turn_again m (Look x u) a got pl e
-  again_all m (Close x) st a got pl e = turn_again m (Close x) a got pl e
-  again_all m (Await x) st a got pl e = turn_again m (Await x) a got pl e
-  again_all m (Hand x y) st a got pl e = turn_again m (Hand x y) a got pl e
-  again_all m (Above x) st a got pl e = turn_again m (Above x) a got pl e
+  again_all m p st a got pl e = turn_again m p a got pl e
 
   -- all laws of a lock
   pub alock_laws : (nodes : ℕ) → Seated (record { node_of = K.node_of; nodes = nodes }) → K.home < nodes → LockLaws (alock_table K) (AlockGood K) no_more (record { node_of = K.node_of; nodes = nodes })

@@ -12,7 +12,7 @@ use Rattle.rl_step.specs.declared.events.Event.TheVariants as event
 use Rattle.rl_step.specs.Lock.{LockState}
 use Rattle.rl_step.specs.Queues.{tenures}
 use Rattle.rl_queue.specs.declared.view.Phase.{Phase}
-use Rattle.rl_queue.specs.declared.view.Phase.TheVariants.{Idle, Clear, Reset, Swing, Link, Wait, Settle, Granted, Look, Close, Await, Hand, Above}
+use Rattle.rl_queue.specs.declared.view.Phase.TheVariants.{Idle, Clear, Reset, Swing, Link, Wait, Settle, Granted, Look, Close, Await, Hand}
 use Rattle.rl_queue.specs.Choices.{same_test, other_test}
 use Rattle.rl_queue.specs.Queue.{TheNames, Turn, status_word, full_budget, plan_at, turn_at}
 use Rattle.rl_queue.specs.Lane.{lane_of, Busy, Own}
@@ -50,35 +50,13 @@ pub record Overtaken (K : Cohorts) (c o : Cohort) (ws : List ℕ) (vs : List Alo
 
 -- what entering adds, and how many enter by it
 entry_both : (P : List Event → ℕ → Type 0) (m : ℕ) (q : Phase) → P [] 0 → P (event.EnterW m ∷ []) 1 → P (entry_of m q) (enters q)
-entry_both P m Idle a b = a
-entry_both P m Clear a b = a
-entry_both P m Reset a b = a
-entry_both P m (Swing g) a b = a
-entry_both P m (Link g) a b = a
-entry_both P m Wait a b = a
-entry_both P m Settle a b = a
 entry_both P m (Granted left) a b = b
-entry_both P m (Look left u) a b = a
-entry_both P m (Close left) a b = a
-entry_both P m (Await left) a b = a
-entry_both P m (Hand s left) a b = a
-entry_both P m (Above s) a b = a
+entry_both P m _ a b = a
 
 -- a rank that plans an act of its queue hasn't announced
 plans_unsaid : (N : TheNames) (m : ℕ) (p : Phase) (st : Entry) (a : Act) → plan_at N m p ≡ Some a → Announced p st → ⊥
-plans_unsaid N m Idle st a pl h = h
-plans_unsaid N m Clear st a pl h = h
-plans_unsaid N m Reset st a pl h = h
-plans_unsaid N m (Swing g) st a pl h = h
-plans_unsaid N m (Link g) st a pl h = h
-plans_unsaid N m Wait st a pl h = h
 plans_unsaid N m Settle st a pl h = cc
-plans_unsaid N m (Granted left) st a pl h = h
-plans_unsaid N m (Look left u) st a pl h = h
-plans_unsaid N m (Close left) st a pl h = h
-plans_unsaid N m (Await left) st a pl h = h
-plans_unsaid N m (Hand s left) st a pl h = h
-plans_unsaid N m (Above s) st a pl h = h
+plans_unsaid N m _ st a pl h = h
 
 -- a rank of the other cohort than rank k may let in as many after an act of k's queue, or none
 others_pot : (K : Cohorts) (s : LockState AlockView) (k w x : ℕ) (v : AlockView) (m : ℕ) → AlockGood K s → Place (names_of K (cohort_of K k)) (InCohort K (cohort_of K k)) w → cohort_of K m ≢ cohort_of K k →
@@ -284,13 +262,7 @@ said_first Reset e x h = h
 said_first (Swing g) e x h = h
 said_first (Link g) e x h = h
 said_first Wait e x h = absurd h
-said_first Settle e x h = tt
-said_first (Granted left) e x h = tt
-said_first (Look left u) e x h = tt
-said_first (Close left) e x h = tt
-said_first (Await left) e x h = tt
-said_first (Hand succ left) e x h = tt
-said_first (Above succ) e x h = tt
+said_first _ e x h = tt
 
 settle_low : (B : ℕ) (y : Bool) (e : Entry) (x : ℕ) → pot B y e Settle x ≤ B + 1
 settle_low B y Announce x = omega arith
@@ -374,11 +346,6 @@ module _ (K : Cohorts) (c o : Cohort) (apart : c ≢ o) where
         let d : status_at K s.words m ≤ budget_in K o + 1 = c.1 in omega arith
 
     by : (p : Phase) (e : Entry) → phase_at s.views m ≡ p → pot (budget_in K o) y e p (status_at K s.words m) ≤ budget_in K o + 1
-    by Idle e q = omega arith
-    by Clear e q = omega arith
-    by Reset e q = omega arith
-    by (Swing g) e q = omega arith
-    by (Link g) e q = omega arith
     by Wait e q = code (status_at K s.words m) refl q
     by Settle Announce q = omega arith
     by Settle Tail q = settle_low (budget_in K o) y Tail (status_at K s.words m)
@@ -388,7 +355,7 @@ module _ (K : Cohorts) (c o : Cohort) (apart : c ≢ o) where
     by (Close left) e q = let b : left ≤ budget_in K o = own (Close left) q in omega arith
     by (Await left) e q = let b : left ≤ budget_in K o = own (Await left) q in omega arith
     by (Hand succ left) e q = let a = own (Hand succ left) q in let b : left ≤ budget_in K o = a.0 in omega arith
-    by (Above succ) e q = omega arith
+    by _ e q = omega arith
 
   -- a write to the victim changes no status that tells
   status_kept : (s : LockState AlockView) (k : ℕ) (x : ℕ) (v w : AlockView) (m : ℕ) (y : Bool) → AlockGood K s → slice_get s.views k ≡ Some v → w.queue.phase ≡ v.queue.phase →

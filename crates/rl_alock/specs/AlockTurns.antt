@@ -3,7 +3,7 @@ use Rattle.std.specs.Prelude.{ℕ, ◌+◌, ◌-◌, ◌==◌, true, false, List
 use Rattle.rl_step.specs.declared.events.Event.{Event}
 use Rattle.rl_step.specs.declared.events.Event.TheVariants as event
 use Rattle.rl_queue.specs.declared.view.Phase.{Phase}
-use Rattle.rl_queue.specs.declared.view.Phase.TheVariants.{Idle, Clear, Reset, Swing, Link, Wait, Settle, Granted, Look, Close, Await, Hand, Above}
+use Rattle.rl_queue.specs.declared.view.Phase.TheVariants.{Idle, Swing, Link, Wait, Settle, Granted, Look, Close, Await, Hand, Above}
 use Rattle.rl_queue.specs.Choices.{choose}
 use Rattle.rl_queue.specs.Queue.{TheNames, code_left, moves_to, moves_with, waits_at, joined_at, hand_turn, turn_at}
 use Rattle.rl_alock.specs.Alock.{entry_of}
@@ -11,19 +11,8 @@ use Rattle.rl_alock.specs.AlockGood.{Flat}
 
 -- what holds of no event and of an entry holds of what entering adds
 pub entry_all : (P : List Event → Type 0) (m : ℕ) (p : Phase) → P [] → P (event.EnterW m ∷ []) → P (entry_of m p)
-entry_all P m Idle a b = a
-entry_all P m Clear a b = a
-entry_all P m Reset a b = a
-entry_all P m (Swing guess) a b = a
-entry_all P m (Link guess) a b = a
-entry_all P m Wait a b = a
-entry_all P m Settle a b = a
 entry_all P m (Granted left) a b = b
-entry_all P m (Look left u) a b = a
-entry_all P m (Close left) a b = a
-entry_all P m (Await left) a b = a
-entry_all P m (Hand succ left) a b = a
-entry_all P m (Above succ) a b = a
+entry_all P m _ a b = a
 
 -- no turn leads to where something is above the queue
 flat_joined : (guess : ℕ) → Flat (joined_at guess)
@@ -34,19 +23,14 @@ flat_hand q None s left = tt
 flat_hand q (Some b) s left = choose (λ z. Flat z.phase) (left == 0) (moves_to Idle) (moves_with Idle (event.Pass q s)) tt tt
 
 pub turn_flat : (n : TheNames) (m : ℕ) (p : Phase) (got : ℕ) → Flat p → Flat (turn_at n m p got).phase
-turn_flat n m Idle got f = tt
-turn_flat n m Clear got f = tt
-turn_flat n m Reset got f = tt
 turn_flat n m (Swing guess) got f = choose (λ z. Flat z.phase) (got == guess) (moves_with (joined_at guess) (event.Join n.queue m)) (moves_to (Swing got)) (flat_joined guess) tt
-turn_flat n m (Link guess) got f = tt
 turn_flat n m Wait got f =
     choose (λ z. Flat z.phase) (got == 0) (waits_at Wait) (if got == 1 then moves_to Settle else moves_to (Granted (code_left n.budget got))) tt
     (choose (λ z. Flat z.phase) (got == 1) (moves_to Settle) (moves_to (Granted (code_left n.budget got))) tt tt)
-turn_flat n m Settle got f = tt
-turn_flat n m (Granted left) got f = tt
 turn_flat n m (Look left true) got f = absurd f
 turn_flat n m (Look left false) got f = choose Flat (got == 0) (Close left) (Hand (got - 1) left) tt tt
 turn_flat n m (Close left) got f = choose (λ z. Flat z.phase) (got == m + 1) (moves_to Idle) (moves_to (Await left)) tt tt
 turn_flat n m (Await left) got f = choose (λ z. Flat z.phase) (got == 0) (waits_at (Await left)) (moves_to (Hand (got - 1) left)) tt tt
 turn_flat n m (Hand succ left) got f = flat_hand n.queue n.budget succ left
 turn_flat n m (Above succ) got f = absurd f
+turn_flat n m _ got f = tt

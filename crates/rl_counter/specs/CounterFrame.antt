@@ -7,7 +7,7 @@ use Rattle.rl_word.specs.Places.{same_or_not}
 use Rattle.rl_word.specs.declared.acts.Act.{Act}
 use Rattle.rl_word.specs.Acts.{word_of, written}
 use Rattle.rl_counter.specs.declared.view.Doing.{Doing}
-use Rattle.rl_counter.specs.declared.view.Doing.TheVariants.{Nothing, Arrive, Refused, SeeTail, Swap, Reset, Round, RoundTail, Inside, Depart, Put, Count, Compare, TakeOut, TakeOff}
+use Rattle.rl_counter.specs.declared.view.Doing.TheVariants.{Arrive, Refused, SeeTail, Swap, Reset, Round, RoundTail, Depart}
 use Rattle.rl_counter.specs.Counter.{TheCounters, arrive_word, depart_word, counter_act}
 use Rattle.rl_counter.specs.CounterGood.{IsReader, Mark, inside_of, refused_of, taken_of, GroupGood, AllGood, AreSound}
 use Rattle.rl_counter.specs.CounterKeeps.{same_good, group_same, reader_keeps}
@@ -23,13 +23,7 @@ reader_word C c (Reset x) a h pl = inl (inl (ap word_of (sym (same_Some _ _ pl))
 reader_word C c Round a h pl = inl (inl (ap word_of (sym (same_Some _ _ pl))))
 reader_word C c (RoundTail x) a h pl = inr (λ y. ap (λ z. written z y) (sym (same_Some _ _ pl)))
 reader_word C c Depart a h pl = inl (inr (ap word_of (sym (same_Some _ _ pl))))
-reader_word C c Nothing a h pl = absurd h
-reader_word C c Inside a h pl = absurd h
-reader_word C c (Put i) a h pl = absurd h
-reader_word C c (Count i) a h pl = absurd h
-reader_word C c (Compare i x) a h pl = absurd h
-reader_word C c (TakeOut i) a h pl = absurd h
-reader_word C c (TakeOff i x) a h pl = absurd h
+reader_word C c _ a h pl = absurd h
 
 module _ (C : TheCounters) (n : ℕ) (mine : ℕ → ℕ → Bool) where
   -- a counter stays good where another word is written and a rank of its group keeps its share

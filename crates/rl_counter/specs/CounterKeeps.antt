@@ -8,7 +8,7 @@ use Rattle.rl_word.specs.declared.acts.Act.{Act}
 use Rattle.rl_word.specs.declared.acts.Act.TheVariants.{Load, CardAdd}
 use Rattle.rl_word.specs.Acts.{word_of, written, told}
 use Rattle.rl_counter.specs.declared.view.Doing.{Doing}
-use Rattle.rl_counter.specs.declared.view.Doing.TheVariants.{Nothing, Arrive, Refused, SeeTail, Swap, Reset, Round, RoundTail, Inside, Depart, Put, Count, Compare, TakeOut, TakeOff}
+use Rattle.rl_counter.specs.declared.view.Doing.TheVariants.{Nothing, Arrive, Refused, SeeTail, Swap, Reset, Round, RoundTail, Inside, Depart}
 use Rattle.rl_counter.specs.Counter.{TheCounters, arrive_word, depart_word, off, counter_act, counter_turn, Turn, to}
 use Rattle.rl_counter.specs.CounterGood.{IsReader, Mark, inside_of, refused_of, taken_of, if_one, group_sum, CounterGood, GroupGood, AreCounted}
 use Rattle.rl_counter.specs.CounterMoves.{comes_in, is_refused, gives_back, takes_out, resets, goes_out, sum_set, sum_low}
@@ -21,20 +21,7 @@ same_good {T} {a} {b} {d} {e} {i} {j} {r} {s} {t} {u} {m} ea ed ei er et g =
 one_low : (b : Bool) (p : Doing) → if_one b (refused_of p) ≤ 1
 one_low false p = omega arith
 one_low true Nothing = omega arith
-one_low true Arrive = omega arith
-one_low true (Refused a) = omega arith
-one_low true (SeeTail a) = omega arith
-one_low true Swap = omega arith
-one_low true (Reset x) = omega arith
-one_low true Round = omega arith
-one_low true (RoundTail a) = omega arith
-one_low true Inside = omega arith
-one_low true Depart = omega arith
-one_low true (Put i) = omega arith
-one_low true (Count i) = omega arith
-one_low true (Compare i a) = omega arith
-one_low true (TakeOut i) = omega arith
-one_low true (TakeOff i x) = omega arith
+one_low true _ = omega arith
 
 -- how a group's sum changes where a rank of it does something else; a rank of another group changes nothing
 pub group_set : (mine : ℕ → Bool) (share : Doing → ℕ) (ps : List Doing) (r : ℕ) (p q : Doing) → slice_get ps r ≡ Some p → mine r ≡ true → group_sum mine share (slice_set ps r q) + share p ≡ group_sum mine share ps + share q
@@ -147,10 +134,4 @@ module _ (C : TheCounters) (n : ℕ) (few : C.readers ≤ 1000) where
       let e : group_sum mine inside_of ps ≡ group_sum mine inside_of (slice_set ps r Nothing) + 1 = omega arith in
       same_good w.0 w.1 refl (group_same mine refused_of ps r Depart Nothing has (λ y. refl)) (group_same mine taken_of ps r Depart Nothing has (λ y. refl))
       (goes_out C.readers _ _ (group_sum mine inside_of (slice_set ps r Nothing)) _ _ m (same_good refl refl e refl refl good) few))
-  reader_keeps mine g ws ps m r Nothing a d lt le good has own rd pl = absurd rd
-  reader_keeps mine g ws ps m r Inside a d lt le good has own rd pl = absurd rd
-  reader_keeps mine g ws ps m r (Put i) a d lt le good has own rd pl = absurd rd
-  reader_keeps mine g ws ps m r (Count i) a d lt le good has own rd pl = absurd rd
-  reader_keeps mine g ws ps m r (Compare i x) a d lt le good has own rd pl = absurd rd
-  reader_keeps mine g ws ps m r (TakeOut i) a d lt le good has own rd pl = absurd rd
-  reader_keeps mine g ws ps m r (TakeOff i x) a d lt le good has own rd pl = absurd rd
+  reader_keeps mine g ws ps m r _ a d lt le good has own rd pl = absurd rd

@@ -8,7 +8,7 @@ use Rattle.rl_word.specs.declared.acts.Act.TheVariants.{CardAdd}
 use Rattle.rl_word.specs.Acts.{told}
 use Rattle.rl_step.specs.Lock.{IsLoad, PlansLoad, FindsOld}
 use Rattle.rl_counter.specs.declared.view.Doing.{Doing}
-use Rattle.rl_counter.specs.declared.view.Doing.TheVariants.{Nothing, Arrive, Refused, SeeTail, Swap, Reset, Round, RoundTail, Inside, Depart, Put, Count, Compare, TakeOut, TakeOff}
+use Rattle.rl_counter.specs.declared.view.Doing.TheVariants.{Nothing, Arrive, Refused, SeeTail, Swap, Round, RoundTail, Inside, Depart, Put, Count, Compare, TakeOut, TakeOff}
 use Rattle.rl_counter.specs.declared.view.Task.TheVariants.{Enter, Exit, Up as UpTask, Down as DownTask}
 use Rattle.rl_counter.specs.Counter.{TheCounters, arrive_word, depart_word, counter_act, Turn, to}
 use Rattle.rl_counter.specs.CounterGood.{Mark, Down, Up, Loaded, Clear, Taking, inside_of, refused_of, taken_of, sum_at, if_one, group_sum, GroupGood, AllGood, mark_by}
@@ -88,16 +88,7 @@ module _ (C : TheCounters) (n : ℕ) (mine : ℕ → ℕ → Bool) where
   writers_keep ws ps o r c (Compare i f) a sound mk lt has pl all = subst (Keeps ws ps r (Compare i f)) (same_Some _ _ pl) (compare_keeps C n sound.few mine ws ps r sound.counted sound.seats true i f lt has all)
   writers_keep ws ps o r c (TakeOut i) a sound mk lt has pl all = subst (Keeps ws ps r (TakeOut i)) (same_Some _ _ pl) (take_keeps C n sound.few mine ws ps r sound.counted sound.seats false i lt has all)
   writers_keep ws ps o r c (TakeOff i x) a sound mk lt has pl all = subst (Keeps ws ps r (TakeOff i x)) (same_Some _ _ pl) (off_keeps C n sound.few mine ws ps r sound.counted sound.seats false i x lt has all)
-  writers_keep ws ps o r c Nothing a sound mk lt has pl all = absurd mk
-  writers_keep ws ps o r c Arrive a sound mk lt has pl all = absurd mk
-  writers_keep ws ps o r c (Refused x) a sound mk lt has pl all = absurd mk
-  writers_keep ws ps o r c (SeeTail x) a sound mk lt has pl all = absurd mk
-  writers_keep ws ps o r c Swap a sound mk lt has pl all = absurd mk
-  writers_keep ws ps o r c (Reset x) a sound mk lt has pl all = absurd mk
-  writers_keep ws ps o r c Round a sound mk lt has pl all = absurd mk
-  writers_keep ws ps o r c (RoundTail x) a sound mk lt has pl all = absurd mk
-  writers_keep ws ps o r c Inside a sound mk lt has pl all = absurd mk
-  writers_keep ws ps o r c Depart a sound mk lt has pl all = absurd mk
+  writers_keep ws ps o r c _ a sound mk lt has pl all = absurd mk
 
 pub begins_at_marks : BeginsAtMarks
 begins_at_marks o g =
@@ -121,14 +112,7 @@ module _ (C : TheCounters) where
       absurd (turn_by NotIn (got == f - 2 ^ 32) (if nat_lt (i + 1) (length C.arrive) then to (Count (i + 1)) else to Nothing) (record { doing = Count i; waits = true })
       (λ y. turn_by NotIn (nat_lt (i + 1) (length C.arrive)) (to (Count (i + 1))) (to Nothing) (λ z e. cc) (λ z e. cc)) (λ y e. cc) e)
   comes_in_by_arriving g (TakeOff i x) a got pl e = absurd (turn_by NotIn (nat_lt (i + 1) (length C.arrive)) (to (TakeOut (i + 1))) (to Nothing) (λ y e. cc) (λ y e. cc) e)
-  comes_in_by_arriving g Nothing a got pl e = cc
-  comes_in_by_arriving g (Refused x) a got pl e = cc
-  comes_in_by_arriving g Swap a got pl e = cc
-  comes_in_by_arriving g (Reset x) a got pl e = cc
-  comes_in_by_arriving g Inside a got pl e = cc
-  comes_in_by_arriving g Depart a got pl e = cc
-  comes_in_by_arriving g (Count i) a got pl e = cc
-  comes_in_by_arriving g (TakeOut i) a got pl e = cc
+  comes_in_by_arriving g _ a got pl e = cc
 
   -- a wait is for a load, behind a load
   abbrev Again : ℕ → Act → Turn → Type 0
@@ -144,31 +128,12 @@ module _ (C : TheCounters) where
       turn_by (Again g a) (got == f - 2 ^ 32) (if nat_lt (i + 1) (length C.arrive) then to (Count (i + 1)) else to Nothing) (record { doing = Count i; waits = true })
       (λ y. turn_by (Again g a) (nat_lt (i + 1) (length C.arrive)) (to (Count (i + 1))) (to Nothing) (λ z e. cc) (λ z e. cc)) (λ y e. (subst IsLoad (same_Some _ _ pl) tt, tt)) e
   waits_on_loads g (TakeOff i x) a got pl e = turn_by (Again g a) (nat_lt (i + 1) (length C.arrive)) (to (TakeOut (i + 1))) (to Nothing) (λ y e. cc) (λ y e. cc) e
-  waits_on_loads g Nothing a got pl e = cc
-  waits_on_loads g (Refused x) a got pl e = cc
-  waits_on_loads g Swap a got pl e = cc
-  waits_on_loads g (Reset x) a got pl e = cc
-  waits_on_loads g Inside a got pl e = cc
-  waits_on_loads g Depart a got pl e = cc
-  waits_on_loads g (Count i) a got pl e = cc
-  waits_on_loads g (TakeOut i) a got pl e = cc
+  waits_on_loads g _ a got pl e = cc
 
   abbrev Tells : ℕ → Act → Type 0
   Tells x a = FindsOld a x × (told a x ≡ x)
 
   pub tells_what_it_finds : TellsWhatItFinds C
-  tells_what_it_finds g Arrive a x pl = subst (Tells x) (same_Some _ _ pl) (tt, refl)
-  tells_what_it_finds g (Refused y) a x pl = subst (Tells x) (same_Some _ _ pl) (tt, refl)
-  tells_what_it_finds g (SeeTail y) a x pl = subst (Tells x) (same_Some _ _ pl) (tt, refl)
-  tells_what_it_finds g Swap a x pl = subst (Tells x) (same_Some _ _ pl) (tt, refl)
-  tells_what_it_finds g (Reset y) a x pl = subst (Tells x) (same_Some _ _ pl) (tt, refl)
-  tells_what_it_finds g Round a x pl = subst (Tells x) (same_Some _ _ pl) (tt, refl)
-  tells_what_it_finds g (RoundTail y) a x pl = subst (Tells x) (same_Some _ _ pl) (tt, refl)
-  tells_what_it_finds g Depart a x pl = subst (Tells x) (same_Some _ _ pl) (tt, refl)
-  tells_what_it_finds g (Put i) a x pl = subst (Tells x) (same_Some _ _ pl) (tt, refl)
-  tells_what_it_finds g (Count i) a x pl = subst (Tells x) (same_Some _ _ pl) (tt, refl)
-  tells_what_it_finds g (Compare i y) a x pl = subst (Tells x) (same_Some _ _ pl) (tt, refl)
-  tells_what_it_finds g (TakeOut i) a x pl = subst (Tells x) (same_Some _ _ pl) (tt, refl)
-  tells_what_it_finds g (TakeOff i y) a x pl = subst (Tells x) (same_Some _ _ pl) (tt, refl)
   tells_what_it_finds g Nothing a x pl = cc
   tells_what_it_finds g Inside a x pl = cc
+  tells_what_it_finds g _ a x pl = subst (Tells x) (same_Some _ _ pl) (tt, refl)

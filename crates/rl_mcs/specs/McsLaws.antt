@@ -14,7 +14,7 @@ use Rattle.rl_step.specs.Lock.{LockState, LockLaws, Told, Acts, opening, acted, 
 use Rattle.rl_step.specs.LockLemmas.{first_views_at, length-first_views}
 use Rattle.rl_step.specs.Queues.{settled, passed, tenures}
 use Rattle.rl_queue.specs.declared.view.Phase.{Phase}
-use Rattle.rl_queue.specs.declared.view.Phase.TheVariants.{Idle, Clear, Reset, Swing, Link, Wait, Settle, Granted, Look, Close, Await, Hand, Above}
+use Rattle.rl_queue.specs.declared.view.Phase.TheVariants.{Clear, Granted}
 use Rattle.rl_queue.specs.Queue.{leave_at}
 use Rattle.rl_tree.specs.declared.rooted.Rooted.{Rooted}
 use Rattle.rl_tree.specs.declared.view.TreeView.{TreeView}
@@ -63,18 +63,7 @@ module _ (K : Rooted) (levels : ℕ) (S : IsWellShaped K levels) (F : TreeFacts 
     at : (q : Bool) (p : Phase) → GoodAt K levels inside ws vs (t ++ entry_if q p m)
     at true p = nothing
     at false (Granted left) = F.beside inside ws vs t (event.EnterW m) tt g
-    at false Idle = nothing
-    at false Clear = nothing
-    at false Reset = nothing
-    at false (Swing guess) = nothing
-    at false (Link guess) = nothing
-    at false Wait = nothing
-    at false Settle = nothing
-    at false (Look left u) = nothing
-    at false (Close left) = nothing
-    at false (Await left) = nothing
-    at false (Hand succ left) = nothing
-    at false (Above succ) = nothing
+    at false _ = nothing
 
   acts_keep : (s : LockState TreeView) (r : ℕ) (v : TreeView) (a : Act) → Acts (mcs_table K) (McsGood K levels) s r v a → McsGood K levels (acted (mcs_table K) s r v a)
   acts_keep s r v a h =

@@ -10,7 +10,7 @@ use Rattle.rl_step.specs.declared.events.Standing.{Standing}
 use Rattle.rl_step.specs.declared.events.Standing.TheVariants.{Out, Asking, Writer, Reader, Leaving}
 use Rattle.rl_step.specs.Lock.{Told, Shift, InOrder, AllNamed, holds_only}
 use Rattle.rl_queue.specs.declared.view.Phase.{Phase}
-use Rattle.rl_queue.specs.declared.view.Phase.TheVariants.{Idle, Clear, Reset, Swing, Link, Wait, Settle, Granted, Look, Close, Await, Hand, Above}
+use Rattle.rl_queue.specs.declared.view.Phase.TheVariants.{Settle}
 use Rattle.rl_tree.specs.declared.rooted.Rooted.{Rooted}
 use Rattle.rl_tree.specs.declared.view.TreeView.{TreeView}
 use Rattle.rl_tree.specs.Tree.{TheTree, at_hook, resume_by, tree_standing, standing_by, entry_if}
@@ -36,18 +36,7 @@ set_again (x ∷ vs) (suc r) v w = ap (λ z. x ∷ z) (set_again vs r v w)
 -- what goes on from the hook stands behind what was told before
 pub resume_after : (T : TheTree) (v : TreeView) (p : Phase) (es : List Event) → resume_by T v p es ≡ record { view = (resume_by T v p []).view; events = es ++ (resume_by T v p []).events; waits = false }
 resume_after T v Settle es = ap (λ z. record { view = (resume_by T v Settle []).view; events = z; waits = false }) (append_assoc es _ _)
-resume_after T v Idle es = ap (λ z. record { view = (resume_by T v Idle []).view; events = z; waits = false }) (sym (append-nil es))
-resume_after T v Clear es = ap (λ z. record { view = (resume_by T v Clear []).view; events = z; waits = false }) (sym (append-nil es))
-resume_after T v Reset es = ap (λ z. record { view = (resume_by T v Reset []).view; events = z; waits = false }) (sym (append-nil es))
-resume_after T v (Swing guess) es = ap (λ z. record { view = (resume_by T v (Swing guess) []).view; events = z; waits = false }) (sym (append-nil es))
-resume_after T v (Link guess) es = ap (λ z. record { view = (resume_by T v (Link guess) []).view; events = z; waits = false }) (sym (append-nil es))
-resume_after T v Wait es = ap (λ z. record { view = (resume_by T v Wait []).view; events = z; waits = false }) (sym (append-nil es))
-resume_after T v (Granted left) es = ap (λ z. record { view = (resume_by T v (Granted left) []).view; events = z; waits = false }) (sym (append-nil es))
-resume_after T v (Look left u) es = ap (λ z. record { view = (resume_by T v (Look left u) []).view; events = z; waits = false }) (sym (append-nil es))
-resume_after T v (Close left) es = ap (λ z. record { view = (resume_by T v (Close left) []).view; events = z; waits = false }) (sym (append-nil es))
-resume_after T v (Await left) es = ap (λ z. record { view = (resume_by T v (Await left) []).view; events = z; waits = false }) (sym (append-nil es))
-resume_after T v (Hand succ left) es = ap (λ z. record { view = (resume_by T v (Hand succ left) []).view; events = z; waits = false }) (sym (append-nil es))
-resume_after T v (Above succ) es = ap (λ z. record { view = (resume_by T v (Above succ) []).view; events = z; waits = false }) (sym (append-nil es))
+resume_after T v p es = ap (λ z. record { view = (resume_by T v p []).view; events = z; waits = false }) (sym (append-nil es))
 
 -- the laws' part of what RMA-MCS tells in an act, before the entry
 pub record TurnFits (K : Rooted) (r : ℕ) (v : TreeView) (u : Told TreeView) : Type 0 where

@@ -1,8 +1,8 @@
 -- An act keeps a state of D-MCS good.
-use Rattle.std.specs.Prelude.{◌≡◌, ◌≢◌, ◌⊎◌, ℕ, ◌<◌, Bool, List, [], ◌∷◌, ◌++◌, length, slice_get, slice_index, slice_set, Some, refl}
+use Rattle.std.specs.Prelude.{◌≡◌, ◌≢◌, ℕ, ◌<◌, Bool, List, [], ◌∷◌, ◌++◌, length, slice_get, slice_index, slice_set, Some, refl}
 use Rattle.std.proofs.Common.{sym, ◌∙◌, ap, subst, ⊎_elim, arith, length-set, append_assoc}
 use Rattle.std.proofs.lemmas.Option.{slice_get_within}
-use Rattle.rl_word.specs.Places.{get_set_cases, same_or_not}
+use Rattle.rl_word.specs.Places.{same_or_not}
 use Rattle.rl_word.specs.Acts.{word_of, written, told}
 use Rattle.rl_word.specs.declared.acts.Act.{Act}
 use Rattle.rl_step.specs.declared.events.Event.{Event}
@@ -11,15 +11,16 @@ use Rattle.rl_step.specs.Lock.{LockState, acted, Told}
 use Rattle.rl_step.specs.Queues.{tenures}
 use Rattle.rl_step.specs.QueueLemmas.{tenures-append}
 use Rattle.rl_queue.specs.declared.view.Phase.{Phase}
-use Rattle.rl_queue.specs.declared.view.Phase.TheVariants.{Idle, Clear, Reset, Swing, Link, Wait, Settle, Granted, Look, Close, Await, Hand, Above}
+use Rattle.rl_queue.specs.declared.view.Phase.TheVariants.{Settle, Granted, Hand}
 use Rattle.rl_queue.specs.declared.view.QueueView.{QueueView}
 use Rattle.rl_queue.specs.Queue.{TheNames, Turn, at_phase, plan_at, turn_at}
 use Rattle.rl_queue.specs.QueueLaws.{QueueGood, still_keeps}
 use Rattle.rl_queue.specs.QueueMoves.{act_keeps, settle_keeps, beside_keeps, hand_succ}
 use Rattle.rl_queue.specs.Dmcs.{dmcs_names, dmcs_enter, dmcs_learn, dmcs_queue, dmcs_table, phase_in, Calm, Below, DmcsGood}
 use Rattle.rl_queue.specs.DmcsWords.{dmcs_named}
-use Rattle.rl_queue.specs.DmcsPhases.{phase_get, phase_set_same, phase_set_other, moves_in}
+use Rattle.rl_queue.specs.DmcsPhases.{phase_get, view_moves, moves_in}
 use Rattle.rl_queue.specs.DmcsTurns.{TurnFits, turn_fits}
+use Rattle.rl_queue.specs.RankViewLaws.{each_set}
 
 -- some line makes the queue good
 abbrev pub HasLine : ℕ → List ℕ → (ℕ → Phase) → List Event → ℕ → Type 0
@@ -34,12 +35,6 @@ same_phase_keeps n ws ph ph' l t e m p g was now others =
 -- the queue stays good where a head settles at once, and who has it enters
 enter_keeps : (n : ℕ) (ws : List ℕ) (ph ph' : ℕ → Phase) (t : List Event) (e m : ℕ) (q : Phase) (es : List Event) (w : Bool) → HasLine n ws ph (t ++ es) e → ph m ≡ q →
     ph' m ≡ (dmcs_enter m q es w).view.phase → ((x : ℕ) → x ≢ m → ph' x ≡ ph x) → HasLine n ws ph' (t ++ (dmcs_enter m q es w).events) e
-enter_keeps n ws ph ph' t e m Idle es w g was now others = (g.0, same_phase_keeps n ws ph ph' g.0 (t ++ es) e m Idle g.1 was now others)
-enter_keeps n ws ph ph' t e m Clear es w g was now others = (g.0, same_phase_keeps n ws ph ph' g.0 (t ++ es) e m Clear g.1 was now others)
-enter_keeps n ws ph ph' t e m Reset es w g was now others = (g.0, same_phase_keeps n ws ph ph' g.0 (t ++ es) e m Reset g.1 was now others)
-enter_keeps n ws ph ph' t e m (Swing guess) es w g was now others = (g.0, same_phase_keeps n ws ph ph' g.0 (t ++ es) e m (Swing guess) g.1 was now others)
-enter_keeps n ws ph ph' t e m (Link guess) es w g was now others = (g.0, same_phase_keeps n ws ph ph' g.0 (t ++ es) e m (Link guess) g.1 was now others)
-enter_keeps n ws ph ph' t e m Wait es w g was now others = (g.0, same_phase_keeps n ws ph ph' g.0 (t ++ es) e m Wait g.1 was now others)
 enter_keeps n ws ph ph' t e m Settle es w g was now others =
     let a = settle_keeps (dmcs_names n) (Below n) ws ph ph' g.0 (t ++ es) e m g.1 (record { was = was; now = now; others = others }) in
     let b = beside_keeps (dmcs_names n) (Below n) ws ph' g.0 ((t ++ es) ++ event.Settle 0 m ∷ []) e (event.EnterW m) a tt in
@@ -50,24 +45,18 @@ enter_keeps n ws ph ph' t e m (Granted left) es w g was now others =
     let a = same_phase_keeps n ws ph ph' g.0 (t ++ es) e m (Granted left) g.1 was now others in
     let b = beside_keeps (dmcs_names n) (Below n) ws ph' g.0 (t ++ es) e (event.EnterW m) a tt in
     (g.0, subst (λ z. QueueGood (dmcs_names n) (Below n) ws ph' g.0 z e) (append_assoc t es (event.EnterW m ∷ [])) b)
-enter_keeps n ws ph ph' t e m (Look left upper) es w g was now others = (g.0, same_phase_keeps n ws ph ph' g.0 (t ++ es) e m (Look left upper) g.1 was now others)
-enter_keeps n ws ph ph' t e m (Close left) es w g was now others = (g.0, same_phase_keeps n ws ph ph' g.0 (t ++ es) e m (Close left) g.1 was now others)
-enter_keeps n ws ph ph' t e m (Await left) es w g was now others = (g.0, same_phase_keeps n ws ph ph' g.0 (t ++ es) e m (Await left) g.1 was now others)
-enter_keeps n ws ph ph' t e m (Hand succ left) es w g was now others = (g.0, same_phase_keeps n ws ph ph' g.0 (t ++ es) e m (Hand succ left) g.1 was now others)
-enter_keeps n ws ph ph' t e m (Above succ) es w g was now others = (g.0, same_phase_keeps n ws ph ph' g.0 (t ++ es) e m (Above succ) g.1 was now others)
+enter_keeps n ws ph ph' t e m p es w g was now others = (g.0, same_phase_keeps n ws ph ph' g.0 (t ++ es) e m p g.1 was now others)
 
 -- A state stays good where rank r's view changes and its queue stays good with some line.
 pub stays_good : (n : ℕ) (s t : LockState QueueView) (r : ℕ) (v w : QueueView) → DmcsGood n s → slice_get s.views r ≡ Some v → length t.words ≡ length s.words → t.views ≡ slice_set s.views r w → length t.modes ≡ length s.modes →
     w.member ≡ r → Calm w.phase → HasLine n t.words (phase_in (slice_set s.views r w)) t.trace (tenures (dmcs_queue n) t.trace) → DmcsGood n t
 stays_good n s t r v w g has ew ev em name calm q =
-    let cases : (i : ℕ) (u : QueueView) → slice_get t.views i ≡ Some u → ((i ≡ r) × (u ≡ w)) ⊎ ((i ≢ r) × (slice_get s.views i ≡ Some u)) =
-    λ i u h. get_set_cases s.views r i w u (subst (λ vs. slice_get vs i ≡ Some u) ev h) in
     record {
       all_words = ew ∙ g.all_words;
       all_views = ap length ev ∙ length-set s.views r w ∙ g.all_views;
       all_modes = em ∙ g.all_modes;
-      named = λ i u h. ⊎_elim (λ p. ap (λ z. z.member) p.1 ∙ name ∙ sym p.0) (λ p. g.named i u p.1) (cases i u h);
-      calm = λ i u h. ⊎_elim (λ p. subst (λ z. Calm z.phase) (sym p.1) calm) (λ p. g.calm i u p.1) (cases i u h);
+      named = each_set (λ i u. u.member ≡ i) s.views t.views r w ev name (λ i u ne h. g.named i u h);
+      calm = each_set (λ i u. Calm u.phase) s.views t.views r w ev calm (λ i u ne h. g.calm i u h);
       line = q.0;
       queue = subst (λ z. QueueGood (dmcs_names n) (Below n) t.words (phase_in z) q.0 t.trace (tenures (dmcs_queue n) t.trace)) (sym ev) q.1;
     }
@@ -97,12 +86,12 @@ act_keeps_at home node_of s k p a g has pl =
     let ph1 : ℕ → Phase = phase_in (slice_set s.views k (at_phase k tu.phase)) in
     let ph2 : ℕ → Phase = phase_in (slice_set s.views k u.view) in
     let e : ℕ = tenures (dmcs_queue (length node_of)) s.trace in
+    let first = moves_in s.views k k p tu.phase has in
+    let next = view_moves s.views k (at_phase k p) u.view has in
     let done = act_keeps (dmcs_names (length node_of)) (Below (length node_of)) s.words (phase_in s.views) ph1 g.line s.trace (tenures (dmcs_queue (length node_of)) s.trace) k p a (dmcs_named (length node_of) (length s.words) g.all_words) g.queue pl
-    (moves_in s.views k k p tu.phase has) in
+    first in
     let entered = enter_keeps (length node_of) ws ph1 ph2 s.trace (tenures (dmcs_queue (length node_of)) s.trace) k tu.phase tu.events tu.waits (done.0, done.1)
-    (phase_set_same s.views k (at_phase k p) (at_phase k tu.phase) has)
-    (phase_set_same s.views k (at_phase k p) u.view has)
-    (λ x ne. phase_set_other s.views k u.view x ne ∙ sym (phase_set_other s.views k (at_phase k tu.phase) x ne)) in
+    first.now next.now (λ x ne. next.others x ne ∙ sym (first.others x ne)) in
     let same : tenures (dmcs_queue (length node_of)) s.trace ≡ tenures (dmcs_queue (length node_of)) (s.trace ++ u.events) =
     let z : tenures (dmcs_queue (length node_of)) u.events ≡ 0 = ok.ends in
     let y = tenures-append (dmcs_queue (length node_of)) s.trace u.events in omega arith in

@@ -15,7 +15,7 @@ use Rattle.rl_step.specs.LockLemmas.{length-first_views, first_views_at}
 use Rattle.rl_step.specs.Queues.{IsFifo, settled, passed, tenures, count}
 use Rattle.rl_step.specs.QueueLemmas.{tenures-append}
 use Rattle.rl_queue.specs.declared.view.Phase.{Phase}
-use Rattle.rl_queue.specs.declared.view.Phase.TheVariants.{Idle, Clear, Reset, Swing, Link, Wait, Settle, Granted, Look, Close, Await, Hand, Above}
+use Rattle.rl_queue.specs.declared.view.Phase.TheVariants.{Idle, Clear, Link, Granted, Look}
 use Rattle.rl_queue.specs.declared.view.QueueView.{QueueView}
 use Rattle.rl_queue.specs.Queue.{next_word, status_word, at_phase, plan_at, turn_at, PlanFits, PhaseFits, GotFits}
 use Rattle.rl_queue.specs.Lane.{SuitsAlone, Listed, Busy, Own}
@@ -69,18 +69,7 @@ ask_keeps_at : (home : ℕ) (node_of : List ℕ) (s : LockState QueueView) (r k 
 ask_keeps_at home node_of s r k Idle m g has st =
     stays_good (length node_of) s _ r (at_phase k Idle) (at_phase k Clear) g has refl refl (length-set s.modes r m) (g.named r _ has) tt
     (g.line, join_keeps (dmcs_names (length node_of)) (Below (length node_of)) s.words (phase_in s.views) _ g.line s.trace (tenures (dmcs_queue (length node_of)) s.trace) r g.queue (rank_below (length node_of) s r _ g has) (moves_in s.views r k Idle Clear has))
-ask_keeps_at home node_of s r k Clear m g has st = cc
-ask_keeps_at home node_of s r k Reset m g has st = cc
-ask_keeps_at home node_of s r k (Swing guess) m g has st = cc
-ask_keeps_at home node_of s r k (Link guess) m g has st = cc
-ask_keeps_at home node_of s r k Wait m g has st = cc
-ask_keeps_at home node_of s r k Settle m g has st = cc
-ask_keeps_at home node_of s r k (Granted left) m g has st = cc
-ask_keeps_at home node_of s r k (Look left upper) m g has st = cc
-ask_keeps_at home node_of s r k (Close left) m g has st = cc
-ask_keeps_at home node_of s r k (Await left) m g has st = cc
-ask_keeps_at home node_of s r k (Hand succ left) m g has st = cc
-ask_keeps_at home node_of s r k (Above succ) m g has st = cc
+ask_keeps_at home node_of s r k _ m g has st = cc
 
 -- a rank's departure ends one tenure
 ends_one : (n r : ℕ) (t : List Event) → r < n → tenures (dmcs_queue n) t + 1 ≡ tenures (dmcs_queue n) (t ++ event.LeaveW r ∷ [])
@@ -92,13 +81,6 @@ ends_one n r t h =
 -- so does leaving, with the leave event
 leave_keeps_at : (home : ℕ) (node_of : List ℕ) (s : LockState QueueView) (r k : ℕ) (p : Phase) → DmcsGood (length node_of) s → slice_get s.views r ≡ Some (at_phase k p) → standing_of p ≡ standing.Writer →
     DmcsGood (length node_of) (left_state (dmcs_table home node_of) s r (at_phase k p) (event.LeaveW r))
-leave_keeps_at home node_of s r k Idle g has st = cc
-leave_keeps_at home node_of s r k Clear g has st = cc
-leave_keeps_at home node_of s r k Reset g has st = cc
-leave_keeps_at home node_of s r k (Swing guess) g has st = cc
-leave_keeps_at home node_of s r k (Link guess) g has st = cc
-leave_keeps_at home node_of s r k Wait g has st = cc
-leave_keeps_at home node_of s r k Settle g has st = cc
 leave_keeps_at home node_of s r k (Granted left) g has st =
     let q = leave_keeps (dmcs_names (length node_of)) (Below (length node_of)) s.words (phase_in s.views) (phase_in (slice_set s.views r (at_phase k (Look left false)))) g.line s.trace (tenures (dmcs_queue (length node_of)) s.trace) r left false (event.LeaveW r) g.queue tt
     (moves_in s.views r k (Granted left) (Look left false) has) in
@@ -107,11 +89,7 @@ leave_keeps_at home node_of s r k (Granted left) g has st =
       subst (λ z. QueueGood (dmcs_names (length node_of)) (Below (length node_of)) s.words (phase_in (slice_set s.views r (at_phase k (Look left false)))) g.line (s.trace ++ event.LeaveW r ∷ []) z)
           (ends_one (length node_of) r s.trace (rank_below (length node_of) s r _ g has)) q,
     )
-leave_keeps_at home node_of s r k (Look left upper) g has st = cc
-leave_keeps_at home node_of s r k (Close left) g has st = cc
-leave_keeps_at home node_of s r k (Await left) g has st = cc
-leave_keeps_at home node_of s r k (Hand succ left) g has st = cc
-leave_keeps_at home node_of s r k (Above succ) g has st = cc
+leave_keeps_at home node_of s r k _ g has st = cc
 
 -- and a touch
 touch_keeps_at : (n : ℕ) (s : LockState QueueView) (r : ℕ) (w : Bool) → DmcsGood n s → DmcsGood n (touched s r w)

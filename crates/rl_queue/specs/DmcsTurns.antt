@@ -30,7 +30,6 @@ pub record TurnFits (n k : ℕ) (p : Phase) (u : Told QueueView) : Type 0 where
 
 -- it is so in each phase that plans an act
 pub turn_fits : (n k : ℕ) (p : Phase) (a : Act) (got : ℕ) → plan_at (dmcs_names n) k p ≡ Some a → Calm p → k < n → ((s left : ℕ) → p ≡ Hand s left → s < n) → TurnFits n k p (dmcs_learn n k p got)
-turn_fits n k Idle a got pl calm lt hs = cc
 turn_fits n k Clear a got pl calm lt hs = record { member = refl; shift = refl; order = tt; few = omega arith; names = tt; ends = refl; calm = tt }
 turn_fits n k Reset a got pl calm lt hs = record { member = refl; shift = refl; order = tt; few = omega arith; names = tt; ends = refl; calm = tt }
 turn_fits n k (Swing guess) a got pl calm lt hs =
@@ -46,8 +45,6 @@ turn_fits n k Wait a got pl calm lt hs =
     (choose (λ u. TurnFits n k Wait (dmcs_turn k u)) (got == 1) (moves_to Settle) (moves_to (Granted 0))
     (record { member = refl; shift = refl; order = (omega arith, tt); few = omega arith; names = (is_member n k lt, (tt, tt)); ends = refl; calm = tt })
     (record { member = refl; shift = refl; order = tt; few = omega arith; names = (tt, tt); ends = refl; calm = tt }))
-turn_fits n k Settle a got pl calm lt hs = cc
-turn_fits n k (Granted left) a got pl calm lt hs = cc
 turn_fits n k (Look left true) a got pl calm lt hs = absurd calm
 turn_fits n k (Look left false) a got pl calm lt hs =
     choose (λ q. TurnFits n k (Look left false) (dmcs_turn k (moves_to q))) (got == 0) (Close left) (Hand (got - 1) left)
@@ -64,35 +61,14 @@ turn_fits n k (Await left) a got pl calm lt hs =
 turn_fits n k (Hand s left) a got pl calm lt hs =
     record { member = refl; shift = refl; order = tt; few = omega arith; names = (is_member n s (hs s left refl), tt); ends = refl; calm = tt }
 turn_fits n k (Above s) a got pl calm lt hs = absurd calm
+turn_fits n k _ a got pl calm lt hs = cc
 
 -- entering changes nothing of whether a load has to be made again
 pub enter_loads : (n : TheNames) (m : ℕ) (p : Phase) (es : List Event) (w : Bool) → PlansLoad (plan_at n m p) → PlansLoad (plan_at n (dmcs_enter m p es w).view.member (dmcs_enter m p es w).view.phase)
-enter_loads n m Idle es w h = h
-enter_loads n m Clear es w h = h
-enter_loads n m Reset es w h = h
-enter_loads n m (Swing guess) es w h = h
-enter_loads n m (Link guess) es w h = h
-enter_loads n m Wait es w h = h
 enter_loads n m Settle es w h = absurd h
-enter_loads n m (Granted left) es w h = h
-enter_loads n m (Look left upper) es w h = h
-enter_loads n m (Close left) es w h = h
-enter_loads n m (Await left) es w h = h
-enter_loads n m (Hand succ left) es w h = h
-enter_loads n m (Above succ) es w h = h
+enter_loads n m _ es w h = h
 
 -- and waits where its turn does
 pub enter_waits : (m : ℕ) (p : Phase) (es : List Event) (w : Bool) → (dmcs_enter m p es w).waits ≡ w
 enter_waits m Idle es w = refl
-enter_waits m Clear es w = refl
-enter_waits m Reset es w = refl
-enter_waits m (Swing guess) es w = refl
-enter_waits m (Link guess) es w = refl
-enter_waits m Wait es w = refl
-enter_waits m Settle es w = refl
-enter_waits m (Granted left) es w = refl
-enter_waits m (Look left upper) es w = refl
-enter_waits m (Close left) es w = refl
-enter_waits m (Await left) es w = refl
-enter_waits m (Hand succ left) es w = refl
-enter_waits m (Above succ) es w = refl
+enter_waits m _ es w = refl

@@ -10,7 +10,7 @@ use Rattle.rl_word.specs.declared.acts.Act.{Act}
 use Rattle.rl_word.specs.declared.acts.Act.TheVariants.{Load, Store}
 use Rattle.rl_step.specs.Lock.{no_local}
 use Rattle.rl_queue.specs.declared.view.Phase.{Phase}
-use Rattle.rl_queue.specs.declared.view.Phase.TheVariants.{Idle, Clear, Reset, Swing, Link, Wait, Settle, Granted, Look, Close, Await, Hand, Above}
+use Rattle.rl_queue.specs.declared.view.Phase.TheVariants.{Clear, Reset, Swing, Link, Wait, Look, Close, Await, Hand}
 use Rattle.rl_queue.specs.Choices.{other_test}
 use Rattle.rl_queue.specs.Queue.{next_word, status_word, plan_at, PlanFits}
 use Rattle.rl_queue.specs.QueueLaws.{IsNaming}
@@ -67,7 +67,6 @@ lawful_store home layout r w x seated homed lt ne = (record { there = lt; homed 
 pub lawful_at : (home : ℕ) (layout : Layout) (r k : ℕ) (p : Phase) (a : Act) → Seated layout → home < layout.nodes → PlanFits (dmcs_names (length layout.node_of)) k p → k < length layout.node_of →
     ((guess : ℕ) → p ≡ Link guess → guess - 1 < length layout.node_of) → ((s left : ℕ) → p ≡ Hand s left → s < length layout.node_of) → plan_at (dmcs_names (length layout.node_of)) k p ≡ Some a →
     MayMake home layout r a
-lawful_at home layout r k Idle a seated homed fits lt gs hs pl = cc
 lawful_at home layout r k Clear a seated homed fits lt gs hs pl =
     subst (MayMake home layout r) (same_Some _ _ pl) (let e = next_is (length layout.node_of) k lt in lawful_store home layout r _ _ seated homed (omega arith) (λ z. absurd (omega arith)))
 lawful_at home layout r k Reset a seated homed fits lt gs hs pl =
@@ -78,8 +77,6 @@ lawful_at home layout r k (Link guess) a seated homed fits lt gs hs pl =
     subst (MayMake home layout r) (same_Some _ _ pl) (let e = next_is (length layout.node_of) (guess - 1) (gs guess refl) in let h = gs guess refl in lawful_store home layout r _ _ seated homed (omega arith) (λ z. absurd (omega arith)))
 lawful_at home layout r k Wait a seated homed fits lt gs hs pl =
     subst (MayMake home layout r) (same_Some _ _ pl) (let e = status_is (length layout.node_of) k lt in lawful_load home layout r _ seated homed (omega arith))
-lawful_at home layout r k Settle a seated homed fits lt gs hs pl = cc
-lawful_at home layout r k (Granted left) a seated homed fits lt gs hs pl = cc
 lawful_at home layout r k (Look left upper) a seated homed fits lt gs hs pl =
     subst (MayMake home layout r) (same_Some _ _ pl) (let e = next_is (length layout.node_of) k lt in lawful_load home layout r _ seated homed (omega arith))
 lawful_at home layout r k (Close left) a seated homed fits lt gs hs pl =
@@ -88,4 +85,4 @@ lawful_at home layout r k (Await left) a seated homed fits lt gs hs pl =
     subst (MayMake home layout r) (same_Some _ _ pl) (let e = next_is (length layout.node_of) k lt in lawful_load home layout r _ seated homed (omega arith))
 lawful_at home layout r k (Hand succ left) a seated homed fits lt gs hs pl =
     subst (MayMake home layout r) (same_Some _ _ pl) (let e = status_is (length layout.node_of) succ (hs succ left refl) in let h = hs succ left refl in lawful_store home layout r _ _ seated homed (omega arith) (λ z. absurd (omega arith)))
-lawful_at home layout r k (Above succ) a seated homed fits lt gs hs pl = cc
+lawful_at home layout r k _ a seated homed fits lt gs hs pl = cc

@@ -3,7 +3,7 @@ use Rattle.std.specs.Prelude.{◌≡◌, ◌≢◌, ◌⊎◌, ℕ, ◌+◌, ◌
 use Rattle.std.proofs.Common.{sym, ◌∙◌, ap, subst, inl, inr, ⊎_elim, arith}
 use Rattle.rl_word.specs.Places.{same_or_not}
 use Rattle.rl_queue.specs.declared.view.Phase.{Phase}
-use Rattle.rl_queue.specs.declared.view.Phase.TheVariants.{Idle, Clear, Reset, Swing, Link, Wait, Settle, Granted, Look, Close, Await, Hand, Above}
+use Rattle.rl_queue.specs.declared.view.Phase.TheVariants.{Idle, Clear, Reset, Swing, Link, Wait, Settle}
 use Rattle.rl_queue.specs.Lane.{Lane, Has, Distinct, last_of, Listed, Busy, Leads, Line, Own, QueueInvariant}
 use Rattle.rl_queue.specs.LineLaws.{has_last, has_more, has_less, distinct_more, last_more, chain_frame, chain_append, chain_behind, Behind}
 
@@ -13,31 +13,12 @@ listed_busy Idle h = h
 listed_busy Clear h = absurd h
 listed_busy Reset h = absurd h
 listed_busy (Swing g) h = absurd h
-listed_busy (Link g) h = tt
-listed_busy Wait h = tt
-listed_busy Settle h = tt
-listed_busy (Granted left) h = tt
-listed_busy (Look left upper) h = tt
-listed_busy (Close left) h = tt
-listed_busy (Await left) h = tt
-listed_busy (Hand succ left) h = tt
-listed_busy (Above succ) h = tt
+listed_busy _ h = tt
 
 -- a member uses the queue or is idle
-busy_or_idle : (p : Phase) → Busy p ⊎ (p ≡ Idle)
+pub busy_or_idle : (p : Phase) → Busy p ⊎ (p ≡ Idle)
 busy_or_idle Idle = inr refl
-busy_or_idle Clear = inl tt
-busy_or_idle Reset = inl tt
-busy_or_idle (Swing g) = inl tt
-busy_or_idle (Link g) = inl tt
-busy_or_idle Wait = inl tt
-busy_or_idle Settle = inl tt
-busy_or_idle (Granted left) = inl tt
-busy_or_idle (Look left upper) = inl tt
-busy_or_idle (Close left) = inl tt
-busy_or_idle (Await left) = inl tt
-busy_or_idle (Hand succ left) = inl tt
-busy_or_idle (Above succ) = inl tt
+busy_or_idle _ = inl tt
 
 -- how a first member stands that isn't just waiting with status 0
 abbrev pub IsFirst : Phase → ℕ → Type 0
@@ -56,14 +37,7 @@ first_listed Clear s h = h
 first_listed Reset s h = h
 first_listed (Swing g) s h = h
 first_listed (Link g) s h = absurd h
-first_listed Wait s h = tt
-first_listed Settle s h = tt
-first_listed (Granted left) s h = tt
-first_listed (Look left upper) s h = tt
-first_listed (Close left) s h = tt
-first_listed (Await left) s h = tt
-first_listed (Hand succ left) s h = tt
-first_listed (Above succ) s h = tt
+first_listed _ s h = tt
 
 -- and isn't one with status 0 behind another
 first_behind : (p : Phase) (s : ℕ) → IsFirst p s → s ≡ 0 → Behind p → ⊥
@@ -73,13 +47,7 @@ first_behind Reset s h z b = h
 first_behind (Swing g) s h z b = h
 first_behind (Link g) s h z b = h
 first_behind Wait s h z b = absurd (omega arith)
-first_behind Settle s h z b = b
-first_behind (Granted left) s h z b = b
-first_behind (Look left upper) s h z b = b
-first_behind (Close left) s h z b = b
-first_behind (Await left) s h z b = b
-first_behind (Hand succ left) s h z b = b
-first_behind (Above succ) s h z b = b
+first_behind _ s h z b = b
 
 -- a member that leads isn't at Link, and is listed
 leads_listed : (B : Option ℕ) (p : Phase) (s : ℕ) → Leads B p s → Listed p
@@ -87,15 +55,7 @@ leads_listed B Idle s h = h
 leads_listed B Clear s h = h
 leads_listed B Reset s h = h
 leads_listed B (Swing g) s h = h
-leads_listed B (Link g) s h = tt
-leads_listed B Wait s h = tt
-leads_listed B Settle s h = tt
-leads_listed B (Granted left) s h = tt
-leads_listed B (Look left upper) s h = tt
-leads_listed B (Close left) s h = tt
-leads_listed B (Await left) s h = tt
-leads_listed B (Hand succ left) s h = tt
-leads_listed B (Above succ) s h = tt
+leads_listed B _ s h = tt
 
 -- member x's phase and words are as they were
 pub record Stays (In : ℕ → Type 0) (L M : Lane) (x : ℕ) : Type 0 where

@@ -3,7 +3,7 @@ use Rattle.std.specs.Prelude.{◌≡◌, ◌≢◌, ℕ, ◌+◌, ◌-◌, ◌<�
 use Rattle.std.proofs.Common.{sym, ◌∙◌, ap, subst, inl, inr, ⊎_elim, arith}
 use Rattle.rl_word.specs.Places.{same_or_not}
 use Rattle.rl_queue.specs.declared.view.Phase.{Phase}
-use Rattle.rl_queue.specs.declared.view.Phase.TheVariants.{Idle, Clear, Reset, Swing, Link, Wait, Settle, Granted, Look, Close, Await, Hand, Above}
+use Rattle.rl_queue.specs.declared.view.Phase.TheVariants.{Idle, Clear, Reset, Swing, Link, Wait, Hand, Above}
 use Rattle.rl_queue.specs.Lane.{Lane, Has, Distinct, last_of, Listed, Busy, IsCode, Leads, Follows, Chain, Line, Own, QueueInvariant}
 use Rattle.rl_queue.specs.LineLaws.{last_first, chain_frame, chain_next, chain_link}
 use Rattle.rl_queue.specs.LaneLaws.{Stays, in_line, others_own, rebuild, is_first, IsFirst}
@@ -27,14 +27,10 @@ own_next B In Reset y s l o = absurd l
 own_next B In (Swing g) y s l o = absurd l
 own_next B In (Link g) y s l o = tt
 own_next B In Wait y s l o = tt
-own_next B In Settle y s l o = o
-own_next B In (Granted left) y s l o = o
-own_next B In (Look left upper) y s l o = o
-own_next B In (Close left) y s l o = o
-own_next B In (Await left) y s l o = o
 own_next B In (Hand succ left) y s l o = let k : 0 ≡ succ + 1 = o.1 in absurd (omega arith)
 own_next B In (Above None) y s l o = tt
 own_next B In (Above (Some succ)) y s l o = let k : 0 ≡ succ + 1 = o in absurd (omega arith)
+own_next B In _ y s l o = o
 
 module _ (B : Option ℕ) (In : ℕ → Type 0) where
   -- what the guess of a member at Link names

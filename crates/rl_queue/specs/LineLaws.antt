@@ -3,7 +3,7 @@ use Rattle.std.specs.Prelude.{◌≡◌, ◌≢◌, ◌⊎◌, ℕ, ◌+◌, ◌
 use Rattle.std.proofs.Common.{sym, ◌∙◌, ap, subst, inl, inr, ⊎_elim, arith}
 use Rattle.rl_word.specs.Places.{same_or_not}
 use Rattle.rl_queue.specs.declared.view.Phase.{Phase}
-use Rattle.rl_queue.specs.declared.view.Phase.TheVariants.{Idle, Clear, Reset, Swing, Link, Wait, Settle, Granted, Look, Close, Await, Hand, Above}
+use Rattle.rl_queue.specs.declared.view.Phase.TheVariants.{Link, Wait}
 use Rattle.rl_queue.specs.Lane.{Lane, Has, Distinct, last_of, Follows, Chain}
 
 -- what was put at the end of a list stands in it
@@ -66,19 +66,9 @@ Behind _ = ⊥
 
 -- so stands whoever follows a member
 follows_behind : (ph : Phase) (p x m : ℕ) → Follows ph p x m → Behind ph
-follows_behind Idle p x m f = f
-follows_behind Clear p x m f = f
-follows_behind Reset p x m f = f
-follows_behind (Swing g) p x m f = f
 follows_behind (Link g) p x m f = tt
 follows_behind Wait p x m f = tt
-follows_behind Settle p x m f = f
-follows_behind (Granted left) p x m f = f
-follows_behind (Look left upper) p x m f = f
-follows_behind (Close left) p x m f = f
-follows_behind (Await left) p x m f = f
-follows_behind (Hand succ left) p x m f = f
-follows_behind (Above succ) p x m f = f
+follows_behind _ p x m f = f
 
 -- each member of a chain stands behind the first, with status 0
 pub chain_behind : (L : Lane) (p : ℕ) (l : List ℕ) (m : ℕ) → Chain L p l → Has m l → (L.status m ≡ 0) × Behind (L.phase m)
@@ -93,21 +83,11 @@ pub chain_next : (L : Lane) (p s : ℕ) (l : List ℕ) → Chain L p l → L.nex
 chain_next L p s [] c e = absurd (omega arith)
 chain_next L p s (m ∷ r) c e = by_phase (L.phase m) refl c.1 where
   by_phase : (ph : Phase) → L.phase m ≡ ph → Follows ph p (L.next p) m → (t : List ℕ) × (m ∷ r ≡ s ∷ t) × (L.phase s ≡ Wait) × (L.status s ≡ 0) × Chain L s t
-  by_phase Idle q f = absurd f
-  by_phase Clear q f = absurd f
-  by_phase Reset q f = absurd f
-  by_phase (Swing g) q f = absurd f
   by_phase (Link g) q f = absurd (omega arith)
   by_phase Wait q f =
       let same : m ≡ s = omega arith in
       (r, ap (λ z. z ∷ r) same, subst (λ z. L.phase z ≡ Wait) same q, subst (λ z. L.status z ≡ 0) same c.0, subst (λ z. Chain L z r) same c.2)
-  by_phase Settle q f = absurd f
-  by_phase (Granted left) q f = absurd f
-  by_phase (Look left upper) q f = absurd f
-  by_phase (Close left) q f = absurd f
-  by_phase (Await left) q f = absurd f
-  by_phase (Hand succ left) q f = absurd f
-  by_phase (Above succ) q f = absurd f
+  by_phase _ q f = absurd f
 
 -- a member links itself to the one before it
 pub chain_link : (L M : Lane) (p : ℕ) (l : List ℕ) (m g : ℕ) → Distinct (p ∷ l) → Has m l → L.phase m ≡ Link g → Chain L p l →

@@ -7,7 +7,7 @@ use Rattle.rl_step.specs.declared.events.Event.{Event}
 use Rattle.rl_step.specs.declared.events.Event.TheVariants as event
 use Rattle.rl_step.specs.Queues.{passed}
 use Rattle.rl_queue.specs.declared.view.Phase.{Phase}
-use Rattle.rl_queue.specs.declared.view.Phase.TheVariants.{Idle, Clear, Reset, Swing, Link, Wait, Settle, Granted, Look, Close, Await, Hand, Above}
+use Rattle.rl_queue.specs.declared.view.Phase.TheVariants.{Idle, Swing, Link, Wait, Settle, Granted, Look, Close, Await, Hand, Above}
 use Rattle.rl_queue.specs.Choices.{choose, same_test}
 use Rattle.rl_queue.specs.Queue.{TheNames, status_word, code_of, code_left, Turn, moves_to, moves_with, waits_at, joined_at, look_at, hand_turn, plan_at, turn_at}
 use Rattle.rl_queue.specs.Lane.{lane_of, credit, LineStep}
@@ -75,21 +75,15 @@ module _ (n : TheNames) (In : ℕ → Type 0) where
 
   -- each turn of a member; one that waits has found its status
   turn_spends : (m : ℕ) (p : Phase) (got s b : ℕ) (x y : Option Head) → n.budget ≡ Some b → (p ≡ Wait → got ≡ s) → TurnSpends m p s x y (turn_at n m p got)
-  turn_spends m Idle got s b x y eb es = λ f. same_spends x y f
-  turn_spends m Clear got s b x y eb es = λ f. same_spends x y f
-  turn_spends m Reset got s b x y eb es = λ f. same_spends x y f
   turn_spends m (Swing guess) got s b x y eb es =
       choose (TurnSpends m (Swing guess) s x y) (got == guess) (moves_with (joined_at guess) (event.Join n.queue m)) (moves_to (Swing got))
       (join_spends m guess s x y) (λ f. same_spends x y f)
-  turn_spends m (Link guess) got s b x y eb es = λ f. same_spends x y f
   turn_spends m Wait got s b x y eb es =
       choose (TurnSpends m Wait s x y) (got == 0) (waits_at Wait) (if got == 1 then moves_to Settle else moves_to (Granted (code_left n.budget got)))
       (λ f. same_spends x y f)
       (choose (TurnSpends m Wait s x y) (got == 1) (moves_to Settle) (moves_to (Granted (code_left n.budget got)))
       (λ f. less_spends x y m Wait Settle s f.0 f.1 (omega arith))
       (granted_spends m got s b x y eb (es refl)))
-  turn_spends m Settle got s b x y eb es = λ f. same_spends x y f
-  turn_spends m (Granted left) got s b x y eb es = λ f. same_spends x y f
   turn_spends m (Look left u) got s b x y eb es = λ f. less_spends x y m (Look left u) (look_at left u got) s f.0 f.1 (look_credit left u got s)
   turn_spends m (Close left) got s b x y eb es =
       choose (TurnSpends m (Close left) s x y) (got == m + 1) (moves_to Idle) (moves_to (Await left))
@@ -100,7 +94,7 @@ module _ (n : TheNames) (In : ℕ → Type 0) where
       (λ f. same_spends x y f)
       (λ f. less_spends x y m (Await left) (Hand (got - 1) left) s f.0 f.1 (omega arith))
   turn_spends m (Hand succ left) got s b x y eb es = hand_spends m succ left s b x y eb
-  turn_spends m (Above succ) got s b x y eb es = λ f. same_spends x y f
+  turn_spends m _ got s b x y eb es = λ f. same_spends x y f
 
   -- each planned act of a queue with a budget takes its passes off the head's credit: settling alone gives new credit
   pub act_spends : (ws : List ℕ) (ph ph' : ℕ → Phase) (l k : List ℕ) (t : List Event) (e m b : ℕ) (p : Phase) (a : Act) → IsNaming n In (length ws) → QueueGood n In ws ph l t e → ph m ≡ p → plan_at n m p ≡ Some a → n.budget ≡ Some b →

@@ -7,7 +7,7 @@ use Rattle.rl_word.specs.declared.acts.Act.{Act}
 use Rattle.rl_step.specs.declared.events.Event.{Event}
 use Rattle.rl_step.specs.declared.events.Event.TheVariants as event
 use Rattle.rl_queue.specs.declared.view.Phase.{Phase}
-use Rattle.rl_queue.specs.declared.view.Phase.TheVariants.{Idle, Clear, Reset, Swing, Link, Wait, Settle, Granted, Look, Close, Await, Hand, Above}
+use Rattle.rl_queue.specs.declared.view.Phase.TheVariants.{Idle, Clear, Reset, Swing, Link, Wait, Settle, Granted, Look, Close, Await, Hand}
 use Rattle.rl_queue.specs.Choices.{choose}
 use Rattle.rl_queue.specs.Queue.{TheNames, next_word, status_word, code_left, plan_at, turn_at, moves_to, moves_with, waits_at, joined_at, hand_turn}
 use Rattle.rl_queue.specs.Lane.{lane_of, Busy}
@@ -30,7 +30,6 @@ AllApart q B (e ∷ es) = Apart q B e × AllApart q B es
 module _ (n : TheNames) (In : ℕ → Type 0) where
   -- an act is made on a word of its queue
   pub act_place : (ws : List ℕ) (ph : ℕ → Phase) (l : List ℕ) (t : List Event) (e m : ℕ) (p : Phase) (a : Act) → QueueGood n In ws ph l t e → ph m ≡ p → plan_at n m p ≡ Some a → Place n In (word_of a)
-  act_place ws ph l t e m Idle a g q pl = cc
   act_place ws ph l t e m Clear a g q pl = subst (Place n In) (ap word_of (same_Some _ _ pl)) (inr (inl (m, (g.inv.inside m (subst Busy (sym q) tt), refl))))
   act_place ws ph l t e m Reset a g q pl = subst (Place n In) (ap word_of (same_Some _ _ pl)) (inr (inr (m, (g.inv.inside m (subst Busy (sym q) tt), refl))))
   act_place ws ph l t e m (Swing guess) a g q pl = subst (Place n In) (ap word_of (same_Some _ _ pl)) (inl (swap_word n.tail_class n.tail guess (m + 1)))
@@ -38,13 +37,11 @@ module _ (n : TheNames) (In : ℕ → Type 0) where
       let k = link_guess n.budget In (lane_of n ws ph) l m guess g.inv q in
       subst (Place n In) (ap word_of (same_Some _ _ pl)) (inr (inl (guess - 1, (in_line n.budget In (lane_of n ws ph) l (guess - 1) g.inv k.0, refl))))
   act_place ws ph l t e m Wait a g q pl = subst (Place n In) (ap word_of (same_Some _ _ pl)) (inr (inr (m, (g.inv.inside m (subst Busy (sym q) tt), refl))))
-  act_place ws ph l t e m Settle a g q pl = cc
-  act_place ws ph l t e m (Granted left) a g q pl = cc
   act_place ws ph l t e m (Look left u) a g q pl = subst (Place n In) (ap word_of (same_Some _ _ pl)) (inr (inl (m, (g.inv.inside m (subst Busy (sym q) tt), refl))))
   act_place ws ph l t e m (Close left) a g q pl = subst (Place n In) (ap word_of (same_Some _ _ pl)) (inl (swap_word n.tail_class n.tail (m + 1) 0))
   act_place ws ph l t e m (Await left) a g q pl = subst (Place n In) (ap word_of (same_Some _ _ pl)) (inr (inl (m, (g.inv.inside m (subst Busy (sym q) tt), refl))))
   act_place ws ph l t e m (Hand succ left) a g q pl = subst (Place n In) (ap word_of (same_Some _ _ pl)) (inr (inr (succ, (hand_succ n In ws ph l t e m succ left g q, refl))))
-  act_place ws ph l t e m (Above succ) a g q pl = cc
+  act_place ws ph l t e m _ a g q pl = cc
 
   -- handing over tells of its own queue alone
   hand_apart : (o : ℕ) (B : Option ℕ) (q : ℕ) (D : Option ℕ) (s left : ℕ) → q ≢ o → AllApart o B (hand_turn q D s left).events
@@ -54,19 +51,12 @@ module _ (n : TheNames) (In : ℕ → Type 0) where
 
   -- its events are of its queue
   pub turn_apart : (o : ℕ) (B : Option ℕ) (m : ℕ) (p : Phase) (got : ℕ) → n.queue ≢ o → AllApart o B (turn_at n m p got).events
-  turn_apart o B m Idle got ne = tt
-  turn_apart o B m Clear got ne = tt
-  turn_apart o B m Reset got ne = tt
   turn_apart o B m (Swing guess) got ne = choose (λ z. AllApart o B z.events) (got == guess) (moves_with (joined_at guess) (event.Join n.queue m)) (moves_to (Swing got)) (ne, tt) tt
-  turn_apart o B m (Link guess) got ne = tt
   turn_apart o B m Wait got ne = choose (λ z. AllApart o B z.events) (got == 0) (waits_at Wait) (if got == 1 then moves_to Settle else moves_to (Granted (code_left n.budget got))) tt (choose (λ z. AllApart o B z.events) (got == 1) (moves_to Settle) (moves_to (Granted (code_left n.budget got))) tt tt)
-  turn_apart o B m Settle got ne = tt
-  turn_apart o B m (Granted left) got ne = tt
-  turn_apart o B m (Look left u) got ne = tt
   turn_apart o B m (Close left) got ne = choose (λ z. AllApart o B z.events) (got == m + 1) (moves_to Idle) (moves_to (Await left)) tt tt
   turn_apart o B m (Await left) got ne = choose (λ z. AllApart o B z.events) (got == 0) (waits_at (Await left)) (moves_to (Hand (got - 1) left)) tt tt
   turn_apart o B m (Hand succ left) got ne = hand_apart o B n.queue n.budget succ left ne
-  turn_apart o B m (Above succ) got ne = tt
+  turn_apart o B m _ got ne = tt
 
   -- so a write elsewhere leaves the queue as it was
   pub elsewhere_keeps : (ws : List ℕ) (ph : ℕ → Phase) (l : List ℕ) (t : List Event) (e w v : ℕ) → QueueGood n In ws ph l t e → (Place n In w → ⊥) → QueueGood n In (slice_set ws w v) ph l t e

@@ -63,6 +63,11 @@ abbrev pub StartsWith : List ℕ → ℕ → Type 0
 StartsWith [] h = ⊥
 StartsWith (x ∷ r) h = h ≡ x
 
+-- who isn't in a line doesn't begin it
+pub unlisted : (l : List ℕ) (m : ℕ) → (Has m l → ⊥) → StartsWith l m → ⊥
+unlisted [] m f b = b
+unlisted (x ∷ r) m f b = f (inl b)
+
 -- a line has the same head where its first has the same phase and status
 pub same_head : (L M : Lane) (l : List ℕ) → ((h : ℕ) → Has h l → StartsWith l h → (M.phase h ≡ L.phase h) × (M.status h ≡ L.status h)) → head_in M l ≡ head_in L l
 same_head L M [] f = refl
@@ -75,11 +80,6 @@ module _ (n : TheNames) (In : ℕ → Type 0) where
   head_kept ws us ph ph' l t e m p q g mv out st =
       same_head (lane_of n ws ph) (lane_of n us ph') l
       (λ h k b. let ne : h ≢ m = λ eq. out (subst (StartsWith l) eq b) in (mv.others h ne, st h (in_line n.budget In (lane_of n ws ph) l h g.inv k) ne))
-
-  -- who isn't in a line doesn't begin it
-  out_of : (l : List ℕ) (m : ℕ) → (Has m l → ⊥) → StartsWith l m → ⊥
-  out_of [] m f b = b
-  out_of (x ∷ r) m f b = f (inl b)
 
   -- a member that is about to link itself doesn't begin the line
   link_behind : (ws : List ℕ) (ph : ℕ → Phase) (l : List ℕ) (t : List Event) (e m guess : ℕ) → QueueGood n In ws ph l t e → ph m ≡ Link guess → StartsWith l m → ⊥
@@ -147,7 +147,7 @@ module _ (n : TheNames) (In : ℕ → Type 0) where
   swing_by_head ws ph ph' l k t e m guess true d g mv step = swing_head ws ph ph' l k t e m guess d g mv step
   swing_by_head ws ph ph' l k t e m guess false d g mv step =
       ap (λ z. head_in (lane_of n z ph') k) (set-get_or ws n.tail 0) ∙ ap (head_in (lane_of n ws ph')) step ∙
-      head_kept ws ws ph ph' l t e m (Swing guess) (Swing (slice_index ws n.tail)) g mv (out_of l m (λ h. subst Listed mv.was (g.inv.only m h))) (λ x i ne. refl)
+      head_kept ws ws ph ph' l t e m (Swing guess) (Swing (slice_index ws n.tail)) g mv (unlisted l m (λ h. subst Listed mv.was (g.inv.only m h))) (λ x i ne. refl)
 
   wait_head : (ws : List ℕ) (ph ph' : ℕ → Phase) (l : List ℕ) (t : List Event) (e m s : ℕ) → QueueGood n In ws ph l t e → slice_index ws (status_word n m) ≡ s → Moves ph ph' m Wait (turn_at n m Wait s).phase →
       HeadStep n.budget m Wait (turn_at n m Wait s).phase (slice_index ws (status_word n m)) (head_in (lane_of n ws ph) l) (head_in (lane_of n ws ph') l)
@@ -183,17 +183,16 @@ module _ (n : TheNames) (In : ℕ → Type 0) where
 
   -- each planned act changes the head of its queue as HeadStep says
   pub head_act : (ws : List ℕ) (ph ph' : ℕ → Phase) (l k : List ℕ) (t : List Event) (e m : ℕ) (p : Phase) (a : Act) → IsNaming n In (length ws) → QueueGood n In ws ph l t e → ph m ≡ p → plan_at n m p ≡ Some a → ActHeads l k ws ph ph' m p a
-  head_act ws ph ph' l k t e m Idle a d g q pl = cc
   head_act ws ph ph' l k t e m Clear a d g q pl =
       let w = next_write n In ws ph ph' m 0 d (g.inv.inside m (subst Busy (sym q) tt)) in
       subst (ActHeads l k ws ph ph' m Clear) (same_Some _ _ pl)
       (λ mv step. ap (head_in (lane_of n (slice_set ws (next_word n m) 0) ph')) step ∙
-      head_kept ws (slice_set ws (next_word n m) 0) ph ph' l t e m Clear Reset g mv (out_of l m (λ h. subst Listed q (g.inv.only m h))) (λ x i ne. w.status x i))
+      head_kept ws (slice_set ws (next_word n m) 0) ph ph' l t e m Clear Reset g mv (unlisted l m (λ h. subst Listed q (g.inv.only m h))) (λ x i ne. w.status x i))
   head_act ws ph ph' l k t e m Reset a d g q pl =
       let w = status_write n In ws ph ph' m 0 d (g.inv.inside m (subst Busy (sym q) tt)) in
       subst (ActHeads l k ws ph ph' m Reset) (same_Some _ _ pl)
       (λ mv step. ap (head_in (lane_of n (slice_set ws (status_word n m) 0) ph')) step ∙
-      head_kept ws (slice_set ws (status_word n m) 0) ph ph' l t e m Reset (Swing 0) g mv (out_of l m (λ h. subst Listed q (g.inv.only m h))) (λ x i ne. w.status x i ne))
+      head_kept ws (slice_set ws (status_word n m) 0) ph ph' l t e m Reset (Swing 0) g mv (unlisted l m (λ h. subst Listed q (g.inv.only m h))) (λ x i ne. w.status x i ne))
   head_act ws ph ph' l k t e m (Swing guess) a d g q pl =
       subst (ActHeads l k ws ph ph' m (Swing guess)) (same_Some _ _ pl)
       (at_swap (HeadsBy l k ws ph ph' m (Swing guess)) ws n.tail_class n.tail guess (m + 1) (λ mv step. swing_by_head ws ph ph' l k t e m guess (slice_index ws n.tail == guess) d g mv step))
@@ -209,8 +208,6 @@ module _ (n : TheNames) (In : ℕ → Type 0) where
       subst (λ z. HeadStep n.budget m Wait (turn_at n m Wait (slice_index ws (status_word n m))).phase (slice_index ws (status_word n m)) (head_in (lane_of n ws ph) l) (head_in (lane_of n z ph') k)) (sym (set-get_or ws (status_word n m) 0))
       (subst (λ z. HeadStep n.budget m Wait (turn_at n m Wait (slice_index ws (status_word n m))).phase (slice_index ws (status_word n m)) (head_in (lane_of n ws ph) l) (head_in (lane_of n ws ph') z)) (sym step)
       (wait_head ws ph ph' l t e m (slice_index ws (status_word n m)) g refl mv)))
-  head_act ws ph ph' l k t e m Settle a d g q pl = cc
-  head_act ws ph ph' l k t e m (Granted left) a d g q pl = cc
   head_act ws ph ph' l k t e m (Look left u) a d g q pl =
       subst (ActHeads l k ws ph ph' m (Look left u)) (same_Some _ _ pl)
       (λ mv step.
@@ -229,7 +226,7 @@ module _ (n : TheNames) (In : ℕ → Type 0) where
       let idle = hand_idle n.queue n.budget s left in
       subst (ActHeads l k ws ph ph' m (Hand s left)) (same_Some _ _ pl)
       (λ mv step. hand_head ws ph ph' l k t e m s left d g (record { was = mv.was; now = mv.now ∙ idle; others = mv.others }) step)
-  head_act ws ph ph' l k t e m (Above s) a d g q pl = cc
+  head_act ws ph ph' l k t e m _ a d g q pl = cc
 
 -- some member of the queue has been given it
 abbrev pub is_served : Option Head → Bool
@@ -256,64 +253,15 @@ MayGo p q = Unit {0}
 
 -- a move as HeadStep says leaves a queue served only where it was served before
 pub served_before : (B : Option ℕ) (m : ℕ) (p q : Phase) (s : ℕ) (x y : Option Head) → HeadStep B m p q s x y → (p ≡ Wait → (left : ℕ) → q ≡ Granted left → is_pass s ≡ true) → MayGo p q → is_served y ≡ true → is_served x ≡ true
-served_before B m Idle q s x y f w g h = same_served x y f h
-served_before B m Clear q s x y f w g h = same_served x y f h
-served_before B m Reset q s x y f w g h = same_served x y f h
-served_before B m (Swing g0) Idle s x y f w g h = same_served x y f h
-served_before B m (Swing g0) Clear s x y f w g h = same_served x y f h
-served_before B m (Swing g0) Reset s x y f w g h = same_served x y f h
-served_before B m (Swing g0) (Swing k1) s x y f w g h = same_served x y f h
-served_before B m (Swing g0) (Link k1) s x y f w g h = same_served x y f h
-served_before B m (Swing g0) Wait s x y f w g h = same_served x y f h
 served_before B m (Swing g0) Settle s x y f w g h = not_served y m Settle f.1.0 (is_served x ≡ true) f.1.1 refl h
-served_before B m (Swing g0) (Granted left) s x y f w g h = same_served x y f h
-served_before B m (Swing g0) (Look left u) s x y f w g h = same_served x y f h
-served_before B m (Swing g0) (Close left) s x y f w g h = same_served x y f h
-served_before B m (Swing g0) (Await left) s x y f w g h = same_served x y f h
-served_before B m (Swing g0) (Hand succ left) s x y f w g h = same_served x y f h
-served_before B m (Swing g0) (Above succ) s x y f w g h = same_served x y f h
-served_before B m (Link g0) q s x y f w g h = same_served x y f h
-served_before B m Wait Idle s x y f w g h = absurd g
-served_before B m Wait Clear s x y f w g h = absurd g
-served_before B m Wait Reset s x y f w g h = absurd g
-served_before B m Wait (Swing k1) s x y f w g h = absurd g
-served_before B m Wait (Link k1) s x y f w g h = absurd g
 served_before B m Wait Wait s x y f w g h = same_served x y f h
 served_before B m Wait Settle s x y f w g h = not_served y m Settle s (is_served x ≡ true) f.1 refl h
 served_before B m Wait (Granted left) s x y f w g h = was_served x m Wait s f.0 (w refl left refl)
-served_before B m Wait (Look left u) s x y f w g h = absurd g
-served_before B m Wait (Close left) s x y f w g h = absurd g
-served_before B m Wait (Await left) s x y f w g h = absurd g
-served_before B m Wait (Hand succ left) s x y f w g h = absurd g
-served_before B m Wait (Above succ) s x y f w g h = absurd g
-served_before B m Settle q s x y f w g h = same_served x y f h
-served_before B m (Granted left) q s x y f w g h = same_served x y f h
+served_before B m Wait _ s x y f w g h = absurd g
 served_before B m (Look left u) q s x y f w g h = was_served x m (Look left u) s f.0 refl
 served_before B m (Close k0) Idle s x y f w g h = was_served x m (Close k0) s f.0 refl
-served_before B m (Close k0) Clear s x y f w g h = was_served x m (Close k0) s f.0 refl
-served_before B m (Close k0) Reset s x y f w g h = was_served x m (Close k0) s f.0 refl
-served_before B m (Close k0) (Swing k1) s x y f w g h = was_served x m (Close k0) s f.0 refl
-served_before B m (Close k0) (Link k1) s x y f w g h = was_served x m (Close k0) s f.0 refl
-served_before B m (Close k0) Wait s x y f w g h = was_served x m (Close k0) s f.0 refl
-served_before B m (Close k0) Settle s x y f w g h = was_served x m (Close k0) s f.0 refl
-served_before B m (Close k0) (Granted left) s x y f w g h = was_served x m (Close k0) s f.0 refl
-served_before B m (Close k0) (Look left u) s x y f w g h = was_served x m (Close k0) s f.0 refl
-served_before B m (Close k0) (Close left) s x y f w g h = was_served x m (Close k0) s f.0 refl
-served_before B m (Close k0) (Await left) s x y f w g h = was_served x m (Close k0) s f.0 refl
-served_before B m (Close k0) (Hand succ left) s x y f w g h = was_served x m (Close k0) s f.0 refl
-served_before B m (Close k0) (Above succ) s x y f w g h = was_served x m (Close k0) s f.0 refl
-served_before B m (Await k0) Idle s x y f w g h = was_served x m (Await k0) s f.0 refl
-served_before B m (Await k0) Clear s x y f w g h = was_served x m (Await k0) s f.0 refl
-served_before B m (Await k0) Reset s x y f w g h = was_served x m (Await k0) s f.0 refl
-served_before B m (Await k0) (Swing k1) s x y f w g h = was_served x m (Await k0) s f.0 refl
-served_before B m (Await k0) (Link k1) s x y f w g h = was_served x m (Await k0) s f.0 refl
-served_before B m (Await k0) Wait s x y f w g h = was_served x m (Await k0) s f.0 refl
-served_before B m (Await k0) Settle s x y f w g h = was_served x m (Await k0) s f.0 refl
-served_before B m (Await k0) (Granted left) s x y f w g h = was_served x m (Await k0) s f.0 refl
-served_before B m (Await k0) (Look left u) s x y f w g h = was_served x m (Await k0) s f.0 refl
-served_before B m (Await k0) (Close left) s x y f w g h = was_served x m (Await k0) s f.0 refl
+served_before B m (Close k0) _ s x y f w g h = was_served x m (Close k0) s f.0 refl
 served_before B m (Await k0) (Await left) s x y f w g h = same_served x y f h
-served_before B m (Await k0) (Hand succ left) s x y f w g h = was_served x m (Await k0) s f.0 refl
-served_before B m (Await k0) (Above succ) s x y f w g h = was_served x m (Await k0) s f.0 refl
+served_before B m (Await k0) _ s x y f w g h = was_served x m (Await k0) s f.0 refl
 served_before B m (Hand succ left) q s x y f w g h = was_served x m (Hand succ left) s f.0 refl
-served_before B m (Above succ) q s x y f w g h = same_served x y f h
+served_before B m _ _ s x y f w g h = same_served x y f h

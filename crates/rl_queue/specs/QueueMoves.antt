@@ -125,7 +125,6 @@ module _ (n : TheNames) (In : ℕ → Type 0) where
   -- each planned act keeps the queue good, its trace, and the line but for the step that LineStep says
   pub act_keeps : (ws : List ℕ) (ph ph' : ℕ → Phase) (l : List ℕ) (t : List Event) (e m : ℕ) (p : Phase) (a : Act) → IsNaming n In (length ws) → QueueGood n In ws ph l t e → plan_at n m p ≡ Some a →
       ActMoves ws ph ph' m p a → ActGoes l ws ph' t e m p a
-  act_keeps ws ph ph' l t e m Idle a d g pl = cc
   act_keeps ws ph ph' l t e m Clear a d g pl =
       subst (λ b. ActMoves ws ph ph' m Clear b → ActGoes l ws ph' t e m Clear b) (same_Some _ _ pl) (λ mv. clear_act n In ws ph ph' l t e m d g mv)
   act_keeps ws ph ph' l t e m Reset a d g pl =
@@ -139,8 +138,6 @@ module _ (n : TheNames) (In : ℕ → Type 0) where
   act_keeps ws ph ph' l t e m Wait a d g pl =
       subst (λ b. ActMoves ws ph ph' m Wait b → ActGoes l ws ph' t e m Wait b) (same_Some _ _ pl)
       (λ mv. (l, subst (λ z. QueueGood n In z ph' l (t ++ (turn_at n m Wait (slice_index ws (status_word n m))).events) e) (sym (set-get_or ws (status_word n m) 0)) (wait_act n In ws ph ph' l t e m (slice_index ws (status_word n m)) g refl mv), refl))
-  act_keeps ws ph ph' l t e m Settle a d g pl = cc
-  act_keeps ws ph ph' l t e m (Granted left) a d g pl = cc
   act_keeps ws ph ph' l t e m (Look left u) a d g pl =
       subst (λ b. ActMoves ws ph ph' m (Look left u) b → ActGoes l ws ph' t e m (Look left u) b) (same_Some _ _ pl)
       (λ mv. (l, subst (λ z. QueueGood n In z ph' l (t ++ []) e) (sym (set-get_or ws (next_word n m) 0)) (look_act n In ws ph ph' l t e m left u (slice_index ws (next_word n m)) g refl mv), refl))
@@ -153,7 +150,7 @@ module _ (n : TheNames) (In : ℕ → Type 0) where
       (λ mv. (l, subst (λ z. QueueGood n In z ph' l (t ++ (turn_at n m (Await left) (slice_index ws (next_word n m))).events) e) (sym (set-get_or ws (next_word n m) 0)) (await_act n In ws ph ph' l t e m left (slice_index ws (next_word n m)) g refl mv), refl))
   act_keeps ws ph ph' l t e m (Hand s left) a d g pl =
       subst (λ b. ActMoves ws ph ph' m (Hand s left) b → ActGoes l ws ph' t e m (Hand s left) b) (same_Some _ _ pl) (λ mv. hand_act ws ph ph' l t e m s left d g mv)
-  act_keeps ws ph ph' l t e m (Above s) a d g pl = cc
+  act_keeps ws ph ph' l t e m _ a d g pl = cc
 
   -- The moves that are no acts keep it good too: a member begins to join.
   pub join_keeps : (ws : List ℕ) (ph ph' : ℕ → Phase) (l : List ℕ) (t : List Event) (e m : ℕ) → QueueGood n In ws ph l t e → In m → Moves ph ph' m Idle Clear → QueueGood n In ws ph' l t e

@@ -7,7 +7,7 @@ use Rattle.rl_word.specs.declared.acts.Act.{Act}
 use Rattle.rl_word.specs.declared.acts.Act.TheVariants.{Load}
 use Rattle.rl_step.specs.declared.events.Event.{Event}
 use Rattle.rl_queue.specs.declared.view.Phase.{Phase}
-use Rattle.rl_queue.specs.declared.view.Phase.TheVariants.{Idle, Clear, Reset, Swing, Link, Wait, Settle, Granted, Look, Close, Await, Hand, Above}
+use Rattle.rl_queue.specs.declared.view.Phase.TheVariants.{Wait, Settle, Granted, Look, Close, Await, Hand, Above}
 use Rattle.rl_queue.specs.Queue.{TheNames, status_word, plan_at, turn_at}
 use Rattle.rl_queue.specs.Lane.{lane_of, Has, is_pass, served, LineStep}
 use Rattle.rl_queue.specs.LaneLaws.{IsFirst, in_line, is_first}
@@ -23,19 +23,14 @@ pass_pos (suc s) h = omega arith
 
 -- who is served stands as a first does
 pub served_first : (p : Phase) (s : ℕ) → served p s ≡ true → IsFirst p s
-served_first Idle s h = cc
-served_first Clear s h = cc
-served_first Reset s h = cc
-served_first (Swing g) s h = cc
-served_first (Link g) s h = cc
 served_first Wait s h = pass_pos s h
-served_first Settle s h = cc
 served_first (Granted left) s h = tt
 served_first (Look left u) s h = tt
 served_first (Close left) s h = tt
 served_first (Await left) s h = tt
 served_first (Hand succ left) s h = tt
 served_first (Above succ) s h = tt
+served_first _ s h = cc
 
 module _ (n : TheNames) (In : ℕ → Type 0) where
   -- one that is served is the first
@@ -63,19 +58,8 @@ module _ (n : TheNames) (In : ℕ → Type 0) where
   wait_passes m (suc (suc k)) left e = refl
 
   turn_may_go : (m : ℕ) (p : Phase) (got : ℕ) → MayGo p (turn_at n m p got).phase
-  turn_may_go m Idle got = tt
-  turn_may_go m Clear got = tt
-  turn_may_go m Reset got = tt
-  turn_may_go m (Swing g) got = tt
-  turn_may_go m (Link g) got = tt
   turn_may_go m Wait got = wait_may_go m got
-  turn_may_go m Settle got = tt
-  turn_may_go m (Granted left) got = tt
-  turn_may_go m (Look left u) got = tt
-  turn_may_go m (Close left) got = tt
-  turn_may_go m (Await left) got = tt
-  turn_may_go m (Hand succ left) got = tt
-  turn_may_go m (Above succ) got = tt
+  turn_may_go m _ got = tt
 
   -- what a waiting member finds is its status
   pub wait_found : (ws : List ℕ) (m : ℕ) (p : Phase) (a : Act) → plan_at n m p ≡ Some a → p ≡ Wait → told a (slice_index ws (word_of a)) ≡ slice_index ws (status_word n m)

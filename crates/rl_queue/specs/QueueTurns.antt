@@ -6,7 +6,7 @@ use Rattle.rl_word.specs.declared.acts.Act.{Act}
 use Rattle.rl_step.specs.declared.events.Event.{Event}
 use Rattle.rl_step.specs.declared.events.Event.TheVariants as event
 use Rattle.rl_queue.specs.declared.view.Phase.{Phase}
-use Rattle.rl_queue.specs.declared.view.Phase.TheVariants.{Idle, Clear, Reset, Swing, Link, Wait, Settle, Granted, Look, Close, Await, Hand, Above}
+use Rattle.rl_queue.specs.declared.view.Phase.TheVariants.{Idle, Swing, Wait, Settle, Granted, Close, Await, Hand}
 use Rattle.rl_queue.specs.Choices.{choose}
 use Rattle.rl_queue.specs.Queue.{TheNames, status_word, code_left, moves_to, moves_with, waits_at, joined_at, hand_turn, plan_at, turn_at}
 use Rattle.rl_queue.specs.Lane.{lane_of, Has, Line, Listed}
@@ -26,21 +26,14 @@ hand_events q m (Some b) s zero = inl refl
 hand_events q m (Some b) s (suc k) = inr (inr (s, suc k, refl, ap (λ z. z.events) (pass_more q b s k)))
 
 pub turn_events : (n : TheNames) (m : ℕ) (p : Phase) (got : ℕ) → TurnEvents n.queue m p (turn_at n m p got).events
-turn_events n m Idle got = inl refl
-turn_events n m Clear got = inl refl
-turn_events n m Reset got = inl refl
 turn_events n m (Swing guess) got = choose (λ z. TurnEvents n.queue m (Swing guess) z.events) (got == guess) (moves_with (joined_at guess) (event.Join n.queue m)) (moves_to (Swing got)) (inr (inl refl)) (inl refl)
-turn_events n m (Link guess) got = inl refl
 turn_events n m Wait got =
     choose (λ z. TurnEvents n.queue m Wait z.events) (got == 0) (waits_at Wait) (if got == 1 then moves_to Settle else moves_to (Granted (code_left n.budget got))) (inl refl)
     (choose (λ z. TurnEvents n.queue m Wait z.events) (got == 1) (moves_to Settle) (moves_to (Granted (code_left n.budget got))) (inl refl) (inl refl))
-turn_events n m Settle got = inl refl
-turn_events n m (Granted left) got = inl refl
-turn_events n m (Look left u) got = inl refl
 turn_events n m (Close left) got = choose (λ z. TurnEvents n.queue m (Close left) z.events) (got == m + 1) (moves_to Idle) (moves_to (Await left)) (inl refl) (inl refl)
 turn_events n m (Await left) got = choose (λ z. TurnEvents n.queue m (Await left) z.events) (got == 0) (waits_at (Await left)) (moves_to (Hand (got - 1) left)) (inl refl) (inl refl)
 turn_events n m (Hand succ left) got = hand_events n.queue m n.budget succ left
-turn_events n m (Above succ) got = inl refl
+turn_events n m _ got = inl refl
 
 -- what holds of no event, of a join, and of each pass holds of a turn's events
 pub turn_all : (P : List Event → Type 0) (n : TheNames) (m : ℕ) (p : Phase) (got : ℕ) → P [] → P (event.Join n.queue m ∷ []) → ((s : ℕ) → P (event.Pass n.queue s ∷ [])) → P (turn_at n m p got).events

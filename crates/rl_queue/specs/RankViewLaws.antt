@@ -1,9 +1,17 @@
 -- What is read off the views of ranks: that of a view, how it changes where one view does, and what is read of all alike.
 use Rattle.std.specs.Prelude.{◌≡◌, ◌≢◌, ℕ, zero, suc, ◌+◌, List, [], ◌∷◌, slice_get, slice_set, Some, refl}
-use Rattle.std.proofs.Common.{ap}
+use Rattle.std.proofs.Common.{ap, sym, subst, ⊎_elim}
 use Rattle.std.proofs.lemmas.Option.{same_Some}
+use Rattle.rl_word.specs.Places.{get_set_cases}
 use Rattle.rl_step.specs.Lock.{first_views}
 use Rattle.rl_queue.specs.RankViews.{of_rank}
+
+-- where rank r's view changes, what holds of its new one, and of each other, holds of all
+pub each_set : {V : Type 0} (P : ℕ → V → Type 0) (vs us : List V) (r : ℕ) (w : V) → us ≡ slice_set vs r w → P r w → ((i : ℕ) (u : V) → i ≢ r → slice_get vs i ≡ Some u → P i u) → (i : ℕ) (u : V) → slice_get us i ≡ Some u → P i u
+each_set P vs us r w e here there i u h =
+    ⊎_elim
+    (λ p. subst (λ z. P z u) (sym p.0) (subst (P r) (sym p.1) here))
+    (λ p. there i u p.0 p.1) (get_set_cases vs r i w u (subst (λ z. slice_get z i ≡ Some u) e h))
 
 module _ {V X : Type 0} (read : V → X) (other : X) where
   pub read_get : (vs : List V) (r : ℕ) (v : V) → slice_get vs r ≡ Some v → of_rank read other vs r ≡ read v

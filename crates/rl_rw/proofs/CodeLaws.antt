@@ -12,7 +12,7 @@ use Rattle.rl_tree.specs.TreeShape.{IsWellShaped}
 use Rattle.rl_tree.specs.TreeFacts.{PlansAct, TreeFacts}
 use Rattle.rl_tree.specs.TreeLaws.{tree_facts}
 use Rattle.rl_counter.specs.declared.view.Doing.{Doing}
-use Rattle.rl_counter.specs.declared.view.Doing.TheVariants.{Nothing, Arrive, Refused, SeeTail, Swap, Reset, Round, RoundTail, Inside, Depart, Put, Count, Compare, TakeOut, TakeOff}
+use Rattle.rl_counter.specs.declared.view.Doing.TheVariants.{Nothing, Arrive, Refused, SeeTail, Swap, Round, RoundTail, Inside, Put, Count, Compare, TakeOut, TakeOff}
 use Rattle.rl_counter.specs.Counter.{to, busy, counter_turn, counter_at, NamesCounters}
 use Rattle.rl_counter.specs.CounterGood.{IsMark}
 use Rattle.rl_rw.specs.declared.view.RwView.{RwView}
@@ -26,59 +26,33 @@ use Rattle.rl_rw.specs.RwLaws.{sound_of}
 
 -- the counter at which a rank is, is there
 place_at : (n g : ℕ) (p : Doing) (t : TreeView) → g < n → Place n p t → counter_at g p < n
-place_at n g Nothing t lt h = lt
-place_at n g Arrive t lt h = lt
-place_at n g (Refused x) t lt h = lt
-place_at n g (SeeTail x) t lt h = lt
-place_at n g Swap t lt h = lt
-place_at n g (Reset x) t lt h = lt
-place_at n g Round t lt h = lt
-place_at n g (RoundTail x) t lt h = lt
-place_at n g Inside t lt h = lt
-place_at n g Depart t lt h = lt
 place_at n g (Put i) t lt h = h.2
 place_at n g (Count i) t lt h = h.2
 place_at n g (Compare i x) t lt h = h.2
 place_at n g (TakeOut i) t lt h = h.2
 place_at n g (TakeOff i x) t lt h = h.2
+place_at n g _ t lt h = lt
 
 -- a rank without a task is away from the hook
 idle_away : (n : ℕ) (p : Doing) (t : TreeView) → busy p ≡ false → Place n p t → at_hook t ≡ false
 idle_away n Nothing t e h = h
 idle_away n Inside t e h = out_away t h
-idle_away n Arrive t e h = cc
-idle_away n (Refused x) t e h = cc
-idle_away n (SeeTail x) t e h = cc
-idle_away n Swap t e h = cc
-idle_away n (Reset x) t e h = cc
-idle_away n Round t e h = cc
-idle_away n (RoundTail x) t e h = cc
-idle_away n Depart t e h = cc
-idle_away n (Put i) t e h = cc
-idle_away n (Count i) t e h = cc
-idle_away n (Compare i x) t e h = cc
-idle_away n (TakeOut i) t e h = cc
-idle_away n (TakeOff i x) t e h = cc
+idle_away n _ t e h = cc
 
 -- where a task at the marks ends the tree can go on
 ends_at : (K : Shared) (t : TreeView) (p : Doing) (got : ℕ) → busy p ≡ true → (IsMark p → MayLeaveHook K.rooted t) → Ends K.rooted t p (counter_turn (counters_of K) p got).doing
 ends_at K t Nothing got b may = cc
 ends_at K t Inside got b may = cc
 ends_at K t Arrive got b may = choose (λ u. Ends K.rooted t Arrive u.doing) (nat_lt got K.readers) (to Inside) (to (Refused got)) tt tt
-ends_at K t (Refused x) got b may = tt
 ends_at K t (SeeTail x) got b may = choose (λ u. Ends K.rooted t (SeeTail x) u.doing) ((got == 0) && nat_lt x (2 ^ 32)) (to Swap) (to Round) tt tt
-ends_at K t Swap got b may = tt
-ends_at K t (Reset x) got b may = tt
 ends_at K t Round got b may = choose (λ u. Ends K.rooted t Round u.doing) (nat_lt got K.readers) (to Arrive) (to (RoundTail got)) tt tt
 ends_at K t (RoundTail x) got b may = choose (λ u. Ends K.rooted t (RoundTail x) u.doing) ((got == 0) && nat_lt x (2 ^ 32)) (to Arrive) (record { doing = Round; waits = true }) tt tt
-ends_at K t Depart got b may = tt
 ends_at K t (Put i) got b may = choose (λ u. Ends K.rooted t (Put i) u.doing) (nat_lt (i + 1) (length (counters_of K).arrive)) (to (Put (i + 1))) (to (Count 0)) tt tt
-ends_at K t (Count i) got b may = tt
 ends_at K t (Compare i f) got b may =
     choose (λ u. Ends K.rooted t (Compare i f) u.doing) (got == f - 2 ^ 32) (if nat_lt (i + 1) (length (counters_of K).arrive) then to (Count (i + 1)) else to Nothing) (record { doing = Count i; waits = true })
     (choose (λ u. Ends K.rooted t (Compare i f) u.doing) (nat_lt (i + 1) (length (counters_of K).arrive)) (to (Count (i + 1))) (to Nothing) tt (may tt)) tt
-ends_at K t (TakeOut i) got b may = tt
 ends_at K t (TakeOff i x) got b may = choose (λ u. Ends K.rooted t (TakeOff i x) u.doing) (nat_lt (i + 1) (length (counters_of K).arrive)) (to (TakeOut (i + 1))) (to Nothing) tt (may tt)
+ends_at K t _ got b may = tt
 
 module _ (K : Shared) (levels : ℕ) (S : IsWellShaped K.rooted levels) (limited : has_above K.rooted.root ≡ true) (few : K.readers ≤ 1000) (grouped : 0 < K.group) where
   F : TreeFacts K.rooted levels

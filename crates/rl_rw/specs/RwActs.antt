@@ -26,7 +26,7 @@ use Rattle.rl_rw.specs.Rw.{Shared, groups, of_tree, counters_of, rw_view, hooks,
 use Rattle.rl_rw.specs.RwGood.{trees, doings, Lonely, RwGood}
 use Rattle.rl_rw.specs.RwRows.{hook_place, out_plans_not, hooked_same, hooked_at, stays}
 use Rattle.rl_rw.specs.RwWords.{IsSound, tree_word_apart, batches_keep}
-use Rattle.rl_rw.specs.RwKeeps.{write_mark, hooks_all, hook_marks, by_bool, after, AllBatched, as_doing, is_named, some_group, away_then, entered, acts_in, tree_long}
+use Rattle.rl_rw.specs.RwKeeps.{mark_mode, hooks_all, hook_marks, by_bool, after, AllBatched, as_doing, is_named, some_group, away_then, entered, acts_in, tree_long}
 
 module _ (K : Shared) (levels : ℕ) (F : TreeFacts K.rooted levels) (d : IsSound K) where
   abbrev Good : Bool → List ℕ → List TreeView → List Event → Type 0
@@ -76,7 +76,7 @@ module _ (K : Shared) (levels : ℕ) (F : TreeFacts K.rooted levels) (d : IsSoun
       let free : g.hook ≡ Nothing = ⊎_elim (λ e. e)
       (λ k. absurd (away k.rank k.view k.has (λ e. subst (λ z. IsMark z.counter.doing) (same_Some _ _ (sym k.has ∙ ap (slice_get s.views) e ∙ has)) k.marks) k.marks)) g.hooked.some in
       stays K levels s (after s r a (from_tree (rw_view t c Nothing) true (learnt_in K.rooted s.words t a))) r v w g has (length-set s.words (word_of a) (written a (found s a))) refl refl refl row.0
-      (λ m e. write_mark q x m row.1 (writes s r t c a m g has pl e)) (λ k ne. refl)
+      (λ m e. (mark_mode q x m row.1).1 (writes s r t c a m g has pl e)) (λ k ne. refl)
       n good q (hooked_at s.views r v w has row.1 away)
       (λ i lt.
       let ap2 = tree_word_apart K i (word_of a) lt low in

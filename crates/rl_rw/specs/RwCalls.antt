@@ -21,7 +21,7 @@ use Rattle.rl_tree.specs.TreeGood.{GoodAt}
 use Rattle.rl_tree.specs.TreeFacts.{TreeFacts}
 use Rattle.rl_tree.specs.TreeStandings.{holds_is, phase_leaves, not_reader, writer_holds}
 use Rattle.rl_counter.specs.declared.view.Doing.{Doing}
-use Rattle.rl_counter.specs.declared.view.Doing.TheVariants.{Nothing, Arrive, Refused, SeeTail, Swap, Reset as ResetOff, Round, RoundTail, Inside, Depart, Put, Count, Compare, TakeOut, TakeOff}
+use Rattle.rl_counter.specs.declared.view.Doing.TheVariants.{Nothing, Arrive, Inside, Depart}
 use Rattle.rl_counter.specs.CounterGood.{GroupGood, inside_of, mark_by, Clear as ClearMark}
 use Rattle.rl_counter.specs.CounterStatements.{ShareSame}
 use Rattle.rl_counter.specs.CounterLaws.{nobody_inside}
@@ -59,71 +59,22 @@ pub data Holds (p : Doing) (t : TreeView) : Type 0 where
 pub holds_at : (p : Doing) (t : TreeView) → IsHolder (rw_standing p t) → Holds p t
 holds_at Nothing t h = Writes refl (tree_holder t.query t.phase h).0
 holds_at Inside t h = Reads refl
-holds_at Arrive t h = absurd h
-holds_at (Refused a) t h = absurd h
-holds_at (SeeTail a) t h = absurd h
-holds_at Swap t h = absurd h
-holds_at (ResetOff x) t h = absurd h
-holds_at Round t h = absurd h
-holds_at (RoundTail a) t h = absurd h
-holds_at Depart t h = absurd h
-holds_at (Put i) t h = absurd h
-holds_at (Count i) t h = absurd h
-holds_at (Compare i x) t h = absurd h
-holds_at (TakeOut i) t h = absurd h
-holds_at (TakeOff i x) t h = absurd h
+holds_at _ t h = absurd h
 
 pub leaving_at : (v : RwView) (p : Doing) (h : IsHolder (rw_standing p v.tree)) → v.counter.doing ≡ p → rw_standing (leaves_at v p).counter.doing (leaves_at v p).tree ≡ standing.Leaving
 leaving_at v Nothing h e = (tree_holder v.tree.query v.tree.phase h).1
 leaving_at v Inside h e = refl
-leaving_at v Arrive h e = absurd h
-leaving_at v (Refused a) h e = absurd h
-leaving_at v (SeeTail a) h e = absurd h
-leaving_at v Swap h e = absurd h
-leaving_at v (ResetOff x) h e = absurd h
-leaving_at v Round h e = absurd h
-leaving_at v (RoundTail a) h e = absurd h
-leaving_at v Depart h e = absurd h
-leaving_at v (Put i) h e = absurd h
-leaving_at v (Count i) h e = absurd h
-leaving_at v (Compare i x) h e = absurd h
-leaving_at v (TakeOut i) h e = absurd h
-leaving_at v (TakeOff i x) h e = absurd h
+leaving_at v _ h e = absurd h
 
 pub suits_at : (m : Mode) (p : Doing) (t : TreeView) → Moded p t m → Suits true m (rw_standing p t)
 suits_at m Nothing t h = suits_standing m (tree_standing t) h (not_reader t.query t.phase)
 suits_at m Inside t h = h
-suits_at m Arrive t h = tt
-suits_at m (Refused a) t h = tt
-suits_at m (SeeTail a) t h = tt
-suits_at m Swap t h = tt
-suits_at m (ResetOff x) t h = tt
-suits_at m Round t h = tt
-suits_at m (RoundTail a) t h = tt
-suits_at m Depart t h = tt
-suits_at m (Put i) t h = tt
-suits_at m (Count i) t h = tt
-suits_at m (Compare i x) t h = tt
-suits_at m (TakeOut i) t h = tt
-suits_at m (TakeOff i x) t h = tt
+suits_at m _ t h = tt
 
 -- who is out, is out of the tree and does nothing
 pub out_at_both : (p : Doing) (t : TreeView) → rw_standing p t ≡ standing.Out → (p ≡ Nothing) × (tree_standing t ≡ standing.Out)
 out_at_both Nothing t e = (refl, e)
-out_at_both Inside t e = cc
-out_at_both Arrive t e = cc
-out_at_both (Refused a) t e = cc
-out_at_both (SeeTail a) t e = cc
-out_at_both Swap t e = cc
-out_at_both (ResetOff x) t e = cc
-out_at_both Round t e = cc
-out_at_both (RoundTail a) t e = cc
-out_at_both Depart t e = cc
-out_at_both (Put i) t e = cc
-out_at_both (Count i) t e = cc
-out_at_both (Compare i x) t e = cc
-out_at_both (TakeOut i) t e = cc
-out_at_both (TakeOff i x) t e = cc
+out_at_both _ t e = cc
 
 module _ (K : Shared) (levels : ℕ) (F : TreeFacts K.rooted levels) (d : IsSound K) where
   abbrev Good : Bool → List ℕ → List TreeView → List Event → Type 0
@@ -184,37 +135,12 @@ module _ (K : Shared) (levels : ℕ) (F : TreeFacts K.rooted levels) (d : IsSoun
 
   pub leave_writer_at : (s : LockState RwView) (r : ℕ) (t : TreeView) (c : ℕ) (p : Doing) → RwGood K levels s → slice_get s.views r ≡ Some (rw_view t c p) → rw_standing p t ≡ standing.Writer → RwGood K levels (left_state (rw_table K) s r (rw_view t c p) (event.LeaveW r))
   leave_writer_at s r t c Nothing g has e = leave_writer s r t c g has e
-  leave_writer_at s r t c Inside g has e = cc
-  leave_writer_at s r t c Arrive g has e = cc
-  leave_writer_at s r t c (Refused a) g has e = cc
-  leave_writer_at s r t c (SeeTail a) g has e = cc
-  leave_writer_at s r t c Swap g has e = cc
-  leave_writer_at s r t c (ResetOff x) g has e = cc
-  leave_writer_at s r t c Round g has e = cc
-  leave_writer_at s r t c (RoundTail a) g has e = cc
-  leave_writer_at s r t c Depart g has e = cc
-  leave_writer_at s r t c (Put i) g has e = cc
-  leave_writer_at s r t c (Count i) g has e = cc
-  leave_writer_at s r t c (Compare i x) g has e = cc
-  leave_writer_at s r t c (TakeOut i) g has e = cc
-  leave_writer_at s r t c (TakeOff i x) g has e = cc
+  leave_writer_at s r t c _ g has e = cc
 
   pub leave_reader_at : (s : LockState RwView) (r : ℕ) (t : TreeView) (c : ℕ) (p : Doing) → RwGood K levels s → slice_get s.views r ≡ Some (rw_view t c p) → rw_standing p t ≡ standing.Reader → RwGood K levels (left_state (rw_table K) s r (rw_view t c p) (event.LeaveR r))
   leave_reader_at s r t c Nothing g has e = absurd (not_reader t.query t.phase e)
   leave_reader_at s r t c Inside g has e = leave_reader s r t c g has
-  leave_reader_at s r t c Arrive g has e = cc
-  leave_reader_at s r t c (Refused a) g has e = cc
-  leave_reader_at s r t c (SeeTail a) g has e = cc
-  leave_reader_at s r t c Swap g has e = cc
-  leave_reader_at s r t c (ResetOff x) g has e = cc
-  leave_reader_at s r t c Round g has e = cc
-  leave_reader_at s r t c (RoundTail a) g has e = cc
-  leave_reader_at s r t c Depart g has e = cc
-  leave_reader_at s r t c (Put i) g has e = cc
-  leave_reader_at s r t c (Count i) g has e = cc
-  leave_reader_at s r t c (Compare i x) g has e = cc
-  leave_reader_at s r t c (TakeOut i) g has e = cc
-  leave_reader_at s r t c (TakeOff i x) g has e = cc
+  leave_reader_at s r t c _ g has e = cc
 
   pub touch_at : (s : LockState RwView) (r : ℕ) (w : Bool) → RwGood K levels s → RwGood K levels (touched s r w)
   touch_at s r w g =

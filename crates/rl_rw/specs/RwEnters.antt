@@ -12,7 +12,7 @@ use Rattle.rl_step.specs.BatchLaws.{MayEnter}
 use Rattle.rl_step.specs.Queues.{count}
 use Rattle.rl_step.specs.Batches.{reader_entries}
 use Rattle.rl_queue.specs.declared.view.Phase.{Phase}
-use Rattle.rl_queue.specs.declared.view.Phase.TheVariants.{Idle, Clear, Reset, Swing, Link, Wait, Settle, Granted, Look, Close, Await, Hand, Above}
+use Rattle.rl_queue.specs.declared.view.Phase.TheVariants.{Idle, Settle, Granted, Above}
 use Rattle.rl_queue.specs.Choices.{choose}
 use Rattle.rl_queue.specs.Queue.{turn_at}
 use Rattle.rl_queue.specs.QueueTurns.{turn_all}
@@ -20,7 +20,7 @@ use Rattle.rl_tree.specs.declared.view.TreeView.{TreeView}
 use Rattle.rl_tree.specs.Tree.{TheTree, is_none, path, names_at, works_for, settles_below, goes_up, gives_up, goes_down, walk, learn_by, tree_learn, at_hook, resume_by, tree_resume, entry_if}
 use Rattle.rl_tree.specs.Elements.{tree_of}
 use Rattle.rl_counter.specs.declared.view.Doing.{Doing}
-use Rattle.rl_counter.specs.declared.view.Doing.TheVariants.{Nothing, Arrive, Refused, SeeTail, Swap, Reset as ResetOff, Round, RoundTail, Inside, Depart, Put, Count, Compare, TakeOut, TakeOff}
+use Rattle.rl_counter.specs.declared.view.Doing.TheVariants.{Nothing, Arrive, Refused, SeeTail, Swap, Round, RoundTail, Inside, Put, Count, Compare, TakeOut, TakeOff}
 use Rattle.rl_counter.specs.Counter.{arrive_word, busy, counter_act, counter_turn, to}
 use Rattle.rl_rw.specs.declared.view.RwView.{RwView}
 use Rattle.rl_rw.specs.Rw.{Shared, counters_of, plan_of, from_tree, after_hook, from_counter, rw_learn}
@@ -41,18 +41,7 @@ module _ (mine : ℕ → Bool) where
   entry_still : (q : Bool) (p : Phase) (m : ℕ) → Still (entry_if q p m)
   entry_still true p m = refl
   entry_still false Idle m = refl
-  entry_still false Clear m = refl
-  entry_still false Reset m = refl
-  entry_still false (Swing g) m = refl
-  entry_still false (Link g) m = refl
-  entry_still false Wait m = refl
-  entry_still false Settle m = refl
-  entry_still false (Granted l) m = refl
-  entry_still false (Look l u) m = refl
-  entry_still false (Close l) m = refl
-  entry_still false (Await l) m = refl
-  entry_still false (Hand s l) m = refl
-  entry_still false (Above s) m = refl
+  entry_still false _ m = refl
 
   up_still : (b : Bool) (v : TreeView) (w : ℕ) (es : List Event) → Still es → Still (goes_up b v w es).events
   up_still true v w es h = h
@@ -71,15 +60,7 @@ module _ (mine : ℕ → Bool) where
   walk_still T v w (Granted l) es b h = still-append es (settles_below T v w) h (settles_still T v w)
   walk_still T v w (Above s) es b h = give_still (is_none (T.parent (path T v.leaf w))) v w s es h
   walk_still T v w Idle es b h = down_still v w es h
-  walk_still T v w Clear es b h = h
-  walk_still T v w Reset es b h = h
-  walk_still T v w (Swing g) es b h = h
-  walk_still T v w (Link g) es b h = h
-  walk_still T v w Wait es b h = h
-  walk_still T v w (Look l u) es b h = h
-  walk_still T v w (Close l) es b h = h
-  walk_still T v w (Await l) es b h = h
-  walk_still T v w (Hand s l) es b h = h
+  walk_still T v w _ es b h = h
 
   learn_still : (T : TheTree) (v : TreeView) (q : Bool) (got : ℕ) → Still (learn_by T v q got).events
   learn_still T v true got = refl
@@ -89,18 +70,7 @@ module _ (mine : ℕ → Bool) where
 
   resume_still : (T : TheTree) (v : TreeView) (p : Phase) → Still (resume_by T v p []).events
   resume_still T v Settle = settles_still T v (suc v.level)
-  resume_still T v Idle = refl
-  resume_still T v Clear = refl
-  resume_still T v Reset = refl
-  resume_still T v (Swing g) = refl
-  resume_still T v (Link g) = refl
-  resume_still T v Wait = refl
-  resume_still T v (Granted l) = refl
-  resume_still T v (Look l u) = refl
-  resume_still T v (Close l) = refl
-  resume_still T v (Await l) = refl
-  resume_still T v (Hand s l) = refl
-  resume_still T v (Above s) = refl
+  resume_still T v _ = refl
 
   tree_still : (v : RwView) (b : Bool) (u : Told TreeView) → Still u.events → Still (from_tree v b u).events
   tree_still v true u h = h
@@ -138,26 +108,21 @@ module _ (mine : ℕ → Bool) where
       Fits K g a got (from_counter K v p (counter_turn (counters_of K) p got).doing (counter_turn (counters_of K) p got).waits).events
   rw_enters K v Nothing g a got own b pl = cc
   rw_enters K v Arrive g a got own b pl = arrive_fits K v g a got own pl
-  rw_enters K v (Refused x) g a got own b pl = inl refl
   rw_enters K v (SeeTail x) g a got own b pl =
       choose (λ u. Fits K g a got (from_counter K v (SeeTail x) u.doing u.waits).events) ((got == 0) && nat_lt x (2 ^ 32)) (to Swap) (to Round) (inl refl) (inl refl)
-  rw_enters K v Swap g a got own b pl = inl refl
-  rw_enters K v (ResetOff x) g a got own b pl = inl refl
   rw_enters K v Round g a got own b pl =
       choose (λ u. Fits K g a got (from_counter K v Round u.doing u.waits).events) (nat_lt got K.readers) (to Arrive) (to (RoundTail got)) (inl refl) (inl refl)
   rw_enters K v (RoundTail x) g a got own b pl =
       choose (λ u. Fits K g a got (from_counter K v (RoundTail x) u.doing u.waits).events) ((got == 0) && nat_lt x (2 ^ 32)) (to Arrive) (record { doing = Round; waits = true }) (inl refl) (inl refl)
   rw_enters K v Inside g a got own b pl = cc
-  rw_enters K v Depart g a got own b pl = inl refl
   rw_enters K v (Put i) g a got own b pl =
       choose (λ u. Fits K g a got (from_counter K v (Put i) u.doing u.waits).events) (nat_lt (i + 1) (length (counters_of K).arrive)) (to (Put (i + 1))) (to (Count 0)) (inl refl) (inl refl)
-  rw_enters K v (Count i) g a got own b pl = inl refl
   rw_enters K v (Compare i x) g a got own b pl =
       choose (λ u. Fits K g a got (from_counter K v (Compare i x) u.doing u.waits).events) (got == x - 2 ^ 32) (if nat_lt (i + 1) (length (counters_of K).arrive) then to (Count (i + 1)) else to Nothing) (record { doing = Count i; waits = true })
       (choose (λ u. Fits K g a got (from_counter K v (Compare i x) u.doing u.waits).events) (nat_lt (i + 1) (length (counters_of K).arrive)) (to (Count (i + 1))) (to Nothing) (inl refl) (inl (hook_still K v))) (inl refl)
-  rw_enters K v (TakeOut i) g a got own b pl = inl refl
   rw_enters K v (TakeOff i x) g a got own b pl =
       choose (λ u. Fits K g a got (from_counter K v (TakeOff i x) u.doing u.waits).events) (nat_lt (i + 1) (length (counters_of K).arrive)) (to (TakeOut (i + 1))) (to Nothing) (inl refl) (inl (hook_still K v))
+  rw_enters K v _ g a got own b pl = inl refl
 
   -- each act of the lock fits
   pub rw_fits : (K : Shared) (v : RwView) (q : Bool) (g : ℕ) (a : Act) (got : ℕ) → (mine v.tree.rank ≡ true → v.counter.counter ≡ g) → busy v.counter.doing ≡ q → plan_of K v q ≡ Some a → Fits K g a got (rw_learn K v q got).events

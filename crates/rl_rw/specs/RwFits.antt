@@ -81,19 +81,7 @@ tree_fits_on K r c v t u e f =
 pub rests_at : (K : Shared) (t : TreeView) (c : ℕ) (p : Doing) → Place (groups K) p t → (plan_of K (rw_view t c p) (busy p) ≡ None) ↔ Rests (rw_standing p t)
 rests_at K t c Nothing h = tree_rests (tree_of K.rooted) t t.query h
 rests_at K t c Inside h = (λ e. tt, λ x. out_plans_not (tree_of K.rooted) t h)
-rests_at K t c Arrive h = (λ e. cc, λ x. absurd x)
-rests_at K t c (Refused y) h = (λ e. cc, λ x. absurd x)
-rests_at K t c (SeeTail y) h = (λ e. cc, λ x. absurd x)
-rests_at K t c Swap h = (λ e. cc, λ x. absurd x)
-rests_at K t c (ResetOff y) h = (λ e. cc, λ x. absurd x)
-rests_at K t c Round h = (λ e. cc, λ x. absurd x)
-rests_at K t c (RoundTail y) h = (λ e. cc, λ x. absurd x)
-rests_at K t c Depart h = (λ e. cc, λ x. absurd x)
-rests_at K t c (Put i) h = (λ e. cc, λ x. absurd x)
-rests_at K t c (Count i) h = (λ e. cc, λ x. absurd x)
-rests_at K t c (Compare i y) h = (λ e. cc, λ x. absurd x)
-rests_at K t c (TakeOut i) h = (λ e. cc, λ x. absurd x)
-rests_at K t c (TakeOff i y) h = (λ e. cc, λ x. absurd x)
+rests_at K t c _ h = (λ e. cc, λ x. absurd x)
 
 -- Where the words of the lock live, and of which class they are.
 spot_low : (K : Shared) (w : ℕ) → w < of_tree K → rw_spot K w ≡ tree_spot K.rooted w
@@ -198,17 +186,13 @@ module _ (K : Shared) (levels : ℕ) (F : TreeFacts K.rooted levels) (d : IsSoun
       let name : t.rank ≡ r = is_named K levels F d s r (rw_view t c Arrive) g has in
       choose (GoesOn r t c Arrive) (nat_lt (told a (found s a)) K.readers) (to Inside) (to (Refused (told a (found s a))))
       (record { shift = ap (λ z. event.EnterR z ∷ []) name; order = tt; few = omega arith; names = (tt, tt) }) (no_events K r standing.Asking _ false refl)
-  fits_at s r t c (Refused x) a g has pl = no_events K r standing.Asking _ false refl
   fits_at s r t c (SeeTail x) a g has pl = choose (GoesOn r t c (SeeTail x)) ((told a (found s a) == 0) && nat_lt x (2 ^ 32)) (to Swap) (to Round) (no_events K r standing.Asking _ false refl) (no_events K r standing.Asking _ false refl)
-  fits_at s r t c Swap a g has pl = no_events K r standing.Asking _ false refl
-  fits_at s r t c (ResetOff x) a g has pl = no_events K r standing.Asking _ false refl
   fits_at s r t c Round a g has pl = choose (GoesOn r t c Round) (nat_lt (told a (found s a)) K.readers) (to Arrive) (to (RoundTail (told a (found s a)))) (no_events K r standing.Asking _ false refl) (no_events K r standing.Asking _ false refl)
   fits_at s r t c (RoundTail x) a g has pl = choose (GoesOn r t c (RoundTail x)) ((told a (found s a) == 0) && nat_lt x (2 ^ 32)) (to Arrive) (record { doing = Round; waits = true }) (no_events K r standing.Asking _ false refl) (no_events K r standing.Asking _ true refl)
   fits_at s r t c Depart a g has pl =
       let out : tree_standing t ≡ standing.Out = g.place r (rw_view t c Depart) has in
       no_events K r standing.Leaving (rw_view t c Nothing) false (subst (λ z. Shift r standing.Leaving z []) (sym out) refl)
   fits_at s r t c (Put i) a g has pl = choose (GoesOn r t c (Put i)) (nat_lt (i + 1) (length (counters_of K).arrive)) (to (Put (i + 1))) (to (Count 0)) (no_events K r standing.Asking _ false refl) (no_events K r standing.Asking _ false refl)
-  fits_at s r t c (Count i) a g has pl = no_events K r standing.Asking _ false refl
   fits_at s r t c (Compare i x) a g has pl =
       let row = g.place r (rw_view t c (Compare i x)) has in
       choose (GoesOn r t c (Compare i x)) (told a (found s a) == x - 2 ^ 32) (if nat_lt (i + 1) (length (counters_of K).arrive) then to (Count (i + 1)) else to Nothing) (record { doing = Count i; waits = true })
@@ -219,3 +203,4 @@ module _ (K : Shared) (levels : ℕ) (F : TreeFacts K.rooted levels) (d : IsSoun
       let row = g.place r (rw_view t c (TakeOff i x)) has in
       choose (GoesOn r t c (TakeOff i x)) (nat_lt (i + 1) (length (counters_of K).arrive)) (to (TakeOut (i + 1))) (to Nothing) (no_events K r standing.Leaving _ false refl)
       (end_fits s r t c (TakeOff i x) standing.Leaving g has tt (stands_out t row.0 row.1))
+  fits_at s r t c _ a g has pl = no_events K r standing.Asking _ false refl

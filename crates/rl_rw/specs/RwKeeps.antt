@@ -1,6 +1,6 @@
 -- Each act keeps a state of RMA-RW good: an act of the tree, of a reader, and of a rank at the marks, the last of which lets the tree go
 -- on in the same act.
-use Rattle.std.specs.Prelude.{◌≡◌, ◌⊎◌, ℕ, ◌+◌, ◌*◌, ◌^◌, ◌<◌, ◌≤◌, ◌==◌, ◌&&◌, Bool, true, false, List, [], ◌∷◌, ◌++◌, length, nat_lt, if◌then◌else◌, slice_get, slice_set, Some, refl}
+use Rattle.std.specs.Prelude.{◌≡◌, ◌⊎◌, ◌↔◌, ℕ, ◌+◌, ◌*◌, ◌^◌, ◌<◌, ◌≤◌, ◌==◌, ◌&&◌, Bool, true, false, List, [], ◌∷◌, ◌++◌, length, nat_lt, if◌then◌else◌, slice_get, slice_set, Some, refl}
 use Rattle.std.proofs.Common.{sym, ◌∙◌, ap, subst, inl, inr, ⊎_elim, arith, length-set}
 use Rattle.std.proofs.lemmas.Bool.Decides.{nat_tests}
 use Rattle.std.proofs.lemmas.List.{append-nil, length-map}
@@ -16,7 +16,7 @@ use Rattle.rl_step.specs.declared.events.Standing.TheVariants as standing
 use Rattle.rl_step.specs.Lock.{LockState, Told, found}
 use Rattle.rl_step.specs.BatchLaws.{Batched}
 use Rattle.rl_queue.specs.declared.view.Phase.{Phase}
-use Rattle.rl_queue.specs.declared.view.Phase.TheVariants.{Idle, Clear, Reset, Swing, Link, Wait, Settle, Granted, Look, Close, Await, Hand, Above}
+use Rattle.rl_queue.specs.declared.view.Phase.TheVariants.{Settle, Granted}
 use Rattle.rl_queue.specs.Choices.{choose}
 use Rattle.rl_tree.specs.declared.view.TreeView.{TreeView}
 use Rattle.rl_tree.specs.Tree.{at_hook, tree_plan, tree_standing, entry_if}
@@ -37,14 +37,6 @@ use Rattle.rl_rw.specs.RwWords.{IsSound, group_there}
 
 -- a reader's row
 pub reader_out : (n : ℕ) (p : Doing) (t : TreeView) → IsReader p → Place n p t → tree_standing t ≡ standing.Out
-reader_out n Arrive t h x = x
-reader_out n (Refused a) t h x = x
-reader_out n (SeeTail a) t h x = x
-reader_out n Swap t h x = x
-reader_out n (ResetOff y) t h x = x
-reader_out n Round t h x = x
-reader_out n (RoundTail a) t h x = x
-reader_out n Depart t h x = x
 reader_out n Nothing t h x = absurd h
 reader_out n Inside t h x = absurd h
 reader_out n (Put i) t h x = absurd h
@@ -52,16 +44,9 @@ reader_out n (Count i) t h x = absurd h
 reader_out n (Compare i a) t h x = absurd h
 reader_out n (TakeOut i) t h x = absurd h
 reader_out n (TakeOff i y) t h x = absurd h
+reader_out n _ t h x = x
 
 pub reader_read : (p : Doing) (t : TreeView) (m : Mode) → IsReader p → Moded p t m → m ≡ mode.Read
-reader_read Arrive t m h x = x
-reader_read (Refused a) t m h x = x
-reader_read (SeeTail a) t m h x = x
-reader_read Swap t m h x = x
-reader_read (ResetOff y) t m h x = x
-reader_read Round t m h x = x
-reader_read (RoundTail a) t m h x = x
-reader_read Depart t m h x = x
 reader_read Nothing t m h x = absurd h
 reader_read Inside t m h x = absurd h
 reader_read (Put i) t m h x = absurd h
@@ -69,74 +54,29 @@ reader_read (Count i) t m h x = absurd h
 reader_read (Compare i a) t m h x = absurd h
 reader_read (TakeOut i) t m h x = absurd h
 reader_read (TakeOff i y) t m h x = absurd h
+reader_read _ t m h x = x
 
 pub reader_unmarked : (p : Doing) → IsReader p → IsMark p → ⊥
-reader_unmarked Arrive h m = m
-reader_unmarked (Refused a) h m = m
-reader_unmarked (SeeTail a) h m = m
-reader_unmarked Swap h m = m
-reader_unmarked (ResetOff y) h m = m
-reader_unmarked Round h m = m
-reader_unmarked (RoundTail a) h m = m
-reader_unmarked Depart h m = m
-reader_unmarked Nothing h m = m
-reader_unmarked Inside h m = m
 reader_unmarked (Put i) h m = h
 reader_unmarked (Count i) h m = h
 reader_unmarked (Compare i a) h m = h
 reader_unmarked (TakeOut i) h m = h
 reader_unmarked (TakeOff i y) h m = h
+reader_unmarked _ h m = m
 
 -- a rank at the marks asked to write
-pub mark_write : (p : Doing) (t : TreeView) (m : Mode) → IsMark p → Moded p t m → m ≡ mode.Write
-mark_write (Put i) t m h x = x
-mark_write (Count i) t m h x = x
-mark_write (Compare i a) t m h x = x
-mark_write (TakeOut i) t m h x = x
-mark_write (TakeOff i y) t m h x = x
-mark_write Arrive t m h x = absurd h
-mark_write (Refused a) t m h x = absurd h
-mark_write (SeeTail a) t m h x = absurd h
-mark_write Swap t m h x = absurd h
-mark_write (ResetOff y) t m h x = absurd h
-mark_write Round t m h x = absurd h
-mark_write (RoundTail a) t m h x = absurd h
-mark_write Depart t m h x = absurd h
-mark_write Nothing t m h x = absurd h
-mark_write Inside t m h x = absurd h
-
-pub write_mark : (p : Doing) (t : TreeView) (m : Mode) → IsMark p → m ≡ mode.Write → Moded p t m
-write_mark (Put i) t m h x = x
-write_mark (Count i) t m h x = x
-write_mark (Compare i a) t m h x = x
-write_mark (TakeOut i) t m h x = x
-write_mark (TakeOff i y) t m h x = x
-write_mark Arrive t m h x = absurd h
-write_mark (Refused a) t m h x = absurd h
-write_mark (SeeTail a) t m h x = absurd h
-write_mark Swap t m h x = absurd h
-write_mark (ResetOff y) t m h x = absurd h
-write_mark Round t m h x = absurd h
-write_mark (RoundTail a) t m h x = absurd h
-write_mark Depart t m h x = absurd h
-write_mark Nothing t m h x = absurd h
-write_mark Inside t m h x = absurd h
+pub mark_mode : (p : Doing) (t : TreeView) (m : Mode) → IsMark p → Moded p t m ↔ (m ≡ mode.Write)
+mark_mode (Put i) t m h = (λ x. x, λ x. x)
+mark_mode (Count i) t m h = (λ x. x, λ x. x)
+mark_mode (Compare i a) t m h = (λ x. x, λ x. x)
+mark_mode (TakeOut i) t m h = (λ x. x, λ x. x)
+mark_mode (TakeOff i y) t m h = (λ x. x, λ x. x)
+mark_mode _ t m h = absurd h
 
 -- what holds of both tasks at the hook holds of the one that is begun
 pub hooks_all : (P : Doing → Type 0) (p : Phase) → P (Put 0) → P (TakeOut 0) → P (hooks p)
 hooks_all P Settle a b = a
-hooks_all P Idle a b = b
-hooks_all P Clear a b = b
-hooks_all P Reset a b = b
-hooks_all P (Swing g) a b = b
-hooks_all P (Link g) a b = b
-hooks_all P Wait a b = b
-hooks_all P (Granted l) a b = b
-hooks_all P (Look l u) a b = b
-hooks_all P (Close l) a b = b
-hooks_all P (Await l) a b = b
-hooks_all P (Hand s l) a b = b
-hooks_all P (Above s) a b = b
+hooks_all P _ a b = b
 
 -- what the marks are when a rank begins there is what they were
 pub hook_marks : (p : Phase) (o n : Bool) (g : ℕ) → (p ≡ Settle) ⊎ IsAbove p → GateMoves true p o n → mark_by o Nothing g ≡ mark_by n (hooks p) g
@@ -191,13 +131,7 @@ reader_goes K t c (ResetOff x) got out h = (refl, out, refl, λ m. m, inl refl)
 reader_goes K t c Round got out h = choose (ReaderGoes K t c Round) (nat_lt got K.readers) (to Arrive) (to (RoundTail got)) (refl, out, refl, λ m. m, inl refl) (refl, out, refl, λ m. m, inl refl)
 reader_goes K t c (RoundTail x) got out h = choose (ReaderGoes K t c (RoundTail x)) ((got == 0) && nat_lt x (2 ^ 32)) (to Arrive) (record { doing = Round; waits = true }) (refl, out, refl, λ m. m, inl refl) (refl, out, refl, λ m. m, inl refl)
 reader_goes K t c Depart got out h = (refl, out_away t out, inl out, λ m. m, inl refl)
-reader_goes K t c Nothing got out h = absurd h
-reader_goes K t c Inside got out h = absurd h
-reader_goes K t c (Put i) got out h = absurd h
-reader_goes K t c (Count i) got out h = absurd h
-reader_goes K t c (Compare i x) got out h = absurd h
-reader_goes K t c (TakeOut i) got out h = absurd h
-reader_goes K t c (TakeOff i x) got out h = absurd h
+reader_goes K t c _ got out h = absurd h
 
 pub both_tests : (x y : ℕ) → x ≡ 0 → y < 2 ^ 32 → ((x == 0) && nat_lt y (2 ^ 32)) ≡ true
 both_tests x y e l = let k : nat_lt y (2 ^ 32) ≡ true = grind (arith, nat_tests) in ap (λ z. (z == 0) && nat_lt y (2 ^ 32)) e ∙ k
@@ -212,13 +146,7 @@ reader_lonely K ws us (ResetOff x) got h l low tail = tt
 reader_lonely K ws us Round got h l low tail = absurd l
 reader_lonely K ws us (RoundTail x) got h l low tail = absurd l
 reader_lonely K ws us Depart got h l low tail = tt
-reader_lonely K ws us Nothing got h l low tail = absurd h
-reader_lonely K ws us Inside got h l low tail = absurd h
-reader_lonely K ws us (Put i) got h l low tail = absurd h
-reader_lonely K ws us (Count i) got h l low tail = absurd h
-reader_lonely K ws us (Compare i x) got h l low tail = absurd h
-reader_lonely K ws us (TakeOut i) got h l low tail = absurd h
-reader_lonely K ws us (TakeOff i x) got h l low tail = absurd h
+reader_lonely K ws us _ got h l low tail = absurd h
 
 module _ (K : Shared) (levels : ℕ) (F : TreeFacts K.rooted levels) (d : IsSound K) where
   abbrev Good : Bool → List ℕ → List TreeView → List Event → Type 0
@@ -269,18 +197,7 @@ module _ (K : Shared) (levels : ℕ) (F : TreeFacts K.rooted levels) (d : IsSoun
   pub entered : (n : Bool) (ws : List ℕ) (vs : List TreeView) (t : List Event) (q : Bool) (p : Phase) (m : ℕ) → Good n ws vs t → Good n ws vs (t ++ entry_if q p m)
   entered n ws vs t true p m g = subst (Good n ws vs) (sym (append-nil t)) g
   entered n ws vs t false (Granted l) m g = F.beside n ws vs t (event.EnterW m) tt g
-  entered n ws vs t false Idle m g = subst (Good n ws vs) (sym (append-nil t)) g
-  entered n ws vs t false Clear m g = subst (Good n ws vs) (sym (append-nil t)) g
-  entered n ws vs t false Reset m g = subst (Good n ws vs) (sym (append-nil t)) g
-  entered n ws vs t false (Swing x) m g = subst (Good n ws vs) (sym (append-nil t)) g
-  entered n ws vs t false (Link x) m g = subst (Good n ws vs) (sym (append-nil t)) g
-  entered n ws vs t false Wait m g = subst (Good n ws vs) (sym (append-nil t)) g
-  entered n ws vs t false Settle m g = subst (Good n ws vs) (sym (append-nil t)) g
-  entered n ws vs t false (Look l u) m g = subst (Good n ws vs) (sym (append-nil t)) g
-  entered n ws vs t false (Close l) m g = subst (Good n ws vs) (sym (append-nil t)) g
-  entered n ws vs t false (Await l) m g = subst (Good n ws vs) (sym (append-nil t)) g
-  entered n ws vs t false (Hand x l) m g = subst (Good n ws vs) (sym (append-nil t)) g
-  entered n ws vs t false (Above x) m g = subst (Good n ws vs) (sym (append-nil t)) g
+  entered n ws vs t false _ m g = subst (Good n ws vs) (sym (append-nil t)) g
 
   -- An act of the tree, with what the tree says of it.
   pub acts_in : (s : LockState RwView) (r : ℕ) (t : TreeView) (c : ℕ) (a : Act) (g : RwGood K levels s) → slice_get s.views r ≡ Some (rw_view t c Nothing) → tree_plan (tree_of K.rooted) t ≡ Some a → PlansAct K.rooted levels g.inside s.words (trees s.views) s.trace r t a

@@ -29,7 +29,7 @@ use Rattle.rl_tree.specs.TreeGood.{GoodAt}
 use Rattle.rl_tree.specs.TreeFacts.{TreeFacts, learnt_in}
 use Rattle.rl_tree.specs.TreeEvents.{queue_is}
 use Rattle.rl_counter.specs.declared.view.Doing.{Doing}
-use Rattle.rl_counter.specs.declared.view.Doing.TheVariants.{Nothing, Arrive, Refused, SeeTail, Swap, Reset as ResetOff, Round, RoundTail, Inside, Depart, Put, Count, Compare, TakeOut, TakeOff}
+use Rattle.rl_counter.specs.declared.view.Doing.TheVariants.{Nothing, Arrive, Refused, SeeTail, Swap, Round, RoundTail, Inside, Put, Count, Compare, TakeOut, TakeOff}
 use Rattle.rl_counter.specs.CounterGood.{GroupGood, IsMark, Loaded, Mark, group_sum, if_one, inside_of, mark_by, refused_of, taken_of, Clear as ClearMark}
 use Rattle.rl_counter.specs.Counter.{Turn, arrive_word, busy, counter_act, counter_turn, depart_word, to}
 use Rattle.rl_counter.specs.CounterLaws.{begins, tells_what_it_finds}
@@ -67,22 +67,16 @@ Goes K v p u = (from_counter K v p u.doing u.waits).waits ≡ false
 counter_goes : (K : Shared) (v : RwView) (p : Doing) (got : ℕ) → (p ≡ Round → ⊥) → ((x : ℕ) → p ≡ RoundTail x → ⊥) → ((i f : ℕ) → p ≡ Compare i f → (got == f - 2 ^ 32) ≡ true) →
     (from_counter K v p (counter_turn (counters_of K) p got).doing (counter_turn (counters_of K) p got).waits).waits ≡ false
 counter_goes K v Nothing got a b c = resume_goes (tree_of K.rooted) v.tree
-counter_goes K v Inside got a b c = refl
 counter_goes K v Arrive got a b c = choose (Goes K v Arrive) (nat_lt got K.readers) (to Inside) (to (Refused got)) refl refl
-counter_goes K v (Refused x) got a b c = refl
 counter_goes K v (SeeTail x) got a b c = choose (Goes K v (SeeTail x)) ((got == 0) && nat_lt x (2 ^ 32)) (to Swap) (to Round) refl refl
-counter_goes K v Swap got a b c = refl
-counter_goes K v (ResetOff x) got a b c = refl
 counter_goes K v Round got a b c = absurd (a refl)
 counter_goes K v (RoundTail x) got a b c = absurd (b x refl)
-counter_goes K v Depart got a b c = refl
 counter_goes K v (Put i) got a b c = choose (Goes K v (Put i)) (nat_lt (i + 1) (length (counters_of K).arrive)) (to (Put (i + 1))) (to (Count 0)) refl refl
-counter_goes K v (Count i) got a b c = refl
 counter_goes K v (Compare i f) got a b c =
     subst (λ z. Goes K v (Compare i f) (if z then (if nat_lt (i + 1) (length (counters_of K).arrive) then to (Count (i + 1)) else to Nothing) else record { doing = Count i; waits = true })) (sym (c i f refl))
     (choose (Goes K v (Compare i f)) (nat_lt (i + 1) (length (counters_of K).arrive)) (to (Count (i + 1))) (to Nothing) refl (resume_goes (tree_of K.rooted) v.tree))
-counter_goes K v (TakeOut i) got a b c = refl
 counter_goes K v (TakeOff i x) got a b c = choose (Goes K v (TakeOff i x)) (nat_lt (i + 1) (length (counters_of K).arrive)) (to (TakeOut (i + 1))) (to Nothing) refl (resume_goes (tree_of K.rooted) v.tree)
+counter_goes K v _ got a b c = refl
 
 module _ (K : Shared) (levels : ℕ) (F : TreeFacts K.rooted levels) (d : IsSound K) where
   abbrev Good : Bool → List ℕ → List TreeView → List Event → Type 0
@@ -152,36 +146,12 @@ module _ (K : Shared) (levels : ℕ) (F : TreeFacts K.rooted levels) (d : IsSoun
       let k = F.moves_on g.inside s.words (trees s.views) s.trace r t a one (acts_in K levels F d s r t c a g has pl) in
       by_bool (λ b. (from_tree (rw_view t c Nothing) b U).waits ≡ false) (at_hook U.view) (λ e. k) (λ e. k)
   moves_at s r t c Inside a one g has pl = let no : None ≡ Some a = sym (out_plans_not (tree_of K.rooted) t (g.place r (rw_view t c Inside) has)) ∙ pl in cc
-  moves_at s r t c Arrive a one g has pl = busy_goes s r t c Arrive a one g has pl
-  moves_at s r t c (Refused x) a one g has pl = busy_goes s r t c (Refused x) a one g has pl
-  moves_at s r t c (SeeTail x) a one g has pl = busy_goes s r t c (SeeTail x) a one g has pl
-  moves_at s r t c Swap a one g has pl = busy_goes s r t c Swap a one g has pl
-  moves_at s r t c (ResetOff x) a one g has pl = busy_goes s r t c (ResetOff x) a one g has pl
-  moves_at s r t c Round a one g has pl = busy_goes s r t c Round a one g has pl
-  moves_at s r t c (RoundTail x) a one g has pl = busy_goes s r t c (RoundTail x) a one g has pl
-  moves_at s r t c Depart a one g has pl = busy_goes s r t c Depart a one g has pl
-  moves_at s r t c (Put i) a one g has pl = busy_goes s r t c (Put i) a one g has pl
-  moves_at s r t c (Count i) a one g has pl = busy_goes s r t c (Count i) a one g has pl
-  moves_at s r t c (Compare i f) a one g has pl = busy_goes s r t c (Compare i f) a one g has pl
-  moves_at s r t c (TakeOut i) a one g has pl = busy_goes s r t c (TakeOut i) a one g has pl
-  moves_at s r t c (TakeOff i x) a one g has pl = busy_goes s r t c (TakeOff i x) a one g has pl
+  moves_at s r t c p a one g has pl = busy_goes s r t c p a one g has pl
 
   finds_at : (s : LockState RwView) (r : ℕ) (t : TreeView) (c : ℕ) (p : Doing) (a : Act) → ranks_in K.rooted ≡ 1 → RwGood K levels s → slice_get s.views r ≡ Some (rw_view t c p) → plan_of K (rw_view t c p) (busy p) ≡ Some a → FindsOld a (found s a)
   finds_at s r t c Nothing a one g has pl = F.finds g.inside s.words (trees s.views) s.trace r t a one (acts_in K levels F d s r t c a g has pl)
   finds_at s r t c Inside a one g has pl = let no : None ≡ Some a = sym (out_plans_not (tree_of K.rooted) t (g.place r (rw_view t c Inside) has)) ∙ pl in cc
-  finds_at s r t c Arrive a one g has pl = (tells_what_it_finds (counters_of K) c Arrive a (found s a) pl).0
-  finds_at s r t c (Refused x) a one g has pl = (tells_what_it_finds (counters_of K) c (Refused x) a (found s a) pl).0
-  finds_at s r t c (SeeTail x) a one g has pl = (tells_what_it_finds (counters_of K) c (SeeTail x) a (found s a) pl).0
-  finds_at s r t c Swap a one g has pl = (tells_what_it_finds (counters_of K) c Swap a (found s a) pl).0
-  finds_at s r t c (ResetOff x) a one g has pl = (tells_what_it_finds (counters_of K) c (ResetOff x) a (found s a) pl).0
-  finds_at s r t c Round a one g has pl = (tells_what_it_finds (counters_of K) c Round a (found s a) pl).0
-  finds_at s r t c (RoundTail x) a one g has pl = (tells_what_it_finds (counters_of K) c (RoundTail x) a (found s a) pl).0
-  finds_at s r t c Depart a one g has pl = (tells_what_it_finds (counters_of K) c Depart a (found s a) pl).0
-  finds_at s r t c (Put i) a one g has pl = (tells_what_it_finds (counters_of K) c (Put i) a (found s a) pl).0
-  finds_at s r t c (Count i) a one g has pl = (tells_what_it_finds (counters_of K) c (Count i) a (found s a) pl).0
-  finds_at s r t c (Compare i f) a one g has pl = (tells_what_it_finds (counters_of K) c (Compare i f) a (found s a) pl).0
-  finds_at s r t c (TakeOut i) a one g has pl = (tells_what_it_finds (counters_of K) c (TakeOut i) a (found s a) pl).0
-  finds_at s r t c (TakeOff i x) a one g has pl = (tells_what_it_finds (counters_of K) c (TakeOff i x) a (found s a) pl).0
+  finds_at s r t c p a one g has pl = (tells_what_it_finds (counters_of K) c p a (found s a) pl).0
 
   ask_stands : (v : RwView) (m : Mode) → rw_standing (asks_for v m).counter.doing (asks_for v m).tree ≡ standing.Asking
   ask_stands v mode.Read = refl
@@ -203,25 +173,18 @@ module _ (K : Shared) (levels : ℕ) (F : TreeFacts K.rooted levels) (d : IsSoun
   hook_again t c p a e = let bad : false ≡ true = sym (resume_goes (tree_of K.rooted) t) ∙ e in cc
 
   counter_again : (t : TreeView) (c : ℕ) (p : Doing) (a : Act) (got : ℕ) → busy p ≡ true → counter_act (counters_of K) c p ≡ Some a → Again t c p a (counter_turn (counters_of K) p got)
-  counter_again t c Nothing a got b pl e = cc
-  counter_again t c Inside a got b pl e = cc
   counter_again t c Arrive a got b pl e = choose (Again t c Arrive a) (nat_lt got K.readers) (to Inside) (to (Refused got)) (λ z. cc) (λ z. cc) e
-  counter_again t c (Refused x) a got b pl e = cc
   counter_again t c (SeeTail x) a got b pl e = choose (Again t c (SeeTail x) a) ((got == 0) && nat_lt x (2 ^ 32)) (to Swap) (to Round) (λ z. cc) (λ z. cc) e
-  counter_again t c Swap a got b pl e = cc
-  counter_again t c (ResetOff x) a got b pl e = cc
   counter_again t c Round a got b pl e = choose (Again t c Round a) (nat_lt got K.readers) (to Arrive) (to (RoundTail got)) (λ z. cc) (λ z. cc) e
   counter_again t c (RoundTail x) a got b pl e = choose (Again t c (RoundTail x) a) ((got == 0) && nat_lt x (2 ^ 32)) (to Arrive) (record { doing = Round; waits = true }) (λ z. cc) (λ z. (subst IsLoad (same_Some _ _ pl) tt, tt)) e
-  counter_again t c Depart a got b pl e = cc
   counter_again t c (Put i) a got b pl e = choose (Again t c (Put i) a) (nat_lt (i + 1) (length (counters_of K).arrive)) (to (Put (i + 1))) (to (Count 0)) (λ z. cc) (λ z. cc) e
-  counter_again t c (Count i) a got b pl e = cc
   counter_again t c (Compare i f) a got b pl e =
       choose (Again t c (Compare i f) a) (got == f - 2 ^ 32) (if nat_lt (i + 1) (length (counters_of K).arrive) then to (Count (i + 1)) else to Nothing) (record { doing = Count i; waits = true })
       (choose (Again t c (Compare i f) a) (nat_lt (i + 1) (length (counters_of K).arrive)) (to (Count (i + 1))) (to Nothing) (λ z. cc) (λ z. absurd (hook_again t c (Compare i f) a z)))
       (λ z. (subst IsLoad (same_Some _ _ pl) tt, tt)) e
-  counter_again t c (TakeOut i) a got b pl e = cc
   counter_again t c (TakeOff i x) a got b pl e =
       choose (Again t c (TakeOff i x) a) (nat_lt (i + 1) (length (counters_of K).arrive)) (to (TakeOut (i + 1))) (to Nothing) (λ z. cc) (λ z. absurd (hook_again t c (TakeOff i x) a z)) e
+  counter_again t c _ a got b pl e = cc
 
   waits_at : (t : TreeView) (c : ℕ) (p : Doing) (a : Act) (got : ℕ) (q : Bool) → busy p ≡ q → plan_of K (rw_view t c p) q ≡ Some a → (rw_learn K (rw_view t c p) q got).waits ≡ true →
       IsLoad a × PlansLoad (plan_of K (rw_learn K (rw_view t c p) q got).view (busy (rw_learn K (rw_view t c p) q got).view.counter.doing))

@@ -13,7 +13,7 @@ use Rattle.rl_tree.specs.Elements.{tree_of}
 use Rattle.rl_tree.specs.TreeGood.{GoodAt}
 use Rattle.rl_tree.specs.TreeFacts.{TreeFacts, opens}
 use Rattle.rl_counter.specs.declared.view.Doing.{Doing}
-use Rattle.rl_counter.specs.declared.view.Doing.TheVariants.{Nothing, Arrive, Refused, SeeTail, Swap, Reset as ResetOff, Round, RoundTail, Inside, Depart, Put, Count, Compare, TakeOut, TakeOff}
+use Rattle.rl_counter.specs.declared.view.Doing.TheVariants.{Nothing, Inside, Put, Count, Compare, TakeOut, TakeOff}
 use Rattle.rl_counter.specs.CounterKeeps.{by_less}
 use Rattle.rl_counter.specs.CounterMarks.{put_keeps, count_keeps, compare_keeps, take_keeps, off_keeps}
 use Rattle.rl_counter.specs.CounterGood.{AreCounted, GroupGood, IsMark, mark_by}
@@ -114,14 +114,6 @@ module _ (K : Shared) (levels : ℕ) (F : TreeFacts K.rooted levels) (d : IsSoun
   pub act_keeps_at : (s : LockState RwView) (r : ℕ) (t : TreeView) (c : ℕ) (p : Doing) (a : Act) → RwGood K levels s → slice_get s.views r ≡ Some (rw_view t c p) → plan_of K (rw_view t c p) (busy p) ≡ Some a → RwGood K levels (acted (rw_table K) s r (rw_view t c p) a)
   act_keeps_at s r t c Nothing a g has pl = tree_keeps K levels F d s r t c a g has pl
   act_keeps_at s r t c Inside a g has pl = let no : None ≡ Some a = sym (out_plans_not (tree_of K.rooted) t (g.place r (rw_view t c Inside) has)) ∙ pl in cc
-  act_keeps_at s r t c Arrive a g has pl = reads_keep K levels F d s r t c Arrive a g has tt pl (batched s r t c Arrive a g has refl pl)
-  act_keeps_at s r t c (Refused x) a g has pl = reads_keep K levels F d s r t c (Refused x) a g has tt pl (batched s r t c (Refused x) a g has refl pl)
-  act_keeps_at s r t c (SeeTail x) a g has pl = reads_keep K levels F d s r t c (SeeTail x) a g has tt pl (batched s r t c (SeeTail x) a g has refl pl)
-  act_keeps_at s r t c Swap a g has pl = reads_keep K levels F d s r t c Swap a g has tt pl (batched s r t c Swap a g has refl pl)
-  act_keeps_at s r t c (ResetOff x) a g has pl = reads_keep K levels F d s r t c (ResetOff x) a g has tt pl (batched s r t c (ResetOff x) a g has refl pl)
-  act_keeps_at s r t c Round a g has pl = reads_keep K levels F d s r t c Round a g has tt pl (batched s r t c Round a g has refl pl)
-  act_keeps_at s r t c (RoundTail x) a g has pl = reads_keep K levels F d s r t c (RoundTail x) a g has tt pl (batched s r t c (RoundTail x) a g has refl pl)
-  act_keeps_at s r t c Depart a g has pl = reads_keep K levels F d s r t c Depart a g has tt pl (batched s r t c Depart a g has refl pl)
   act_keeps_at s r t c (Put i) a g has pl =
       subst (λ z. AllBatched K (after s r z (rw_learn K (rw_view t c (Put i)) true (told z (found s z)))) → RwGood K levels (acted (rw_table K) s r (rw_view t c (Put i)) z)) (same_Some _ _ pl) (puts s r t c i g has) (batched s r t c (Put i) a g has refl pl)
   act_keeps_at s r t c (Count i) a g has pl =
@@ -132,3 +124,4 @@ module _ (K : Shared) (levels : ℕ) (F : TreeFacts K.rooted levels) (d : IsSoun
       subst (λ z. AllBatched K (after s r z (rw_learn K (rw_view t c (TakeOut i)) true (told z (found s z)))) → RwGood K levels (acted (rw_table K) s r (rw_view t c (TakeOut i)) z)) (same_Some _ _ pl) (takes_out s r t c i g has) (batched s r t c (TakeOut i) a g has refl pl)
   act_keeps_at s r t c (TakeOff i x) a g has pl =
       subst (λ z. AllBatched K (after s r z (rw_learn K (rw_view t c (TakeOff i x)) true (told z (found s z)))) → RwGood K levels (acted (rw_table K) s r (rw_view t c (TakeOff i x)) z)) (same_Some _ _ pl) (takes_off s r t c i x g has) (batched s r t c (TakeOff i x) a g has refl pl)
+  act_keeps_at s r t c p a g has pl = reads_keep K levels F d s r t c p a g has tt pl (batched s r t c p a g has refl pl)

@@ -30,7 +30,7 @@ use Rattle.rl_rw.specs.Rw.{Shared, groups, of_tree, counters_of, rw_view, after_
 use Rattle.rl_rw.specs.RwGood.{trees, doings, Place, Moded, Lonely, RwGood}
 use Rattle.rl_rw.specs.RwRows.{marks_hook, mark_free, hooked_same, hooked_at, hooked_off, stays}
 use Rattle.rl_rw.specs.RwWords.{IsSound, group_there, arrive_is, depart_is, are_sound, of_group}
-use Rattle.rl_rw.specs.RwKeeps.{reader_out, reader_read, reader_unmarked, mark_write, write_mark, after, AllCounters, AllBatched, QuietEvents, reader_goes, reader_lonely, as_tree, as_doing, all_trees, all_doings, is_there, tree_long, away_now, entered}
+use Rattle.rl_rw.specs.RwKeeps.{reader_out, reader_read, reader_unmarked, mark_mode, after, AllCounters, AllBatched, QuietEvents, reader_goes, reader_lonely, as_tree, as_doing, all_trees, all_doings, is_there, tree_long, away_now, entered}
 
 module _ (K : Shared) (levels : ℕ) (F : TreeFacts K.rooted levels) (d : IsSound K) where
   abbrev Good : Bool → List ℕ → List TreeView → List Event → Type 0
@@ -133,7 +133,7 @@ module _ (K : Shared) (levels : ℕ) (F : TreeFacts K.rooted levels) (d : IsSoun
       let hook : at_hook t ≡ true = marks_hook (groups K) p t mp (g.place r v has) in
       let same_tree : slice_set (trees s.views) r t ≡ trees s.views = set_same_get (trees s.views) r t (as_tree K levels F d s r v has) in
       stays K levels s (after s r a (record { view = rw_view t c q; events = []; waits = w })) r v x g has (length-set s.words (word_of a) (written a (found s a))) refl refl refl row
-      (λ m e. write_mark q t m mq (mark_write p t m mp (g.moded r v m has e))) (λ k ne. refl)
+      (λ m e. (mark_mode q t m mq).1 ((mark_mode p t m mp).0 (g.moded r v m has e))) (λ k ne. refl)
       g.inside (subst (λ z. Good g.inside (there s.words a) z (s.trace ++ [])) (sym same_tree)
       (subst (Good g.inside (there s.words a) (trees s.views)) (sym (append-nil s.trace)) (F.beyond g.inside s.words (trees s.views) s.trace (word_of a) (written a (found s a)) behind g.tree)))
       q (hooked_at s.views r v x has mq (away_now K levels F d s r v g has hook))
@@ -153,7 +153,7 @@ module _ (K : Shared) (levels : ℕ) (F : TreeFacts K.rooted levels) (d : IsSoun
       let went = F.resumes g.inside (there s.words a) (trees s.views) s.trace r t
       (record { long = long; all = all_trees K levels F d s g; is_good = F.beyond g.inside s.words (trees s.views) s.trace (word_of a) (written a (found s a)) behind g.tree; has = as_tree K levels F d s r v has }) hook in
       stays K levels s (after s r a (after_hook K (rw_view t c p))) r v x g has (length-set s.words (word_of a) (written a (found s a))) refl refl refl (F.unhooks t hook)
-      (λ m e. inr (mark_write p t m mp (g.moded r v m has e))) (λ k ne. refl)
+      (λ m e. inr ((mark_mode p t m mp).0 (g.moded r v m has e))) (λ k ne. refl)
       o (subst (λ z. Good z (there s.words a) (slice_set (trees s.views) r R.view) (s.trace ++ (R.events ++ entry_if R.view.query R.view.phase R.view.rank))) opened
       (subst (Good (opens t.phase) (there s.words a) (slice_set (trees s.views) r R.view)) (append_assoc s.trace R.events (entry_if R.view.query R.view.phase R.view.rank))
       (entered K levels F d (opens t.phase) (there s.words a) (slice_set (trees s.views) r R.view) (s.trace ++ R.events) R.view.query R.view.phase R.view.rank went)))

@@ -9,15 +9,16 @@ use Rattle.rl_step.specs.declared.events.Standing.TheVariants as standing
 use Rattle.rl_step.specs.Lock.{LockState}
 use Rattle.rl_step.specs.BatchLaws.{Batched}
 use Rattle.rl_queue.specs.declared.view.Phase.{Phase}
-use Rattle.rl_queue.specs.declared.view.Phase.TheVariants.{Idle, Clear, Reset, Swing, Link, Wait, Settle, Granted, Look, Close, Await, Hand, Above}
+use Rattle.rl_queue.specs.declared.view.Phase.TheVariants.{Settle}
 use Rattle.rl_queue.specs.Queue.{plan_at}
+use Rattle.rl_queue.specs.RankViewLaws.{each_set}
 use Rattle.rl_tree.specs.declared.view.TreeView.{TreeView}
 use Rattle.rl_tree.specs.Tree.{TheTree, names_at, works_for, tree_plan, plan_by, hook_by, at_hook, resume_by, tree_resume, tree_standing}
 use Rattle.rl_tree.specs.Elements.{ranks_in}
 use Rattle.rl_tree.specs.TreeGood.{GoodAt}
 use Rattle.rl_tree.specs.TreeStandings.{IsAbove, above_is, hook_cases, out_is}
 use Rattle.rl_counter.specs.declared.view.Doing.{Doing}
-use Rattle.rl_counter.specs.declared.view.Doing.TheVariants.{Nothing, Arrive, Refused, SeeTail, Swap, Reset as ResetOff, Round, RoundTail, Inside, Depart, Put, Count, Compare, TakeOut, TakeOff}
+use Rattle.rl_counter.specs.declared.view.Doing.TheVariants.{Nothing, Put, Count, Compare, TakeOut, TakeOff}
 use Rattle.rl_counter.specs.CounterGood.{GroupGood, IsMark, mark_by}
 use Rattle.rl_rw.specs.declared.view.RwView.{RwView}
 use Rattle.rl_rw.specs.Rw.{Shared, groups, of_tree, counters_of, hooks, mine_of}
@@ -36,16 +37,7 @@ marks_hook n (Count i) t m h = settle_at t h.0 h.1
 marks_hook n (Compare i a) t m h = settle_at t h.0 h.1
 marks_hook n (TakeOut i) t m h = above_at t h.0 h.1
 marks_hook n (TakeOff i x) t m h = above_at t h.0 h.1
-marks_hook n Nothing t m h = absurd m
-marks_hook n Arrive t m h = absurd m
-marks_hook n (Refused a) t m h = absurd m
-marks_hook n (SeeTail a) t m h = absurd m
-marks_hook n Swap t m h = absurd m
-marks_hook n (ResetOff x) t m h = absurd m
-marks_hook n Round t m h = absurd m
-marks_hook n (RoundTail a) t m h = absurd m
-marks_hook n Inside t m h = absurd m
-marks_hook n Depart t m h = absurd m
+marks_hook n _ t m h = absurd m
 
 -- who comes to the hook begins at the marks
 pub hook_place : (n : ℕ) (t : TreeView) → 0 < n → at_hook t ≡ true → Place n (hooks t.phase) t × IsMark (hooks t.phase)
@@ -60,18 +52,7 @@ pub resume_goes : (T : TheTree) (v : TreeView) → (tree_resume T v).waits ≡ f
 resume_goes T v = by v.phase where
   by : (p : Phase) → (resume_by T v p []).waits ≡ false
   by Settle = refl
-  by (Above s) = refl
-  by Idle = refl
-  by Clear = refl
-  by Reset = refl
-  by (Swing g) = refl
-  by (Link g) = refl
-  by Wait = refl
-  by (Granted l) = refl
-  by (Look l u) = refl
-  by (Close l) = refl
-  by (Await l) = refl
-  by (Hand s l) = refl
+  by _ = refl
 
 -- one that is out of the tree is away from the hook, and plans nothing there
 pub out_away : (t : TreeView) → tree_standing t ≡ standing.Out → at_hook t ≡ false
@@ -87,16 +68,7 @@ mark_free o n (Count i) g m = refl
 mark_free o n (Compare i a) g m = refl
 mark_free o n (TakeOut i) g m = refl
 mark_free o n (TakeOff i x) g m = refl
-mark_free o n Nothing g m = absurd m
-mark_free o n Arrive g m = absurd m
-mark_free o n (Refused a) g m = absurd m
-mark_free o n (SeeTail a) g m = absurd m
-mark_free o n Swap g m = absurd m
-mark_free o n (ResetOff x) g m = absurd m
-mark_free o n Round g m = absurd m
-mark_free o n (RoundTail a) g m = absurd m
-mark_free o n Inside g m = absurd m
-mark_free o n Depart g m = absurd m
+mark_free o n _ g m = absurd m
 
 -- Who is at the marks, where rank r's view changes: nobody else's doing changes.
 abbrev pub OthersAway : List RwView → ℕ → Type 0
@@ -138,8 +110,6 @@ module _ (K : Shared) (levels : ℕ) where
       ((g : ℕ) → g < groups K → GroupGood (counters_of K) (mine_of K g) g u.words (slice_set (doings s.views) r w.counter.doing) (mark_by o h g)) →
       ((g : ℕ) → g < groups K → Batched (mine_of K g) (of_tree K + 2 * g) K.readers u.words u.deeds) → (ranks_in K.rooted ≡ 1 → Lonely K u.words w.counter.doing) → RwGood K levels u
   stays s u r v w g has lw ev lm own place moded modes o tree h hooked counters batches lonely =
-      let cases : (i : ℕ) (x : RwView) → slice_get u.views i ≡ Some x → ((i ≡ r) × (x ≡ w)) ⊎ ((i ≢ r) × (slice_get s.views i ≡ Some x)) =
-      λ i x e. get_set_cases s.views r i w x (subst (λ vs. slice_get vs i ≡ Some x) ev e) in
       record {
         all_words = lw ∙ g.all_words;
         all_views = ap length ev ∙ length-set s.views r w ∙ g.all_views;
@@ -149,10 +119,10 @@ module _ (K : Shared) (levels : ℕ) where
         hook = h;
         hooked = subst (λ z. Hooked z h) (sym ev) hooked;
         counters = λ i lt. subst (λ z. GroupGood (counters_of K) (mine_of K i) i u.words z (mark_by o h i)) (sym (ap (λ z. doings z) ev ∙ map_set (λ x. x.counter.doing) s.views r w)) (counters i lt);
-        own = λ i x e. ⊎_elim (λ p. ap (λ z. z.counter.counter) p.1 ∙ own ∙ g.own r v has ∙ ap (λ z. z / K.group) (sym p.0)) (λ p. g.own i x p.1) (cases i x e);
-        place = λ i x e. ⊎_elim (λ p. subst (λ z. Place (groups K) z.counter.doing z.tree) (sym p.1) place) (λ p. g.place i x p.1) (cases i x e);
-        moded = λ i x m e f. ⊎_elim (λ p. subst (λ z. Moded z.counter.doing z.tree m) (sym p.1) (moded m (subst (λ z. slice_get u.modes z ≡ Some m) p.0 f))) (λ p. g.moded i x m p.1 (sym (modes i p.0) ∙ f)) (cases i x e);
+        own = each_set (λ i x. x.counter.counter ≡ i / K.group) s.views u.views r w ev (own ∙ g.own r v has) (λ i x ne e. g.own i x e);
+        place = each_set (λ i x. Place (groups K) x.counter.doing x.tree) s.views u.views r w ev place (λ i x ne e. g.place i x e);
+        moded = λ i x m e f. each_set (λ i x. slice_get u.modes i ≡ Some m → Moded x.counter.doing x.tree m) s.views u.views r w ev (moded m) (λ i x ne e f. g.moded i x m e (sym (modes i ne) ∙ f)) i x e f;
         batches = batches;
-        lonely = λ one i x e. ⊎_elim (λ p. subst (λ z. Lonely K u.words z.counter.doing) (sym p.1) (lonely one))
-            (λ p. let a = slice_get_within s.views i x p.1 in let b = slice_get_within s.views r v has in let c = g.all_views in absurd (p.0 (omega arith))) (cases i x e);
+        lonely = λ one. each_set (λ i x. Lonely K u.words x.counter.doing) s.views u.views r w ev (lonely one)
+            (λ i x ne e. let a = slice_get_within s.views i x e in let b = slice_get_within s.views r v has in let c = g.all_views in absurd (ne (omega arith)));
       }

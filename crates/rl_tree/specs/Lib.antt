@@ -13,7 +13,6 @@ pub mod TreeKeeps
 pub mod TreeActs
 pub mod TreeParts
 pub mod TreeStays
-pub mod TreePassed
 pub mod TreeOnward
 pub mod TreeCalls
 pub mod TreeHook
@@ -30,3 +29,4 @@ pub mod TreeRest
 pub mod TreeFits
 pub mod TreeLaws
 pub mod Tower
+pub mod FourRanks

@@ -10,14 +10,14 @@ use Rattle.rl_step.specs.Queues.{tenures, ends, count}
 use Rattle.rl_step.specs.QueueLemmas.{tenures-append}
 use Rattle.rl_queue.specs.Choices.{same_test, other_test, lt_test}
 use Rattle.rl_queue.specs.declared.view.Phase.{Phase}
-use Rattle.rl_queue.specs.declared.view.Phase.TheVariants.{Idle, Clear, Reset, Swing, Link, Wait, Settle, Granted, Look, Close, Await, Hand, Above}
+use Rattle.rl_queue.specs.declared.view.Phase.TheVariants.{Idle, Clear, Granted, Look, Above}
 use Rattle.rl_queue.specs.Queue.{status_word}
 use Rattle.rl_queue.specs.Lane.{lane_of, told_left}
 use Rattle.rl_queue.specs.TraceLaws.{Apart}
 use Rattle.rl_queue.specs.QueueLaws.{QueueGood, Moves}
 use Rattle.rl_queue.specs.QueueMoves.{join_keeps, leave_keeps, leave_keeps_quietly, beside_keeps}
 use Rattle.rl_queue.specs.QueueFits.{holder_told}
-use Rattle.rl_queue.specs.QueueHeads.{Head, head_in, head_first, head_kept}
+use Rattle.rl_queue.specs.QueueHeads.{Head, head_in, head_first, head_kept, unlisted}
 use Rattle.rl_tree.specs.declared.view.TreeView.{TreeView}
 use Rattle.rl_tree.specs.Tree.{has_above, path, works_for, behind_at, at_level}
 use Rattle.rl_tree.specs.declared.rooted.Rooted.{Rooted}
@@ -25,27 +25,16 @@ use Rattle.rl_tree.specs.Elements.{how_many, ranks_in, leaf_of, is_node, is_in, 
 use Rattle.rl_step.specs.LockQueues.{is_at}
 use Rattle.rl_tree.specs.TreeGood.{way_of, below_by, Releasing, gate_of, granted_in, Matches, Spent, Tells, IsGrantedAt, Shaped, InQueue, IsGoodBy, TreeGood}
 use Rattle.rl_tree.specs.TreePaths.{put, put_here, put_away, put_moves, AllGood, FirstBelow}
-use Rattle.rl_tree.specs.TreeClimb.{el_apart}
+use Rattle.rl_tree.specs.TreeClimb.{el_apart, else_zero}
 use Rattle.rl_tree.specs.TreeKeeps.{OthersTell, first_below}
-use Rattle.rl_tree.specs.TreeParts.{unlisted, Gated, AllSpent, Tenured, assembles, all_others, others_put, spent_put, head_put, good_put, is_child}
+use Rattle.rl_tree.specs.TreeParts.{Gated, AllSpent, Tenured, assembles, all_others, others_put, spent_put, head_put, good_put, is_child}
 use Rattle.rl_tree.specs.TreeOnward.{idle_unlisted, spent_clear}
 use Rattle.rl_tree.specs.TreeShape.{IsTreed}
 
 -- who has its queue has so many passes left
 pub granted_is : (p : Phase) → IsGrantedAt p → (left : ℕ) × (p ≡ Granted left)
-granted_is Idle h = absurd h
-granted_is Clear h = absurd h
-granted_is Reset h = absurd h
-granted_is (Swing a) h = absurd h
-granted_is (Link a) h = absurd h
-granted_is Wait h = absurd h
-granted_is Settle h = absurd h
 granted_is (Granted a) h = (a, refl)
-granted_is (Look a b) h = absurd h
-granted_is (Close a) h = absurd h
-granted_is (Await a) h = absurd h
-granted_is (Hand a b) h = absurd h
-granted_is (Above a) h = absurd h
+granted_is _ h = absurd h
 
 spent_look : (b : Bool) (left : ℕ) → Spent b (Look left b)
 spent_look true left = refl
@@ -56,10 +45,6 @@ no_count n b e = let k : count b ≡ 0 = ap count e in omega arith
 
 one_count : (n : ℕ) (b : Bool) → b ≡ true → n + count b ≡ n + 1
 one_count n b e = let k : count b ≡ 1 = ap count e in omega arith
-
-pub else_zero : (b : Bool) (c : ℕ) → c ≡ 0 → (if b then 0 else c) ≡ 0
-else_zero true c e = refl
-else_zero false c e = e
 
 then_zero : (b : Bool) (c : ℕ) → b ≡ true → (if b then 0 else c) ≡ 0
 then_zero true c e = refl

@@ -10,7 +10,7 @@ use Rattle.rl_step.specs.Queues.{tenures, count}
 use Rattle.rl_step.specs.QueueLemmas.{tenures-append}
 use Rattle.rl_queue.specs.Choices.{same_test, other_test}
 use Rattle.rl_queue.specs.declared.view.Phase.{Phase}
-use Rattle.rl_queue.specs.declared.view.Phase.TheVariants.{Idle, Clear, Reset, Swing, Link, Wait, Settle, Granted, Look, Close, Await, Hand, Above}
+use Rattle.rl_queue.specs.declared.view.Phase.TheVariants.{Settle, Granted}
 use Rattle.rl_queue.specs.Queue.{status_word, settled_at}
 use Rattle.rl_queue.specs.Lane.{Lane, lane_of, Has}
 use Rattle.rl_queue.specs.LaneLaws.{IsFirst, is_first}
@@ -30,6 +30,15 @@ use Rattle.rl_tree.specs.TreeShape.{IsTreed}
 pub heads_same : (L M : Lane) (l : List ℕ) → ((x : ℕ) → M.phase x ≡ L.phase x) → ((x : ℕ) → Has x l → M.status x ≡ L.status x) → head_in M l ≡ head_in L l
 heads_same L M [] p s = refl
 heads_same L M (h ∷ r) p s = head_at M h r (L.phase h) (L.status h) (p h) (s h (inl refl))
+
+-- what is counted for an element and not for a node
+pub else_zero : (b : Bool) (c : ℕ) → c ≡ 0 → (if b then 0 else c) ≡ 0
+else_zero true c e = refl
+else_zero false c e = e
+
+pub else_parts : (b : Bool) (y z c : ℕ) → y ≡ 1 → z ≡ 0 → c ≡ 1 → (if b then 0 else y) ≡ (if b then 0 else z) + (if b then 0 else c)
+else_parts true y z c a e f = refl
+else_parts false y z c a e f = omega arith
 
 module _ (K : Rooted) (levels : ℕ) (T : IsTreed K levels) (v : TreeView) (own : v.leaf ≡ leaf_of K v.rank) (here : v.rank < ranks_in K) where
   -- the element and the member at a level of the rank's path
@@ -132,19 +141,8 @@ module _ (K : Rooted) (levels : ℕ) (T : IsTreed K levels) (v : TreeView) (own 
       (same_or_not i levels)
 
   opens : (q : Phase) → IsGrantedAt q → Matches Open q
-  opens Idle h = h
-  opens Clear h = h
-  opens Reset h = h
-  opens (Swing a) h = h
-  opens (Link a) h = h
-  opens Wait h = h
-  opens Settle h = h
   opens (Granted a) h = tt
-  opens (Look a b) h = h
-  opens (Close a) h = h
-  opens (Await a) h = h
-  opens (Hand a b) h = h
-  opens (Above a) h = h
+  opens _ h = h
 
   -- the place of an element off the path in its parent's queue isn't one that has settled
   off_cell : (j x p : ℕ) → j ≤ suc levels → x < how_many K → (tree_of K).parent x ≡ Some p → ((i : ℕ) → i < j → x ≢ el i) → (i : ℕ) → i < j → (p ≢ el i) ⊎ (x ≢ me i)
@@ -222,16 +220,12 @@ module _ (K : Rooted) (levels : ℕ) (T : IsTreed K levels) (v : TreeView) (own 
       (λ q.
       let gp = granted_put ws F L e t i le g st in
       subst (λ z. owed ws (put F (el i) (me i) (whole i)) L z ≡ owed ws F L z + (if is_node K z then 0 else count (el i == z))) (sym q)
-      (by (is_node K (el i)) _ _ (count (el i == el i)) gp.1 gp.0 (ap count (same_test (el i)))))
+      (else_parts (is_node K (el i)) _ _ (count (el i == el i)) gp.1 gp.0 (ap count (same_test (el i)))))
       (λ ne.
       let same : head_in (lane_of (names_in K x) ws (put F (el i) (me i) (whole i) x)) (L x) ≡ head_in (lane_of (names_in K x) ws (F x)) (L x) =
       heads_same (lane_of (names_in K x) ws (F x)) (lane_of (names_in K x) ws (put F (el i) (me i) (whole i) x)) (L x) (λ y. put_away F (el i) (me i) (whole i) x y (inl ne)) (λ y h. refl) in
       off (is_node K x) _ _ (count (el i == x)) (ap granted_in same) (ap count (other_test (el i) x (λ k. ne (sym k)))))
       (same_or_not x (el i)) where
-        by : (b : Bool) (y z c : ℕ) → y ≡ 1 → z ≡ 0 → c ≡ 1 → (if b then 0 else y) ≡ (if b then 0 else z) + (if b then 0 else c)
-        by true y z c a d f = refl
-        by false y z c a d f = omega arith
-
         off : (b : Bool) (y z c : ℕ) → y ≡ z → c ≡ 0 → (if b then 0 else y) ≡ (if b then 0 else z) + (if b then 0 else c)
         off true y z c a f = refl
         off false y z c a f = omega arith

@@ -2,12 +2,15 @@
 -- whom it works; and how the head of an element's queue stands tells how the element stands in its parent's queue.
 use Rattle.std.specs.Prelude.{◌≡◌, ℕ, zero, suc, ◌+◌, ◌<◌, ◌≤◌, Bool, true, false, List, length, if◌then◌else◌, slice_get, Option, Some, None}
 use Rattle.rl_step.specs.declared.events.Event.{Event}
+use Rattle.rl_step.specs.declared.events.Standing.{Standing}
+use Rattle.rl_step.specs.declared.events.Standing.TheVariants as standing
 use Rattle.rl_step.specs.Queues.{tenures}
 use Rattle.rl_queue.specs.declared.view.Phase.{Phase}
 use Rattle.rl_queue.specs.declared.view.Phase.TheVariants.{Idle, Clear, Reset, Swing, Link, Wait, Settle, Granted, Look, Close, Await, Hand, Above}
 use Rattle.rl_queue.specs.Lane.{lane_of, is_pass}
 use Rattle.rl_queue.specs.QueueLaws.{QueueGood}
 use Rattle.rl_queue.specs.QueueHeads.{Head, head_in}
+use Rattle.rl_queue.specs.Standings.{standing_of}
 use Rattle.rl_tree.specs.declared.view.TreeView.{TreeView}
 use Rattle.rl_tree.specs.Tree.{has_above, hook_by, path, works_for, behind_at}
 use Rattle.rl_tree.specs.declared.rooted.Rooted.{Rooted}
@@ -76,20 +79,13 @@ pub data Way : Type 0 where
   Down : Way
   Rest : Way
 
+abbrev pub way_by : Standing → Way
+way_by standing.Asking = Up
+way_by standing.Leaving = Down
+way_by _ = Rest
+
 abbrev pub way_at : Phase → Way
-way_at Idle = Rest
-way_at Clear = Up
-way_at Reset = Up
-way_at (Swing g) = Up
-way_at (Link g) = Up
-way_at Wait = Up
-way_at Settle = Up
-way_at (Granted left) = Rest
-way_at (Look left u) = Down
-way_at (Close left) = Down
-way_at (Await left) = Down
-way_at (Hand succ left) = Down
-way_at (Above succ) = Down
+way_at p = way_by (standing_of p)
 
 abbrev pub way_of : Bool → Phase → Way
 way_of true p = Down

@@ -15,7 +15,7 @@ use Rattle.rl_queue.specs.declared.view.Phase.{Phase}
 use Rattle.rl_queue.specs.declared.view.Phase.TheVariants.{Idle, Granted}
 use Rattle.rl_queue.specs.Queue.{status_word, plan_at}
 use Rattle.rl_queue.specs.Lane.{lane_of, Listed, Busy, IsAlone}
-use Rattle.rl_queue.specs.LaneLaws.{IsFirst}
+use Rattle.rl_queue.specs.LaneLaws.{IsFirst, busy_or_idle}
 use Rattle.rl_queue.specs.QueueLaws.{QueueGood}
 use Rattle.rl_queue.specs.QueueMoves.{one_first, queue_counted}
 use Rattle.rl_queue.specs.QueueFits.{alone_finds}
@@ -26,13 +26,14 @@ use Rattle.rl_tree.specs.declared.rooted.Rooted.{Rooted}
 use Rattle.rl_tree.specs.Elements.{how_many, ranks_in, leaf_of, is_node, names_in, tree_of, queue_at}
 use Rattle.rl_tree.specs.TreeGood.{gate_at, gate_of, granted_in, Matches, Tells, IsGrantedAt, way_of, InQueue, TreeGood}
 use Rattle.rl_tree.specs.TreePaths.{FirstBelow, one_agent}
+use Rattle.rl_tree.specs.TreeClimb.{else_zero}
 use Rattle.rl_tree.specs.TreeKeeps.{first_below}
 use Rattle.rl_tree.specs.TreeWords.{OfNode, OfElement, member_is}
 use Rattle.rl_tree.specs.TreeOnward.{granted_opens}
-use Rattle.rl_tree.specs.TreeCalls.{granted_is, else_zero}
+use Rattle.rl_tree.specs.TreeCalls.{granted_is}
 use Rattle.rl_tree.specs.TreeShape.{IsWellShaped}
 use Rattle.rl_tree.specs.TreeLawful.{MayMake, loads_status, lawful_in, alone_on}
-use Rattle.rl_tree.specs.TreeStandings.{idle_or_busy, granted_first, hook_cases, hook_first, out_is, holds_is}
+use Rattle.rl_tree.specs.TreeStandings.{granted_first, hook_cases, hook_first, out_is, holds_is}
 
 -- where no member of a queue uses it, it has no head, and its tail is 0
 pub no_head : (K : Rooted) (q : ℕ) (ws : List ℕ) (ph : ℕ → Phase) (l : List ℕ) (t : List Event) (e : ℕ) → QueueGood (names_in K q) (InQueue K q) ws ph l t e → ((m : ℕ) → ph m ≡ Idle) → head_in (lane_of (names_in K q) ws ph) l ≡ None
@@ -152,9 +153,10 @@ module _ (K : Rooted) (levels : ℕ) (S : IsWellShaped K levels) (ws : List ℕ)
 
   idle_one : AllOutside → (q m : ℕ) → q < how_many K → (OfElement K q m → g.phase q m ≡ Idle) → g.phase q m ≡ Idle
   idle_one out q m lq of_element =
-      ⊎_elim (λ e. e)
+      ⊎_elim
       (λ busy. ⊎_elim (λ n. of_rank n) (λ n. of_element n) (member_is K S.root_free q m ((g.by.queue q lq).inv.inside m busy)))
-      (idle_or_busy (g.phase q m)) where
+      (λ e. e)
+      (busy_or_idle (g.phase q m)) where
         of_rank : OfNode K q m → g.phase q m ≡ Idle
         of_rank n =
             let lm : m < length vs = let b : m < ranks_in K = n.there in omega arith in

@@ -1,6 +1,6 @@
 -- The hook above the root, for a lock that goes on there later: a head of the root stands at it, and so does one that gives up what is
 -- above; and the entry goes on from there.
-use Rattle.std.specs.Prelude.{◌≡◌, ℕ, suc, ◌+◌, ◌<◌, ◌≤◌, Bool, true, false, List, ◌++◌, length, if◌then◌else◌, slice_get, slice_set, Option, Some, None, refl}
+use Rattle.std.specs.Prelude.{◌≡◌, ℕ, suc, ◌+◌, ◌<◌, ◌≤◌, true, false, List, ◌++◌, length, if◌then◌else◌, slice_get, slice_set, Option, Some, None, refl}
 use Rattle.std.proofs.Common.{sym, ◌∙◌, ap, subst, inl, ⊎_elim, arith}
 use Rattle.rl_word.specs.Places.{same_or_not}
 use Rattle.rl_step.specs.declared.events.Event.{Event}
@@ -18,15 +18,11 @@ use Rattle.rl_tree.specs.Elements.{how_many, ranks_in, leaf_of, is_node, names_i
 use Rattle.rl_step.specs.LockQueues.{is_at}
 use Rattle.rl_tree.specs.TreeGood.{Down, Rest, way_of, below_by, gate_of, granted_in, Matches, Tells, IsGrantedAt, InQueue, IsGoodBy, TreeGood}
 use Rattle.rl_tree.specs.TreePaths.{put, put_here, put_away, put_moves, AllGood}
-use Rattle.rl_tree.specs.TreeClimb.{el, me, el_apart, settled}
+use Rattle.rl_tree.specs.TreeClimb.{el, me, el_apart, settled, else_zero}
 use Rattle.rl_tree.specs.TreeKeeps.{climbs, first_below}
 use Rattle.rl_tree.specs.TreeParts.{assembles, all_others, others_put, match_put, spent_put, head_put, good_put}
 use Rattle.rl_tree.specs.TreeOnward.{resume_way, resume_unhooked, resume_none, resume_matches, spent_resume}
 use Rattle.rl_tree.specs.TreeShape.{IsTreed}
-
-if_zero : (b : Bool) (c : ℕ) → c ≡ 0 → (if b then 0 else c) ≡ 0
-if_zero true c e = refl
-if_zero false c e = e
 
 -- THE ENTRY GOES ON from the hook: a rank that must settle in each queue on its path does so, from the root down.
 pub hook_enters : (K : Rooted) (levels : ℕ) (T : IsTreed K levels) (v : TreeView) (ov : v.leaf ≡ leaf_of K v.rank) (hv : v.rank < ranks_in K) (ws : List ℕ) (vs : List TreeView) (t : List Event) (g : TreeGood K levels ws vs t) → slice_get vs v.rank ≡ Some v → length vs ≡ ranks_in K → v.query ≡ false → v.phase ≡ Settle → v.level ≡ levels →
@@ -38,7 +34,7 @@ hook_enters K levels T v ov hv ws vs t g has all_there nq must lv q now inside =
     (λ e. subst (λ z. g.phase (path (tree_of K) v.leaf z) (works_for (tree_of K) v z) ≡ Settle) (lv ∙ sym e) (subst (λ z. Tells v z (g.phase (path (tree_of K) v.leaf v.level) (works_for (tree_of K) v v.level))) nq (g.by.here v.rank v has) ∙ must))
     (λ ne. g.by.below v.rank v i has (omega arith) ∙ ap (λ z. below_by z (behind_at v.behind i)) (ap (λ z. way_of z v.phase) nq ∙ ap (way_of false) must)) (same_or_not i levels))
     (λ bad. absurd (omega arith)) (λ x p tx ux off. g.by.gates x p tx ux) g.by.spent
-    (λ x tx. let k = g.by.tenured x tx in let z : (if is_node K x then 0 else count (is_at ((tree_of K).parent (path (tree_of K) v.leaf levels)) x)) ≡ 0 = if_zero (is_node K x) _ (ap (λ y. count (is_at y x)) top) in omega arith) now inside
+    (λ x tx. let k = g.by.tenured x tx in let z : (if is_node K x then 0 else count (is_at ((tree_of K).parent (path (tree_of K) v.leaf levels)) x)) ≡ 0 = else_zero (is_node K x) _ (ap (λ y. count (is_at y x)) top) in omega arith) now inside
 
 -- THE LEAVE GOES ON from the hook: what is above the root was given up, and the rank hands the root over, or empties it.
 pub hook_leaves : (K : Rooted) (levels : ℕ) (T : IsTreed K levels) (v : TreeView) (ov : v.leaf ≡ leaf_of K v.rank) (hv : v.rank < ranks_in K) (ws : List ℕ) (vs : List TreeView) (t : List Event) (g : TreeGood K levels ws vs t) → slice_get vs v.rank ≡ Some v → length vs ≡ ranks_in K → v.query ≡ false → (s : Option ℕ) → v.phase ≡ Above s → v.level ≡ levels →

@@ -5,7 +5,7 @@ use Rattle.rl_word.specs.Places.{same_or_not, get_set_cases}
 use Rattle.rl_step.specs.declared.events.Event.{Event}
 use Rattle.rl_queue.specs.Choices.{choose}
 use Rattle.rl_queue.specs.declared.view.Phase.{Phase}
-use Rattle.rl_queue.specs.declared.view.Phase.TheVariants.{Idle, Clear, Reset, Swing, Link, Wait, Settle, Granted, Look, Close, Await, Hand, Above}
+use Rattle.rl_queue.specs.declared.view.Phase.TheVariants.{Settle, Granted}
 use Rattle.rl_queue.specs.Queue.{status_word}
 use Rattle.rl_queue.specs.Lane.{lane_of}
 use Rattle.rl_queue.specs.LaneLaws.{IsFirst}
@@ -25,19 +25,8 @@ spent_granted false left = tt
 
 -- who has its queue stands at no hook
 granted_unhooked : (q : Phase) → IsGrantedAt q → hook_by false q ≡ true → ⊥
-granted_unhooked Idle g h = g
-granted_unhooked Clear g h = g
-granted_unhooked Reset g h = g
-granted_unhooked (Swing x) g h = g
-granted_unhooked (Link x) g h = g
-granted_unhooked Wait g h = g
-granted_unhooked Settle g h = g
 granted_unhooked (Granted x) g h = cc
-granted_unhooked (Look x u) g h = g
-granted_unhooked (Close x) g h = g
-granted_unhooked (Await x) g h = g
-granted_unhooked (Hand x y) g h = g
-granted_unhooked (Above x) g h = g
+granted_unhooked _ g h = g
 
 -- what the views of all ranks but one tell of the phases
 pub record OthersTell (K : Rooted) (levels : ℕ) (F : ℕ → ℕ → Phase) (vs : List TreeView) (r : ℕ) : Type 0 where

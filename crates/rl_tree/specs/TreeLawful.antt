@@ -106,7 +106,6 @@ module _ (K : Rooted) (levels : ℕ) (S : IsWellShaped K levels) where
 
   -- each planned act is lawful
   pub lawful_in : (r q m : ℕ) (p : Phase) (a : Act) (ws : List ℕ) (ph : ℕ → Phase) (l : List ℕ) (t : List Event) (e : ℕ) → q < how_many K → QueueGood (names_in K q) (InQueue K q) ws ph l t e → ph m ≡ p → plan_at (names_in K q) m p ≡ Some a → MayMake r a
-  lawful_in r q m Idle a ws ph l t e lq g ep pl = cc
   lawful_in r q m Clear a ws ph l t e lq g ep pl = subst (MayMake r) (same_Some _ _ pl) (stores_next r q m 0 lq (g.inv.inside m (subst Busy (sym ep) tt)))
   lawful_in r q m Reset a ws ph l t e lq g ep pl = subst (MayMake r) (same_Some _ _ pl) (stores_status r q m 0 lq (g.inv.inside m (subst Busy (sym ep) tt)))
   lawful_in r q m (Swing guess) a ws ph l t e lq g ep pl = subst (MayMake r) (same_Some _ _ pl) (may_swap r q guess (m + 1) lq)
@@ -114,14 +113,12 @@ module _ (K : Rooted) (levels : ℕ) (S : IsWellShaped K levels) where
       let b = link_guess (names_in K q).budget (InQueue K q) (lane_of (names_in K q) ws ph) l m guess g.inv ep in
       subst (MayMake r) (same_Some _ _ pl) (stores_next r q (guess - 1) (m + 1) lq (in_line (names_in K q).budget (InQueue K q) (lane_of (names_in K q) ws ph) l (guess - 1) g.inv b.0))
   lawful_in r q m Wait a ws ph l t e lq g ep pl = subst (MayMake r) (same_Some _ _ pl) (loads_status r q m (g.inv.inside m (subst Busy (sym ep) tt)))
-  lawful_in r q m Settle a ws ph l t e lq g ep pl = cc
-  lawful_in r q m (Granted left) a ws ph l t e lq g ep pl = cc
   lawful_in r q m (Look left u) a ws ph l t e lq g ep pl = subst (MayMake r) (same_Some _ _ pl) (loads_next r q m (g.inv.inside m (subst Busy (sym ep) tt)))
   lawful_in r q m (Close left) a ws ph l t e lq g ep pl = subst (MayMake r) (same_Some _ _ pl) (may_swap r q (m + 1) 0 lq)
   lawful_in r q m (Await left) a ws ph l t e lq g ep pl = subst (MayMake r) (same_Some _ _ pl) (loads_next r q m (g.inv.inside m (subst Busy (sym ep) tt)))
   lawful_in r q m (Hand succ left) a ws ph l t e lq g ep pl =
       subst (MayMake r) (same_Some _ _ pl) (stores_status r q succ _ lq (hand_succ (names_in K q) (InQueue K q) ws ph l t e m succ left g ep))
-  lawful_in r q m (Above s) a ws ph l t e lq g ep pl = cc
+  lawful_in r q m _ a ws ph l t e lq g ep pl = cc
 
   -- where there is one rank, each queue on its path has one member
   pub alone_on : (r i : ℕ) → ranks_in K ≡ 1 → r < ranks_in K → i ≤ levels → IsAlone (InQueue K (path (tree_of K) (leaf_of K r) i)) (member_at (tree_of K) r (leaf_of K r) i)
@@ -144,13 +141,13 @@ module _ (K : Rooted) (levels : ℕ) (S : IsWellShaped K levels) where
       (member_is K S.root_free (path (tree_of K) (leaf_of K r) (suc i)) x j)
 
 -- nothing but a load waits
-up_waits : (b : Bool) (v : TreeView) (w : ℕ) (es : List Event) → (goes_up b v w es).waits ≡ false
-up_waits true v w es = refl
-up_waits false v w es = refl
+pub up_goes : (b : Bool) (v : TreeView) (w : ℕ) (es : List Event) → ((goes_up b v w es).events ≡ es) × ((goes_up b v w es).waits ≡ false)
+up_goes true v w es = (refl, refl)
+up_goes false v w es = (refl, refl)
 
-gives_waits : (b : Bool) (v : TreeView) (w : ℕ) (s : Option ℕ) (es : List Event) → (gives_up b v w s es).waits ≡ false
-gives_waits true v w s es = refl
-gives_waits false v w s es = refl
+pub gives_goes : (b : Bool) (v : TreeView) (w : ℕ) (s : Option ℕ) (es : List Event) → ((gives_up b v w s es).events ≡ es) × ((gives_up b v w s es).waits ≡ false)
+gives_goes true v w s es = (refl, refl)
+gives_goes false v w s es = (refl, refl)
 
 down_waits : (v : TreeView) (w : ℕ) (es : List Event) → (goes_down v w es).waits ≡ false
 down_waits v zero es = refl
@@ -158,31 +155,15 @@ down_waits v (suc j) es = refl
 
 pub walk_waits : (T : TheTree) (v : TreeView) (w : ℕ) (p : Phase) (es : List Event) (b : Bool) → b ≡ false → (walk T v w p es b).waits ≡ false
 walk_waits T v w Idle es b e = down_waits v w es
-walk_waits T v w Clear es b e = e
-walk_waits T v w Reset es b e = e
-walk_waits T v w (Swing g) es b e = e
-walk_waits T v w (Link g) es b e = e
-walk_waits T v w Wait es b e = e
-walk_waits T v w Settle es b e = up_waits (is_none (T.parent (path T v.leaf w))) v w es
+walk_waits T v w Settle es b e = (up_goes (is_none (T.parent (path T v.leaf w))) v w es).1
 walk_waits T v w (Granted left) es b e = refl
-walk_waits T v w (Look left u) es b e = e
-walk_waits T v w (Close left) es b e = e
-walk_waits T v w (Await left) es b e = e
-walk_waits T v w (Hand s left) es b e = e
-walk_waits T v w (Above s) es b e = gives_waits (is_none (T.parent (path T v.leaf w))) v w s es
+walk_waits T v w (Above s) es b e = (gives_goes (is_none (T.parent (path T v.leaf w))) v w s es).1
+walk_waits T v w _ es b e = e
 
 -- no act is planned exactly where a rank is out or inside
 pub rests_by : (n : TheNames) (m : ℕ) (p : Phase) → hook_by false p ≡ false → (plan_at n m p ≡ None) ↔ Rests (standing_of p)
 rests_by n m Idle h = (λ e. tt, λ t. refl)
-rests_by n m Clear h = (λ e. cc, λ t. absurd t)
-rests_by n m Reset h = (λ e. cc, λ t. absurd t)
-rests_by n m (Swing guess) h = (λ e. cc, λ t. absurd t)
-rests_by n m (Link guess) h = (λ e. cc, λ t. absurd t)
-rests_by n m Wait h = (λ e. cc, λ t. absurd t)
 rests_by n m Settle h = cc
 rests_by n m (Granted left) h = (λ e. tt, λ t. refl)
-rests_by n m (Look left upper) h = (λ e. cc, λ t. absurd t)
-rests_by n m (Close left) h = (λ e. cc, λ t. absurd t)
-rests_by n m (Await left) h = (λ e. cc, λ t. absurd t)
-rests_by n m (Hand succ left) h = (λ e. cc, λ t. absurd t)
 rests_by n m (Above succ) h = cc
+rests_by n m _ h = (λ e. cc, λ t. absurd t)

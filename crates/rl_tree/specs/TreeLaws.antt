@@ -6,20 +6,21 @@ use Rattle.rl_step.specs.declared.events.Event.{Event}
 use Rattle.rl_step.specs.declared.events.Event.TheVariants as event
 use Rattle.rl_step.specs.Lock.{IsLoad, PlansLoad}
 use Rattle.rl_queue.specs.declared.view.Phase.{Phase}
-use Rattle.rl_queue.specs.declared.view.Phase.TheVariants.{Idle, Clear, Reset, Swing, Link, Wait, Settle, Granted, Look, Close, Await, Hand, Above}
+use Rattle.rl_queue.specs.declared.view.Phase.TheVariants.{Idle, Swing, Wait, Settle, Granted, Look, Close, Await, Hand, Above}
 use Rattle.rl_queue.specs.Choices.{choose}
-use Rattle.rl_queue.specs.Queue.{TheNames, status_word, full_budget, code_left, moves_to, moves_with, waits_at, joined_at, hand_turn, plan_at, turn_at, resume_at}
+use Rattle.rl_queue.specs.Queue.{TheNames, status_word, full_budget, code_left, moves_to, moves_with, waits_at, joined_at, hand_turn, plan_at, turn_at}
 use Rattle.rl_queue.specs.Lane.{SuitsAlone}
 use Rattle.rl_queue.specs.QueueActs.{pass_more}
 use Rattle.rl_queue.specs.QueueMoves.{queue_fifo, queue_within}
 use Rattle.rl_queue.specs.QueueFits.{alone_moves_on, waits_on}
 use Rattle.rl_tree.specs.declared.view.TreeView.{TreeView}
-use Rattle.rl_tree.specs.Tree.{TheTree, has_above, is_none, hook_by, path, works_for, names_at, behind_at, inside_from, goes_up, gives_up, goes_down, walk, plan_by, tree_plan, learn_by, at_hook, resume_by, tree_standing}
+use Rattle.rl_tree.specs.Tree.{TheTree, has_above, is_none, hook_by, path, works_for, names_at, behind_at, inside_from, goes_down, walk, plan_by, tree_plan, learn_by, at_hook, resume_by, tree_standing}
 use Rattle.rl_tree.specs.declared.rooted.Rooted.{Rooted}
 use Rattle.rl_tree.specs.Elements.{how_many, names_in, tree_of}
 use Rattle.rl_tree.specs.TreeGood.{Spent, IsGrantedAt, InQueue, is_open, TreeGood}
 use Rattle.rl_tree.specs.TreeShape.{IsWellShaped}
-use Rattle.rl_tree.specs.TreeLawful.{spot_home, walk_waits}
+use Rattle.rl_tree.specs.TreeOnward.{resume_unhooked}
+use Rattle.rl_tree.specs.TreeLawful.{spot_home, up_goes, gives_goes, walk_waits}
 use Rattle.rl_tree.specs.TreeStandings.{IsAbove, above_is, hook_cases, hook_first, holds_is, writer_holds, granted_first, granted_gate}
 use Rattle.rl_tree.specs.TreeHolders.{level_there, at_root, phase_here, head_is, has_above_it, holds_up, one_holder, root_phase, one_hooked, one_acts, counted_at, lawful_at, alone_at, finds_at}
 use Rattle.rl_tree.specs.TreeFits.{placed_at, may_plan, may_learn}
@@ -29,17 +30,10 @@ use Rattle.rl_tree.specs.TreeFacts.{JoinsAtMost, IsShutAtHook, OnlyComesIn, IsOp
 
 -- A TURN that ends at the hook has at most joined
 turn_joins : (n : TheNames) (m : ℕ) (p : Phase) (got : ℕ) → hook_by false (turn_at n m p got).phase ≡ true → JoinsAtMost (turn_at n m p got).events
-turn_joins n m Idle got h = inl refl
-turn_joins n m Clear got h = inl refl
-turn_joins n m Reset got h = inl refl
 turn_joins n m (Swing guess) got h = choose (λ z. JoinsAtMost z.events) (got == guess) (moves_with (joined_at guess) (event.Join n.queue m)) (moves_to (Swing got)) (inr (n.queue, m, refl)) (inl refl)
-turn_joins n m (Link guess) got h = inl refl
 turn_joins n m Wait got h =
     choose (λ z. JoinsAtMost z.events) (got == 0) (waits_at Wait) (if got == 1 then moves_to Settle else moves_to (Granted (code_left n.budget got))) (inl refl)
     (choose (λ z. JoinsAtMost z.events) (got == 1) (moves_to Settle) (moves_to (Granted (code_left n.budget got))) (inl refl) (inl refl))
-turn_joins n m Settle got h = inl refl
-turn_joins n m (Granted left) got h = inl refl
-turn_joins n m (Look left u) got h = inl refl
 turn_joins n m (Close left) got h = choose (λ z. JoinsAtMost z.events) (got == m + 1) (moves_to Idle) (moves_to (Await left)) (inl refl) (inl refl)
 turn_joins n m (Await left) got h = choose (λ z. JoinsAtMost z.events) (got == 0) (waits_at (Await left)) (moves_to (Hand (got - 1) left)) (inl refl) (inl refl)
 turn_joins n m (Hand succ left) got h = let bad : false ≡ true = sym (hands n.queue n.budget succ left) ∙ h in cc where
@@ -47,59 +41,30 @@ turn_joins n m (Hand succ left) got h = let bad : false ≡ true = sym (hands n.
   hands q None s left = refl
   hands q (Some b) s zero = refl
   hands q (Some b) s (suc k) = ap (λ z. hook_by false z.phase) (pass_more q b s k)
-turn_joins n m (Above succ) got h = inl refl
+turn_joins n m _ got h = inl refl
 
 -- a walk ends at the hook where its turn's phase stands there, and tells what its turn told
-resume_hook : (s : Option ℕ) → hook_by false (resume_at (Above s)) ≡ false
-resume_hook None = refl
-resume_hook (Some x) = refl
-
 down_hook : (v : TreeView) (w : ℕ) (es : List Event) → at_hook (goes_down v w es).view ≡ false
 down_hook v zero es = refl
-down_hook v (suc j) es = resume_hook (behind_at v.behind j)
+down_hook v (suc j) es = resume_unhooked (behind_at v.behind j)
 
 inside_hook : (T : TheTree) (v : TreeView) (w left : ℕ) → hook_by false (inside_from T v w left) ≡ false
 inside_hook T v zero left = refl
 inside_hook T v (suc j) left = refl
 
-up_tells : (b : Bool) (v : TreeView) (w : ℕ) (es : List Event) → (goes_up b v w es).events ≡ es
-up_tells true v w es = refl
-up_tells false v w es = refl
-
-gives_tells : (b : Bool) (v : TreeView) (w : ℕ) (s : Option ℕ) (es : List Event) → (gives_up b v w s es).events ≡ es
-gives_tells true v w s es = refl
-gives_tells false v w s es = refl
-
 walk_hook : (T : TheTree) (v : TreeView) (w : ℕ) (p : Phase) (es : List Event) (b : Bool) → at_hook (walk T v w p es b).view ≡ true → (hook_by false p ≡ true) × ((walk T v w p es b).events ≡ es)
 walk_hook T v w Idle es b h = let bad : false ≡ true = sym (down_hook v w es) ∙ h in cc
-walk_hook T v w Clear es b h = cc
-walk_hook T v w Reset es b h = cc
-walk_hook T v w (Swing guess) es b h = cc
-walk_hook T v w (Link guess) es b h = cc
-walk_hook T v w Wait es b h = cc
-walk_hook T v w Settle es b h = (refl, up_tells (is_none (T.parent (path T v.leaf w))) v w es)
+walk_hook T v w Settle es b h = (refl, (up_goes (is_none (T.parent (path T v.leaf w))) v w es).0)
 walk_hook T v w (Granted left) es b h = let bad : false ≡ true = sym (inside_hook T v w left) ∙ h in cc
-walk_hook T v w (Look left u) es b h = cc
-walk_hook T v w (Close left) es b h = cc
-walk_hook T v w (Await left) es b h = cc
-walk_hook T v w (Hand succ left) es b h = cc
-walk_hook T v w (Above s) es b h = (refl, gives_tells (is_none (T.parent (path T v.leaf w))) v w s es)
+walk_hook T v w (Above s) es b h = (refl, (gives_goes (is_none (T.parent (path T v.leaf w))) v w s es).0)
+walk_hook T v w _ es b h = cc
 
 -- where it plans a load again, so does the rank after it, and isn't at the hook
 walk_loads : (K : Rooted) (v : TreeView) (p : Phase) (es : List Event) (b : Bool) → PlansLoad (plan_at (names_at (tree_of K) v v.level) (works_for (tree_of K) v v.level) p) → PlansLoad (tree_plan (tree_of K) (walk (tree_of K) v v.level p es b).view) × (at_hook (walk (tree_of K) v v.level p es b).view ≡ false)
-walk_loads K v Idle es b h = absurd h
-walk_loads K v Clear es b h = absurd h
-walk_loads K v Reset es b h = absurd h
-walk_loads K v (Swing guess) es b h = absurd h
-walk_loads K v (Link guess) es b h = absurd h
 walk_loads K v Wait es b h = (h, refl)
-walk_loads K v Settle es b h = absurd h
-walk_loads K v (Granted left) es b h = absurd h
 walk_loads K v (Look left u) es b h = (h, refl)
-walk_loads K v (Close left) es b h = absurd h
 walk_loads K v (Await left) es b h = (h, refl)
-walk_loads K v (Hand succ left) es b h = absurd h
-walk_loads K v (Above succ) es b h = absurd h
+walk_loads K v _ es b h = absurd h
 
 -- and it waits on only where its turn does
 walk_rests : (T : TheTree) (v : TreeView) (w : ℕ) (p : Phase) (es : List Event) (b : Bool) → (walk T v w p es b).waits ≡ true → b ≡ true
@@ -110,18 +75,7 @@ walk_rests T v w p es false h = let bad : false ≡ true = sym (walk_waits T v w
 spent_above : (b : Bool) (p : Phase) → b ≡ false → Spent b p → IsAbove p → ⊥
 spent_above true p e s a = cc
 spent_above false (Above succ) e s a = s
-spent_above false Idle e s a = a
-spent_above false Clear e s a = a
-spent_above false Reset e s a = a
-spent_above false (Swing guess) e s a = a
-spent_above false (Link guess) e s a = a
-spent_above false Wait e s a = a
-spent_above false Settle e s a = a
-spent_above false (Granted left) e s a = a
-spent_above false (Look left u) e s a = a
-spent_above false (Close left) e s a = a
-spent_above false (Await left) e s a = a
-spent_above false (Hand succ left) e s a = a
+spent_above false _ e s a = a
 
 module _ (K : Rooted) (levels : ℕ) (S : IsWellShaped K levels) where
   shut_at_hook : IsShutAtHook K levels
@@ -185,7 +139,7 @@ module _ (K : Rooted) (levels : ℕ) (S : IsWellShaped K levels) where
   goes_on_for_good v h =
       ⊎_elim
       (λ e. ap (λ z. at_hook (resume_by (tree_of K) v z []).view) e ∙ inside_hook (tree_of K) v v.level (full_budget (names_at (tree_of K) v v.level).budget))
-      (λ a. let s = above_is v.phase a in ap (λ z. at_hook (resume_by (tree_of K) v z []).view) s.1 ∙ resume_hook s.0)
+      (λ a. let s = above_is v.phase a in ap (λ z. at_hook (resume_by (tree_of K) v z []).view) s.1 ∙ resume_unhooked s.0)
       (hook_cases v.query v.phase h).1
 
   waits_on_loads : WaitsOnLoads K levels

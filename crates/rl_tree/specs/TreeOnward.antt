@@ -1,33 +1,34 @@
 -- Acts that take a rank to another level of its path: a head below the root begins above, one that gives up what is above asks for
--- its element's status, and one that has left goes on below.
-use Rattle.std.specs.Prelude.{◌≡◌, ◌≢◌, ℕ, zero, suc, ◌+◌, ◌<◌, ◌≤◌, Bool, true, false, List, [], ◌∷◌, ◌++◌, length, if◌then◌else◌, slice_get, slice_index, slice_set, Option, Some, None, refl}
+-- its element's status, one that has left goes on below, and one that is passed a queue settles in all below.
+use Rattle.std.specs.Prelude.{◌≡◌, ◌≢◌, ℕ, zero, suc, ◌+◌, ◌<◌, ◌≤◌, Bool, true, false, List, [], ◌∷◌, ◌++◌, length, if◌then◌else◌, slice_get, slice_index, slice_set, Option, Some, None, refl, ◌==◌, ◌&&◌}
 use Rattle.std.proofs.Common.{sym, ◌∙◌, ap, subst, inl, inr, ⊎_elim, arith, length-set}
 use Rattle.std.proofs.lemmas.Option.{same_Some}
 use Rattle.rl_word.specs.Places.{same_or_not}
 use Rattle.rl_word.specs.Acts.{word_of, told}
 use Rattle.rl_word.specs.declared.acts.Act.{Act}
 use Rattle.rl_step.specs.declared.events.Event.{Event}
-use Rattle.rl_step.specs.Queues.{tenures}
+use Rattle.rl_step.specs.Queues.{tenures, count}
 use Rattle.rl_step.specs.QueueLemmas.{tenures-append}
+use Rattle.rl_queue.specs.Choices.{choose, same_test, other_test}
 use Rattle.rl_queue.specs.declared.view.Phase.{Phase}
-use Rattle.rl_queue.specs.declared.view.Phase.TheVariants.{Idle, Clear, Reset, Swing, Link, Wait, Settle, Granted, Look, Close, Await, Hand, Above}
+use Rattle.rl_queue.specs.declared.view.Phase.TheVariants.{Idle, Clear, Wait, Settle, Granted, Above}
 use Rattle.rl_queue.specs.Queue.{Turn, status_word, plan_at, resume_at}
-use Rattle.rl_queue.specs.Lane.{lane_of, Listed}
+use Rattle.rl_queue.specs.Lane.{lane_of, Listed, is_pass}
 use Rattle.rl_queue.specs.LaneLaws.{IsFirst}
 use Rattle.rl_queue.specs.QueueMoves.{join_keeps, resume_keeps}
 use Rattle.rl_queue.specs.QueueTurns.{turn_all}
-use Rattle.rl_queue.specs.QueueHeads.{Head, head_in, head_first, head_kept, HeadStep}
+use Rattle.rl_queue.specs.QueueHeads.{Head, head_in, head_first, head_kept, HeadStep, head, unlisted}
 use Rattle.rl_tree.specs.declared.view.TreeView.{TreeView}
-use Rattle.rl_tree.specs.Tree.{has_above, hook_by, path, member_at, works_for, behind_at, at_level, asks_status, leaves_behind}
+use Rattle.rl_tree.specs.Tree.{has_above, hook_by, path, member_at, works_for, behind_at, at_level, asks_status, leaves_behind, settles_below}
 use Rattle.rl_tree.specs.declared.rooted.Rooted.{Rooted}
 use Rattle.rl_tree.specs.Elements.{how_many, ranks_in, leaf_of, is_node, names_in, tree_of, queue_at}
-use Rattle.rl_tree.specs.TreeGood.{Up, Down, Rest, way_at, way_of, below_by, Gate, Shut, Asking, Open, Releasing, gate_at, gate_of, granted_in, one_if, Matches, Spent, IsGrantedAt, Shaped, InQueue, IsGoodBy, TreeGood}
+use Rattle.rl_tree.specs.TreeGood.{Up, Down, Rest, way_at, way_of, below_by, Gate, Shut, Asking, Open, Releasing, gate_at, gate_of, granted_in, one_if, Matches, Spent, IsGrantedAt, Shaped, InQueue, IsGoodBy, TreeGood, open_if}
 use Rattle.rl_tree.specs.TreePaths.{put, put_here, put_away, put_moves, AllGood, FirstBelow}
-use Rattle.rl_tree.specs.TreeClimb.{el_apart}
-use Rattle.rl_tree.specs.TreeKeeps.{OthersTell, first_below}
+use Rattle.rl_tree.specs.TreeClimb.{el_apart, el, me, settled, owed, debt, debt_is, Owes, else_zero, else_parts}
+use Rattle.rl_tree.specs.TreeKeeps.{OthersTell, first_below, climbs, spent_granted}
 use Rattle.rl_tree.specs.TreeWords.{IsWorded}
 use Rattle.rl_tree.specs.TreeActs.{tu, us, F, L, was, level_low, R_there, all_good, head_here, head_other, others, below_mine, cell_of}
-use Rattle.rl_tree.specs.TreeParts.{unlisted, Gated, AllSpent, Tenured, assembles, others_put, spent_put, match_put, head_put, good_put, is_child}
+use Rattle.rl_tree.specs.TreeParts.{Gated, AllSpent, Tenured, assembles, others_put, spent_put, match_put, head_put, good_put, is_child}
 use Rattle.rl_tree.specs.TreeShape.{IsTreed}
 
 pub spent_clear : (b : Bool) → Spent b Clear
@@ -65,34 +66,12 @@ behind_other s (x ∷ xs) (suc j) zero ne = refl
 behind_other s (x ∷ xs) (suc j) (suc k) ne = behind_other s xs j k (λ e. ne (ap suc e))
 
 pub granted_opens : (q : Phase) → Matches Open q → IsGrantedAt q
-granted_opens Idle h = h
-granted_opens Clear h = h
-granted_opens Reset h = h
-granted_opens (Swing a) h = h
-granted_opens (Link a) h = h
-granted_opens Wait h = h
-granted_opens Settle h = h
 granted_opens (Granted a) h = tt
-granted_opens (Look a b) h = h
-granted_opens (Close a) h = h
-granted_opens (Await a) h = h
-granted_opens (Hand a b) h = h
-granted_opens (Above a) h = h
+granted_opens _ h = h
 
 granted_releases : (q : Phase) → Matches Open q → Matches Releasing q
-granted_releases Idle h = absurd h
-granted_releases Clear h = absurd h
-granted_releases Reset h = absurd h
-granted_releases (Swing a) h = absurd h
-granted_releases (Link a) h = absurd h
-granted_releases Wait h = absurd h
-granted_releases Settle h = absurd h
 granted_releases (Granted a) h = tt
-granted_releases (Look a b) h = absurd h
-granted_releases (Close a) h = absurd h
-granted_releases (Await a) h = absurd h
-granted_releases (Hand a b) h = absurd h
-granted_releases (Above a) h = absurd h
+granted_releases _ h = absurd h
 
 pub resume_way : (s : Option ℕ) → way_of false (resume_at (Above s)) ≡ Down
 resume_way None = refl
@@ -400,3 +379,60 @@ module _ (K : Rooted) (levels : ℕ) (T : IsTreed K levels) (v : TreeView) (ov :
       (here_now ∙ gives)
       (root_gates lv (λ y m. subst (Matches y) (sym gives) (matches y m)))
       (spent_put K levels T g.phase Q N turn.phase g.by.spent (subst (Spent (has_above (names_in K Q).budget)) (sym gives) spent)) (tenured_now granted)
+
+  -- A HEAD THAT HAS BEEN PASSED THE QUEUE: it has the queue, and so has each below, which must settle, in the same act.
+  module _ (waits : v.phase ≡ Wait) (left : ℕ) (passed : turn.phase ≡ Granted left) (by_pass : is_pass (slice_index ws (status_word (names_in K Q) N)) ≡ true) where
+    -- the head waited with a pass, and has the queue now
+    heads : (before Q ≡ head N Wait (slice_index ws (status_word (names_in K Q) N))) × (after Q ≡ head N (Granted left) (slice_index ws (status_word (names_in K Q) N)))
+    heads =
+        subst (λ z. HeadStep (names_in K Q).budget N Wait z (slice_index ws (status_word (names_in K Q) N)) (before Q) (after Q)) passed
+        (subst (λ z. HeadStep (names_in K Q).budget N z turn.phase (slice_index ws (status_word (names_in K Q) N)) (before Q) (after Q)) waits step)
+
+    gate_same : gate_of (after Q) ≡ gate_of (before Q)
+    gate_same = ap gate_of heads.1 ∙ sym (ap gate_of heads.0 ∙ ap open_if by_pass)
+
+    gates_off : (x p : ℕ) → x < how_many K → (tree_of K).parent x ≡ Some p → ((i : ℕ) → i < v.level → x ≢ el K levels T v ov hv i) → Matches (gate_of (after x)) (P p x)
+    gates_off x p tx up off =
+        let place : P p x ≡ g.phase p x = cell_of K levels T v ov hv ws vs t g d has no_query all_there a pl x p tx up (λ j e. off j (omega arith)) in
+        let same : gate_of (after x) ≡ gate_of (before x) =
+        ⊎_elim (λ q. subst (λ z. gate_of (after z) ≡ gate_of (before z)) (sym q) gate_same)
+        (λ ne. ap gate_of (away x tx ne)) (same_or_not x Q) in
+        subst (λ z. Matches z (P p x)) (sym same) (subst (Matches (gate_of (before x))) (sym place) (g.by.gates x p tx up))
+
+    -- what is owed below: the element has the queue, and its own queue hasn't settled yet
+    here_owed : owed K levels T v ov hv W P Z Q ≡ owed K levels T v ov hv ws g.phase g.line Q + debt K levels T v ov hv v.level Q
+    here_owed =
+        let k = debt_is K levels T v ov hv v.level Q low there in
+        let p = else_parts (is_node K Q) (granted_in (after Q)) (granted_in (before Q)) (count (Q == Q)) (ap granted_in heads.1) (ap granted_in heads.0) (ap count (same_test Q)) in
+        omega arith
+
+    other_owed : (x : ℕ) → x < how_many K → x ≢ Q → owed K levels T v ov hv W P Z x ≡ owed K levels T v ov hv ws g.phase g.line x + debt K levels T v ov hv v.level x
+    other_owed x tx ne =
+        let same = away x tx ne in
+        let k = debt_is K levels T v ov hv v.level x low tx in
+        let z : (if is_node K x then 0 else count (Q == x)) ≡ 0 = else_zero (is_node K x) (count (Q == x)) (ap count (other_test Q x (λ y. ne (sym y)))) in
+        let o : owed K levels T v ov hv W P Z x ≡ owed K levels T v ov hv ws g.phase g.line x = ap (λ y. if is_node K x then 0 else granted_in y) same in omega arith
+
+    owes_now : Owes K levels T v ov hv W P Z g.ended (t ++ turn.events) v.level
+    owes_now x tx =
+        let none : tenures (queue_at K x) turn.events ≡ 0 = turn_all (λ z. tenures (queue_at K x) z ≡ 0) (names_in K Q) N v.phase (told a (slice_index ws (word_of a))) refl refl (λ s. refl) in
+        let more = tenures-append (queue_at K x) t turn.events in
+        let old : g.ended x + owed K levels T v ov hv ws g.phase g.line x ≡ tenures (queue_at K x) t = g.by.tenured x tx in
+        let k : owed K levels T v ov hv W P Z x ≡ owed K levels T v ov hv ws g.phase g.line x + debt K levels T v ov hv v.level x =
+        ⊎_elim (λ q. subst (λ z. owed K levels T v ov hv W P Z z ≡ owed K levels T v ov hv ws g.phase g.line z + debt K levels T v ov hv v.level z) (sym q) here_owed) (λ ne. other_owed x tx ne) (same_or_not x Q) in
+        omega arith
+
+    spent_now : (x m : ℕ) → Spent (has_above (names_in K x).budget) (P x m)
+    spent_now x m =
+        choose (Spent (has_above (names_in K x).budget)) ((x == Q) && (m == N)) turn.phase (g.phase x m)
+        (subst (Spent (has_above (names_in K x).budget)) (sym passed) (spent_granted (has_above (names_in K x).budget) left)) (g.by.spent x m)
+
+    -- the state is good after it
+    pub passed_climbs : (q : Phase) → settled K levels T v ov hv P v.level (el K levels T v ov hv 0) (me K levels T v ov hv 0) ≡ q → IsGrantedAt q →
+        IsGoodBy K levels (settled K levels T v ov hv P v.level) Z g.ended W (slice_set vs v.rank (at_level v 0 q)) ((t ++ turn.events) ++ settles_below (tree_of K) v v.level)
+    passed_climbs q now inside =
+        let up : way_of v.query v.phase ≡ Up = ap (λ z. way_of z v.phase) no_query ∙ ap (way_of false) waits in
+        climbs K levels T W P Z g.ended (t ++ turn.events) vs v v.rank v.level q ov hv refl (g.by.shaped v.rank v has).three rest good (let under_top : v.level ≤ levels = low in omega arith)
+        (λ i b. under i b ∙ ap (λ z. below_by z (behind_at v.behind i)) up)
+        (λ l. subst IsGrantedAt (sym (here_now ∙ passed)) tt)
+        gates_off spent_now owes_now now inside

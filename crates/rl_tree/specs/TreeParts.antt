@@ -1,5 +1,5 @@
 -- A state of a tree put together from its parts, and what a move of one member of a queue on a rank's path leaves of each.
-use Rattle.std.specs.Prelude.{◌≡◌, ◌≢◌, ◌⊎◌, ℕ, suc, ◌+◌, ◌<◌, ◌≤◌, ◌==◌, ◌&&◌, Bool, true, false, List, [], ◌∷◌, length, nat_lt, if◌then◌else◌, slice_get, slice_set, Some, refl}
+use Rattle.std.specs.Prelude.{◌≡◌, ◌≢◌, ◌⊎◌, ℕ, suc, ◌+◌, ◌<◌, ◌≤◌, ◌==◌, ◌&&◌, Bool, true, false, List, length, nat_lt, if◌then◌else◌, slice_get, slice_set, Some, refl}
 use Rattle.std.proofs.Common.{sym, ◌∙◌, ap, subst, inl, inr, ⊎_elim, arith}
 use Rattle.std.proofs.lemmas.Option.{slice_get_within}
 use Rattle.rl_word.specs.Places.{same_or_not, get_set_cases}
@@ -7,9 +7,9 @@ use Rattle.rl_step.specs.declared.events.Event.{Event}
 use Rattle.rl_step.specs.Queues.{tenures}
 use Rattle.rl_queue.specs.Choices.{same_test}
 use Rattle.rl_queue.specs.declared.view.Phase.{Phase}
-use Rattle.rl_queue.specs.Lane.{lane_of, Has}
+use Rattle.rl_queue.specs.Lane.{lane_of}
 use Rattle.rl_queue.specs.QueueLaws.{QueueGood, still_keeps}
-use Rattle.rl_queue.specs.QueueHeads.{head_in, StartsWith}
+use Rattle.rl_queue.specs.QueueHeads.{head_in}
 use Rattle.rl_tree.specs.declared.view.TreeView.{TreeView}
 use Rattle.rl_tree.specs.Tree.{has_above, path, member_at, works_for, behind_at}
 use Rattle.rl_tree.specs.declared.rooted.Rooted.{Rooted}
@@ -23,11 +23,6 @@ use Rattle.rl_tree.specs.TreeShape.{IsTreed}
 
 pub plus_one : (n : ℕ) → n + 1 ≡ suc n
 plus_one n = omega arith
-
--- who isn't in a line doesn't begin it
-pub unlisted : (l : List ℕ) (m : ℕ) → (Has m l → ⊥) → StartsWith l m → ⊥
-unlisted [] m f b = b
-unlisted (x ∷ r) m f b = f (inl b)
 
 module _ (K : Rooted) (levels : ℕ) (T : IsTreed K levels) where
   -- the parts that speak of all queues

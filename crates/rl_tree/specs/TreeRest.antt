@@ -21,9 +21,9 @@ use Rattle.rl_tree.specs.Tree.{has_above}
 use Rattle.rl_tree.specs.declared.rooted.Rooted.{Rooted}
 use Rattle.rl_tree.specs.Elements.{how_many, ranks_in, leaf_of, is_node, of_tree, names_in, queue_at, out_at}
 use Rattle.rl_tree.specs.TreeGood.{gate_of, granted_in, Matches, Tells, Shaped, InQueue, is_open, IsGoodBy}
-use Rattle.rl_tree.specs.TreeClimb.{heads_same}
+use Rattle.rl_tree.specs.TreeClimb.{heads_same, else_zero}
 use Rattle.rl_tree.specs.TreeOnward.{spent_idle}
-use Rattle.rl_tree.specs.TreeCalls.{beside_tree, else_zero}
+use Rattle.rl_tree.specs.TreeCalls.{beside_tree}
 use Rattle.rl_tree.specs.TreeWords.{words_at}
 use Rattle.rl_tree.specs.TreeShape.{IsWellShaped}
 use Rattle.rl_tree.specs.TreeHolders.{no_head, empty_tail, all_idle}

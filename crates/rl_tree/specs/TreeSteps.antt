@@ -19,10 +19,10 @@ use Rattle.rl_queue.specs.Queue.{TheNames, Turn, status_word, full_budget, code_
 use Rattle.rl_queue.specs.Lane.{Busy, is_pass, lane_of}
 use Rattle.rl_queue.specs.QueueActs.{wait_turn, pass_more, code_more}
 use Rattle.rl_queue.specs.QueueMoves.{hand_succ}
-use Rattle.rl_queue.specs.QueueHeads.{Head, head_in, head_kept, HeadStep}
+use Rattle.rl_queue.specs.QueueHeads.{Head, head_in, head_kept, HeadStep, unlisted}
 use Rattle.rl_queue.specs.Standings.{standing_of}
 use Rattle.rl_tree.specs.declared.view.TreeView.{TreeView}
-use Rattle.rl_tree.specs.Tree.{TheTree, has_above, is_none, hook_by, path, member_at, works_for, behind_at, names_at, at_level, asks_status, leaves_behind, settles_below, inside_from, goes_up, gives_up, walk_turn, at_hook, tree_standing, entry_if}
+use Rattle.rl_tree.specs.Tree.{TheTree, has_above, is_none, path, member_at, works_for, behind_at, names_at, at_level, asks_status, leaves_behind, settles_below, inside_from, goes_up, gives_up, walk_turn, at_hook, tree_standing, entry_if}
 use Rattle.rl_tree.specs.declared.rooted.Rooted.{Rooted}
 use Rattle.rl_tree.specs.Elements.{how_many, ranks_in, leaf_of, is_node, names_in, tree_of}
 use Rattle.rl_step.specs.LockQueues.{is_at}
@@ -32,9 +32,8 @@ use Rattle.rl_tree.specs.TreeClimb.{el, el_apart, me, settled, settled_here, hea
 use Rattle.rl_tree.specs.TreeWords.{IsWorded}
 use Rattle.rl_tree.specs.TreeActs.{L, was, head_here, all_good, head_other}
 use Rattle.rl_tree.specs.TreeStays.{Stays, level_keeps, stays_clear, stays_reset, stays_swing, stays_link, stays_linked, stays_wait, stays_pass, stays_flat_hand, stays_flat_close, stays_close, stays_await, stays_hand}
-use Rattle.rl_tree.specs.TreePassed.{passed_climbs}
-use Rattle.rl_tree.specs.TreeParts.{plus_one, unlisted, is_child, head_put}
-use Rattle.rl_tree.specs.TreeOnward.{settles_at_hook, releases_at_hook, before, after, begins_above, releases_above, ends_leaf, ends_above, idle_unlisted}
+use Rattle.rl_tree.specs.TreeParts.{plus_one, is_child, head_put}
+use Rattle.rl_tree.specs.TreeOnward.{passed_climbs, resume_unhooked, settles_at_hook, releases_at_hook, before, after, begins_above, releases_above, ends_leaf, ends_above, idle_unlisted}
 use Rattle.rl_tree.specs.TreeEvents.{Named, is_member, named_append, holds_append, append_length, settles_order, settles_length, settles_hold, settles_named}
 use Rattle.rl_tree.specs.TreeShape.{IsWellShaped, IsTreed}
 use Rattle.rl_tree.specs.TreeFacts.{GateMoves, LearnFits}
@@ -46,10 +45,6 @@ inside_granted T v (suc w) left = (full_budget (names_at T v 0).budget, refl)
 settles_same : (T : TheTree) (v : TreeView) (w : ℕ) (p : Phase) (j : ℕ) → settles_below T (at_level v w p) j ≡ settles_below T v j
 settles_same T v w p zero = refl
 settles_same T v w p (suc j) = ap (λ z. event.Settle (names_at T v j).queue (works_for T v j) ∷ z) (settles_same T v w p j)
-
-resume_off : (s : Option ℕ) → hook_by false (resume_at (Above s)) ≡ false
-resume_off None = refl
-resume_off (Some s) = refl
 
 pub resume_entry : (s : Option ℕ) (m : ℕ) → entry_if false (resume_at (Above s)) m ≡ []
 resume_entry None m = refl
@@ -109,19 +104,8 @@ abbrev pub made : (K : Rooted) (levels : ℕ) (F : ℕ → ℕ → Phase) (L : �
 made K levels F L e ws vs t g = record { phase = F; line = L; ended = e; by = g }
 
 entry_none : (q : Phase) (m : ℕ) → (way_at q ≡ Rest → ⊥) → entry_if false q m ≡ []
-entry_none Idle m f = refl
-entry_none Clear m f = refl
-entry_none Reset m f = refl
-entry_none (Swing g) m f = refl
-entry_none (Link g) m f = refl
-entry_none Wait m f = refl
-entry_none Settle m f = refl
 entry_none (Granted l) m f = absurd (f refl)
-entry_none (Look l u) m f = refl
-entry_none (Close l) m f = refl
-entry_none (Await l) m f = refl
-entry_none (Hand s l) m f = refl
-entry_none (Above s) m f = refl
+entry_none _ m f = refl
 
 pub fits_plain : (K : Rooted) (r : ℕ) (v : TreeView) (u : Told TreeView) → entry_if u.view.query u.view.phase u.view.rank ≡ [] → Shift r (tree_standing v) (tree_standing u.view) (holds_only u.events) → InOrder u.events → length u.events ≤ 5 → Named K u.events → LearnFits K r v u
 fits_plain K r v u e shift order few names =
@@ -313,7 +297,7 @@ module _ (K : Rooted) (levels : ℕ) (S : IsWellShaped K levels) (ws : List ℕ)
       (record {
         good = made K levels (put (fut r l (suc j) p b a x) (R l j) (M r l j) (resume_at (Above (behind_at b j)))) (lines r l (suc j) p b a x) x.good.ended (us a) (slice_set vs r (at_level (going r l (suc j) p b) j (resume_at (Above (behind_at b j))))) (t ++ es)
             (subst (λ z. IsGoodBy K levels (put (fut r l (suc j) p b a x) (R l j) (M r l j) (resume_at (Above (behind_at b j)))) (lines r l (suc j) p b a x) x.good.ended (us a) (slice_set vs r (at_level (going r l (suc j) p b) j (resume_at (Above (behind_at b j))))) (t ++ z)) (ap (λ z. z.events) e) k);
-        moves = λ lim. subst (λ z. GateMoves z (resume_at (Above (behind_at b j))) o (root_open K (us a) (put (fut r l (suc j) p b a x) (R l j) (M r l j) (resume_at (Above (behind_at b j)))) (lines r l (suc j) p b a x))) (sym (resume_off (behind_at b j)))
+        moves = λ lim. subst (λ z. GateMoves z (resume_at (Above (behind_at b j))) o (root_open K (us a) (put (fut r l (suc j) p b a x) (R l j) (M r l j) (resume_at (Above (behind_at b j)))) (lines r l (suc j) p b a x))) (sym (resume_unhooked (behind_at b j)))
             (ap (λ z. is_open (gate_of z)) (head_put K levels S.treed (us a) (fut r l (suc j) p b a x) (lines r l (suc j) p b a x) (R l j) (M r l j) (resume_at (Above (behind_at b j))) 0 (not_top r l (suc j) p b a x j (omega arith))) ∙ top_same r l (suc j) p b a x (gate (limited r l (suc j) p b a x lim)));
         fits = fits_plain K r (going r l (suc j) p b) (record { view = at_level (going r l (suc j) p b) j (resume_at (Above (behind_at b j))); events = es; waits = false }) (resume_entry (behind_at b j) r)
             (subst (λ z. Shift r z (standing_of (resume_at (Above (behind_at b j)))) (holds_only es)) (sym st) (subst (λ z. Shift r standing.Leaving z (holds_only es)) (sym (resume_standing (behind_at b j))) none)) order few names;
@@ -562,16 +546,13 @@ module _ (K : Rooted) (levels : ℕ) (S : IsWellShaped K levels) (ws : List ℕ)
 
   -- EACH ACT by its phase
   pub learns : (r l w : ℕ) (p : Phase) (b : List (Option ℕ)) (a : Act) (x : Acting K levels o ws vs t r l w p b a) → Goal r l w p b a (turn r l w p a)
-  learns r l w Idle b a x = let bad : None ≡ Some a = x.planned in cc
   learns r l w Clear b a x = quiet r l w Clear b a x Reset false refl (stays_clear (N l w).budget) refl refl
   learns r l w Reset b a x = quiet r l w Reset b a x (Swing 0) false refl (stays_reset (N l w).budget 0) refl refl
   learns r l w (Swing guess) b a x = swing_learns r l w guess b a x
   learns r l w (Link guess) b a x = quiet r l w (Link guess) b a x Wait false refl (stays_linked (N l w).budget guess) refl refl
   learns r l w Wait b a x = wait_learns r l w b a x
-  learns r l w Settle b a x = let bad : None ≡ Some a = x.planned in cc
-  learns r l w (Granted left) b a x = let bad : None ≡ Some a = x.planned in cc
   learns r l w (Look left u) b a x = look_learns r l w left u b a x
   learns r l w (Close left) b a x = close_learns r l w left b a x
   learns r l w (Await left) b a x = await_learns r l w left b a x
   learns r l w (Hand succ left) b a x = hand_learns r l w succ left b a x
-  learns r l w (Above s) b a x = let bad : None ≡ Some a = x.planned in cc
+  learns r l w _ b a x = let bad : None ≡ Some a = x.planned in cc
