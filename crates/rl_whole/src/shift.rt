@@ -7,6 +7,7 @@ use rl_step::Stepped;
 use rl_word::Atom;
 
 /// An atom of the lock, on the window's word.
+#[inline(always)]
 pub fn shift(base: u32, atom: Atom) -> Atom
     requires { IsShiftable base atom }
     ensures { result ≡ shifted base atom }
@@ -33,6 +34,7 @@ pub fn shift(base: u32, atom: Atom) -> Atom
 }
 
 /// An answer of the lock, with the window's word.
+#[inline(always)]
 pub fn shift_answer(base: u32, stepped: Stepped) -> Stepped
     requires { IsAnswerShiftable base stepped }
     ensures { result ≡ shifted_answer base stepped }

@@ -24,6 +24,7 @@ pub fn word(act: Act) -> u32
 }
 
 /// The word of a planned act.
+#[inline(always)]
 pub fn word_planned(plan: Option<Act>) -> Option<u32>
     ensures { result ≡ plan_word plan }
 {
@@ -89,6 +90,7 @@ fn first(home: u32, act: Act) -> Atom
 }
 
 /// The next atom of a rank, by its planned act and its card state.
+#[inline(always)]
 pub fn next_atom(home: u32, plan: Option<Act>, card: CardState) -> Option<Atom>
     ensures { result ≡ atom_at home plan card }
 {
@@ -153,6 +155,7 @@ fn effect_of_load(home: u32, act: Act, got: u64) -> Effect
 }
 
 /// What an atom that gave this means, by the planned act and the card state.
+#[inline(always)]
 pub fn effect(home: u32, plan: Option<Act>, card: CardState, got: u64) -> Effect
     requires { HolderFits plan card got }
     ensures { result ≡ effect_at home plan card got }
@@ -192,6 +195,7 @@ fn guess(act: Act) -> u64
 }
 
 /// The answer of a learnt act, with its word as the lock numbers it.
+#[inline(always)]
 pub fn answer(plan: Option<Act>, got: u64, lost: bool, waits: bool) -> Stepped
     ensures { result ≡ answer_of plan got lost waits }
 {

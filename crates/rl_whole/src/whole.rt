@@ -95,6 +95,7 @@ fn mode(calls: &[Call]) -> Mode
 
 impl<A: Algo> Whole<A> {
     /// The home of a planned act's word.
+    #[inline(always)]
     fn plan_home(&self, plan: Option<Act>) -> u32
         requires { (word : ℕ) → plan_word plan ≡ Some word → word < (A.table self.now.algo).size }
         ensures { result ≡ plan_home (A.table self.now.algo) plan }
@@ -113,6 +114,7 @@ impl<A: Algo> Core for Whole<A> {
 
     ghost rule = { rule_of A.table A.good A.layout };
 
+    #[inline(always)]
     fn next(&self, view: &WholeView<A::View>) -> Option<Atom> {
         let plan = self.algo.plan(view.side.view);
         let home = self.plan_home(plan);
@@ -125,6 +127,7 @@ impl<A: Algo> Core for Whole<A> {
         }
     }
 
+    #[inline(always)]
     fn after(&self, view: &mut WholeView<A::View>, got: u64) -> After {
         let plan = self.algo.plan(view.side.view);
         let home = self.plan_home(plan);
