@@ -140,7 +140,7 @@ module _ (K : Rooted) (levels : ℕ) (S : IsWellShaped K levels) where
       S.lonely x one n.there ∙ ap (λ z. path (tree_of K) (leaf_of K 0) z) dx ∙ ap (λ z. path (tree_of K) (leaf_of K z) i) zero_rank)
       (member_is K S.root_free (path (tree_of K) (leaf_of K r) (suc i)) x j)
 
--- nothing but a load waits
+-- nothing but a load waits; one that goes up, or gives up what is above, tells what was told before
 pub up_goes : (b : Bool) (v : TreeView) (w : ℕ) (es : List Event) → ((goes_up b v w es).events ≡ es) × ((goes_up b v w es).waits ≡ false)
 up_goes true v w es = (refl, refl)
 up_goes false v w es = (refl, refl)
