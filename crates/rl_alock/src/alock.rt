@@ -302,6 +302,7 @@ impl Algo for Alock {
         }
     }
 
+    #[inline(always)]
     fn plan(&self, view: AlockView) -> Option<Act> {
         let cohort = self.cohort_of(view.queue.member);
         match view.queue.phase {
@@ -310,6 +311,7 @@ impl Algo for Alock {
         }
     }
 
+    #[inline(always)]
     fn learn(&self, view: AlockView, got: u64) -> Learnt<AlockView> {
         let cohort = self.cohort_of(view.queue.member);
         match view.queue.phase {

@@ -87,10 +87,12 @@ impl Algo for Mcs {
         view.join()
     }
 
+    #[inline(always)]
     fn plan(&self, view: TreeView) -> Option<Act> {
         self.tree.plan(view)
     }
 
+    #[inline(always)]
     fn learn(&self, view: TreeView, got: u64) -> Learnt<TreeView> {
         let turn = self.tree.learn(view, got);
         tree_enter(past_hook(&self.tree, turn))

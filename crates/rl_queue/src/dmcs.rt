@@ -112,10 +112,12 @@ impl Algo for Dmcs {
         queue_join(view)
     }
 
+    #[inline(always)]
     fn plan(&self, view: QueueView) -> Option<Act> {
         queue_plan(view, &self.names)
     }
 
+    #[inline(always)]
     fn learn(&self, view: QueueView, got: u64) -> Learnt<QueueView> {
         let turn = queue_learn(view, &self.names, got);
         let mut events = turn.events;

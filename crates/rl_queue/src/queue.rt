@@ -70,6 +70,7 @@ fn code(budget: Option<u32>, left: u32) -> u64
 /// have words in `names`, which has as many status words as next words. The queue is the one of Mellor-Crummey and Scott,
 /// with budgets as in cohort locks.
 #[tactic(auto, using(crate::specs::QueueFits::plans_where))]
+#[inline(always)]
 pub fn queue_plan(view: QueueView, names: &QueueNames) -> Option<Act>
     requires { PlanFits names.now view.member view.phase }
     ensures plan { result ≡ plan_at names.now view.member view.phase }
@@ -154,6 +155,7 @@ fn left_of(budget: Option<u32>, code: u64) -> u32
 /// load has to be made again. The Settle event is the layer's that calls `queue_settled`.
 ///
 /// Beside the condition of `queue_plan`, a status that was loaded is below 2^32 + 2, and a next word below 2^32 + 1.
+#[inline(always)]
 pub fn queue_learn(view: QueueView, names: &QueueNames, got: u64) -> Learnt<QueueView>
     requires named { PlanFits names.now view.member view.phase }
     requires fits { GotFits view.phase got }

@@ -248,6 +248,7 @@ impl Algo for Rw {
         }
     }
 
+    #[inline(always)]
     fn plan(&self, view: RwView) -> Option<Act> {
         if counter_busy(view.counter) {
             counter_plan(view.counter, &self.counters)
@@ -256,6 +257,7 @@ impl Algo for Rw {
         }
     }
 
+    #[inline(always)]
     fn learn(&self, view: RwView, got: u64) -> Learnt<RwView> {
         if counter_busy(view.counter) {
             let turn = counter_learn(view.counter, &self.counters, got);

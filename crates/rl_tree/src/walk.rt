@@ -279,6 +279,7 @@ impl Tree {
     }
 
     /// The act that a rank makes next; none where it is out, inside, or at the hook.
+    #[inline(always)]
     pub fn plan(&self, view: TreeView) -> Option<Act>
         requires { MayPlan self.now.rooted view }
         ensures { result ≡ tree_plan (tree_of self.now.rooted) view }
@@ -302,6 +303,7 @@ impl Tree {
 
     /// What a rank learns where its planned act told `got`: its view, the joins, passes and settlements in all its queues, and whether a
     /// waiting load has to be made again. The rank may come to the hook.
+    #[inline(always)]
     pub fn learn(&self, view: TreeView, got: u64) -> Learnt<TreeView>
         requires fits { MayPlan self.now.rooted view }
         requires got { MayLearn self.now.rooted view got }
@@ -335,6 +337,7 @@ impl Tree {
 
     /// Goes on from the hook: a head of the root settles, and with it all queues below; a leaver hands the root over. What was told
     /// before stands first among the events, for a lock that goes on in the same act.
+    #[inline(always)]
     pub fn resume(&self, view: TreeView, told: ArrayVec<Event, 8>) -> Learnt<TreeView>
         requires hooked { at_hook view ≡ true }
         requires placed { IsPlaced self.now.rooted view }
