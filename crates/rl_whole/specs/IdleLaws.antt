@@ -1,10 +1,11 @@
 -- A Take that finds another rank in the card is idle.
-use Rattle.std.specs.Prelude.{◌≡◌, ℕ, ◌+◌, ◌-◌, ◌^◌, ◌<◌, ◌==◌, true, false, List, length, if◌then◌else◌, slice_index, slice_set, Some, refl}
+use Rattle.std.specs.Prelude.{Bool, ◌≡◌, ℕ, ◌+◌, ◌-◌, ◌^◌, ◌<◌, ◌==◌, true, false, List, length, if◌then◌else◌, slice_index, slice_set, Some, None, refl}
 use Rattle.std.proofs.Common.{sym, ◌∙◌, ap, subst, ⊎_elim}
 use Rattle.std.proofs.lemmas.Bool.Decides.{eqb_tells}
 use Rattle.rl_word.specs.Acts.{Layout, word_of, by_card}
 use Rattle.rl_word.specs.declared.acts.Act.{Act}
 use Rattle.rl_word.specs.declared.acts.Act.TheVariants as act
+use Rattle.rl_word.specs.declared.acts.Atom.{Atom}
 use Rattle.rl_word.specs.declared.acts.Atom.TheVariants as atom
 use Rattle.rl_step.specs.declared.events.Event.{Event}
 use Rattle.rl_step.specs.declared.events.Stepped.TheVariants.{Moved, Busy}
@@ -17,14 +18,25 @@ use Rattle.rl_whole.specs.declared.effect.Effect.TheVariants.{Stay, Learn}
 use Rattle.rl_whole.specs.declared.whole.WholeView.{WholeView}
 use Rattle.rl_whole.specs.Running.{LockAt}
 use Rattle.rl_whole.specs.Split.{home_of, first_at, card_atom, effect_at, plan_home, skips, HolderFits}
-use Rattle.rl_whole.specs.Whole.{Good, lock_or_work, work_plan, next_of, after_of, effect_turned, after_effect, whole_table}
+use Rattle.rl_whole.specs.Whole.{Good, lock_or_work, work_plan, is_open, next_of, after_of, effect_turned, after_effect, whole_table}
 use Rattle.rl_whole.specs.WholeLaws.{whole_laws}
 use Rattle.rl_whole.specs.WholeOwes.{holder_fits}
+use Rattle.rl_whole.specs.OpenLaws.{shut_is_none}
 use Rattle.rl_whole.specs.Rest.{IsIdle}
 
 -- a card with a number in it isn't free
 pub not_free : (n : ℕ) → (n ≡ 0 → ⊥) → (n == 0) ≡ false
 not_free n some = ⊎_elim (λ q. absurd (some q.1)) (λ q. q.0) (eqb_tells n 0)
+
+-- a rank with an atom is in a call
+isnt_false : (b : Bool) → (b ≡ false → ⊥) → b ≡ true
+isnt_false true f = refl
+isnt_false false f = absurd (f refl)
+
+open_with : (V : Type 0) (L : LockAt V) (good : LockState V → Type 0) (further : List Event → List Deed → Type 0) (layout : Layout) (laws : LockLaws L.table good further layout) (home : ℕ) (x : WholeView V) →
+    MayBe (Good L good layout) x → (at : Atom) → next_of L x ≡ Some at → is_open L x ≡ true
+open_with V L good further layout laws home x may at next =
+    isnt_false (is_open L x) (λ shut. let bad : Some at ≡ None = sym next ∙ shut_is_none V L good further layout laws home x may shut in cc)
 
 -- an act through a card begins with the Take
 begins_so : (home : ℕ) (a : Act) → by_card a ≡ true → first_at home a ≡ atom.Take home
@@ -68,6 +80,10 @@ module _ {V : Type 0} (L : LockAt V) (x : WholeView V) (a : Act) (planned : L.ta
     -- the card is there, and what is in it is a rank's number and one
     pub node_there : node < length may.held.cards
     node_there = (whole_laws V L good further layout laws home).can may.held may.views may.rank x (atom.Take node) plans
+
+    -- the call is open
+    pub take_open : is_open L x ≡ true
+    take_open = open_with V L good further layout laws home x may (atom.Take node) take_next
 
     pub rank_fits : slice_index may.held.cards node < 2 ^ 32 + 1
     rank_fits =

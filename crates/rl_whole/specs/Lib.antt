@@ -54,3 +54,4 @@ pub mod RecordLaws
 pub mod ReplayLaws
 pub mod RestLaws
 pub mod IdleLaws
+pub mod RestSteps

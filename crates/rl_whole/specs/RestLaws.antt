@@ -74,10 +74,10 @@ module _ {V : Type 0} where
             ∙ ap (λ a. with_steps m (counted a counts)) told,
       )
 
--- what follows of the value follows of it if it is there
-pub if_some : {X : Type 0} {P Q : X → Type 0} (o : Option X) → ((x : X) → P x → Q x) → IfSome o P → IfSome o Q
-if_some None f h = h
-if_some (Some x) f h = f x h
+-- what follows of the value by two facts follows of it if it is there
+pub if_both : {X : Type 0} {P Q R : X → Type 0} (o : Option X) → ((x : X) → P x → Q x → R x) → IfSome o P → IfSome o Q → IfSome o R
+if_both None f g h = h
+if_both (Some x) f g h = f x g h
 
 -- no block is opened where a call is open, nor where none is left
 pub open_shuts : (b left : Bool) → b ≡ true → (not b && left) ≡ false

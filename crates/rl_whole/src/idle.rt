@@ -1,10 +1,10 @@
 //! Atoms of which it is seen beforehand that they change nothing.
 
-ghost use Rattle.std.specs.Prelude.{◌≡◌, ℕ, IfSome};
+ghost use Rattle.std.specs.Prelude.{◌≡◌, ℕ, true, IfSome};
 ghost use Rattle.rl_step.specs.Core.{MayBe};
 ghost use Rattle.rl_whole.specs.Running.{lock_at};
 ghost use Rattle.rl_whole.specs.Rest.{IsIdle};
-ghost use Rattle.rl_whole.specs.Whole.{rule_of, next_of};
+ghost use Rattle.rl_whole.specs.Whole.{rule_of, is_open, next_of};
 
 use crate::card_state::CardState;
 use crate::split::{by_card, word};
@@ -16,7 +16,8 @@ use rl_step::{Algo, Stepped, Words};
 #[inline(always)]
 pub fn idle<A: Algo>(core: &Whole<A>, view: &WholeView<A::View>, words: &Words) -> Option<Stepped>
     requires { (s : MayBe (rule_of A.table A.good A.layout core.now) view.now) × (s.held ≡ words.now) }
-    ensures { IfSome result (λ answer. (k : ℕ) → IsIdle (lock_at A.table core.now) words.now k view.now (next_of (lock_at A.table core.now) view.now) answer) }
+    ensures in_call { IfSome result (λ _. is_open (lock_at A.table core.now) view.now ≡ true) }
+    ensures idle { IfSome result (λ answer. (k : ℕ) → IsIdle (lock_at A.table core.now) words.now k view.now (next_of (lock_at A.table core.now) view.now) answer) }
 {
     match view.side.card {
         CardState::Free => {}

@@ -75,6 +75,7 @@ impl<A: Algo> Machine<A> {
     {
         let shards = first_shards(alloc, shape, knobs, geom, homes, &ops)?;
         let opened = none_opened(alloc, &ops)?;
+        let seen = none_opened(alloc, &ops)?;
         Ok(Machine {
             state: MachineState {
                 shards,
@@ -82,6 +83,7 @@ impl<A: Algo> Machine<A> {
                 ops,
                 opened,
                 steps: Steps::none(),
+                seen,
             },
         })
     }

@@ -29,6 +29,8 @@ pub struct MachineState<A: Algo> {
     pub opened: Vec<u32>,
     /// How often each answer came.
     pub steps: Steps,
+    /// Where each rank opened its last block: a guess, by which nothing is decided.
+    pub seen: Vec<u32>,
 }
 
 /// How many steps were made.
@@ -92,6 +94,13 @@ fn place_after(geom: Geom, calls: &[Call], opened: u32) -> u32
     }
 }
 
+/// Notes where a rank opened its last block.
+fn note_place(seen: &mut Vec<u32>, at: usize, place: u32) {
+    if let Some(last) = seen.get_mut(at) {
+        *last = place;
+    }
+}
+
 impl<A: Algo> MachineState<A> {
     /// The shard where the rank stands.
     pub fn place(&self, rank: u32) -> u32
@@ -146,6 +155,36 @@ impl<A: Algo> MachineState<A> {
         !self.is_open(rank) && self.has_left(rank)
     }
 
+    /// Busy, where the rank's next atom is the Take of a card that another rank is in. `None` says nothing of its next step.
+    #[inline(always)]
+    fn held_off(&self, rank: u32) -> Option<Stepped>
+        requires there { rank < length self.now.ops.by_rank }
+        requires good { IsMachine A A.View A.table A.good A.layout (machine_view self.now) }
+        ensures { IfSome result (Rests (running A.table (machine_view self.now)) rank) }
+    {
+        let place = *self.seen.get(rank as usize)?;
+        let shard = self.shards.get(place as usize)?;
+        idle(&shard.core, shard.flat.view(rank), shard.flat.words())
+    }
+
+    /// Finished, where no call of the rank is open and none is left. `None` says nothing of its next step.
+    #[inline(always)]
+    fn finished(&self, rank: u32) -> Option<Stepped>
+        requires there { rank < length self.now.ops.by_rank }
+        requires good { IsMachine A A.View A.table A.good A.layout (machine_view self.now) }
+        ensures { IfSome result (Rests (running A.table (machine_view self.now)) rank) }
+    {
+        let shard = &self.shards[self.place(rank) as usize];
+        let view = shard.flat.view(rank);
+        if shard.core.is_open(view) {
+            None
+        } else if self.has_left(rank) {
+            None
+        } else {
+            Some(Stepped::Finished)
+        }
+    }
+
     /// The answer with which the rank rests, where that is seen at once: Busy where its next atom is the Take of a card that
     /// another rank is in, and Finished where no call of it is open and none is left. `None` says nothing of its next step.
     #[inline(always)]
@@ -154,15 +193,10 @@ impl<A: Algo> MachineState<A> {
         requires good { IsMachine A A.View A.table A.good A.layout (machine_view self.now) }
         ensures { IfSome result (Rests (running A.table (machine_view self.now)) rank) }
     {
-        let shard = &self.shards[self.place(rank) as usize];
-        let view = shard.flat.view(rank);
-        if shard.core.is_open(view) {
-            idle(&shard.core, view, shard.flat.words())
-        } else if self.has_left(rank) {
-            None
-        } else {
-            Some(Stepped::Finished)
+        if let Some(answer) = self.held_off(rank) {
+            return Some(answer);
         }
+        self.finished(rank)
     }
 }
 
@@ -203,6 +237,7 @@ pub fn open_next<A: Algo>(state: &mut MachineState<A>, rank: u32) -> Result<Step
     let answer = open_and_step(shard, rank, step, block, first)?;
     state.opened[at] = first + block.len() as u32;
     state.steps.count(answer);
+    note_place(&mut state.seen, at, place);
     Ok(answer)
 }
 

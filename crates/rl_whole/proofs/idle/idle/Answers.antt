@@ -8,7 +8,7 @@ use Rattle.rl_step.specs.declared.events.Stepped.TheVariants.{Busy}
 use Rattle.rl_whole.specs.Rest.{IsIdle}
 use Rattle.rl_whole.specs.Split.{home_of}
 use Rattle.rl_whole.specs.Whole.{next_of}
-use Rattle.rl_whole.specs.IdleLaws.{not_free, held_idle, node_there, rank_fits}
+use Rattle.rl_whole.specs.IdleLaws.{not_free, held_idle, node_there, take_open, rank_fits}
 use Rattle.rl_whole.proofs.idle.idle.Goals as goal
 use Rattle.rl_whole.proofs.idle.idle.Goals.{After-spot-node}
 use Rattle.rl_whole.proofs.idle.idle.Given.{Over}
@@ -50,9 +50,14 @@ overflow_cast-result g c =
     let some = c.if-held-eq0.false in
     omega arith
 
-pub returns : goal.returns
-returns g c = λ k.
-    let d = (goal.at.returns g c).After-spot-node in
+pub returns-clause-in_call : goal.returns-clause-in_call
+returns-clause-in_call g c =
+    take_open (lock_at g.A.Algo.table c.args.core.now) c.args.view.now c.in_ok-act.act (sym c.in_ok-act.ensures) c.in-Free.is (by g (goal.at.returns-clause-in_call g c).After-spot-node)
+    (g.A.Algo.good c.args.core.now.algo) (g.A.Algo.further c.args.core.now.algo) (g.A.Algo.layout c.args.core.now.algo) (g.met.A.Algo.laws c.args.core.now.algo) c.args.core.now.home c.requires.0
+
+pub returns-clause-idle : goal.returns-clause-idle
+returns-clause-idle g c = λ k.
+    let d = (goal.at.returns-clause-idle g c).After-spot-node in
     let L = lock_at g.A.Algo.table c.args.core.now in
     let x = c.args.view.now in
     let h = c.args.words.now in

@@ -1,5 +1,5 @@
 -- The word is there, and its home is the table's.
-use Rattle.std.proofs.Common.{◌≡◌, ◌<◌, ap, sym, ◌∙◌}
+use Rattle.std.proofs.Common.{ap, sym, ◌∙◌}
 use Rattle.rl_whole.specs.Split.{word_home}
 use Rattle.rl_whole.proofs.whole.Whole.plan_home.Goals as goal
 

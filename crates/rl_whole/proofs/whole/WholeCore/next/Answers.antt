@@ -1,5 +1,5 @@
 -- What the calls of the lock ask follows from the rule, by the lock's laws.
-use Rattle.std.proofs.Common.{◌≡◌, ap, sym, ◌∙◌}
+use Rattle.std.proofs.Common.{ap, sym, ◌∙◌}
 use Rattle.rl_whole.specs.Running.{lock_at}
 use Rattle.rl_whole.specs.Split.{plan_word, plan_home, atom_at}
 use Rattle.rl_whole.specs.WholeOwes.{may_step, plan_word_there, shifts, work_names}

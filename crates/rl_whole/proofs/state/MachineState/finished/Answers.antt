@@ -1,20 +1,17 @@
 -- The rank's view on the shard where it stands says it.
-use Rattle.std.proofs.Common.{◌≡◌, ℕ, false, nat_lt, length, slice_get, slice_index, Some, None, refl, ap, sym, ◌∙◌, arith, subst}
+use Rattle.std.proofs.Common.{◌≡◌, false, nat_lt, length, slice_get, slice_index, Some, None, refl, ap, sym, ◌∙◌, arith, subst}
 use Rattle.std.proofs.lemmas.Option.{slice_get-get_or}
-use Rattle.rl_whole.specs.declared.whole.WholeView.{WholeView}
 use Rattle.rl_whole.specs.Running.{running, shard_run}
-use Rattle.rl_step.specs.declared.events.Stepped.{Stepped}
 use Rattle.rl_step.specs.declared.events.Stepped.TheVariants.{Finished}
-use Rattle.rl_whole.specs.Whole.{is_open, next_of}
+use Rattle.rl_whole.specs.Whole.{next_of}
 use Rattle.rl_whole.specs.Rest.{IsIdle}
-use Rattle.rl_whole.specs.RestLaws.{if_some, open_shuts, done_shuts, idle_rests}
-use Rattle.rl_whole.specs.Run.{place_of, has_open_call, on_shard, opens, calls_by}
-use Rattle.rl_whole.specs.ShardSteps.{open_at, open_on}
+use Rattle.rl_whole.specs.RestLaws.{done_shuts, idle_rests}
+use Rattle.rl_whole.specs.Run.{place_of, has_open_call, opens, calls_by}
 use Rattle.rl_whole.specs.State.{shard_view, machine_view}
 use Rattle.rl_whole.specs.StateLaws.{IsThere, is_there}
-use Rattle.rl_whole.proofs.state.MachineState.resting.Goals as goal
-use Rattle.rl_whole.proofs.state.MachineState.resting.Goals.{After-index-shard}
-use Rattle.rl_whole.proofs.state.MachineState.resting.Given.{Over}
+use Rattle.rl_whole.proofs.state.MachineState.finished.Goals as goal
+use Rattle.rl_whole.proofs.state.MachineState.finished.Goals.{After-index-shard}
+use Rattle.rl_whole.proofs.state.MachineState.finished.Given.{Over}
 
 there : (g : Over) (c : After-index-shard g) → IsThere _ _ g.A.Algo.table g.A.Algo.good g.A.Algo.layout c.args.self.now c.requires.good c.place.result c.index-shard.result.now
 there g c =
@@ -30,35 +27,12 @@ is_open-requires g c =
     let flat = c.index-shard.result.now.flat in
     record { held = flat.words; views = flat.views.items; rank = c.args.rank; is_ruled = (there g (goal.at.is_open-requires g c).After-index-shard).ruled; has = c.view-view.ensures }
 
-pub idle-requires : goal.idle-requires
-idle-requires g c =
-    let flat = c.index-shard.result.now.flat in
-    (record { held = flat.words; views = flat.views.items; rank = c.args.rank; is_ruled = (there g (goal.at.idle-requires g c).After-index-shard).ruled; has = c.view-view.ensures }, sym c.words.ensures)
-
 -- the shard where the rank stands
 has : (g : Over) (c : After-index-shard g) →
     slice_get (running g.A.Algo.table (machine_view c.args.self.now)).shards (place_of (running g.A.Algo.table (machine_view c.args.self.now)) c.args.rank) ≡ Some (shard_run g.A.Algo.table (shard_view c.index-shard.result.now))
 has g c =
     let m = running g.A.Algo.table (machine_view c.args.self.now) in
     ap (slice_get m.shards) (sym c.place.ensures.place) ∙ (there g c).has
-
--- what is said of the view is said of the rank
-open_is : (g : Over) (c : After-index-shard g) (x : WholeView g.row.A-View.Denot) → slice_get c.index-shard.result.now.flat.views.items c.args.rank ≡ Some x →
-    has_open_call (running g.A.Algo.table (machine_view c.args.self.now)) c.args.rank ≡ is_open (shard_run g.A.Algo.table (shard_view c.index-shard.result.now)).lock x
-open_is g c x seen = ap (on_shard false (open_on c.args.rank)) (has g c) ∙ ap (open_at (shard_run g.A.Algo.table (shard_view c.index-shard.result.now))) seen
-
-pub returns-then-is_open : goal.returns-then-is_open
-returns-then-is_open g c =
-    let d = (goal.at.returns-then-is_open g c).After-index-shard in
-    let m = running g.A.Algo.table (machine_view c.args.self.now) in
-    let S = shard_run g.A.Algo.table (shard_view c.index-shard.result.now) in
-    let k = c.args.rank in
-    let x = c.view-view.result.now in
-    let shut : opens m k ≡ false = open_shuts (has_open_call m k) (nat_lt (slice_index m.opened k) (length (calls_by m k))) (open_is g d x c.view-view.ensures ∙ sym c.is_open.ensures.open ∙ c.if-is_open.true) in
-    if_some c.idle.result
-    (λ (answer : Stepped) (idle : (j : ℕ) → IsIdle S.lock c.words.result.now j x (next_of S.lock x) answer).
-    idle_rests m k S x answer (has g d) c.view-view.ensures shut (subst (λ h. IsIdle S.lock h k x (next_of S.lock x) answer) c.words.ensures (idle k)))
-    c.idle.ensures
 
 pub returns-else-has_left : goal.returns-else-has_left
 returns-else-has_left g c =
