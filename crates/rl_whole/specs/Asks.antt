@@ -1,5 +1,5 @@
 -- What a rank asks for, as its list of calls with a size for each: blocks, one after the other.
-use Rattle.std.specs.Prelude.{◌≡◌, ◌<◌, ℕ, zero, suc, ◌+◌, List, [], ◌∷◌, ◌++◌, All, take, drop, length, map, slice_get, slice_index, Option, Some, None, Bool, ◌==◌}
+use Rattle.std.specs.Prelude.{◌≡◌, ◌<◌, ℕ, zero, suc, List, [], ◌∷◌, ◌++◌, All, take, drop, length, map, slice_get, slice_index, Option, Some, None, Bool, ◌==◌}
 use Rattle.rl_model.specs.declared.call.Call.{Call}
 use Rattle.rl_model.specs.declared.geom.Geom.{Geom}
 use Rattle.rl_model.specs.Call.{shard_of}

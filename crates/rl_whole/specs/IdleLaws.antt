@@ -1,6 +1,6 @@
--- A Take that finds another rank in the card is idle.
-use Rattle.std.specs.Prelude.{Bool, ◌≡◌, ℕ, ◌+◌, ◌-◌, ◌^◌, ◌<◌, ◌==◌, true, false, List, length, if◌then◌else◌, slice_index, slice_set, Some, None, refl}
-use Rattle.std.proofs.Common.{sym, ◌∙◌, ap, subst, ⊎_elim}
+-- A Take that finds another rank in the card is idle, and so is a load that waits and is learnt without a trace.
+use Rattle.std.specs.Prelude.{[], Bool, ◌≡◌, ℕ, ◌+◌, ◌-◌, ◌^◌, ◌<◌, ◌==◌, true, false, List, length, if◌then◌else◌, slice_index, slice_set, Some, None, refl}
+use Rattle.std.proofs.Common.{sym, ◌∙◌, ap, subst, ⊎_elim, arith}
 use Rattle.std.proofs.lemmas.Bool.Decides.{eqb_tells}
 use Rattle.rl_word.specs.Acts.{Layout, word_of, by_card}
 use Rattle.rl_word.specs.declared.acts.Act.{Act}
@@ -8,19 +8,19 @@ use Rattle.rl_word.specs.declared.acts.Act.TheVariants as act
 use Rattle.rl_word.specs.declared.acts.Atom.{Atom}
 use Rattle.rl_word.specs.declared.acts.Atom.TheVariants as atom
 use Rattle.rl_step.specs.declared.events.Event.{Event}
-use Rattle.rl_step.specs.declared.events.Stepped.TheVariants.{Moved, Busy}
+use Rattle.rl_step.specs.declared.events.Stepped.TheVariants.{Moved, Waiting, Busy}
 use Rattle.rl_step.specs.Core.{MayBe, MayGet, Plans}
 use Rattle.rl_step.specs.Do.{TheWindow}
-use Rattle.rl_step.specs.Lock.{LockState, LockLaws, Deed}
+use Rattle.rl_step.specs.Lock.{LockState, LockLaws, Deed, MayLearn}
 use Rattle.rl_work.specs.Work.{work_after}
 use Rattle.rl_whole.specs.declared.card_state.CardState.TheVariants.{Free, InCard}
 use Rattle.rl_whole.specs.declared.effect.Effect.TheVariants.{Stay, Learn}
 use Rattle.rl_whole.specs.declared.whole.WholeView.{WholeView}
 use Rattle.rl_whole.specs.Running.{LockAt}
-use Rattle.rl_whole.specs.Split.{home_of, first_at, card_atom, effect_at, plan_home, skips, HolderFits}
-use Rattle.rl_whole.specs.Whole.{Good, lock_or_work, work_plan, is_open, next_of, after_of, effect_turned, after_effect, whole_table}
+use Rattle.rl_whole.specs.Split.{home_of, first_at, card_atom, effect_at, answer_of, plan_home, skips, HolderFits}
+use Rattle.rl_whole.specs.Whole.{Good, lock_or_work, work_plan, shifted_answer, is_open, next_of, after_of, effect_turned, after_effect, whole_table}
 use Rattle.rl_whole.specs.WholeLaws.{whole_laws}
-use Rattle.rl_whole.specs.WholeOwes.{holder_fits}
+use Rattle.rl_whole.specs.WholeOwes.{holder_fits, may_learn, plan_there}
 use Rattle.rl_whole.specs.OpenLaws.{shut_is_none}
 use Rattle.rl_whole.specs.Rest.{IsIdle}
 
@@ -91,3 +91,56 @@ module _ {V : Type 0} (L : LockAt V) (x : WholeView V) (a : Act) (planned : L.ta
         record { held = may.held; views = may.views; rank = may.rank; atom = atom.Take node; plans = plans; gives = refl } in
         let fits = holder_fits V L good further layout laws home x (slice_index may.held.cards node) may_get in
         subst (λ q. HolderFits q Free (slice_index may.held.cards node)) planned (subst (λ c. HolderFits (L.table.plan x.side.view) c (slice_index may.held.cards node)) free fits) card
+
+module _ {V : Type 0} (L : LockAt V) (x : WholeView V) (w : ℕ) (planned : L.table.plan x.side.view ≡ Some (act.Load w)) (free : x.side.card ≡ Free) where
+  pub load_next : next_of L x ≡ Some (atom.Load (L.base + w))
+  load_next =
+      ap (λ q. lock_or_work L.base q (work_plan L.site.geom (L.table.standing x.side.view) x.work))
+      (ap (card_atom L.table (L.table.plan x.side.view)) free ∙ ap (λ q. card_atom L.table q Free) planned)
+
+  load_means : (got : ℕ) → effect_at (plan_home L.table (L.table.plan x.side.view)) (L.table.plan x.side.view) x.side.card got ≡ Learn Free got false
+  load_means got =
+      ap (λ c. effect_at (plan_home L.table (L.table.plan x.side.view)) (L.table.plan x.side.view) c got) free
+      ∙ ap (λ q. effect_at (plan_home L.table q) q Free got) planned
+
+  -- it changes nothing where what is learnt leaves the view, and nothing happens with it
+  pub load_idle : (h : TheWindow) (k got : ℕ) → got ≡ slice_index h.words (L.base + w) → (L.table.learn x.side.view got).view ≡ x.side.view → (L.table.learn x.side.view got).events ≡ [] → (L.table.learn x.side.view got).waits ≡ true →
+      IsIdle L h k x (next_of L x) (Waiting (L.base + w) got)
+  load_idle h k got is same none waits =
+      let turned : after_of L x got ≡ effect_turned L x (work_after L.site.geom L.site.shard x.rank x.work got) (Learn Free got false) = after_effect L x got (Learn Free got false) (load_means got) in
+      let view : (after_of L x got).view ≡ x =
+      ap (λ z. z.view) turned ∙ ap (λ v. record { side = record { view = v; card = Free }; rank = x.rank; work = x.work }) same
+      ∙ ap (λ c. record { side = record { view = x.side.view; card = c }; rank = x.rank; work = x.work }) (sym free) in
+      let answer : (after_of L x got).stepped ≡ Waiting (L.base + w) got =
+      ap (λ z. z.stepped) turned ∙ ap (λ q. shifted_answer L.base (answer_of q got false (L.table.learn x.side.view got).waits)) planned
+      ∙ ap (λ b. shifted_answer L.base (answer_of (Some (act.Load w)) got false b)) waits in
+      subst (λ o. IsIdle L h k x o (Waiting (L.base + w) got)) (sym load_next) (
+        refl,
+        subst (λ g. (after_of L x g).view ≡ x) is view,
+        subst (λ g. (after_of L x g).events ≡ []) is (ap (λ z. z.events) turned ∙ none),
+        subst (λ g. (after_of L x g).stepped ≡ Waiting (L.base + w) got) is answer,
+      )
+
+  module _ (good : LockState V → Type 0) (further : List Event → List Deed → Type 0) (layout : Layout) (laws : LockLaws L.table good further layout) (home : ℕ) (may : MayBe (Good L good layout) x) where
+    -- the word is there, and what it has may be learnt
+    pub load_there : L.base + w < length may.held.words
+    load_there =
+        let low : w < L.table.size = plan_there V L good further layout laws home x (act.Load w) may planned in
+        let all : length may.held.words ≡ L.base + L.table.size = may.is_ruled.all_words in
+        omega arith
+
+    pub load_fits : L.base + w < 2 ^ 32
+    load_fits =
+        let low : w < L.table.size = plan_there V L good further layout laws home x (act.Load w) may planned in
+        let all : L.base + L.table.size < 2 ^ 32 = may.is_ruled.fits in
+        omega arith
+
+    pub load_open : is_open L x ≡ true
+    load_open = open_with V L good further layout laws home x may (atom.Load (L.base + w)) load_next
+
+    pub load_learns : MayLearn L.table good x.side.view (slice_index may.held.words (L.base + w))
+    load_learns =
+        let got : ℕ = slice_index may.held.words (L.base + w) in
+        let may_get : MayGet (whole_table L home) (Good L good layout) x got =
+        record { held = may.held; views = may.views; rank = may.rank; atom = atom.Load (L.base + w); plans = record { is_ruled = may.is_ruled; has = may.has; planned = load_next }; gives = refl } in
+        may_learn V L good further layout laws home x got Free got false may_get (load_means got)

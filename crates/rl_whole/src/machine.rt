@@ -1,6 +1,6 @@
 //! All shards in plain vectors, stepped one rank at a time.
 
-ghost use Rattle.std.specs.Prelude.{◌≡◌, ◌↔◌, ◌+◌, ◌-◌, ◌<◌, ◌^◌, [], length, map, replicate, get_or, slice_index, IfOk, IfSome, OnErr};
+ghost use Rattle.std.specs.Prelude.{◌≡◌, ◌↔◌, ◌+◌, ◌-◌, ◌<◌, ◌^◌, ℕ, [], true, length, map, replicate, get_or, slice_index, IfOk, IfSome, OnErr};
 ghost use Rattle.std.specs.List.{AllByRecursion};
 ghost use Rattle.rl_model.specs.Geom.{GeomFits};
 ghost use Rattle.rl_word.specs.Shapes.{IsProper, layout_of};
@@ -113,14 +113,24 @@ impl<A: Algo> Machine<A> {
         Ok(answer)
     }
 
-    /// The answer with which the rank rests, where that is seen at once: Busy where another rank is in the card that it takes, and
-    /// Finished. `None` says nothing of its next step.
+    /// The answer with which the rank rests, where that is seen at once: Busy where another rank is in the card that it takes,
+    /// Waiting where its load leaves the lock's view as it was, and Finished. `None` says nothing of its next step. `same` says
+    /// that equal views are one.
     #[inline(always)]
     pub(crate) fn resting(&self, rank: u32) -> Option<Stepped>
-        requires { rank < length self.now.calls }
+    where
+        A::View: PartialEq,
+        requires same { (x y : A.View) → A.View.eq x y ≡ true → x ≡ y }
+        requires there { rank < length self.now.calls }
         ensures { IfSome result (Rests (running A.table self.now) rank) }
     {
-        self.state.resting(rank)
+        if let Some(answer) = self.state.held_off(rank) {
+            return Some(answer);
+        }
+        if let Some(answer) = self.state.waiting(rank) {
+            return Some(answer);
+        }
+        self.state.finished(rank)
     }
 
     /// One step of a rank, made in full.

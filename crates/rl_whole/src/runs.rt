@@ -1,6 +1,6 @@
 //! A whole replay: a machine is made and takes the steps of a schedule.
 
-ghost use Rattle.std.specs.Prelude.{◌≡◌, ◌+◌, ◌<◌, ◌^◌, length, replicate, IfOk};
+ghost use Rattle.std.specs.Prelude.{◌≡◌, true, ◌+◌, ◌<◌, ◌^◌, length, replicate, IfOk};
 ghost use Rattle.std.specs.List.{AllByRecursion};
 ghost use Rattle.rl_model.specs.Geom.{GeomFits};
 ghost use Rattle.rl_word.specs.Shapes.{IsProper};
@@ -23,6 +23,9 @@ use std::alloc::{AllocError as OutOfMemory, Global};
 
 /// Takes so many steps of one rank. Once it is seen to rest, all that are left are counted at once.
 fn take_steps<A: Algo>(machine: &mut Machine<A>, rank: u32, count: u32) -> Result<(), OutOfMemory>
+where
+    A::View: PartialEq,
+    requires same { (x y : A.View) → A.View.eq x y ≡ true → x ≡ y }
     requires there { rank < length machine.old.calls }
     requires few { steps_made machine.old.steps + count < 2 ^ 32 }
     ensures cores { cores_of machine.new ≡ cores_of machine.old }
@@ -42,6 +45,9 @@ fn take_steps<A: Algo>(machine: &mut Machine<A>, rank: u32, count: u32) -> Resul
 
 /// Takes the steps of one turn. A stop has none.
 fn take_turn<A: Algo>(machine: &mut Machine<A>, turn: Turn) -> Result<(), OutOfMemory>
+where
+    A::View: PartialEq,
+    requires same { (x y : A.View) → A.View.eq x y ≡ true → x ≡ y }
     requires there { TurnFits (length machine.old.calls) turn }
     requires few { steps_made machine.old.steps + steps_of turn < 2 ^ 32 }
     ensures cores { cores_of machine.new ≡ cores_of machine.old }
@@ -62,6 +68,7 @@ fn take_turn<A: Algo>(machine: &mut Machine<A>, turn: Turn) -> Result<(), OutOfM
 /// shape's, and there are fewer than 2^32 steps in all. Refused only for want of memory. Whatever the schedule, the machine
 /// is sound (`IsSound` of `specs/Promises.antt`); on each shard the lock's queues, whose members and budgets are the
 /// placement's, keep their promises; and what a lock promises beside holds of its events and acts on each shard.
+/// Views of the lock that `==` finds equal are the same: so it is seen where a rank waits on.
 /// The contract speaks of the run by its definition (`run_of` of `specs/Run.antt`), which knows no vectors.
 pub fn replay<A: Algo>(
     alloc: Global,
@@ -72,6 +79,9 @@ pub fn replay<A: Algo>(
     ops: Ops,
     turns: &[Turn],
 ) -> Result<Machine<A>, OutOfMemory>
+where
+    A::View: PartialEq,
+    requires same { (x y : A.View) → A.View.eq x y ≡ true → x ≡ y }
     requires proper { IsProper shape.now }
     requires knobs { A.suits_knobs shape.now knobs }
     requires fits { GeomFits geom }

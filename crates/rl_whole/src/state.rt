@@ -1,6 +1,6 @@
 //! A machine in plain vectors, and the two kinds of its steps.
 
-ghost use Rattle.std.specs.Prelude.{◌≡◌, ◌+◌, ◌<◌, ◌≤◌, ◌-◌, ◌^◌, [], true, length, get_or, nat_lt, slice_index, IfOk, IfSome, OnErr};
+ghost use Rattle.std.specs.Prelude.{ℕ, ◌≡◌, ◌+◌, ◌<◌, ◌≤◌, ◌-◌, ◌^◌, [], true, length, get_or, nat_lt, slice_index, IfOk, IfSome, OnErr};
 ghost use Rattle.rl_model.specs.Geom.{GeomFits};
 ghost use Rattle.rl_step.specs.Answers.{steps_made};
 ghost use Rattle.rl_whole.specs.Asks.{place_after, block_from, block_shard};
@@ -9,7 +9,7 @@ ghost use Rattle.rl_whole.specs.Run.{done_of, place_of, has_open_call, opens, at
 ghost use Rattle.rl_whole.specs.Running.{running};
 ghost use Rattle.rl_whole.specs.State.{machine_view, cores_of, IsMachine};
 
-use crate::idle::idle;
+use crate::idle::{idle, waits};
 use crate::shard::{ShardState, open_and_step, step_on};
 use rl_model::{Call, Geom};
 use rl_ops::Ops;
@@ -157,7 +157,7 @@ impl<A: Algo> MachineState<A> {
 
     /// Busy, where the rank's next atom is the Take of a card that another rank is in. `None` says nothing of its next step.
     #[inline(always)]
-    fn held_off(&self, rank: u32) -> Option<Stepped>
+    pub fn held_off(&self, rank: u32) -> Option<Stepped>
         requires there { rank < length self.now.ops.by_rank }
         requires good { IsMachine A A.View A.table A.good A.layout (machine_view self.now) }
         ensures { IfSome result (Rests (running A.table (machine_view self.now)) rank) }
@@ -167,9 +167,25 @@ impl<A: Algo> MachineState<A> {
         idle(&shard.core, shard.flat.view(rank), shard.flat.words())
     }
 
+    /// Waiting, where the rank's next atom is a load of the lock whose test isn't met and which leaves the lock's view as it was.
+    /// `same` says that equal views are one. `None` says nothing of its next step.
+    #[inline(always)]
+    pub fn waiting(&self, rank: u32) -> Option<Stepped>
+    where
+        A::View: PartialEq,
+        requires same { (x y : A.View) → A.View.eq x y ≡ true → x ≡ y }
+        requires there { rank < length self.now.ops.by_rank }
+        requires good { IsMachine A A.View A.table A.good A.layout (machine_view self.now) }
+        ensures { IfSome result (Rests (running A.table (machine_view self.now)) rank) }
+    {
+        let place = *self.seen.get(rank as usize)?;
+        let shard = self.shards.get(place as usize)?;
+        waits(&shard.core, shard.flat.view(rank), shard.flat.words())
+    }
+
     /// Finished, where no call of the rank is open and none is left. `None` says nothing of its next step.
     #[inline(always)]
-    fn finished(&self, rank: u32) -> Option<Stepped>
+    pub fn finished(&self, rank: u32) -> Option<Stepped>
         requires there { rank < length self.now.ops.by_rank }
         requires good { IsMachine A A.View A.table A.good A.layout (machine_view self.now) }
         ensures { IfSome result (Rests (running A.table (machine_view self.now)) rank) }

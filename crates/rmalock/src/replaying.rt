@@ -1,5 +1,5 @@
 //! A replay: of a placement, calls and a schedule, and of the files that spell them.
-ghost use Rattle.std.specs.Prelude.{◌≡◌, length, IfOk, Some};
+ghost use Rattle.std.specs.Prelude.{◌≡◌, true, length, IfOk, Some};
 ghost use Rattle.rl_place.specs.LockWords.{name_of};
 ghost use Rattle.rl_place.specs.Places.{IsProper};
 ghost use Rattle.rl_place.specs.Shapes.{shape_of, knobs_of};
@@ -34,6 +34,9 @@ fn report_with<A: Algo>(
     ops: Ops,
     schedule: &Schedule,
 ) -> Result<Report, OutOfMemory>
+where
+    A::View: PartialEq,
+    requires same { (x y : A.View) → A.View.eq x y ≡ true → x ≡ y }
     requires proper { IsProper place.now }
     requires knobs { A.suits_knobs (shape_of place.now) (knobs_of place.now.lock) }
     requires kind { A.name ≡ name_of place.now.lock }

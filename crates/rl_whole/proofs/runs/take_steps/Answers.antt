@@ -9,8 +9,8 @@ use Rattle.rl_whole.proofs.runs.take_steps.Goals as goal
 use Rattle.rl_whole.proofs.runs.take_steps.Goals.{After-rest}
 use Rattle.rl_whole.proofs.runs.take_steps.Given.{Over}
 
-pub resting-requires : goal.resting-requires
-resting-requires g c =
+pub resting-requires-clause-there : goal.resting-requires-clause-there
+resting-requires-clause-there g c =
     let counts = turn_counts (running g.A.Algo.table c.args.machine.now) c.loop-made.made c.args.rank in
     subst (λ l. c.args.rank < length l) (sym (ap (λ m. m.calls) c.loop-made.invariant.1 ∙ counts.1)) c.requires.there
 
