@@ -13,3 +13,4 @@ mod RoundLaws
 mod SummaryLaws
 mod MakeLaws
 pub mod SameViews
+mod SeatLists

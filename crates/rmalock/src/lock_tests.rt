@@ -1,6 +1,6 @@
-//! Small schedules over each lock, with their answers and events worked out by hand.
+//! Small schedules over each lock, with their answers and events worked out by hand: by the machine, and by single seats on one thread.
 
-use crate::trials::trial;
+use crate::seat_tests::trial_and_seats;
 use std::alloc::{AllocError as OutOfMemory, Global};
 use std::test::Fail;
 
@@ -69,7 +69,7 @@ fn spin(rt: HostRuntime) -> Result<(), Fail> {
         ("111", "201", "m b0.2 b0.2"),
     ] {
         let (place, text) = together(rt.alloc(), "spin", calls)?;
-        let told = trial(rt.alloc(), &place, &text, ranks)?;
+        let told = trial_and_seats(&rt, &place, &text, ranks)?;
         assert_eq!(rt; told.as_str(), want, "{calls} {ranks}");
     }
     Ok(())
@@ -101,7 +101,7 @@ fn one_queue_of_all_ranks(rt: HostRuntime) -> Result<(), Fail> {
         ("11", "0001110", "m m m m m b0.0 m"),
     ] {
         let (place, text) = together(rt.alloc(), "dmcs", calls)?;
-        let told = trial(rt.alloc(), &place, &text, ranks)?;
+        let told = trial_and_seats(&rt, &place, &text, ranks)?;
         assert_eq!(rt; told.as_str(), want, "{calls} {ranks}");
     }
     Ok(())
@@ -134,7 +134,7 @@ fn two_cohorts(rt: HostRuntime) -> Result<(), Fail> {
         // The remote rank stops in the card, and the local one does its whole call.
         ("11100000000", "m m m m m mj0.0 ma1 ms0.0+0 m*0-0 m m"),
     ] {
-        let told = trial(rt.alloc(), BOTH_COHORTS, HOLDS, ranks)?;
+        let told = trial_and_seats(&rt, BOTH_COHORTS, HOLDS, ranks)?;
         assert_eq!(rt; told.as_str(), want, "{ranks}");
     }
     Ok(())
@@ -145,8 +145,8 @@ fn two_cohorts(rt: HostRuntime) -> Result<(), Fail> {
 fn local_ranks_overtake_within_their_bound(rt: HostRuntime) -> Result<(), Fail> {
     let place =
         "rmalock-place 1\nlevels 1\nlock alock\nbudget 1 1\nshards 1\nbuckets 1\noverflow 0\nrank 0 at 0\nrank 1 at 0\nrank 2 at 0\nrank 3 at 1\nhome 0 0\nend\n";
-    let told = trial(
-        rt.alloc(),
+    let told = trial_and_seats(
+        &rt,
         place,
         HOLDS_OF_FOUR,
         "000033333330011111222220001111222233",
@@ -163,7 +163,7 @@ fn local_ranks_overtake_within_their_bound(rt: HostRuntime) -> Result<(), Fail> 
 fn no_budget_settles_each_time(rt: HostRuntime) -> Result<(), Fail> {
     let place =
         "rmalock-place 1\nlevels 1\nlock alock\nbudget 0 0\nshards 1\nbuckets 1\noverflow 0\nrank 0 at 0\nrank 1 at 0\nhome 0 0\nend\n";
-    let told = trial(rt.alloc(), place, HOLDS, "0000011111000111")?;
+    let told = trial_and_seats(&rt, place, HOLDS, "0000011111000111")?;
     assert_eq!(rt;
         told.as_str(),
         "m m mj0.0 ma1 ms0.0+0 m m l0.1 mj0.1 m m*0-0 m m m ma1 ms0.1+1"
@@ -176,8 +176,8 @@ fn no_budget_settles_each_time(rt: HostRuntime) -> Result<(), Fail> {
 fn a_tree_of_two_nodes(rt: HostRuntime) -> Result<(), Fail> {
     let place =
         "rmalock-place 1\nlevels 1\nlock mcs\nbudget 1\nshards 1\nbuckets 1\noverflow 0\nrank 0 at 0\nrank 1 at 0\nrank 2 at 1\nrank 3 at 1\nhome 0 0\nend\n";
-    let told = trial(
-        rt.alloc(),
+    let told = trial_and_seats(
+        &rt,
         place,
         HOLDS_OF_THREE,
         "0000000000001111111111222222222222222200011111111112",
@@ -186,5 +186,49 @@ fn a_tree_of_two_nodes(rt: HostRuntime) -> Result<(), Fail> {
         told.as_str(),
         "m m m m mj1.0 m m m m m mj0.1s0.1s1.0+0 m m m m l0.1 m m m mj1.1 m m m m m m mj2.2 m m m m l0.2 m m m mj0.2 m m m*0-0 m mp1.1 m+1 m*1-1 m m m mp0.2 m m m m ms2.2+2"
     );
+    Ok(())
+}
+
+/// Queue 0 is the root's, queues 1 to 3 are those of the nodes. Rank 1 waits at the root for rank 0, a reader watches the root's tail, and
+/// the next writer finds it inside.
+#[test]
+fn a_reader_between_writers(rt: HostRuntime) -> Result<(), Fail> {
+    let place =
+        "rmalock-place 1\nlevels 1\nlock rw\nbudget 1\nwriters 1\nreaders 1000\ngroup 32\nshards 1\nbuckets 1\noverflow 0\nrank 0 at 0\nrank 1 at 1\nrank 2 at 2\nrank 3 at 0\nhome 0 0\nend\n";
+    let calls = "rmalock-calls 1\n0 hold 0\n1 hold 0\n2 hold 0\n3 get 0\nend\n";
+    let ranks =
+        "0000000000000000001111111111111111222222222222222233333333333000000000111111111111111111333332222222";
+    let told = trial_and_seats(&rt, place, calls, ranks)?;
+    let signs = [
+        (4, "mj1.0"),
+        (10, "mj0.1"),
+        (17, "ms0.1s1.0+0"),
+        (22, "mj2.1"),
+        (27, "l0.2"),
+        (31, "mj0.2"),
+        (38, "mj3.2"),
+        (43, "l0.3"),
+        (47, "mj0.3"),
+        (61, "m*0-0"),
+        (65, "mp0.2"),
+        (70, "ms2.1+1"),
+        (71, "m*1-1"),
+        (91, "m<3"),
+    ];
+    let mut next = signs.iter();
+    let mut marked = next.next();
+    for (step, sign) in told.split(' ').enumerate() {
+        match (step, marked) {
+            (60, _) => assert!(rt; sign.starts_with("w") && sign.ends_with(".4"), "{sign}"),
+            (99, _) => assert!(rt; sign.starts_with("w") && sign.ends_with(".0"), "{sign}"),
+            (_, Some((at, want))) if *at == step => {
+                assert_eq!(rt; sign, *want, "{step}");
+                marked = next.next();
+            }
+            _ => assert_eq!(rt; sign, "m", "{step}"),
+        }
+    }
+    assert!(rt; marked.is_none());
+    assert_eq!(rt; told.split(' ').count(), 100);
     Ok(())
 }

@@ -20,6 +20,8 @@ mod rounds;
 #[cfg(test)]
 mod run_tests;
 mod running;
+#[cfg(test)]
+mod seat_tests;
 mod showing;
 mod summary;
 #[cfg(test)]

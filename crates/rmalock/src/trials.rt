@@ -47,21 +47,27 @@ fn sign(alloc: Global, event: Event) -> Result<String, OutOfMemory> {
     Ok(text)
 }
 
-/// An answer and the events of its step: `m` moved, `w3.0` waiting on word 3, whose value is 0, `l0.1` lost with guess 0 and 1
-/// seen, `b0.1` busy with rank 1 in the card of node 0, `f` finished.
-fn told(
-    alloc: Global,
-    step: u32,
-    answer: Stepped,
-    events: &[(u32, Event)],
-) -> Result<String, OutOfMemory> {
-    let mut text = match answer {
+/// An answer: `m` moved, `w3.0` waiting on word 3, whose value is 0, `l0.1` lost with guess 0 and 1 seen, `b0.1` busy with rank 1 in the
+/// card of node 0, `f` finished.
+pub(crate) fn answer_sign(alloc: Global, answer: Stepped) -> Result<String, OutOfMemory> {
+    let text = match answer {
         Stepped::Moved => format!(in alloc; "m")?,
         Stepped::Waiting { word, value } => format!(in alloc; "w{word}.{value}")?,
         Stepped::Lost { guess, seen } => format!(in alloc; "l{guess}.{seen}")?,
         Stepped::Busy { node, holder } => format!(in alloc; "b{node}.{holder}")?,
         Stepped::Finished => format!(in alloc; "f")?,
     };
+    Ok(text)
+}
+
+/// An answer and the events of its step.
+fn told(
+    alloc: Global,
+    step: u32,
+    answer: Stepped,
+    events: &[(u32, Event)],
+) -> Result<String, OutOfMemory> {
+    let mut text = answer_sign(alloc, answer)?;
     for (number, event) in events {
         if *number == step {
             text.push_str(&sign(alloc, *event)?)?;

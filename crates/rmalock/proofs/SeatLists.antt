@@ -1,0 +1,72 @@
+-- The seats of a shard: where the shard is new, and where one seat has changed. For tests.
+use Rattle.std.proofs.Common.{◌≡◌, ◌<◌, ◌≢◌, ℕ, ◌*◌, List, length, map, sum, replicate, slice_get, slice_set, get_or, Some, sym, ap, ◌∙◌, subst, ⊎_elim, arith}
+use Rattle.std.proofs.lemmas.List.{length-map, length-replicate}
+use Rattle.std.proofs.lemmas.List.Folds.{sum_by-replicate}
+use Rattle.std.proofs.lemmas.Option.{slice_get-get_or, slice_get_within, get_or_from_slice_get}
+use Rattle.rl_word.specs.Acts.{Layout}
+use Rattle.rl_word.specs.Shapes.{TheShape, IsProper}
+use Rattle.rl_word.specs.Places.{get_set_cases, some_at}
+use Rattle.rl_word.specs.declared.locks.LockName.{LockName}
+use Rattle.rl_word.specs.declared.shapes.Knobs.{Knobs}
+use Rattle.rl_step.specs.Lock.{LockTable, LockState}
+use Rattle.rl_step.specs.LockQueues.{queues_of}
+use Rattle.rl_place.specs.LockWords.{name_of}
+use Rattle.rl_place.specs.Places.{ThePlace}
+use Rattle.rl_place.specs.Shapes.{shape_of, knobs_of}
+use Rattle.rl_history.specs.Naming.{naming_of}
+use Rattle.rl_run.specs.ReportLaws.{queues_long}
+use Rattle.rl_whole.specs.Running.{LockAt}
+use Rattle.rl_whole.specs.Opening.{first_views}
+use Rattle.rl_whole.specs.StartLaws.{first_length}
+use Rattle.rl_shard.specs.declared.shard.Shard.{Shard}
+use Rattle.rl_shard.specs.declared.seat.Seat.{Seat}
+use Rattle.rl_shard.specs.Counting.{first_counted}
+use Rattle.rl_shard.specs.Shards.{IsOf, AreOf, counted_at, rank_at}
+
+-- there is a node
+pub node_there : (s : TheShape) → IsProper s → 0 < s.nodes
+node_there s p =
+    let first = some_at s.node_of 0 p.some in
+    let low = p.sits 0 first.0 first.1 in
+    omega arith
+
+-- a lock has as many queues as are named
+pub queue_count_is : (place : ThePlace) (name : LockName) (shape : TheShape) (knobs : Knobs) (n : ℕ) → name ≡ name_of place.lock → shape ≡ shape_of place → knobs ≡ knobs_of place.lock → n ≡ length (naming_of place).queues →
+    (home : ℕ) → n ≡ length (queues_of name shape home knobs)
+queue_count_is place name shape knobs n kind exact set e home =
+    e ∙ sym (queues_long place home)
+    ∙ ap (λ l. length (queues_of l (shape_of place) home (knobs_of place.lock))) (sym kind)
+    ∙ ap (λ s. length (queues_of name s home (knobs_of place.lock))) (sym exact)
+    ∙ ap (λ k. length (queues_of name shape home k)) (sym set)
+
+-- one update of each rank
+pub sum_ones : (n : ℕ) → sum (replicate n 1) ≡ n
+sum_ones n = let all : sum (replicate n 1) ≡ n * 1 = sum_by-replicate (λ (x : ℕ). x) n 1 in omega arith
+
+module _ {A V : Type 0} where
+  -- a new shard has a seat for each rank
+  pub new_long : (L : LockAt V) (queues ranks : ℕ) (seats : List (Seat A V)) → map counted_at seats ≡ first_counted L queues (replicate ranks 1) → length seats ≡ ranks
+  new_long L queues ranks seats views =
+      sym (length-map seats counted_at) ∙ ap length views ∙ length-map (first_views L 0 (replicate ranks 1)) _ ∙ first_length L 0 (replicate ranks 1) ∙ length-replicate ranks 1
+
+  module _ (table : A → LockTable V) (good : A → LockState V → Type 0) (layout : A → Layout) (shard : Shard A V) where
+    -- one seat is changed, and is still its rank's
+    pub one_changed : (seats : List (Seat A V)) (r : ℕ) (s t : Seat A V) → AreOf table good layout shard seats → slice_get seats r ≡ Some s → rank_at t ≡ rank_at s → IsOf table good layout shard t → AreOf table good layout shard (slice_set seats r t)
+    one_changed seats r s t are get same is k u e =
+        ⊎_elim
+        (λ (p : (k ≡ r) × (u ≡ t)). subst (λ z. (rank_at z ≡ k) × IsOf table good layout shard z) (sym p.1) (same ∙ (are r s get).0 ∙ sym p.0, is))
+        (λ (p : (k ≢ r) × (slice_get seats k ≡ Some u)). are k u p.1)
+        (get_set_cases seats r k t u e)
+
+    -- each of the shard's seats
+    pub each_of : (seats : List (Seat A V)) → AreOf table good layout shard seats → (i : ℕ) (d : Seat A V) → i < length seats → (rank_at (get_or seats i d) ≡ i) × IsOf table good layout shard (get_or seats i d)
+    each_of seats are i d low = are i (get_or seats i d) (slice_get-get_or seats i d low)
+
+    -- all seats are changed, and each is still its rank's
+    pub all_changed : (old new : List (Seat A V)) → AreOf table good layout shard old → length new ≡ length old →
+        ((i : ℕ) (d : Seat A V) → i < length old → IsOf table good layout shard (get_or new i d) × (rank_at (get_or new i d) ≡ rank_at (get_or old i d))) → AreOf table good layout shard new
+    all_changed old new are long each r s get =
+        let there : r < length new = slice_get_within new r s get in
+        let low : r < length old = omega arith in
+        let at : get_or new r s ≡ s = get_or_from_slice_get new r s s get in
+        (ap rank_at (sym at) ∙ (each r s low).1 ∙ (each_of old are r s low).0, subst (IsOf table good layout shard) at (each r s low).0)

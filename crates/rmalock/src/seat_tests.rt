@@ -1,0 +1,424 @@
+//! Worked schedules by single seats, all on one thread, against the machine's answers; and two threads, each with a seat, from opening
+//! to close.
+
+ghost use Rattle.std.specs.Prelude.{◌≡◌, ◌<◌, ℕ, true, IfOk, IfSome, Some, replicate, slice_get, vec_len};
+ghost use Rattle.rl_model.specs.Call.{shard_of};
+ghost use Rattle.rl_model.specs.Geom.{GeomFits};
+ghost use Rattle.rl_place.specs.LockWords.{name_of};
+ghost use Rattle.rl_place.specs.Places.{IsProper};
+ghost use Rattle.rl_place.specs.Shapes.{shape_of, knobs_of};
+ghost use Rattle.rl_shard.specs.Fresh.{IsFresh};
+ghost use Rattle.rl_shard.specs.Shards.{IsOf, IsShardOf, AreOf, AreClosed, rank_at};
+
+use crate::trials::{answer_sign, trial};
+use rl_alock::Alock;
+use rl_history::Naming;
+use rl_mcs::Mcs;
+use rl_model::{Call, Entry, Geom, Reply};
+use rl_ops::{Room, read_ops};
+use rl_place::{Lock, Place, read_place};
+use rl_queue::Dmcs;
+use rl_rw::Rw;
+use rl_shard::{Closed, Seat, Shard};
+use rl_spin::Spin;
+use rl_step::{Algo, Stepped};
+use rl_text::{TEXT_LIMIT, TextErr};
+use std::alloc::{AllocError as OutOfMemory, Global};
+use std::process::Abort;
+use std::test::Fail;
+use std::thread::{Threads, for_each_mut};
+
+/// Room for one call of each rank, which may be an update.
+fn room_for_one(alloc: Global, ranks: usize) -> Result<Room, OutOfMemory>
+    ensures calls { IfOk result (λ room. room.calls.items ≡ replicate ranks 1) }
+    ensures updates { IfOk result (λ room. room.updates.items ≡ replicate ranks 1) }
+{
+    Ok(Room {
+        calls: vec![in alloc; 1; ranks]?,
+        updates: vec![in alloc; 1; ranks]?,
+    })
+}
+
+/// Shard 0 of a placement, on node 0, with room for one call of each rank, and the ranks' seats.
+fn opened<A: Algo>(alloc: Global, place: &Place) -> Result<(Shard<A>, Vec<Seat<A>>), OutOfMemory>
+    requires proper { IsProper place.now }
+    requires knobs { A.suits_knobs (shape_of place.now) (knobs_of place.now.lock) }
+    requires kind { A.name ≡ name_of place.now.lock }
+    ensures shard { IfOk result (λ p. IsShardOf (vec_len p.1) p.0) }
+    ensures seats { IfOk result (λ p. AreOf A.table A.good A.layout p.0 p.1.items) }
+    ensures fresh { IfOk result (λ p. (r : ℕ) (s : _) → slice_get p.1.items r ≡ Some s → IsFresh A.table A.good A.layout place.now.geom 0 p.0 s) }
+{
+    let shape = place.shape(alloc)?;
+    let naming = Naming::of(alloc, place)?;
+    let queues = naming.queues.as_slice().len() as u32;
+    let ranks = place.paths.len();
+    let room = room_for_one(alloc, ranks)?;
+    let (shard, seats) = Shard::new(alloc, &shape, place.knobs(), 0, place.geom, 0, room, queues)?;
+    Ok((shard, seats))
+}
+
+/// The rank's first call, if it has one, and that is of shard 0.
+fn first_call(geom: Geom, calls: &[Vec<Call>], rank: usize) -> Option<Call>
+    requires { GeomFits geom }
+    ensures { IfSome result (λ call. shard_of geom call ≡ 0) }
+{
+    let call = *calls.get(rank)?.as_slice().first()?;
+    if call.shard(geom) == 0 {
+        Some(call)
+    } else {
+        None
+    }
+}
+
+/// Begins the call of a rank that has made none.
+fn begin_one<A: Algo>(
+    shard: &Shard<A>,
+    geom: Geom,
+    seats: &mut Vec<Seat<A>>,
+    rank: usize,
+    call: Call,
+)
+    requires seats { AreOf A.table A.good A.layout shard.now seats.old.items }
+    requires there { rank < vec_len seats.old }
+    requires fresh { (s : _) → slice_get seats.old.items rank ≡ Some s → IsFresh A.table A.good A.layout geom 0 shard.now s }
+    requires here { shard_of geom call ≡ 0 }
+    ensures seats { AreOf A.table A.good A.layout shard.now seats.new.items }
+    ensures long { vec_len seats.new ≡ vec_len seats.old }
+    ensures others { (r : ℕ) → rank < r → slice_get seats.new.items r ≡ slice_get seats.old.items r }
+{
+    let seat = &mut seats[rank];
+    seat.begin(shard, call, 0);
+}
+
+/// Begins the first call of each rank that has one.
+fn begin_all<A: Algo>(shard: &Shard<A>, geom: Geom, seats: &mut Vec<Seat<A>>, calls: &[Vec<Call>])
+    requires fits { GeomFits geom }
+    requires seats { AreOf A.table A.good A.layout shard.now seats.old.items }
+    requires fresh { (r : ℕ) (s : _) → slice_get seats.old.items r ≡ Some s → IsFresh A.table A.good A.layout geom 0 shard.now s }
+    ensures seats { AreOf A.table A.good A.layout shard.now seats.new.items }
+    ensures long { vec_len seats.new ≡ vec_len seats.old }
+{
+    for rank in 0..seats.len() {
+        if let Some(call) = first_call(geom, calls, rank) {
+            begin_one(shard, geom, seats, rank, call);
+        }
+    }
+}
+
+/// One step of a rank's seat.
+fn step_of<A: Algo>(shard: &Shard<A>, seats: &mut Vec<Seat<A>>, rank: usize) -> Stepped
+    requires seats { AreOf A.table A.good A.layout shard.now seats.old.items }
+    requires there { rank < vec_len seats.old }
+    ensures seats { AreOf A.table A.good A.layout shard.now seats.new.items }
+    ensures long { vec_len seats.new ≡ vec_len seats.old }
+{
+    let seat = &mut seats[rank];
+    seat.step(shard)
+}
+
+/// How often the seats together settled and passed each queue, of the first ten that were: ` 0:2.1` is queue 0, settled twice and passed once.
+fn tallies_told<A: Algo>(alloc: Global, seats: &[Seat<A>]) -> Result<String, OutOfMemory> {
+    let mut text = String::new(alloc);
+    for queue in 0..10usize {
+        let mut settled = 0u64;
+        let mut passed = 0u64;
+        for seat in seats {
+            let tally = seat.tally(queue);
+            settled = settled.saturating_add(tally.settled);
+            passed = passed.saturating_add(tally.passed);
+        }
+        if settled > 0 || passed > 0 {
+            text.push_str(&format!(in alloc; " {queue}:{settled}.{passed}")?)?;
+        }
+    }
+    Ok(text)
+}
+
+/// The answer with the number that its word has where no rank has room for an update: each rank's room is six words before the lock's.
+fn without_room(answer: Stepped, ranks: u32) -> Stepped {
+    match answer {
+        Stepped::Waiting { word, value } => Stepped::Waiting {
+            word: word.saturating_sub(ranks.saturating_mul(6)),
+            value,
+        },
+        other => other,
+    }
+}
+
+/// What the seats answer in these turns, each rank with its first call, and the tallies after them.
+fn seats_told<A: Algo>(
+    alloc: Global,
+    place: &Place,
+    calls: &[Vec<Call>],
+    turns: &[u8],
+) -> Result<String, OutOfMemory>
+    requires proper { IsProper place.now }
+    requires knobs { A.suits_knobs (shape_of place.now) (knobs_of place.now.lock) }
+    requires kind { A.name ≡ name_of place.now.lock }
+{
+    let (shard, mut seats) = opened::<A>(alloc, place)?;
+    begin_all(&shard, place.geom, &mut seats, calls);
+    let ranks = place.paths.len() as u32;
+    let mut text = String::new(alloc);
+    for digit in turns {
+        let rank = usize::from(digit.saturating_sub(b'0'));
+        if rank < seats.len() {
+            let answer = step_of(&shard, &mut seats, rank);
+            text.push_str(&answer_sign(alloc, without_room(answer, ranks))?)?;
+            text.push_str(" ")?;
+        }
+    }
+    text.push_str(&tallies_told(alloc, seats.as_slice())?)?;
+    Ok(text)
+}
+
+/// The same of what a trial tells: its answers without the events, and how often the events settle and pass each queue.
+fn answers_told(alloc: Global, told: &str) -> Result<String, OutOfMemory> {
+    let mut text = String::new(alloc);
+    if told.len() > 0 {
+        for sign in told.split(' ') {
+            let answer = if sign.starts_with("m") { "m" } else { sign };
+            text.push_str(answer)?;
+            text.push_str(" ")?;
+        }
+    }
+    let signs = told.as_bytes();
+    for queue in 0..10u8 {
+        let digit = b'0'.saturating_add(queue);
+        let mut settled = 0u64;
+        let mut passed = 0u64;
+        for (sign, number) in signs.iter().zip(signs.iter().skip(1)) {
+            if *number == digit && *sign == b's' {
+                settled = settled.saturating_add(1);
+            }
+            if *number == digit && *sign == b'p' {
+                passed = passed.saturating_add(1);
+            }
+        }
+        if settled > 0 || passed > 0 {
+            text.push_str(&format!(in alloc; " {queue}:{settled}.{passed}")?)?;
+        }
+    }
+    Ok(text)
+}
+
+/// What the steps of these ranks tell, as the machine makes them. Where no rank has more calls than one, it looks that seats, all on this
+/// thread, answer the same, and that their tallies are those of the machine's events.
+pub(crate) fn trial_and_seats<R: AllocGlobal + Abort>(
+    rt: &R,
+    place: &str,
+    calls: &str,
+    ranks: &str,
+) -> Result<String, Fail> {
+    let alloc = rt.alloc();
+    let told = trial(alloc, place, calls, ranks)?;
+    if place.len() >= TEXT_LIMIT as usize || calls.len() >= TEXT_LIMIT as usize {
+        return Err(TextErr::Memory.into());
+    }
+    let place = read_place(alloc, place.as_bytes())?;
+    let count = place.paths.len() as u32;
+    let ops = read_ops(alloc, count, place.geom.shards, calls.as_bytes())?;
+    let calls = ops.by_rank.as_slice();
+    for own in calls {
+        if own.len() > 1 {
+            return Ok(told);
+        }
+    }
+    let turns = ranks.as_bytes();
+    let seats = match &place.lock {
+        Lock::Spin => seats_told::<Spin>(alloc, &place, calls, turns)?,
+        Lock::Dmcs => seats_told::<Dmcs>(alloc, &place, calls, turns)?,
+        Lock::Alock { .. } => seats_told::<Alock>(alloc, &place, calls, turns)?,
+        Lock::Mcs { .. } => seats_told::<Mcs>(alloc, &place, calls, turns)?,
+        Lock::Rw { .. } => seats_told::<Rw>(alloc, &place, calls, turns)?,
+    };
+    assert_eq!(rt; seats, answers_told(alloc, &told)?);
+    Ok(told)
+}
+
+/// Makes so many steps.
+fn go<A: Algo>(shard: &Shard<A>, seat: &mut Seat<A>, steps: u32)
+    requires { IsOf A.table A.good A.layout shard.now seat.old }
+    ensures { IsOf A.table A.good A.layout shard.now seat.new × (rank_at seat.new ≡ rank_at seat.old) }
+{
+    for _ in 0..steps {
+        seat.step(shard);
+    }
+}
+
+/// Makes so many steps with each seat, each in a thread of its own.
+fn go_in_threads<A: Algo + Send + Sync, R: Threads + Sync>(
+    rt: &R,
+    shard: &Shard<A>,
+    seats: &mut Vec<Seat<A>>,
+    steps: u32,
+)
+where
+    A::View: Send + Sync,
+    requires { AreOf A.table A.good A.layout shard.now seats.old.items }
+    ensures seats { AreOf A.table A.good A.layout shard.now seats.new.items }
+    ensures long { vec_len seats.new ≡ vec_len seats.old }
+{
+    let threads = seats.len().max(1);
+    for_each_mut(
+        rt,
+        seats.as_mut_slice(),
+        threads,
+        &|_rank: usize, seat: &mut Seat<A>|
+            requires { IsOf A.table A.good A.layout shard.now seat.old }
+            ensures { IsOf A.table A.good A.layout shard.entry.now seat.new × (rank_at seat.new ≡ rank_at seat.old) }
+        { go(shard, seat, steps) },
+    );
+}
+
+/// Makes one step with each seat, one after the other.
+fn go_round<A: Algo>(shard: &Shard<A>, seats: &mut Vec<Seat<A>>)
+    requires { AreOf A.table A.good A.layout shard.now seats.old.items }
+    ensures seats { AreOf A.table A.good A.layout shard.now seats.new.items }
+    ensures long { vec_len seats.new ≡ vec_len seats.old }
+{
+    for rank in 0..seats.len() {
+        step_of(shard, seats, rank);
+    }
+}
+
+/// Makes so many steps with each seat, by turns.
+fn go_by_turns<A: Algo>(shard: &Shard<A>, seats: &mut Vec<Seat<A>>, turns: u32)
+    requires { AreOf A.table A.good A.layout shard.now seats.old.items }
+    ensures seats { AreOf A.table A.good A.layout shard.now seats.new.items }
+    ensures long { vec_len seats.new ≡ vec_len seats.old }
+{
+    for _ in 0..turns {
+        go_round(shard, seats);
+    }
+}
+
+/// Whether no block is open.
+fn all_closed<A: Algo>(shard: &Shard<A>, seats: &[Seat<A>]) -> bool
+    requires { AreOf A.table A.good A.layout shard.now seats.now }
+    ensures { result ≡ true → AreClosed A.table shard.now seats.now }
+{
+    for seat in seats {
+        if seat.is_open(shard) {
+            return false;
+        }
+    }
+    true
+}
+
+/// Opens the shard, begins the first call of each rank, steps the seats in threads, and then by turns as long as a call may still be open;
+/// and closes the shard.
+fn closed_by_threads<A: Algo + Send + Sync, R: Threads + Sync>(
+    rt: &R,
+    alloc: Global,
+    place: &Place,
+    calls: &[Vec<Call>],
+) -> Result<Option<Closed>, OutOfMemory>
+where
+    A::View: Send + Sync,
+    requires proper { IsProper place.now }
+    requires knobs { A.suits_knobs (shape_of place.now) (knobs_of place.now.lock) }
+    requires kind { A.name ≡ name_of place.now.lock }
+{
+    let (shard, mut seats) = opened::<A>(alloc, place)?;
+    begin_all(&shard, place.geom, &mut seats, calls);
+    go_in_threads(rt, &shard, &mut seats, 400);
+    go_by_turns(&shard, &mut seats, 400);
+    if !all_closed(&shard, seats.as_slice()) {
+        return Ok(None);
+    }
+    match shard.close(seats) {
+        Ok(closed) => Ok(Some(closed)),
+        Err(_) => Ok(None),
+    }
+}
+
+/// What a shard of this placement leaves, after two threads have made these calls.
+fn closed_of<R: Threads + Sync + AllocGlobal>(
+    rt: &R,
+    place: &str,
+    calls: &str,
+) -> Result<Option<Closed>, TextErr> {
+    let alloc = rt.alloc();
+    if place.len() >= TEXT_LIMIT as usize || calls.len() >= TEXT_LIMIT as usize {
+        return Err(TextErr::Memory);
+    }
+    let place = read_place(alloc, place.as_bytes())?;
+    let count = place.paths.len() as u32;
+    let ops = read_ops(alloc, count, place.geom.shards, calls.as_bytes())?;
+    let calls = ops.by_rank.as_slice();
+    let closed = match &place.lock {
+        Lock::Spin => closed_by_threads::<Spin, R>(rt, alloc, &place, calls)?,
+        Lock::Dmcs => closed_by_threads::<Dmcs, R>(rt, alloc, &place, calls)?,
+        Lock::Alock { .. } => closed_by_threads::<Alock, R>(rt, alloc, &place, calls)?,
+        Lock::Mcs { .. } => closed_by_threads::<Mcs, R>(rt, alloc, &place, calls)?,
+        Lock::Rw { .. } => closed_by_threads::<Rw, R>(rt, alloc, &place, calls)?,
+    };
+    Ok(closed)
+}
+
+/// The value of the put that is the last of so many updates.
+fn value_after(journal: &[Entry], updates: u32) -> Option<u64> {
+    let last = updates.checked_sub(1)?;
+    match journal.get(last as usize)?.call {
+        Call::Put { value, .. } => Some(value),
+        _ => None,
+    }
+}
+
+/// Whether a call is answered as it must be after the updates before it, where all calls are puts and gets of one key.
+fn is_answered(journal: &[Entry], entry: &Entry) -> bool {
+    match (entry.call, entry.reply, value_after(journal, entry.at)) {
+        (Call::Put { .. }, Reply::New, None) => true,
+        (Call::Put { .. }, Reply::Was(found), Some(value)) => found == value,
+        (Call::Get { .. }, Reply::Nothing, None) => true,
+        (Call::Get { .. }, Reply::Val(found), Some(value)) => found == value,
+        _ => false,
+    }
+}
+
+/// Looks that a closed shard is that of two ranks which made one call each, puts and gets of key 0, in some order.
+fn look<R: AllocGlobal + Abort>(rt: &R, closed: &Closed, puts: u32) {
+    assert_eq!(rt; closed.journal.len(), puts as usize);
+    for (place, entry) in closed.journal.as_slice().iter().enumerate() {
+        assert_eq!(rt; entry.at as usize, place);
+        assert!(rt; is_answered(closed.journal.as_slice(), entry));
+    }
+    assert_eq!(rt; closed.transcripts.len(), 2);
+    for (rank, transcript) in closed.transcripts.as_slice().iter().enumerate() {
+        assert_eq!(rt; transcript.len(), 1);
+        for entry in transcript {
+            assert_eq!(rt; (entry.rank as usize, entry.seq), (rank, 0));
+            assert!(rt; is_answered(closed.journal.as_slice(), entry));
+            let noted = closed.journal.as_slice().get(entry.at as usize);
+            assert!(rt; matches!(entry.call, Call::Get { .. }) || noted == Some(entry));
+        }
+    }
+    let last = value_after(closed.journal.as_slice(), puts);
+    let pair = closed.pairs.as_slice().first();
+    assert_eq!(rt; (closed.pairs.len(), pair.map(|p| p.1)), (1, last));
+}
+
+/// Two threads, each with a seat, from opening to close, over each lock, with both ranks at home and with one elsewhere.
+#[test]
+fn two_threads_over_each_lock(rt: HostRuntime) -> Result<(), Fail> {
+    for lock in [
+        "spin",
+        "dmcs",
+        "alock\nbudget 1 1",
+        "mcs\nbudget 1",
+        "rw\nbudget 1\nwriters 1\nreaders 2\ngroup 32",
+    ] {
+        for node in 0..2u32 {
+            let place = format!(in rt.alloc();
+                "rmalock-place 1\nlevels 1\nlock {lock}\nshards 1\nbuckets 1\noverflow 0\nrank 0 at 0\nrank 1 at {node}\nhome 0 0\nend\n"
+            )?;
+            for (call, puts) in [("put 0 7", 2), ("get 0", 1)] {
+                let calls = format!(in rt.alloc(); "rmalock-calls 1\n0 put 0 5\n1 {call}\nend\n")?;
+                let closed = closed_of(&rt, &place, &calls)?.ok_or("not closed")?;
+                look(&rt, &closed, puts);
+            }
+        }
+    }
+    Ok(())
+}
