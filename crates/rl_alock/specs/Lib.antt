@@ -14,3 +14,4 @@ pub mod AlockLaws
 pub mod AlockPots
 pub mod AlockOvertakes
 pub mod AlockBounded
+pub mod SameViews

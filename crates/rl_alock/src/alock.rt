@@ -2,11 +2,13 @@
 
 ghost use Rattle.std.specs.Prelude.{◌≡◌, ◌<◌, ◌≤◌, [], ◌∷◌, ◌++◌, false, length, refl, IfOk};
 ghost use Rattle.rl_word.specs.declared.locks.LockName.TheVariants as TheName;
+ghost use Rattle.rl_step.specs.Lock.{told_with};
 ghost use Rattle.rl_step.specs.LockQueues.{sits_at};
 ghost use Rattle.rl_queue.specs.Queue.{full_budget};
 ghost use Rattle.rl_queue.specs.RankWords.{Seated};
 ghost use Rattle.rl_alock.specs.declared.cohort.Cohort.TheVariants.{Local, Remote};
 ghost use Rattle.rl_alock.specs.Alock.{cohort_names, cohort_no, cohorts_of, cohort_by, names_of, entry_act as the_entry_act, settles_now, entry_told, entry_of, alock_table, BoundsOvertaking};
+ghost use Rattle.rl_alock.specs.SameViews.{same_alock};
 ghost use Rattle.rl_alock.specs.AlockBounded.{AlockBounded, bounded_laws};
 
 use crate::cohort::Cohort;
@@ -95,13 +97,11 @@ fn entry_act(cohort: Cohort, entry: Entry) -> Act
 }
 
 /// A head has settled, and enters.
-fn settle(head: QueueView, names: &QueueNames) -> Learnt<AlockView>
-    requires { head.phase ≡ Phase.Settle }
-    ensures view { result.view ≡ (settles_now names.now head.member).view }
-    ensures events { result.events.items ≡ (settles_now names.now head.member).events }
-    ensures waits { result.waits ≡ (settles_now names.now head.member).waits }
+fn settle(head: QueueView, names: &QueueNames, events: &mut ArrayVec<Event, 8>) -> Learnt<AlockView>
+    requires head { head.phase ≡ Phase.Settle }
+    requires none { events.old.items ≡ [] }
+    ensures { told_with result events.new.items ≡ settles_now names.now head.member }
 {
-    let mut events = ArrayVec::new();
     events.push(Event::Settle {
         queue: names.queue,
         member: head.member,
@@ -112,57 +112,50 @@ fn settle(head: QueueView, names: &QueueNames) -> Learnt<AlockView>
             queue: queue_settled(head, names),
             entry: Entry::Announce,
         },
-        events,
         waits: false,
     }
 }
 
 /// A head goes on in the entry.
 fn look_on(head: QueueView, entry: Entry, waits: bool) -> Learnt<AlockView>
-    ensures view { result.view ≡ record { queue = head; entry = entry } }
-    ensures events { result.events.items ≡ [] }
-    ensures waits { result.waits ≡ waits }
+    ensures { result ≡ record { view = record { queue = head; entry = entry }; waits = waits } }
 {
     Learnt {
         view: AlockView { queue: head, entry },
-        events: ArrayVec::new(),
         waits,
     }
 }
 
 /// A head has named its cohort the victim, and looks at the other's tail next.
-fn announce(head: QueueView, cohort: Cohort) -> Learnt<AlockView>
-    ensures view { result.view ≡ record { queue = head; entry = Entry.Tail } }
-    ensures events { result.events.items ≡ Event.Announce (cohort_no cohort) ∷ [] }
-    ensures waits { result.waits ≡ false }
+fn announce(head: QueueView, cohort: Cohort, events: &mut ArrayVec<Event, 8>) -> Learnt<AlockView>
+    requires { events.old.items ≡ [] }
+    ensures view { result ≡ record { view = record { queue = head; entry = Entry.Tail }; waits = false } }
+    ensures events { events.new.items ≡ Event.Announce (cohort_no cohort) ∷ [] }
 {
-    let mut events = ArrayVec::new();
     events.push(Event::Announce {
         cohort: cohort.number(),
     });
-    Learnt {
-        view: AlockView {
-            queue: head,
-            entry: Entry::Tail,
-        },
-        events,
-        waits: false,
-    }
+    look_on(head, Entry::Tail, false)
 }
 
 /// What a head learns in the entry, where its act told `got`.
-fn entry_turn(view: AlockView, cohort: Cohort, names: &QueueNames, got: u64) -> Learnt<AlockView>
-    requires { view.queue.phase ≡ Phase.Settle }
-    ensures view { result.view ≡ (entry_told names.now cohort view.queue.member view.entry got).view }
-    ensures events { result.events.items ≡ (entry_told names.now cohort view.queue.member view.entry got).events }
-    ensures waits { result.waits ≡ (entry_told names.now cohort view.queue.member view.entry got).waits }
+fn entry_turn(
+    view: AlockView,
+    cohort: Cohort,
+    names: &QueueNames,
+    got: u64,
+    events: &mut ArrayVec<Event, 8>,
+) -> Learnt<AlockView>
+    requires head { view.queue.phase ≡ Phase.Settle }
+    requires none { events.old.items ≡ [] }
+    ensures { told_with result events.new.items ≡ entry_told names.now cohort view.queue.member view.entry got }
 {
     let head = view.queue;
     match view.entry {
-        Entry::Announce => announce(head, cohort),
+        Entry::Announce => announce(head, cohort, events),
         Entry::Tail => {
             if got == 0 {
-                settle(head, names)
+                settle(head, names, events)
             } else {
                 look_on(head, Entry::Victim, false)
             }
@@ -171,20 +164,18 @@ fn entry_turn(view: AlockView, cohort: Cohort, names: &QueueNames, got: u64) -> 
             if got == cohort.number() as u64 {
                 look_on(head, Entry::Tail, true)
             } else {
-                settle(head, names)
+                settle(head, names, events)
             }
         }
     }
 }
 
 /// Who has been given its queue enters.
-fn enter(turn: Learnt<QueueView>) -> Learnt<AlockView>
-    requires { length turn.events.items ≤ 1 }
-    ensures view { result.view ≡ record { queue = turn.view; entry = Entry.Announce } }
-    ensures events { result.events.items ≡ turn.events.items ++ entry_of turn.view.member turn.view.phase }
-    ensures waits { result.waits ≡ turn.waits }
+fn enter(turn: Learnt<QueueView>, events: &mut ArrayVec<Event, 8>) -> Learnt<AlockView>
+    requires { length events.old.items ≤ 1 }
+    ensures view { result ≡ record { view = record { queue = turn.view; entry = Entry.Announce }; waits = turn.waits } }
+    ensures events { events.new.items ≡ events.old.items ++ entry_of turn.view.member turn.view.phase }
 {
-    let mut events = turn.events;
     if matches!(turn.view.phase, Phase::Granted { .. }) {
         events.push(Event::EnterW {
             rank: turn.view.member,
@@ -195,7 +186,6 @@ fn enter(turn: Learnt<QueueView>) -> Learnt<AlockView>
             queue: turn.view,
             entry: Entry::Announce,
         },
-        events,
         waits: turn.waits,
     }
 }
@@ -312,11 +302,19 @@ impl Algo for Alock {
     }
 
     #[inline(always)]
-    fn learn(&self, view: AlockView, got: u64) -> Learnt<AlockView> {
+    fn learn(
+        &self,
+        view: AlockView,
+        got: u64,
+        events: &mut ArrayVec<Event, 8>,
+    ) -> Learnt<AlockView> {
         let cohort = self.cohort_of(view.queue.member);
         match view.queue.phase {
-            Phase::Settle => entry_turn(view, cohort, self.names_of(cohort), got),
-            _ => enter(queue_learn(view.queue, self.names_of(cohort), got)),
+            Phase::Settle => entry_turn(view, cohort, self.names_of(cohort), got, events),
+            _ => {
+                let turn = queue_learn(view.queue, self.names_of(cohort), got, events);
+                enter(turn, events)
+            }
         }
     }
 
@@ -330,6 +328,8 @@ impl Algo for Alock {
     fn standing(&self, view: AlockView) -> Standing {
         queue_standing(view.queue)
     }
+
+    ghost same_views = { same_alock };
 
     ghost laws = { λ s. bounded_laws (cohorts_of s.home s.node_of.items s.local s.remote) s.nodes s.seated s.homed };
 }

@@ -6,7 +6,6 @@ ghost use Rattle.rl_counter.specs.Counter.{off, busy, begun, NamesCounters, unse
 
 use crate::names::CounterNames;
 use crate::view::{CounterView, Doing, Task};
-use arrayvec::ArrayVec;
 use rl_step::Learnt;
 use rl_word::Act;
 
@@ -114,7 +113,6 @@ pub fn counter_plan(view: CounterView, names: &CounterNames) -> Option<Act>
 /// The view of a rank that goes on, and whether it has to make its round again.
 fn goes_on(view: CounterView, doing: Doing, waits: bool) -> Learnt<CounterView>
     ensures view { result.view ≡ record { counter = view.counter; doing = doing } }
-    ensures events { result.events.items ≡ [] }
     ensures waits { result.waits ≡ waits }
 {
     Learnt {
@@ -122,7 +120,6 @@ fn goes_on(view: CounterView, doing: Doing, waits: bool) -> Learnt<CounterView>
             counter: view.counter,
             doing,
         },
-        events: ArrayVec::new(),
         waits,
     }
 }
@@ -194,7 +191,6 @@ fn compared(
 ) -> Learnt<CounterView>
     requires { length names.now.arrive < 2 ^ 32 }
     ensures view { result.view ≡ record { counter = view.counter; doing = (counter_turn names.now (Doing.Compare at found) got).doing } }
-    ensures events { result.events.items ≡ [] }
     ensures waits { result.waits ≡ (counter_turn names.now (Doing.Compare at found) got).waits }
 {
     if got != found.saturating_sub(MARK) {
@@ -224,7 +220,6 @@ fn has_taken_off(at: u32, taken: u64, names: &CounterNames, got: u64) -> Doing
 pub fn counter_learn(view: CounterView, names: &CounterNames, got: u64) -> Learnt<CounterView>
     requires { NamesCounters names.now view.counter view.doing }
     ensures view { result.view ≡ record { counter = view.counter; doing = (counter_turn names.now view.doing got).doing } }
-    ensures events { result.events.items ≡ [] }
     ensures waits { result.waits ≡ (counter_turn names.now view.doing got).waits }
 {
     match view.doing {

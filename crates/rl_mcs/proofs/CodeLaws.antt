@@ -1,6 +1,5 @@
 -- What the code of RMA-MCS needs of a good state: that views meet the conditions of the tree's calls, and that little is told.
-use Rattle.std.proofs.Common.{◌≡◌, ◌≤◌, ◌∙◌, sym, ap, subst, ⊎_elim, arith, ℕ, Bool, true, List, length, None}
-use Rattle.rl_word.specs.Acts.{told}
+use Rattle.std.proofs.Common.{◌≡◌, ◌≤◌, sym, ap, subst, ⊎_elim, arith, ℕ, true, List, length, None}
 use Rattle.rl_step.specs.declared.events.Event.{Event}
 use Rattle.rl_step.specs.Lock.{Told, Acts, MayStep, MayLearn as StepLearns}
 use Rattle.rl_tree.specs.declared.rooted.Rooted.{Rooted}
@@ -14,11 +13,6 @@ use Rattle.rl_tree.specs.TreeLaws.{tree_facts}
 use Rattle.rl_mcs.specs.Mcs.{past_hook, mcs_learn, mcs_table, McsGood}
 use Rattle.rl_mcs.specs.McsLearns.{after}
 use Rattle.rl_mcs.specs.McsLaws.{view_of, planned, turn_of}
-
--- a thing learnt is known by its parts
-pub same_told : (u : Told TreeView) (a : TreeView) (b : List Event) (c : Bool) → a ≡ u.view → b ≡ u.events → c ≡ u.waits → record { view = a; events = b; waits = c } ≡ u
-same_told u a b c ea eb ec =
-    ap (λ z. record { view = z; events = b; waits = c }) ea ∙ ap (λ z. record { view = u.view; events = z; waits = c }) eb ∙ ap (λ z. record { view = u.view; events = u.events; waits = z }) ec
 
 few_joins : (es : List Event) → JoinsAtMost es → length es ≤ 3
 few_joins es h = ⊎_elim (λ e. let k : length es ≡ 0 = ap length e in omega arith) (λ e. let k : length es ≡ 1 = ap length e.2 in omega arith) h

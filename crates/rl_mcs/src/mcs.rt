@@ -3,7 +3,8 @@
 ghost use Rattle.std.specs.Prelude.{◌≡◌, ◌≤◌, None, refl, length, true};
 ghost use Rattle.rl_word.specs.declared.locks.LockName.TheVariants as TheName;
 ghost use Rattle.rl_word.specs.Shapes.{layout_of};
-ghost use Rattle.rl_step.specs.Lock.{no_more};
+ghost use Rattle.rl_step.specs.Lock.{no_more, told_with};
+ghost use Rattle.rl_tree.specs.SameViews.{same_tree};
 ghost use Rattle.rl_tree.specs.Tree.{at_hook};
 ghost use Rattle.rl_tree.specs.Elements.{tree_of};
 ghost use Rattle.rl_tree.specs.Fits.{IsPlaced};
@@ -12,7 +13,8 @@ ghost use Rattle.rl_tree.specs.TreeLaid.{laid_shaped};
 ghost use Rattle.rl_mcs.specs.Mcs.{mcs_tree, past_hook as past_the_hook, mcs_table, McsGood};
 ghost use Rattle.rl_mcs.specs.McsLaws.{mcs_laws};
 
-use rl_step::{Algo, Learnt, Standing};
+use arrayvec::ArrayVec;
+use rl_step::{Algo, Event, Learnt, Standing};
 use rl_tree::{Tree, TreeView, tree_enter};
 use rl_word::{Act, Knobs, Mode, Shape, Spot};
 use std::alloc::{AllocError as OutOfMemory, Global};
@@ -29,15 +31,20 @@ pub struct Mcs {
 }
 
 /// Goes on from the hook in the same act: nothing is above the root.
-fn past_hook(tree: &Tree, turn: Learnt<TreeView>) -> Learnt<TreeView>
+fn past_hook(
+    tree: &Tree,
+    turn: Learnt<TreeView>,
+    events: &mut ArrayVec<Event, 8>,
+) -> Learnt<TreeView>
     requires placed { at_hook turn.view ≡ true → IsPlaced tree.now.rooted turn.view }
-    requires room { at_hook turn.view ≡ true → length turn.events.items ≤ 3 }
-    ensures view { result.view ≡ (past_the_hook (tree_of tree.now.rooted) (at_hook turn.view) (record { view = turn.view; events = turn.events.items; waits = turn.waits })).view }
-    ensures events { result.events.items ≡ (past_the_hook (tree_of tree.now.rooted) (at_hook turn.view) (record { view = turn.view; events = turn.events.items; waits = turn.waits })).events }
-    ensures waits { result.waits ≡ (past_the_hook (tree_of tree.now.rooted) (at_hook turn.view) (record { view = turn.view; events = turn.events.items; waits = turn.waits })).waits }
+    requires room { at_hook turn.view ≡ true → length events.old.items ≤ 3 }
+    ensures { told_with result events.new.items ≡ past_the_hook (tree_of tree.now.rooted) (at_hook turn.view) (told_with turn events.old.items) }
 {
     if turn.view.is_at_hook() {
-        tree.resume(turn.view, turn.events)
+        Learnt {
+            view: tree.resume(turn.view, events),
+            waits: false,
+        }
     } else {
         turn
     }
@@ -93,9 +100,11 @@ impl Algo for Mcs {
     }
 
     #[inline(always)]
-    fn learn(&self, view: TreeView, got: u64) -> Learnt<TreeView> {
-        let turn = self.tree.learn(view, got);
-        tree_enter(past_hook(&self.tree, turn))
+    fn learn(&self, view: TreeView, got: u64, events: &mut ArrayVec<Event, 8>) -> Learnt<TreeView> {
+        let turn = self.tree.learn(view, got, events);
+        let past = past_hook(&self.tree, turn, events);
+        tree_enter(past.view, events);
+        past
     }
 
     fn leave(&self, view: TreeView) -> TreeView {
@@ -105,6 +114,8 @@ impl Algo for Mcs {
     fn standing(&self, view: TreeView) -> Standing {
         view.standing()
     }
+
+    ghost same_views = { same_tree };
 
     ghost laws = { λ s. mcs_laws s.tree.rooted (levels_of s.tree.rooted.shape) (laid_shaped s.tree.rooted (levels_of s.tree.rooted.shape) s.tree.laid) s.unlimited };
 }

@@ -6,6 +6,7 @@ use Rattle.rl_word.specs.declared.acts.Act.{Act}
 use Rattle.rl_word.specs.declared.acts.Act.TheVariants.{Load, Store, LocalCas, CardCas}
 use Rattle.rl_step.specs.declared.events.Event.{Event}
 use Rattle.rl_step.specs.declared.events.Event.TheVariants as event
+use Rattle.rl_step.specs.Lock.{Told}
 use Rattle.rl_queue.specs.declared.view.Phase.{Phase}
 use Rattle.rl_queue.specs.declared.view.Phase.TheVariants.{Idle, Clear, Reset, Swing, Link, Wait, Settle, Granted, Look, Close, Await, Hand, Above}
 use Rattle.rl_queue.specs.declared.view.QueueView.{QueueView}
@@ -152,6 +153,10 @@ stage_at (Above succ) = stage.Above
 -- the view of member m in a phase
 abbrev pub at_phase : ℕ → Phase → QueueView
 at_phase m p = record { member = m; phase = p }
+
+-- what a member learns by a turn
+abbrev pub told_by : ℕ → Turn → Told QueueView
+told_by m t = record { view = at_phase m t.phase; events = t.events; waits = t.waits }
 
 -- the other member that a phase's act speaks of is one of the first n numbers
 abbrev pub PhaseFits : ℕ → Phase → Type 0

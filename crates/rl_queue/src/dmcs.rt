@@ -1,5 +1,6 @@
 //! D-MCS: the lock that is one queue of all ranks, without limit.
 
+ghost use Rattle.std.proofs.Common.{rules};
 ghost use Rattle.std.specs.Prelude.{◌≡◌, ◌<◌, ◌≤◌, length, refl, IfOk};
 ghost use Rattle.rl_word.specs.declared.locks.LockName.TheVariants as TheName;
 ghost use Rattle.rl_step.specs.Lock.{no_more};
@@ -118,9 +119,13 @@ impl Algo for Dmcs {
     }
 
     #[inline(always)]
-    fn learn(&self, view: QueueView, got: u64) -> Learnt<QueueView> {
-        let turn = queue_learn(view, &self.names, got);
-        let mut events = turn.events;
+    fn learn(
+        &self,
+        view: QueueView,
+        got: u64,
+        events: &mut ArrayVec<Event, 8>,
+    ) -> Learnt<QueueView> {
+        let turn = queue_learn(view, &self.names, got, events);
         let mut next = turn.view;
         match queue_stage(turn.view) {
             Stage::Settle => {
@@ -136,7 +141,6 @@ impl Algo for Dmcs {
         }
         Learnt {
             view: next,
-            events,
             waits: turn.waits,
         }
     }
@@ -148,6 +152,8 @@ impl Algo for Dmcs {
     fn standing(&self, view: QueueView) -> Standing {
         queue_standing(view)
     }
+
+    ghost same_views = { λ x y e. Prim.search rules };
 
     ghost laws = { λ s. dmcs_laws s.home (record { node_of = s.node_of.items; nodes = s.nodes }) s.seated s.homed };
 }

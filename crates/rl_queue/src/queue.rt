@@ -1,8 +1,9 @@
 //! The acts of one queue: what a member plans in each phase, what it learns, and the moves that are no acts.
 
-ghost use Rattle.std.specs.Prelude.{◌≡◌, ◌↔◌, ℕ, ◌+◌, ◌-◌, ◌<◌, ◌^◌, None, length};
+ghost use Rattle.std.specs.Prelude.{◌≡◌, ◌↔◌, ℕ, ◌+◌, ◌-◌, ◌<◌, ◌^◌, [], None, length};
 ghost use Rattle.rl_queue.specs.QueueFits.{MakesActs};
-ghost use Rattle.rl_queue.specs.Queue.{TheNames, PlanFits, GotFits, swap_act, code_of, code_left, look_at, plan_at, turn_at, at_phase, IsGranted, settled_at, leave_at, resume_at, stage_at};
+ghost use Rattle.rl_step.specs.Lock.{told_with};
+ghost use Rattle.rl_queue.specs.Queue.{TheNames, PlanFits, GotFits, swap_act, code_of, code_left, look_at, plan_at, turn_at, told_by, at_phase, IsGranted, settled_at, leave_at, resume_at, stage_at};
 ghost use Rattle.rl_queue.specs.Standings.{standing_of};
 
 use crate::view::{Phase, QueueView, Stage};
@@ -151,19 +152,22 @@ fn left_of(budget: Option<u32>, code: u64) -> u32
     }
 }
 
-/// What a member learns where its planned act told `got`: its view, the Join or Pass event of this queue, and whether a waiting
-/// load has to be made again. The Settle event is the layer's that calls `queue_settled`.
+/// What a member learns where its planned act told `got`: its view, and whether a waiting load has to be made again. The Join or
+/// Pass event of this queue is put into `events`, which is empty; the Settle event is the layer's that calls `queue_settled`.
 ///
 /// Beside the condition of `queue_plan`, a status that was loaded is below 2^32 + 2, and a next word below 2^32 + 1.
 #[inline(always)]
-pub fn queue_learn(view: QueueView, names: &QueueNames, got: u64) -> Learnt<QueueView>
+pub fn queue_learn(
+    view: QueueView,
+    names: &QueueNames,
+    got: u64,
+    events: &mut ArrayVec<Event, 8>,
+) -> Learnt<QueueView>
     requires named { PlanFits names.now view.member view.phase }
     requires fits { GotFits view.phase got }
-    ensures view { result.view ≡ at_phase view.member (turn_at names.now view.member view.phase got).phase }
-    ensures events { result.events.items ≡ (turn_at names.now view.member view.phase got).events }
-    ensures waits { result.waits ≡ (turn_at names.now view.member view.phase got).waits }
+    requires none { events.old.items ≡ [] }
+    ensures { told_with result events.new.items ≡ told_by view.member (turn_at names.now view.member view.phase got) }
 {
-    let mut events = ArrayVec::new();
     let mut waits = false;
     let mut phase = view.phase;
     match view.phase {
@@ -227,7 +231,6 @@ pub fn queue_learn(view: QueueView, names: &QueueNames, got: u64) -> Learnt<Queu
     }
     Learnt {
         view: at(view.member, phase),
-        events,
         waits,
     }
 }

@@ -13,3 +13,4 @@ pub mod RwMarks
 pub mod RwCalls
 pub mod RwFits
 pub mod RwLaws
+pub mod SameViews

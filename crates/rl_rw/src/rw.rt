@@ -1,6 +1,8 @@
 //! RMA-RW: what a rank does in the tree and at the counters.
 
-ghost use Rattle.std.specs.Prelude.{◌≡◌, ◌+◌, ◌-◌, ◌/◌, ◌<◌, ◌≤◌, ◌∷◌, [], length, refl, true, false, IfOk};
+ghost use Rattle.std.specs.Prelude.{◌≡◌, ◌+◌, ◌-◌, ◌/◌, ◌<◌, ◌≤◌, ◌∷◌, [], List, length, refl, true, false, IfOk};
+ghost use Rattle.rl_step.specs.declared.events.Event.{Event as TheEvent};
+ghost use Rattle.rl_step.specs.Lock.{told_with};
 ghost use Rattle.rl_word.specs.declared.locks.LockName.TheVariants as TheName;
 ghost use Rattle.rl_word.specs.Shapes.{layout_of};
 ghost use Rattle.rl_tree.specs.Tree.{has_above, with_entry};
@@ -8,6 +10,7 @@ ghost use Rattle.rl_tree.specs.TreeShape.{levels_of};
 ghost use Rattle.rl_rw.specs.Rw.{shared_of, shared_in, SuitsRw, counters_of, from_tree, after_hook, from_counter, rw_table, BoundsBatches};
 ghost use Rattle.rl_rw.specs.Fits.{MayLeaveHook, Ends};
 ghost use Rattle.rl_rw.specs.RwGood.{RwGood};
+ghost use Rattle.rl_rw.specs.SameViews.{same_rw};
 ghost use Rattle.rl_rw.specs.RwLaws.{laws_of};
 
 use crate::view::RwView;
@@ -62,28 +65,27 @@ fn groups_of(ranks: u32, group: u32) -> u32
 }
 
 /// What a rank learnt in the tree, with its entry where it came in.
-fn within_tree(view: RwView, turn: Learnt<TreeView>) -> Learnt<RwView>
-    requires { length (with_entry (record { view = turn.view; events = turn.events.items; waits = turn.waits })).events ≤ 8 }
-    ensures view { result.view ≡ (from_tree view false (record { view = turn.view; events = turn.events.items; waits = turn.waits })).view }
-    ensures events { result.events.items ≡ (from_tree view false (record { view = turn.view; events = turn.events.items; waits = turn.waits })).events }
-    ensures waits { result.waits ≡ turn.waits }
+fn within_tree(
+    view: RwView,
+    turn: Learnt<TreeView>,
+    events: &mut ArrayVec<Event, 8>,
+) -> Learnt<RwView>
+    requires { length (with_entry (told_with turn events.old.items)).events ≤ 8 }
+    ensures { told_with result events.new.items ≡ from_tree view false (told_with turn events.old.items) }
 {
-    let entered = tree_enter(turn);
+    tree_enter(turn.view, events);
     Learnt {
         view: RwView {
-            tree: entered.view,
+            tree: turn.view,
             counter: counter_idle(view.counter.counter),
         },
-        events: entered.events,
-        waits: entered.waits,
+        waits: turn.waits,
     }
 }
 
 /// A rank has come to the hook: it begins to put the marks up, or to take them down.
 fn comes_to_hook(view: RwView, turn: Learnt<TreeView>) -> Learnt<RwView>
-    ensures view { result.view ≡ (from_tree view true (record { view = turn.view; events = turn.events.items; waits = turn.waits })).view }
-    ensures events { result.events.items ≡ turn.events.items }
-    ensures waits { result.waits ≡ turn.waits }
+    ensures { (told : List TheEvent) → told_with result told ≡ from_tree view true (told_with turn told) }
 {
     let task = match turn.view.phase {
         Phase::Settle => Task::Up,
@@ -94,71 +96,60 @@ fn comes_to_hook(view: RwView, turn: Learnt<TreeView>) -> Learnt<RwView>
             tree: turn.view,
             counter: counter_begin(counter_idle(view.counter.counter), task),
         },
-        events: turn.events,
         waits: turn.waits,
-    }
-}
-
-/// A reader is in, and enters.
-fn reader_enters(view: RwView, counter: CounterView, waits: bool) -> Learnt<RwView>
-    ensures view { result.view ≡ record { tree = view.tree; counter = counter } }
-    ensures events { result.events.items ≡ Event.EnterR view.tree.rank ∷ [] }
-    ensures waits { result.waits ≡ waits }
-{
-    let mut events = ArrayVec::new();
-    events.push(Event::EnterR {
-        rank: view.tree.rank,
-    });
-    Learnt {
-        view: RwView {
-            tree: view.tree,
-            counter,
-        },
-        events,
-        waits,
     }
 }
 
 /// A rank goes on at the counters.
 fn goes_on(view: RwView, counter: CounterView, waits: bool) -> Learnt<RwView>
-    ensures view { result.view ≡ record { tree = view.tree; counter = counter } }
-    ensures events { result.events.items ≡ [] }
-    ensures waits { result.waits ≡ waits }
+    ensures { result ≡ record { view = record { tree = view.tree; counter = counter }; waits = waits } }
 {
     Learnt {
         view: RwView {
             tree: view.tree,
             counter,
         },
-        events: ArrayVec::new(),
         waits,
     }
 }
 
 impl Rw {
     /// A task at the marks has ended: the tree goes on from the hook.
-    fn leaves_hook(&self, view: RwView) -> Learnt<RwView>
-        requires { MayLeaveHook self.now.tree.rooted view.tree }
-        ensures view { result.view ≡ (after_hook (shared_of self.now.tree.rooted self.now.counters.readers self.now.group) view).view }
-        ensures events { result.events.items ≡ (after_hook (shared_of self.now.tree.rooted self.now.counters.readers self.now.group) view).events }
-        ensures waits { result.waits ≡ (after_hook (shared_of self.now.tree.rooted self.now.counters.readers self.now.group) view).waits }
+    fn leaves_hook(&self, view: RwView, events: &mut ArrayVec<Event, 8>) -> Learnt<RwView>
+        requires may { MayLeaveHook self.now.tree.rooted view.tree }
+        requires none { events.old.items ≡ [] }
+        ensures { told_with result events.new.items ≡ after_hook (shared_of self.now.tree.rooted self.now.counters.readers self.now.group) view }
     {
-        within_tree(view, self.tree.resume(view.tree, ArrayVec::new()))
+        let turn = Learnt {
+            view: self.tree.resume(view.tree, events),
+            waits: false,
+        };
+        within_tree(view, turn, events)
     }
 
     /// What a rank has learnt at the counters, where it does this next.
-    fn at_counters(&self, view: RwView, counter: CounterView, waits: bool) -> Learnt<RwView>
+    fn at_counters(
+        &self,
+        view: RwView,
+        counter: CounterView,
+        waits: bool,
+        events: &mut ArrayVec<Event, 8>,
+    ) -> Learnt<RwView>
         requires same { counter.counter ≡ view.counter.counter }
         requires ends { Ends self.now.tree.rooted view.tree view.counter.doing counter.doing }
-        ensures view { result.view ≡ (from_counter (shared_of self.now.tree.rooted self.now.counters.readers self.now.group) view view.counter.doing counter.doing waits).view }
-        ensures events { result.events.items ≡ (from_counter (shared_of self.now.tree.rooted self.now.counters.readers self.now.group) view view.counter.doing counter.doing waits).events }
-        ensures waits { result.waits ≡ (from_counter (shared_of self.now.tree.rooted self.now.counters.readers self.now.group) view view.counter.doing counter.doing waits).waits }
+        requires none { events.old.items ≡ [] }
+        ensures { told_with result events.new.items ≡ from_counter (shared_of self.now.tree.rooted self.now.counters.readers self.now.group) view view.counter.doing counter.doing waits }
     {
         match counter.doing {
-            Doing::Inside => reader_enters(view, counter, waits),
+            Doing::Inside => {
+                events.push(Event::EnterR {
+                    rank: view.tree.rank,
+                });
+                goes_on(view, counter, waits)
+            }
             Doing::Nothing => match view.counter.doing {
                 Doing::Depart => goes_on(view, counter, waits),
-                _ => self.leaves_hook(view),
+                _ => self.leaves_hook(view, events),
             },
             _ => goes_on(view, counter, waits),
         }
@@ -258,16 +249,16 @@ impl Algo for Rw {
     }
 
     #[inline(always)]
-    fn learn(&self, view: RwView, got: u64) -> Learnt<RwView> {
+    fn learn(&self, view: RwView, got: u64, events: &mut ArrayVec<Event, 8>) -> Learnt<RwView> {
         if counter_busy(view.counter) {
             let turn = counter_learn(view.counter, &self.counters, got);
-            self.at_counters(view, turn.view, turn.waits)
+            self.at_counters(view, turn.view, turn.waits, events)
         } else {
-            let turn = self.tree.learn(view.tree, got);
+            let turn = self.tree.learn(view.tree, got, events);
             if turn.view.is_at_hook() {
                 comes_to_hook(view, turn)
             } else {
-                within_tree(view, turn)
+                within_tree(view, turn, events)
             }
         }
     }
@@ -293,6 +284,8 @@ impl Algo for Rw {
             _ => Standing::Asking,
         }
     }
+
+    ghost same_views = { same_rw };
 
     ghost laws = { λ s. laws_of s.tree.rooted s.counters.readers s.group s.tree.laid s.limited s.few s.grouped };
 }

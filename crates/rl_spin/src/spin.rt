@@ -1,5 +1,6 @@
 //! The spin lock's acts, and what a rank learns from them.
 
+ghost use Rattle.std.proofs.Common.{rules};
 ghost use Rattle.std.specs.Prelude.{◌≡◌, ◌<◌, length, refl};
 ghost use Rattle.rl_word.specs.declared.locks.LockName.TheVariants as TheName;
 ghost use Rattle.rl_step.specs.Lock.{no_more};
@@ -91,8 +92,7 @@ impl Algo for Spin {
         }
     }
 
-    fn learn(&self, view: SpinView, got: u64) -> Learnt<SpinView> {
-        let mut events = ArrayVec::new();
+    fn learn(&self, view: SpinView, got: u64, events: &mut ArrayVec<Event, 8>) -> Learnt<SpinView> {
         let mut phase = view.phase;
         match view.phase {
             Phase::Trying => {
@@ -106,7 +106,6 @@ impl Algo for Spin {
         }
         Learnt {
             view: at(view.rank, phase),
-            events,
             waits: false,
         }
     }
@@ -123,6 +122,8 @@ impl Algo for Spin {
             Phase::Releasing => Standing::Leaving,
         }
     }
+
+    ghost same_views = { λ x y e. Prim.search rules };
 
     ghost laws = { λ s. spin_laws s.home (record { node_of = s.node_of.items; nodes = s.nodes }) s.homed };
 }

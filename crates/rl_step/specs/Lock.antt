@@ -8,6 +8,7 @@ use Rattle.rl_word.specs.declared.acts.Act.TheVariants as act
 use Rattle.rl_word.specs.Acts.{word_of, written, told, Layout, IsLawful}
 use Rattle.rl_step.specs.declared.events.Event.{Event}
 use Rattle.rl_step.specs.declared.events.Event.TheVariants.{Join, Announce, Pass, Settle, Touch, EnterW, EnterR, LeaveW, LeaveR}
+use Rattle.rl_step.specs.declared.events.Learnt.{Learnt}
 use Rattle.rl_step.specs.declared.events.Standing.{Standing}
 use Rattle.rl_step.specs.declared.events.Standing.TheVariants.{Out, Asking, Writer, Reader, Leaving}
 use Rattle.rl_step.specs.Queues.{QueueOf, IsWithin, IsFifo, settled, passed, tenures}
@@ -17,6 +18,10 @@ pub record Told (V : Type 0) : Type 0 where
   pub view : V
   pub events : List Event
   pub waits : Bool
+
+-- the same, of what a rank learnt with these events
+abbrev pub told_with : {V : Type 0} → Learnt V → List Event → Told V
+told_with l es = record { view = l.view; events = es; waits = l.waits }
 
 -- A lock as plain functions: how many words it has and what they are, a rank's view at first and after it asks, the act that
 -- a view plans, what is learnt of what the act told, the view after the holder's work, and how a view stands.

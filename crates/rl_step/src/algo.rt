@@ -1,26 +1,18 @@
 //! What a lock is: one shard's lock, as every layer above sees it.
 
-ghost use Rattle.std.specs.Prelude.{◌≡◌, ◌<◌, ℕ, length, List, IfOk};
+ghost use Rattle.std.specs.Prelude.{◌≡◌, ◌<◌, ℕ, true, [], length, List, IfOk};
 ghost use Rattle.rl_step.specs.declared.events.Event.{Event as TheEvent};
 ghost use Rattle.rl_word.specs.declared.locks.LockName.{LockName as TheName};
 ghost use Rattle.rl_word.specs.declared.shapes.Knobs.{Knobs as TheKnobs};
 ghost use Rattle.rl_word.specs.Acts.{Layout};
 ghost use Rattle.rl_word.specs.Shapes.{TheShape, IsProper, layout_of};
 ghost use Rattle.rl_step.specs.LockQueues.{queues_of, readers_share};
-ghost use Rattle.rl_step.specs.Lock.{LockTable, LockState, LockLaws, HandsOn, Deed, MayStep, MayLearn, IsHolder};
+ghost use Rattle.rl_step.specs.Lock.{LockTable, LockState, LockLaws, told_with, HandsOn, Deed, MayStep, MayLearn, IsHolder};
 
-use crate::events::{Event, Standing};
+use crate::events::{Event, Learnt, Standing};
 use arrayvec::ArrayVec;
 use rl_word::{Act, Knobs, Mode, Shape, Spot};
 use std::alloc::{AllocError as OutOfMemory, Global};
-
-/// What a rank has learnt from an act: its view, what happened with the act, and whether the round has to be made again.
-#[derive(Drop)]
-pub struct Learnt<V> {
-    pub view: V,
-    pub events: ArrayVec<Event, 8>,
-    pub waits: bool,
-}
 
 /// One shard's lock, in words numbered from 0 that are all 0 at first.
 ///
@@ -28,7 +20,7 @@ pub struct Learnt<V> {
 /// until it holds the lock; once its work is done it leaves, and makes acts again until it is out. A lock knows nothing
 /// of cards: an act through a card counts as one step, at the moment of its store, or of its load where it writes nothing.
 pub trait Algo: Sized + Drop {
-    type View: Copy;
+    type View: Copy + PartialEq;
 
     /// The lock as plain functions, which the methods compute.
     ghost table: { Self → LockTable Self.View };
@@ -94,12 +86,17 @@ pub trait Algo: Sized + Drop {
         requires { MayStep (good self.now) view }
         ensures { result ≡ (table self.now).plan view };
 
-    /// What the rank learns: `got` is what its planned act found before it wrote, and 0 for a store.
-    fn learn(&self, view: Self::View, got: u64) -> Learnt<Self::View>
-        requires { MayLearn (table self.now) (good self.now) view got }
-        ensures view { result.view ≡ ((table self.now).learn view got).view }
-        ensures events { result.events.items ≡ ((table self.now).learn view got).events }
-        ensures waits { result.waits ≡ ((table self.now).learn view got).waits };
+    /// What the rank learns: `got` is what its planned act found before it wrote, and 0 for a store. What happened with the act is put
+    /// into `events`, which is empty.
+    fn learn(
+        &self,
+        view: Self::View,
+        got: u64,
+        events: &mut ArrayVec<Event, 8>,
+    ) -> Learnt<Self::View>
+        requires may { MayLearn (table self.now) (good self.now) view got }
+        requires none { events.old.items ≡ [] }
+        ensures { told_with result events.new.items ≡ (table self.now).learn view got };
 
     /// The view once a holder's work is done.
     fn leave(&self, view: Self::View) -> Self::View
@@ -109,6 +106,9 @@ pub trait Algo: Sized + Drop {
     /// How the rank stands.
     fn standing(&self, view: Self::View) -> Standing
         ensures { result ≡ (table self.now).standing view };
+
+    /// Views that `==` finds equal are one: so it is seen where a rank that waits stands still.
+    ghost same_views: { (x y : Self.View) → Self.View.eq x y ≡ true → x ≡ y };
 
     /// The laws of a lock.
     ghost laws: { (a : Self) → LockLaws (table a) (good a) (further a) (layout a) };

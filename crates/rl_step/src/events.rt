@@ -66,6 +66,13 @@ pub enum Stepped {
     Finished,
 }
 
+/// What a rank has learnt from an act, beside what happened with it: its view, and whether the round has to be made again.
+#[derive(Drop)]
+pub struct Learnt<V> {
+    pub view: V,
+    pub waits: bool,
+}
+
 /// How a step went, and what happened with it: at most 8 events, in the order of their kinds.
 #[derive(Drop)]
 pub struct After {

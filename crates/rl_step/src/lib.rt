@@ -20,9 +20,9 @@ mod port;
 mod tallies;
 mod words;
 
-pub use algo::{Algo, Learnt};
+pub use algo::Algo;
 pub use cores::Core;
-pub use events::{After, Event, Standing, Stepped};
+pub use events::{After, Event, Learnt, Standing, Stepped};
 pub use flat::{Flat, FlatPort, advance_flat};
 pub use port::{Port, advance};
 pub use tallies::{Steps, Tally};

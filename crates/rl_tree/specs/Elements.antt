@@ -4,7 +4,6 @@ use Rattle.rl_word.specs.declared.classes.Spot.{Spot}
 use Rattle.rl_word.specs.declared.classes.Class.TheVariants as class
 use Rattle.rl_word.specs.declared.shapes.Element.{Element}
 use Rattle.rl_word.specs.Shapes.{TheShape}
-use Rattle.rl_step.specs.declared.events.Event.TheVariants as event
 use Rattle.rl_step.specs.Queues.{QueueOf}
 use Rattle.rl_step.specs.LockQueues.{parent_of, element_budget, element_queue, element_queues, is_node as node_in, leaf_of as leaf_in, is_in as member_in}
 use Rattle.rl_queue.specs.declared.view.Phase.TheVariants.{Idle}

@@ -30,3 +30,4 @@ pub mod TreeFits
 pub mod TreeLaws
 pub mod Tower
 pub mod FourRanks
+pub mod SameViews

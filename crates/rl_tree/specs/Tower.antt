@@ -1,5 +1,5 @@
 -- A proper shape of three levels for the tests: one rank on a node under a group under the root.
-use Rattle.std.proofs.Common.{◌≡◌, ◌∙◌, sym, ap, subst, arith, ℕ, zero, suc, ◌<◌, ◌≤◌, [], ◌∷◌, List, slice_get, Some, None, true, refl}
+use Rattle.std.proofs.Common.{◌≡◌, ◌∙◌, sym, ap, subst, arith, ℕ, zero, suc, ◌<◌, ◌≤◌, [], ◌∷◌, List, slice_get, Some, None, refl}
 use Rattle.std.proofs.lemmas.Option.{same_Some, none-some}
 use Rattle.rl_word.specs.declared.shapes.Element.{Element}
 use Rattle.rl_word.specs.Shapes.{TheShape, IsParent, IsUnder, IsLeaf, IsNodeUnder, IsProper}

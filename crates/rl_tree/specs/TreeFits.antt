@@ -1,5 +1,5 @@
 -- What the code asks of a view and of what its act told, in a good tree.
-use Rattle.std.specs.Prelude.{◌≡◌, ◌⊎◌, ℕ, zero, suc, ◌+◌, ◌-◌, ◌*◌, ◌<◌, ◌≤◌, ◌^◌, ◌==◌, ◌&&◌, Bool, true, false, List, ◌∷◌, length, nat_lt, if◌then◌else◌, slice_index, Option, Some, None, refl}
+use Rattle.std.specs.Prelude.{◌≡◌, ℕ, zero, suc, ◌+◌, ◌-◌, ◌*◌, ◌<◌, ◌≤◌, ◌^◌, ◌==◌, ◌&&◌, Bool, true, false, List, ◌∷◌, length, nat_lt, if◌then◌else◌, slice_index, Option, Some, None, refl}
 use Rattle.std.proofs.Common.{sym, ◌∙◌, ap, subst, ⊎_elim, arith}
 use Rattle.std.proofs.lemmas.Option.{same_Some}
 use Rattle.rl_word.specs.Acts.{word_of, told}

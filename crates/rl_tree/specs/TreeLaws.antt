@@ -1,5 +1,5 @@
 -- All that is said of a tree's good states holds.
-use Rattle.std.specs.Prelude.{◌≡◌, ◌⊎◌, ℕ, zero, suc, ◌+◌, ◌-◌, ◌<◌, ◌==◌, Bool, true, false, List, [], if◌then◌else◌, slice_index, Option, Some, None, refl}
+use Rattle.std.specs.Prelude.{◌≡◌, ℕ, zero, suc, ◌+◌, ◌-◌, ◌<◌, ◌==◌, Bool, true, false, List, [], if◌then◌else◌, slice_index, Option, Some, None, refl}
 use Rattle.std.proofs.Common.{sym, ◌∙◌, ap, subst, inl, inr, ⊎_elim, arith}
 use Rattle.rl_word.specs.Acts.{word_of, told}
 use Rattle.rl_step.specs.declared.events.Event.{Event}

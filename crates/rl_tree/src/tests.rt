@@ -59,9 +59,10 @@ fn comes_in_over_three_levels(rt: HostRuntime) -> Result<(), OutOfMemory> {
     let asks = out.join();
     assert_eq!(rt; asks.standing(), Standing::Asking);
     assert_eq!(rt; tree.plan(asks), Some(Act::Store { word: 7, value: 0 }));
-    let joins = tree.learn(asks.at_level(0, Phase::Swing { guess: 0 }), 0);
+    let mut events = ArrayVec::new();
+    let joins = tree.learn(asks.at_level(0, Phase::Swing { guess: 0 }), 0, &mut events);
     assert_eq!(rt;
-        joins.events[0],
+        events[0],
         Event::Join {
             queue: 2,
             member: 0
@@ -70,7 +71,9 @@ fn comes_in_over_three_levels(rt: HostRuntime) -> Result<(), OutOfMemory> {
     assert_eq!(rt; joins.view, asks.at_level(1, Phase::Clear));
     let head = asks.at_level(2, Phase::Settle);
     assert!(rt; head.is_at_hook());
-    let inside = tree_enter(tree.resume(head, ArrayVec::new()));
+    let mut events = ArrayVec::new();
+    let inside = tree.resume(head, &mut events);
+    tree_enter(inside, &mut events);
     let told = [
         Event::Settle {
             queue: 0,
@@ -86,8 +89,8 @@ fn comes_in_over_three_levels(rt: HostRuntime) -> Result<(), OutOfMemory> {
         },
         Event::EnterW { rank: 0 },
     ];
-    assert_eq!(rt; inside.events.as_slice(), &told[..]);
-    assert_eq!(rt; inside.view, out.at_level(0, Phase::Granted { left: 1 }));
+    assert_eq!(rt; events.as_slice(), &told[..]);
+    assert_eq!(rt; inside, out.at_level(0, Phase::Granted { left: 1 }));
     Ok(())
 }
 
@@ -99,11 +102,11 @@ fn gives_up_what_is_above_before_it_leaves(rt: HostRuntime) -> Result<(), OutOfM
     let leaves = inside.leave();
     assert_eq!(rt; leaves.standing(), Standing::Leaving);
     assert_eq!(rt; tree.plan(leaves), Some(Act::Load { word: 7 }));
-    let alone = tree.learn(leaves, 0);
+    let alone = tree.learn(leaves, 0, &mut ArrayVec::new());
     assert!(rt; alone.view.query);
     assert_eq!(rt; alone.view.level, 1);
     assert_eq!(rt; tree.plan(alone.view), Some(Act::Load { word: 6 }));
-    let above = tree.learn(alone.view, 3);
+    let above = tree.learn(alone.view, 3, &mut ArrayVec::new());
     assert_eq!(rt;
         above.view.phase,
         Phase::Look {

@@ -1,9 +1,11 @@
 //! What a rank does in the queues on its path.
 
-ghost use Rattle.std.specs.Prelude.{◌≡◌, ℕ, true, ◌+◌, ◌<◌, ◌≤◌, ◌++◌, length};
+ghost use Rattle.std.specs.Prelude.{◌≡◌, ℕ, true, false, ◌+◌, ◌<◌, ◌≤◌, ◌++◌, [], List, length};
+ghost use Rattle.rl_step.specs.declared.events.Event.{Event as TheEvent};
+ghost use Rattle.rl_step.specs.Lock.{told_with};
 ghost use Rattle.rl_queue.specs.Queue.{full_budget, resume_at};
 ghost use Rattle.rl_queue.specs.Lane.{told_left};
-ghost use Rattle.rl_tree.specs.Tree.{path, is_none, behind_at, member_at as the_member, inside_from, settles_below, comes_in as the_entry, goes_up as the_rise, gives_up as the_release, goes_down as the_descent, walk as the_walk, tree_plan, tree_learn, at_hook, resume_by, with_entry};
+ghost use Rattle.rl_tree.specs.Tree.{path, is_none, behind_at, member_at as the_member, inside_from, settles_below, comes_in as the_entry, goes_up as the_rise, gives_up as the_release, goes_down as the_descent, walk as the_walk, tree_plan, tree_learn, at_hook, resume_by, entry_if};
 ghost use Rattle.rl_tree.specs.Elements.{how_many, tree_of};
 ghost use Rattle.rl_tree.specs.Fits.{IsPlaced, MayPlan, MayLearn, StatusFits};
 
@@ -60,62 +62,40 @@ fn behind(view: TreeView, level: u32) -> Option<u32>
 }
 
 /// One that has left the queue at a level goes on in the queue below.
-fn goes_down(view: TreeView, level: u32, told: ArrayVec<Event, 8>) -> Learnt<TreeView>
+fn goes_down(view: TreeView, level: u32) -> TreeView
     requires { level ≤ 3 }
-    ensures view { result.view ≡ (the_descent view level told.items).view }
-    ensures events { result.events.items ≡ (the_descent view level told.items).events }
-    ensures waits { result.waits ≡ (the_descent view level told.items).waits }
+    ensures { (told : List TheEvent) → the_descent view level told ≡ record { view = result; events = told; waits = false } }
 {
-    let next = if level == 0 {
+    if level == 0 {
         view.at_level(0, Phase::Idle)
     } else {
         let below = level - 1;
         view.at_level(below, resumed(behind(view, below)))
-    };
-    Learnt {
-        view: next,
-        events: told,
-        waits: false,
     }
 }
 
 /// One that must settle works for its element one level up, but at the root it stands at the hook.
-fn goes_up(top: bool, view: TreeView, level: u32, told: ArrayVec<Event, 8>) -> Learnt<TreeView>
+fn goes_up(top: bool, view: TreeView, level: u32) -> TreeView
     requires { level ≤ 3 }
-    ensures view { result.view ≡ (the_rise top view level told.items).view }
-    ensures events { result.events.items ≡ (the_rise top view level told.items).events }
-    ensures waits { result.waits ≡ (the_rise top view level told.items).waits }
+    ensures { (told : List TheEvent) → the_rise top view level told ≡ record { view = result; events = told; waits = false } }
 {
-    let next = if top {
+    if top {
         view.at_level(level, Phase::Settle)
     } else {
         view.at_level(level + 1, Phase::Clear)
-    };
-    Learnt {
-        view: next,
-        events: told,
-        waits: false,
     }
 }
 
 /// One that gives up what is above loads the status of its element one level up, but at the root it stands at the hook.
-fn gives_up(
-    top: bool,
-    view: TreeView,
-    level: u32,
-    successor: Option<u32>,
-    told: ArrayVec<Event, 8>,
-) -> Learnt<TreeView>
+fn gives_up(top: bool, view: TreeView, level: u32, successor: Option<u32>) -> TreeView
     requires { level ≤ 3 }
-    ensures view { result.view ≡ (the_release top view level successor told.items).view }
-    ensures events { result.events.items ≡ (the_release top view level successor told.items).events }
-    ensures waits { result.waits ≡ (the_release top view level successor told.items).waits }
+    ensures { (told : List TheEvent) → the_release top view level successor told ≡ record { view = result; events = told; waits = false } }
 {
     let mut behind = view.behind;
     if level < 3 {
         behind[level as usize] = successor;
     }
-    let next = TreeView {
+    TreeView {
         rank: view.rank,
         leaf: view.leaf,
         level: if top { level } else { level + 1 },
@@ -126,31 +106,16 @@ fn gives_up(
         },
         query: !top,
         behind,
-    };
-    Learnt {
-        view: next,
-        events: told,
-        waits: false,
     }
 }
 
 /// Who is inside enters: this stands behind what was told before.
-pub fn tree_enter(turn: Learnt<TreeView>) -> Learnt<TreeView>
-    requires { length (with_entry (record { view = turn.view; events = turn.events.items; waits = turn.waits })).events ≤ 8 }
-    ensures view { result.view ≡ turn.view }
-    ensures events { result.events.items ≡ (with_entry (record { view = turn.view; events = turn.events.items; waits = turn.waits })).events }
-    ensures waits { result.waits ≡ turn.waits }
+pub fn tree_enter(view: TreeView, events: &mut ArrayVec<Event, 8>)
+    requires { length (events.old.items ++ entry_if view.query view.phase view.rank) ≤ 8 }
+    ensures { events.new.items ≡ events.old.items ++ entry_if view.query view.phase view.rank }
 {
-    let mut events = turn.events;
-    if !turn.view.query && matches!(turn.view.phase, Phase::Granted { .. }) {
-        events.push(Event::EnterW {
-            rank: turn.view.rank,
-        });
-    }
-    Learnt {
-        view: turn.view,
-        events,
-        waits: turn.waits,
+    if !view.query && matches!(view.phase, Phase::Granted { .. }) {
+        events.push(Event::EnterW { rank: view.rank });
     }
 }
 
@@ -218,22 +183,15 @@ impl Tree {
         view: TreeView,
         level: u32,
         left: u32,
-        told: ArrayVec<Event, 8>,
-    ) -> Learnt<TreeView>
+        told: &mut ArrayVec<Event, 8>,
+    ) -> TreeView
         requires low { level ≤ 3 }
-        requires room { length told.items ≤ 4 }
+        requires room { length told.old.items ≤ 4 }
         requires there { (j : ℕ) → j ≤ level → path (tree_of self.now.rooted) view.leaf j < how_many self.now.rooted }
-        ensures view { result.view ≡ (the_entry (tree_of self.now.rooted) view level left told.items).view }
-        ensures events { result.events.items ≡ (the_entry (tree_of self.now.rooted) view level left told.items).events }
-        ensures waits { result.waits ≡ (the_entry (tree_of self.now.rooted) view level left told.items).waits }
+        ensures { the_entry (tree_of self.now.rooted) view level left told.old.items ≡ record { view = result; events = told.new.items; waits = false } }
     {
-        let mut events = told;
-        self.settle_below(view, level, &mut events);
-        Learnt {
-            view: view.at_level(0, self.inside(view, level, left)),
-            events,
-            waits: false,
-        }
+        self.settle_below(view, level, told);
+        view.at_level(0, self.inside(view, level, left))
     }
 
     /// Whether the element at a level of a rank's path is the root.
@@ -248,33 +206,32 @@ impl Tree {
         &self,
         view: TreeView,
         level: u32,
-        phase: Phase,
-        told: ArrayVec<Event, 8>,
-        waits: bool,
+        turn: Learnt<QueueView>,
+        told: &mut ArrayVec<Event, 8>,
     ) -> Learnt<TreeView>
         requires low { level ≤ 3 }
-        requires room { length told.items ≤ 4 }
+        requires room { length told.old.items ≤ 4 }
         requires there { (j : ℕ) → j ≤ level → path (tree_of self.now.rooted) view.leaf j < how_many self.now.rooted }
-        ensures view { result.view ≡ (the_walk (tree_of self.now.rooted) view level phase told.items waits).view }
-        ensures events { result.events.items ≡ (the_walk (tree_of self.now.rooted) view level phase told.items waits).events }
-        ensures waits { result.waits ≡ (the_walk (tree_of self.now.rooted) view level phase told.items waits).waits }
+        ensures { told_with result told.new.items ≡ the_walk (tree_of self.now.rooted) view level turn.view.phase told.old.items turn.waits }
     {
-        match phase {
-            Phase::Settle => goes_up(self.is_top(view, level), view, level, told),
+        let phase = turn.view.phase;
+        let next = match phase {
+            Phase::Settle => goes_up(self.is_top(view, level), view, level),
             Phase::Granted { left } => self.comes_in(view, level, left, told),
-            Phase::Above { successor } => gives_up(
-                self.is_top(view, level),
-                view,
-                level,
-                successor,
-                told,
-            ),
-            Phase::Idle => goes_down(view, level, told),
-            _ => Learnt {
-                view: view.at_level(level, phase),
-                events: told,
-                waits,
-            },
+            Phase::Above { successor } => {
+                gives_up(self.is_top(view, level), view, level, successor)
+            }
+            Phase::Idle => goes_down(view, level),
+            _ => {
+                return Learnt {
+                    view: view.at_level(level, phase),
+                    waits: turn.waits,
+                };
+            }
+        };
+        Learnt {
+            view: next,
+            waits: false,
         }
     }
 
@@ -301,15 +258,19 @@ impl Tree {
         }
     }
 
-    /// What a rank learns where its planned act told `got`: its view, the joins, passes and settlements in all its queues, and whether a
-    /// waiting load has to be made again. The rank may come to the hook.
+    /// What a rank learns where its planned act told `got`: its view, and whether a waiting load has to be made again. The joins, passes
+    /// and settlements in all its queues are put into `events`, which is empty. The rank may come to the hook.
     #[inline(always)]
-    pub fn learn(&self, view: TreeView, got: u64) -> Learnt<TreeView>
+    pub fn learn(
+        &self,
+        view: TreeView,
+        got: u64,
+        events: &mut ArrayVec<Event, 8>,
+    ) -> Learnt<TreeView>
         requires fits { MayPlan self.now.rooted view }
         requires got { MayLearn self.now.rooted view got }
-        ensures view { result.view ≡ (tree_learn (tree_of self.now.rooted) view got).view }
-        ensures events { result.events.items ≡ (tree_learn (tree_of self.now.rooted) view got).events }
-        ensures waits { result.waits ≡ (tree_learn (tree_of self.now.rooted) view got).waits }
+        requires none { events.old.items ≡ [] }
+        ensures { told_with result events.new.items ≡ tree_learn (tree_of self.now.rooted) view got }
     {
         let member = self.member_at(view.rank, view.leaf, view.level);
         let names = self.names(self.element_at(view.leaf, view.level));
@@ -318,48 +279,36 @@ impl Tree {
             let upper = names.budget.is_some();
             Learnt {
                 view: view.at_level(view.level, Phase::Look { left, upper }),
-                events: ArrayVec::new(),
                 waits: false,
             }
         } else {
-            let turn = queue_learn(
-                QueueView {
-                    member,
-                    phase: view.phase,
-                },
-                names,
-                got,
-            );
-            let waits = turn.waits;
-            self.walk(view, view.level, turn.view.phase, turn.events, waits)
+            let queue = QueueView {
+                member,
+                phase: view.phase,
+            };
+            let turn = queue_learn(queue, names, got, events);
+            self.walk(view, view.level, turn, events)
         }
     }
 
     /// Goes on from the hook: a head of the root settles, and with it all queues below; a leaver hands the root over. What was told
-    /// before stands first among the events, for a lock that goes on in the same act.
+    /// before stands first among the events, for a lock that goes on in the same act. The rank's round is over with it.
     #[inline(always)]
-    pub fn resume(&self, view: TreeView, told: ArrayVec<Event, 8>) -> Learnt<TreeView>
+    pub fn resume(&self, view: TreeView, told: &mut ArrayVec<Event, 8>) -> TreeView
         requires hooked { at_hook view ≡ true }
         requires placed { IsPlaced self.now.rooted view }
-        requires room { length told.items ≤ 3 }
-        ensures view { result.view ≡ (resume_by (tree_of self.now.rooted) view view.phase told.items).view }
-        ensures events { result.events.items ≡ (resume_by (tree_of self.now.rooted) view view.phase told.items).events }
-        ensures waits { result.waits ≡ (resume_by (tree_of self.now.rooted) view view.phase told.items).waits }
+        requires room { length told.old.items ≤ 3 }
+        ensures { resume_by (tree_of self.now.rooted) view view.phase told.old.items ≡ record { view = result; events = told.new.items; waits = false } }
     {
         match view.phase {
-            Phase::Above { successor } => Learnt {
-                view: view.at_level(view.level, resumed(successor)),
-                events: told,
-                waits: false,
-            },
+            Phase::Above { successor } => view.at_level(view.level, resumed(successor)),
             _ => {
                 let names = self.names(self.element_at(view.leaf, view.level));
-                let mut events = told;
-                events.push(Event::Settle {
+                told.push(Event::Settle {
                     queue: names.queue,
                     member: self.member_at(view.rank, view.leaf, view.level),
                 });
-                self.comes_in(view, view.level, full(names.budget), events)
+                self.comes_in(view, view.level, full(names.budget), told)
             }
         }
     }

@@ -9,15 +9,9 @@ use Rattle.rl_queue.proofs.dmcs.DmcsAlgo.learn.Goals as goal
 pub queue_learn-turn-requires-clause-named : goal.queue_learn-turn-requires-clause-named
 queue_learn-turn-requires-clause-named c =
     subst (λ z. PlanFits z c.args.view.member c.args.view.phase) (sym c.args.self.now.named)
-    (fits_at (length c.args.self.now.node_of.items) c.requires.state c.requires.rank c.args.view.member c.args.view.phase c.requires.is_good c.requires.has)
+    (fits_at (length c.args.self.now.node_of.items) c.requires.may.state c.requires.may.rank c.args.view.member c.args.view.phase c.requires.may.is_good c.requires.may.has)
 
 pub queue_learn-turn-requires-clause-fits : goal.queue_learn-turn-requires-clause-fits
 queue_learn-turn-requires-clause-fits c =
-    subst (GotFits c.args.view.phase) (sym c.requires.gives)
-    (got_fits_at (length c.args.self.now.node_of.items) c.requires.state c.requires.rank c.args.view.member c.args.view.phase c.requires.act c.args.self.now.seated.few c.requires.is_good c.requires.has c.requires.planned)
-
-pub returns-clause-waits : goal.returns-clause-waits
-returns-clause-waits c =
-    let t = turn_at (dmcs_names (length c.args.self.now.node_of.items)) c.args.view.member c.args.view.phase c.args.got in
-    c.queue_learn-turn.ensures.waits ∙ ap (λ z. (turn_at z c.args.view.member c.args.view.phase c.args.got).waits) c.args.self.now.named ∙
-    sym (enter_waits c.args.view.member t.phase t.events t.waits)
+    subst (GotFits c.args.view.phase) (sym c.requires.may.gives)
+    (got_fits_at (length c.args.self.now.node_of.items) c.requires.may.state c.requires.may.rank c.args.view.member c.args.view.phase c.requires.may.act c.args.self.now.seated.few c.requires.may.is_good c.requires.may.has c.requires.may.planned)
