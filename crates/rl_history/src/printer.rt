@@ -13,7 +13,7 @@ use crate::naming::{Naming, QueueName};
 use crate::putting::{put_named, put_value, put_word};
 use crate::report::{Done, Report, ShardReport};
 use rl_model::{Entry, Reply};
-use rl_ops::call_text;
+use rl_ops::put_call;
 use rl_place::Place;
 use rl_step::{Event, Steps, Tally};
 use rl_text::put_number;
@@ -52,7 +52,7 @@ fn put_answer(out: &mut Vec<u8>, entry: &Entry) -> Result<(), OutOfMemory>
     ensures { OnOk result (out.new.items ≡ out.old.items ++ spaced (answer_words entry.now)) }
 {
     out.push(b' ')?;
-    call_text(entry.call, out)?;
+    put_call(out, entry.call)?;
     put_word(out, b"=")?;
     put_reply(out, entry.reply)?;
     put_part(out, entry.batch, entry.part)

@@ -32,6 +32,7 @@ impl Patience {
     }
 
     /// Waits as long as the answer of the last step asks for.
+    #[inline(always)]
     pub fn after(&mut self, stepped: &Stepped) {
         match stepped {
             Stepped::Lost { .. } => {

@@ -80,7 +80,7 @@ impl Work {
         ensures { self.new ≡ model.with_block self.old calls.now seq }
     {
         self.stage = Stage::Begin;
-        self.calls = all_calls(calls);
+        set_calls(&mut self.calls, calls);
         self.seq = seq;
         self.seen.clear();
         self.replies.clear();
@@ -270,7 +270,7 @@ impl Work {
         ensures work { self.new ≡ (model.block_close shard rank self.old count).work }
         ensures over { result ≡ (model.block_close shard rank self.old count).over }
     {
-        self.entries = self.entries_of(shard, rank, count);
+        self.set_entries(shard, rank, count);
         self.at = count;
         if self.asks_update() {
             self.stage = Stage::Journal { made: 0 };
@@ -299,16 +299,16 @@ impl Work {
         if size == 1 { 0 } else { size }
     }
 
-    // The entries of the block, which found this count.
-    fn entries_of(&self, shard: u32, rank: u32, count: u32) -> ArrayVec<Entry, 8>
-        requires { model.CanClose self.now count }
-        ensures many { length result.items ≡ length self.now.calls }
-        ensures are { result.items ≡ model.entries_of shard rank (model.batch_in self.now) self.now.seq count 0 self.now.calls self.now.replies }
+    // Notes the entries of the block, which found this count.
+    fn set_entries(&mut self, shard: u32, rank: u32, count: u32)
+        requires { model.CanClose self.old count }
+        ensures many { length self.new.entries ≡ length self.old.calls }
+        ensures are { self.new ≡ record self.old { entries = model.entries_of shard rank (model.batch_in self.old) self.old.seq count 0 self.old.calls self.old.replies } }
     {
         let batch = self.batch();
-        let mut entries = ArrayVec::new();
+        self.entries.clear();
         for part in 0..self.calls.len() {
-            entries.push(Entry {
+            self.entries.push(Entry {
                 shard,
                 rank,
                 seq: self.seq + part as u32,
@@ -319,7 +319,6 @@ impl Work {
                 part: part as u32,
             });
         }
-        entries
     }
 
     // After a write the next one follows; after the store of the count the work is over.
@@ -365,16 +364,15 @@ fn store(count: u32, write: Option<Write>) -> Atom
     }
 }
 
-// These calls, in order.
-fn all_calls(list: &[Call]) -> ArrayVec<Call, 8>
+// These calls, in order, in place of those that were there.
+fn set_calls(calls: &mut ArrayVec<Call, 8>, list: &[Call])
     requires { length list.now ≤ 8 }
-    ensures { result.items ≡ list.now }
+    ensures { calls.new.items ≡ list.now }
 {
-    let mut calls = ArrayVec::new();
+    calls.clear();
     for call in list {
         calls.push(*call);
     }
-    calls
 }
 
 // Whether a batch with such a reply is undone.
