@@ -22,7 +22,7 @@ use Rattle.rl_whole.specs.declared.effect.Effect.{Effect}
 use Rattle.rl_whole.specs.declared.effect.Effect.TheVariants.{Work, Stay, Learn}
 use Rattle.rl_whole.specs.declared.whole.WholeView.{WholeView}
 use Rattle.rl_whole.specs.Split.{SplitState, lock_of, view_of, home_of, plan_home, first_atom, card_atom, side_atom, skips, guess_of, answer_of, effect_at, turned_by, card_after, StandsStill}
-use Rattle.rl_whole.specs.SplitActs.{bool_cases, first_card, plain_got, after_plain, after_take, after_busy, after_load, after_skip}
+use Rattle.rl_whole.specs.SplitActs.{bool_cases, card_cases, plain_cases, first_card, plain_got, after_plain, after_take, after_busy, after_load, after_skip}
 use Rattle.rl_whole.specs.SplitLaws.{none_at}
 use Rattle.rl_whole.specs.Whole.{side_of, split_of, shifted, shifted_answer, work_plan, next_of, after_of, effect_turned, Good}
 use Rattle.rl_whole.specs.ShiftLaws.{shift_got}
@@ -31,45 +31,29 @@ use Rattle.rl_whole.specs.Causes.{Compares, Cause, GoesOn}
 
 -- a plain act whose first atom is a load loads its word; no first atom of a plain act is a Take
 plain_load : {V : Type 0} (L : LockAt V) (a : Act) (word : ℕ) → by_card a ≡ false → shifted L.base (first_atom L.table a) ≡ atom.Load word → IsLoad a
-plain_load L (act.Load w) word e q = tt
-plain_load L (act.Store w v) word e q = cc
-plain_load L (act.LocalCas w old new) word e q = cc
-plain_load L (act.CardCas w old new) word e q = cc
-plain_load L (act.CardSwap w v) word e q = cc
-plain_load L (act.CardAdd w d) word e q = cc
+plain_load L a word e q = plain_cases (λ b. shifted L.base (first_atom L.table b) ≡ atom.Load word → IsLoad b) (λ w k. tt) (λ w v k. cc) (λ w old new k. cc) a e q
 
 plain_no_take : {V : Type 0} (L : LockAt V) (a : Act) (node : ℕ) → by_card a ≡ false → shifted L.base (first_atom L.table a) ≡ atom.Take node → ⊥
-plain_no_take L (act.Load w) node e q = cc
-plain_no_take L (act.Store w v) node e q = cc
-plain_no_take L (act.LocalCas w old new) node e q = cc
-plain_no_take L (act.CardCas w old new) node e q = cc
-plain_no_take L (act.CardSwap w v) node e q = cc
-plain_no_take L (act.CardAdd w d) node e q = cc
+plain_no_take L a node e q = plain_cases (λ b. shifted L.base (first_atom L.table b) ≡ atom.Take node → ⊥) (λ w k. cc) (λ w v k. cc) (λ w old new k. cc) a e q
+
+-- an act that is a load
+load_case : (P : Act → Type 0) → ((w : ℕ) → P (act.Load w)) → (a : Act) → IsLoad a → P a
+load_case P load (act.Load w) h = load w
+load_case P load (act.Store w v) h = absurd h
+load_case P load (act.LocalCas w old new) h = absurd h
+load_case P load (act.CardCas w old new) h = absurd h
+load_case P load (act.CardSwap w v) h = absurd h
+load_case P load (act.CardAdd w d) h = absurd h
 
 -- a load's one atom, and what it tells
 load_atom : {V : Type 0} (L : LockAt V) (a : Act) → IsLoad a → shifted L.base (first_atom L.table a) ≡ atom.Load (L.base + word_of a)
-load_atom L (act.Load w) h = refl
-load_atom L (act.Store w v) h = absurd h
-load_atom L (act.LocalCas w old new) h = absurd h
-load_atom L (act.CardCas w old new) h = absurd h
-load_atom L (act.CardSwap w v) h = absurd h
-load_atom L (act.CardAdd w d) h = absurd h
+load_atom L a h = load_case (λ b. shifted L.base (first_atom L.table b) ≡ atom.Load (L.base + word_of b)) (λ w. refl) a h
 
 load_told : (a : Act) (g : ℕ) → IsLoad a → told a g ≡ g
-load_told (act.Load w) g h = refl
-load_told (act.Store w v) g h = absurd h
-load_told (act.LocalCas w old new) g h = absurd h
-load_told (act.CardCas w old new) g h = absurd h
-load_told (act.CardSwap w v) g h = absurd h
-load_told (act.CardAdd w d) g h = absurd h
+load_told a g h = load_case (λ b. told b g ≡ g) (λ w. refl) a h
 
 load_plain : (a : Act) → IsLoad a → by_card a ≡ true → ⊥
-load_plain (act.Load w) h e = cc
-load_plain (act.Store w v) h e = h
-load_plain (act.LocalCas w old new) h e = h
-load_plain (act.CardCas w old new) h e = h
-load_plain (act.CardSwap w v) h e = h
-load_plain (act.CardAdd w d) h e = h
+load_plain a h e = load_case (λ b. by_card b ≡ true → ⊥) (λ w k. cc) a h e
 
 -- an atom compares where it is a local compare-and-swap or a load in a card, and then an act that saw another value skips its store
 abbrev IsCompare : Atom → Type 0
@@ -102,29 +86,15 @@ compares_skips base (act.CardAdd w d) at guess seen h ne = absurd h
 
 -- what a plain act tells skips as what it found
 told_skips : (a : Act) (g : ℕ) → by_card a ≡ false → skips a (told a g) ≡ skips a g
-told_skips (act.Load w) g e = refl
-told_skips (act.Store w v) g e = refl
-told_skips (act.LocalCas w old new) g e = refl
-told_skips (act.CardCas w old new) g e = cc
-told_skips (act.CardSwap w v) g e = cc
-told_skips (act.CardAdd w d) g e = cc
+told_skips a g e = plain_cases (λ b. skips b (told b g) ≡ skips b g) (λ w. refl) (λ w v. refl) (λ w old new. refl) a e
 
 -- a plain act that skips its store is a local compare-and-swap, and one by card a CardCas
 plain_compares : {V : Type 0} (L : LockAt V) (a : Act) (got : ℕ) → by_card a ≡ false → skips a got ≡ true → Compares L.base a (shifted L.base (first_atom L.table a)) (guess_of a)
-plain_compares L (act.Load w) got e s = cc
-plain_compares L (act.Store w v) got e s = cc
-plain_compares L (act.LocalCas w old new) got e s = (refl, refl)
-plain_compares L (act.CardCas w old new) got e s = cc
-plain_compares L (act.CardSwap w v) got e s = cc
-plain_compares L (act.CardAdd w d) got e s = cc
+plain_compares L a got e s =
+    plain_cases (λ b. skips b got ≡ true → Compares L.base b (shifted L.base (first_atom L.table b)) (guess_of b)) (λ w k. cc) (λ w v k. cc) (λ w old new k. (refl, refl)) a e s
 
 card_compares : (base : ℕ) (a : Act) (got : ℕ) → by_card a ≡ true → skips a got ≡ true → Compares base a (atom.CardLoad (base + word_of a)) (guess_of a)
-card_compares base (act.Load w) got e s = cc
-card_compares base (act.Store w v) got e s = cc
-card_compares base (act.LocalCas w old new) got e s = cc
-card_compares base (act.CardCas w old new) got e s = (refl, refl)
-card_compares base (act.CardSwap w v) got e s = cc
-card_compares base (act.CardAdd w d) got e s = cc
+card_compares base a got e s = card_cases (λ b. skips b got ≡ true → Compares base b (atom.CardLoad (base + word_of b)) (guess_of b)) (λ w old new k. (refl, refl)) (λ w v k. cc) (λ w d k. cc) a e s
 
 -- it saw another value than its guess
 skips_other : (a : Act) (got : ℕ) → skips a got ≡ true → got ≢ guess_of a
@@ -137,12 +107,7 @@ skips_other (act.CardAdd w d) got s = cc
 
 -- a plain act that compares tells what it found
 plain_told : (a : Act) (g got : ℕ) → by_card a ≡ false → skips a got ≡ true → told a g ≡ g
-plain_told (act.Load w) g got e s = refl
-plain_told (act.Store w v) g got e s = cc
-plain_told (act.LocalCas w old new) g got e s = refl
-plain_told (act.CardCas w old new) g got e s = cc
-plain_told (act.CardSwap w v) g got e s = cc
-plain_told (act.CardAdd w d) g got e s = cc
+plain_told a g got e s = plain_cases (λ b. skips b got ≡ true → told b g ≡ g) (λ w k. refl) (λ w v k. cc) (λ w old new k. refl) a e s
 
 -- where the planned act's round has to be made again after what it found, it is a load, and so is the next act
 abbrev pub BeginsAgain : {V : Type 0} → LockAt V → TheWindow → V → Type 0

@@ -133,33 +133,28 @@ touch_goes ws rs sts r st w es m a has e fits =
     (record { match = subst (Match ws rs) (sym same) m; exclusive = (alone, fits, alone) })
 
 -- a holder's touch and leave
+leave_goes : (ws rs : ℕ → Bool) (sts : List Standing) (r : ℕ) (w : Bool) (e : Event) (es : List Event) → Match ws rs sts → AloneIn sts → AloneIn (slice_set sts r Leaving) → es ≡ Touch r w ∷ e ∷ [] →
+    TouchFits ws rs (Touch r w) → TouchFits ws rs e → Match (writers_after e ws) (readers_after e rs) (slice_set sts r Leaving) → Goes ws rs es (slice_set sts r Leaving)
+leave_goes ws rs sts r w e es m a b h touch leave after =
+    let alone : Alone ws rs = alone_of ws rs sts m a in
+    subst (λ z. Goes ws rs z (slice_set sts r Leaving)) (sym h)
+    (record { match = after; exclusive = (alone, touch, (alone, leave, alone_of (writers_after e ws) (readers_after e rs) (slice_set sts r Leaving) after b)) })
+
 leave_w_goes : (ws rs : ℕ → Bool) (sts : List Standing) (r : ℕ) (w : Bool) (es : List Event) → Match ws rs sts → AloneIn sts → AloneIn (slice_set sts r Leaving) → slice_get sts r ≡ Some Writer → es ≡ Touch r w ∷ LeaveW r ∷ [] →
     Goes ws rs es (slice_set sts r Leaving)
 leave_w_goes ws rs sts r w es m a b has h =
-    let after : Match (writers_after (LeaveW r) ws) (readers_after (LeaveW r) rs) (slice_set sts r Leaving) =
-    match_set ws rs (writers_after (LeaveW r) ws) (readers_after (LeaveW r) rs) sts r Writer Leaving m has
+    leave_goes ws rs sts r w (LeaveW r) es m a b h (touch_w_fits ws rs r w (m.writer r has)) tt
+    (match_set ws rs (writers_after (LeaveW r) ws) (readers_after (LeaveW r) rs) sts r Writer Leaving m has
     (λ k ne. (set_there k r false ws ne, refl))
-    (λ e. let q : false ≡ true = sym (set_here r false ws) ∙ e in cc) (λ e. cc) (λ e. let q : Writer ≡ Reader = one_at sts r Writer Reader has (m.reads r e) in cc) (λ e. cc) in
-    let alone : Alone ws rs = alone_of ws rs sts m a in
-    subst (λ z. Goes ws rs z (slice_set sts r Leaving)) (sym h)
-    (record {
-      match = after;
-      exclusive = (alone, touch_w_fits ws rs r w (m.writer r has), (alone, tt, alone_of (writers_after (LeaveW r) ws) (readers_after (LeaveW r) rs) (slice_set sts r Leaving) after b));
-    })
+    (λ e. let q : false ≡ true = sym (set_here r false ws) ∙ e in cc) (λ e. cc) (λ e. let q : Writer ≡ Reader = one_at sts r Writer Reader has (m.reads r e) in cc) (λ e. cc))
 
 leave_r_goes : (ws rs : ℕ → Bool) (sts : List Standing) (r : ℕ) (es : List Event) → Match ws rs sts → AloneIn sts → AloneIn (slice_set sts r Leaving) → slice_get sts r ≡ Some Reader → es ≡ Touch r false ∷ LeaveR r ∷ [] →
     Goes ws rs es (slice_set sts r Leaving)
 leave_r_goes ws rs sts r es m a b has h =
-    let after : Match (writers_after (LeaveR r) ws) (readers_after (LeaveR r) rs) (slice_set sts r Leaving) =
-    match_set ws rs (writers_after (LeaveR r) ws) (readers_after (LeaveR r) rs) sts r Reader Leaving m has
+    leave_goes ws rs sts r false (LeaveR r) es m a b h (λ f. m.reader r has) tt
+    (match_set ws rs (writers_after (LeaveR r) ws) (readers_after (LeaveR r) rs) sts r Reader Leaving m has
     (λ k ne. (refl, set_there k r false rs ne))
-    (λ e. let q : Reader ≡ Writer = one_at sts r Reader Writer has (m.writes r e) in cc) (λ e. cc) (λ e. let q : false ≡ true = sym (set_here r false rs) ∙ e in cc) (λ e. cc) in
-    let alone : Alone ws rs = alone_of ws rs sts m a in
-    subst (λ z. Goes ws rs z (slice_set sts r Leaving)) (sym h)
-    (record {
-      match = after;
-      exclusive = (alone, λ f. m.reader r has, (alone, tt, alone_of (writers_after (LeaveR r) ws) (readers_after (LeaveR r) rs) (slice_set sts r Leaving) after b));
-    })
+    (λ e. let q : Reader ≡ Writer = one_at sts r Reader Writer has (m.writes r e) in cc) (λ e. cc) (λ e. let q : false ≡ true = sym (set_here r false rs) ∙ e in cc) (λ e. cc))
 
 -- a step that changes a rank's standing as it may keeps the match, and its events are exclusive
 pub goes : (ws rs : ℕ → Bool) (sts : List Standing) (r : ℕ) (old st : Standing) (es : List Event) → Match ws rs sts → AloneIn sts → AloneIn (slice_set sts r st) → slice_get sts r ≡ Some old →
@@ -194,33 +189,26 @@ goes ws rs sts r Leaving Writer es m a b has h = absurd h
 goes ws rs sts r Leaving Reader es m a b has h = absurd h
 goes ws rs sts r Leaving Leaving es m a b has h = quiet_goes ws rs sts r Leaving Leaving es m a has h (λ e. cc) (λ e. cc) (λ e. cc) (λ e. cc)
 
+-- the changes of an act of the lock are five
+pub shift_cases : (r : ℕ) (hs : List Event) (P : Standing → Standing → Type 0) → (hs ≡ [] → P Asking Asking) → (hs ≡ EnterW r ∷ [] → P Asking Writer) → (hs ≡ EnterR r ∷ [] → P Asking Reader) →
+    (hs ≡ [] → P Leaving Leaving) → (hs ≡ [] → P Leaving Out) → (old st : Standing) → Shift r old st hs → P old st
+shift_cases r hs P asks writes reads leaves out Out st h = absurd h
+shift_cases r hs P asks writes reads leaves out Asking Out h = absurd h
+shift_cases r hs P asks writes reads leaves out Asking Asking h = asks h
+shift_cases r hs P asks writes reads leaves out Asking Writer h = writes h
+shift_cases r hs P asks writes reads leaves out Asking Reader h = reads h
+shift_cases r hs P asks writes reads leaves out Asking Leaving h = absurd h
+shift_cases r hs P asks writes reads leaves out Writer st h = absurd h
+shift_cases r hs P asks writes reads leaves out Reader st h = absurd h
+shift_cases r hs P asks writes reads leaves out Leaving Out h = out h
+shift_cases r hs P asks writes reads leaves out Leaving Asking h = absurd h
+shift_cases r hs P asks writes reads leaves out Leaving Writer h = absurd h
+shift_cases r hs P asks writes reads leaves out Leaving Reader h = absurd h
+shift_cases r hs P asks writes reads leaves out Leaving Leaving h = leaves h
+
 -- the change of an act, by the lock's laws
 pub shift_change : (r : ℕ) (old st : Standing) (es : List Event) → Shift r old st (holds_only es) → Change r old st es
-shift_change r Out Out es h = absurd h
-shift_change r Out Asking es h = absurd h
-shift_change r Out Writer es h = absurd h
-shift_change r Out Reader es h = absurd h
-shift_change r Out Leaving es h = absurd h
-shift_change r Asking Out es h = absurd h
-shift_change r Asking Asking es h = h
-shift_change r Asking Writer es h = h
-shift_change r Asking Reader es h = h
-shift_change r Asking Leaving es h = absurd h
-shift_change r Writer Out es h = absurd h
-shift_change r Writer Asking es h = absurd h
-shift_change r Writer Writer es h = absurd h
-shift_change r Writer Reader es h = absurd h
-shift_change r Writer Leaving es h = absurd h
-shift_change r Reader Out es h = absurd h
-shift_change r Reader Asking es h = absurd h
-shift_change r Reader Writer es h = absurd h
-shift_change r Reader Reader es h = absurd h
-shift_change r Reader Leaving es h = absurd h
-shift_change r Leaving Out es h = h
-shift_change r Leaving Asking es h = absurd h
-shift_change r Leaving Writer es h = absurd h
-shift_change r Leaving Reader es h = absurd h
-shift_change r Leaving Leaving es h = h
+shift_change r old st es h = shift_cases r (holds_only es) (λ o s. Change r o s es) (λ e. e) (λ e. e) (λ e. e) (λ e. e) (λ e. e) old st h
 
 -- no change
 pub change_refl : (r : ℕ) (st : Standing) → Change r st st []

@@ -101,40 +101,52 @@ module _ (A V : Type 0) (table : A → LockTable V) (good : A → LockState V �
     pub begins : MachineGood A V table good layout cores (replicate (length cores) []) (start T is.nodes geom homes calls sizes)
     begins = start_good A V table good further layout laws T is geom homes calls sizes cores are fits all many ranks few_ranks can.blocks can.few can.room
 
-    -- and what the locks promise holds of every run from the start
+    -- every run from the start, on each shard
+    module _ (ks : List ℕ) (there : AreThere (length calls) ks) (s home : ℕ) (getH : slice_get homes s ≡ Some home) where
+      abbrev first : Running V
+      first = start T is.nodes geom homes calls sizes
+
+      abbrev acts : List (List Deed)
+      acts = run_acts (replicate (length cores) []) first ks
+
+      after_good : MachineGood A V table good layout cores acts (run_of first ks)
+      after_good = run_good A V table good further layout laws cores (replicate (length cores) []) first ks begins there
+
+      found : Found A V table good further layout laws cores acts (run_of first ks) s
+      found = found_at A V table good further layout laws cores acts (run_of first ks) s after_good (let a = after_good.all in let h = slice_get_within homes s home getH in omega arith)
+
+      trace_is : trace_of (run_of first ks) s ≡ found.shard.trace
+      trace_is = ap (on_shard [] (λ (S : ShardRun V). S.trace)) found.has
+
+      acts_are : acts_on first ks s ≡ found.deeds
+      acts_are =
+          let many_shards : length first.shards ≡ length cores = shards_length T is.nodes geom calls 0 homes ∙ sym all in
+          ap (λ n. get_or (run_acts (replicate n []) first ks) s []) many_shards ∙ get_or_from_slice_get acts s found.deeds [] found.has_acts
+
+    -- what the locks promise holds of it
     pub says_on : (promised : ℕ → List Event → List Deed → Type 0) → EachCore (λ home core. HandsOn (further core.algo) (promised home)) homes cores → (ks : List ℕ) → AreThere (length calls) ks →
         (s home : ℕ) → slice_get homes s ≡ Some home → SaysOn (promised home) (start T is.nodes geom homes calls sizes) ks s
     says_on promised hands ks there s home getH =
-        let first : Running V = start T is.nodes geom homes calls sizes in
-        let acts : List (List Deed) = run_acts (replicate (length cores) []) first ks in
-        let g : MachineGood A V table good layout cores acts (run_of first ks) = run_good A V table good further layout laws cores (replicate (length cores) []) first ks begins there in
-        let f : Found A V table good further layout laws cores acts (run_of first ks) s =
-        found_at A V table good further layout laws cores acts (run_of first ks) s g (let a = g.all in let h = slice_get_within homes s home getH in omega arith) in
+        let f = found ks there s home getH in
         let lawful : LockLaws f.shard.lock.table (good f.core.algo) (further f.core.algo) (layout f.core.algo) = laws_of A V table good further layout laws cores f.core f.shard.lock f.is.lock_is in
         let rule = f.is.is_good.rule in
         let said : further f.core.algo (events_of f.shard.trace) f.deeds =
         subst (λ t. further f.core.algo t f.deeds) f.is.is_good.same (subst (further f.core.algo rule.past.trace) f.is.is_good.made (lawful.goes_further _ rule.lock_part.lock)) in
         let told : promised home (events_of f.shard.trace) f.deeds = hands s home f.core getH f.has_core (events_of f.shard.trace) f.deeds said in
-        let many_shards : length first.shards ≡ length cores = shards_length T is.nodes geom calls 0 homes ∙ sym all in
-        let trace : trace_of (run_of first ks) s ≡ f.shard.trace = ap (on_shard [] (λ (S : ShardRun V). S.trace)) f.has in
-        let made : acts_on first ks s ≡ f.deeds = ap (λ n. get_or (run_acts (replicate n []) first ks) s []) many_shards ∙ get_or_from_slice_get acts s f.deeds [] f.has_acts in
-        subst (λ t. promised home (events_of t) (acts_on first ks s)) (sym trace) (subst (promised home (events_of f.shard.trace)) (sym made) told)
+        subst (λ t. promised home (events_of t) (acts_on (start T is.nodes geom homes calls sizes) ks s)) (sym (trace_is ks there s home getH))
+        (subst (promised home (events_of f.shard.trace)) (sym (acts_are ks there s home getH)) told)
 
     -- and so do the queues that the locks have by their kind
     pub queues_on : (queues : ℕ → List QueueOf) → ((home : ℕ) → (T home).queues ≡ queues home) → (ks : List ℕ) → AreThere (length calls) ks → (s home : ℕ) → slice_get homes s ≡ Some home →
         KeepsQueues (queues home) (run_of (start T is.nodes geom homes calls sizes) ks) s
     queues_on queues same ks there s home getH =
-        let first : Running V = start T is.nodes geom homes calls sizes in
-        let acts : List (List Deed) = run_acts (replicate (length cores) []) first ks in
-        let g : MachineGood A V table good layout cores acts (run_of first ks) = run_good A V table good further layout laws cores (replicate (length cores) []) first ks begins there in
-        let f : Found A V table good further layout laws cores acts (run_of first ks) s =
-        found_at A V table good further layout laws cores acts (run_of first ks) s g (let a = g.all in let h = slice_get_within homes s home getH in omega arith) in
-        let sound : IsSound (run_of first ks) = is_sound A V table good further layout laws cores acts (run_of first ks) g in
+        let f = found ks there s home getH in
+        let trace = sym (trace_is ks there s home getH) in
+        let sound : IsSound (run_of (start T is.nodes geom homes calls sizes) ks) = is_sound A V table good further layout laws cores _ _ (after_good ks there s home getH) in
         let own : f.shard.lock.table.queues ≡ queues home = ap (λ (l : LockAt V). l.table.queues) (f.is.lock_is ∙ (are s home f.core getH f.has_core).0) ∙ same home in
-        let trace : trace_of (run_of first ks) s ≡ f.shard.trace = ap (on_shard [] (λ (S : ShardRun V). S.trace)) f.has in
         record {
-          keep = subst (λ t. KeepQueues (queues home) (events_of t)) (sym trace) (subst (λ q. KeepQueues q (events_of f.shard.trace)) own (sound.shards s f.shard f.has).queues);
-          count = λ shut. subst (λ t. CountTenures (queues home) (events_of t)) (sym trace) (subst (λ q. CountTenures q (events_of f.shard.trace)) own (sound.counted shut s f.shard f.has));
+          keep = subst (λ t. KeepQueues (queues home) (events_of t)) trace (subst (λ q. KeepQueues q (events_of f.shard.trace)) own (sound.shards s f.shard f.has).queues);
+          count = λ shut. subst (λ t. CountTenures (queues home) (events_of t)) trace (subst (λ q. CountTenures q (events_of f.shard.trace)) own (sound.counted shut s f.shard f.has));
         }
 
   -- a machine that is the start keeps all that is true of a machine

@@ -59,13 +59,14 @@ pub record KeepsDomains {V : Type 0} (S : ShardRun V) : Type 0 where
   pub locals : (k : ℕ) (x : WholeView V) (at : Atom) → slice_get S.views k ≡ Some x → next_of S.lock x ≡ Some at → IsLocalAtom at → UsesLocals S.lock.table k
 
 module _ (V : Type 0) (T : LockTable V) (good : LockState V → Type 0) (further : List Event → List Deed → Type 0) (layout : Layout) (laws : LockLaws T good further layout) where
-  first_card : (home : ℕ) (a : Act) → IsCardAtom (first_at home a) → by_card a ≡ true
-  first_card home (act.Load w) h = absurd h
-  first_card home (act.Store w v) h = absurd h
-  first_card home (act.LocalCas w old new) h = absurd h
-  first_card home (act.CardCas w old new) h = refl
-  first_card home (act.CardSwap w v) h = refl
-  first_card home (act.CardAdd w d) h = refl
+  -- the first atom of an act is of its kind
+  first_kind : (home : ℕ) (a : Act) → (IsCardAtom (first_at home a) → by_card a ≡ true) × (IsLocalAtom (first_at home a) → IsLocalAct a)
+  first_kind home (act.Load w) = (λ h. absurd h, λ h. h)
+  first_kind home (act.Store w v) = (λ h. absurd h, λ h. h)
+  first_kind home (act.LocalCas w old new) = (λ h. absurd h, λ h. tt)
+  first_kind home (act.CardCas w old new) = (λ h. refl, λ h. h)
+  first_kind home (act.CardSwap w v) = (λ h. refl, λ h. h)
+  first_kind home (act.CardAdd w d) = (λ h. refl, λ h. h)
 
   at_atom : (s : SplitState V) (r : ℕ) (v : V) (p : Option Act) (h : CardState) (at : Atom) → LockGood T good layout s → slice_get s.sides r ≡ Some (record { view = v; card = h }) → T.plan v ≡ p → card_atom T p h ≡ Some at → IsCardAtom at → UsesCards T r
   at_atom s r v p (ToLeave n) at g has pl e c = g.domain r n (record { view = v; card = ToLeave n }) has refl
@@ -73,7 +74,7 @@ module _ (V : Type 0) (T : LockTable V) (good : LockState V → Type 0) (further
   at_atom s r v None InCard at g has pl e c = cc
   at_atom s r v None (Loaded k) at g has pl e c = cc
   at_atom s r v (Some a) Free at g has pl e c =
-      (a, first_card (home_of T (word_of a)) a (subst IsCardAtom (sym (same_Some _ _ e)) c), (laws.lawful (lock_of s) r v a (record { is_good = g.lock; has = get_map view_of s.sides r (record { view = v; card = Free }) has; planned = pl })).1)
+      (a, (first_kind (home_of T (word_of a)) a).0 (subst IsCardAtom (sym (same_Some _ _ e)) c), (laws.lawful (lock_of s) r v a (record { is_good = g.lock; has = get_map view_of s.sides r (record { view = v; card = Free }) has; planned = pl })).1)
   at_atom s r v (Some a) InCard at g has pl e c = g.domain r (home_of T (word_of a)) (record { view = v; card = InCard }) has (ap (λ q. card_in T q InCard) pl)
   at_atom s r v (Some a) (Loaded k) at g has pl e c = g.domain r (home_of T (word_of a)) (record { view = v; card = Loaded k }) has (ap (λ q. card_in T q (Loaded k)) pl)
 
@@ -81,21 +82,13 @@ module _ (V : Type 0) (T : LockTable V) (good : LockState V → Type 0) (further
   pub card_atom_allowed : (s : SplitState V) (r : ℕ) (x : Side V) (at : Atom) → LockGood T good layout s → slice_get s.sides r ≡ Some x → side_atom T x ≡ Some at → IsCardAtom at → UsesCards T r
   card_atom_allowed s r x at g has e c = at_atom s r x.view (T.plan x.view) x.card at g has refl e c
 
-  first_local : (home : ℕ) (a : Act) → IsLocalAtom (first_at home a) → IsLocalAct a
-  first_local home (act.Load w) h = h
-  first_local home (act.Store w v) h = h
-  first_local home (act.LocalCas w old new) h = tt
-  first_local home (act.CardCas w old new) h = h
-  first_local home (act.CardSwap w v) h = h
-  first_local home (act.CardAdd w d) h = h
-
   local_at : (s : SplitState V) (r : ℕ) (v : V) (p : Option Act) (h : CardState) (at : Atom) → LockGood T good layout s → slice_get s.sides r ≡ Some (record { view = v; card = h }) → T.plan v ≡ p → card_atom T p h ≡ Some at → IsLocalAtom at → UsesLocals T r
   local_at s r v p (ToLeave n) at g has pl e c = absurd (subst IsLocalAtom (sym (same_Some _ _ e)) c)
   local_at s r v None Free at g has pl e c = cc
   local_at s r v None InCard at g has pl e c = cc
   local_at s r v None (Loaded k) at g has pl e c = cc
   local_at s r v (Some a) Free at g has pl e c =
-      (a, first_local (home_of T (word_of a)) a (subst IsLocalAtom (sym (same_Some _ _ e)) c), (laws.lawful (lock_of s) r v a (record { is_good = g.lock; has = get_map view_of s.sides r (record { view = v; card = Free }) has; planned = pl })).1)
+      (a, (first_kind (home_of T (word_of a)) a).1 (subst IsLocalAtom (sym (same_Some _ _ e)) c), (laws.lawful (lock_of s) r v a (record { is_good = g.lock; has = get_map view_of s.sides r (record { view = v; card = Free }) has; planned = pl })).1)
   local_at s r v (Some a) InCard at g has pl e c = absurd (subst IsLocalAtom (sym (same_Some _ _ e)) c)
   local_at s r v (Some a) (Loaded k) at g has pl e c = absurd (subst IsLocalAtom (sym (same_Some _ _ e)) c)
 
@@ -104,62 +97,45 @@ module _ (V : Type 0) (T : LockTable V) (good : LockState V → Type 0) (further
   local_atom_allowed s r x at g has e c = local_at s r x.view (T.plan x.view) x.card at g has refl e c
 
 -- an atom of the work is neither
-plain_no_card : (at : Atom) → IsPlain at → IsCardAtom at → ⊥
-plain_no_card (atom.Load w) p c = c
-plain_no_card (atom.Store w v) p c = c
-plain_no_card (atom.LocalCas w old new) p c = c
-plain_no_card (atom.Take n) p c = p
-plain_no_card (atom.CardLoad w) p c = p
-plain_no_card (atom.CardStore w v) p c = p
-plain_no_card (atom.Leave n) p c = p
+plain_neither : (at : Atom) → IsPlain at → (IsCardAtom at → ⊥) × (IsLocalAtom at → ⊥)
+plain_neither (atom.Load w) p = (λ c. c, λ c. c)
+plain_neither (atom.Store w v) p = (λ c. c, λ c. c)
+plain_neither (atom.LocalCas w old new) p = (λ c. c, λ c. p)
+plain_neither (atom.Take n) p = (λ c. p, λ c. c)
+plain_neither (atom.CardLoad w) p = (λ c. p, λ c. c)
+plain_neither (atom.CardStore w v) p = (λ c. p, λ c. c)
+plain_neither (atom.Leave n) p = (λ c. p, λ c. c)
 
-plain_no_local : (at : Atom) → IsPlain at → IsLocalAtom at → ⊥
-plain_no_local (atom.Load w) p c = c
-plain_no_local (atom.Store w v) p c = c
-plain_no_local (atom.LocalCas w old new) p c = p
-plain_no_local (atom.Take n) p c = c
-plain_no_local (atom.CardLoad w) p c = c
-plain_no_local (atom.CardStore w v) p c = c
-plain_no_local (atom.Leave n) p c = c
+-- and one that is moved by the lock's base is of the kind that it was
+unshifted : (base : ℕ) (at : Atom) → (IsCardAtom (shifted base at) → IsCardAtom at) × (IsLocalAtom (shifted base at) → IsLocalAtom at)
+unshifted base (atom.Load w) = (λ h. h, λ h. h)
+unshifted base (atom.Store w v) = (λ h. h, λ h. h)
+unshifted base (atom.LocalCas w old new) = (λ h. h, λ h. h)
+unshifted base (atom.Take n) = (λ h. h, λ h. h)
+unshifted base (atom.CardLoad w) = (λ h. h, λ h. h)
+unshifted base (atom.CardStore w v) = (λ h. h, λ h. h)
+unshifted base (atom.Leave n) = (λ h. h, λ h. h)
 
 -- a rank's next atom of the whole machine
 module _ (V : Type 0) (L : LockAt V) (good : LockState V → Type 0) (further : List Event → List Deed → Type 0) (layout : Layout) (laws : LockLaws L.table good further layout) (home : ℕ) where
   planned_plain : (x : WholeView V) (at : Atom) → work_plan L.site.geom (L.table.standing x.side.view) x.work ≡ Some at → IsPlain at
   planned_plain x at e = plain_atom L.site.geom x.work x.work.stage at (plan_cases V L good further layout laws home L.site.geom (L.table.standing x.side.view) x.work at e).1
 
-  unshifted : (at : Atom) → IsCardAtom (shifted L.base at) → IsCardAtom at
-  unshifted (atom.Load w) h = h
-  unshifted (atom.Store w v) h = h
-  unshifted (atom.LocalCas w old new) h = h
-  unshifted (atom.Take n) h = h
-  unshifted (atom.CardLoad w) h = h
-  unshifted (atom.CardStore w v) h = h
-  unshifted (atom.Leave n) h = h
+  -- a kind of atoms, none of which is the work's, and that a rank's lock makes only where it may
+  module _ (IsKind : Atom → Type 0) (Uses : ℕ → Type 0) (same : (at : Atom) → IsKind (shifted L.base at) → IsKind at) (no_work : (at : Atom) → IsPlain at → IsKind at → ⊥)
+      (allowed : (s : SplitState V) (r : ℕ) (x : Side V) (at : Atom) → LockGood L.table good layout s → slice_get s.sides r ≡ Some x → side_atom L.table x ≡ Some at → IsKind at → Uses r) where
+    next_allowed : (x : WholeView V) (at : Atom) → MayBe (Good L good layout) x → next_of L x ≡ Some at → IsKind at → Uses x.rank
+    next_allowed x at m e c =
+        ⊎_elim
+        (λ q. subst Uses (sym (m.is_ruled.own m.rank x m.has)) (allowed _ m.rank x.side q.0 m.is_ruled.lock_part (get_map side_of m.views m.rank x m.has) q.1 (same q.0 (subst IsKind (sym q.2) c))))
+        (λ q. absurd (no_work at (planned_plain x at q.1) c))
+        (next_cases V L good further layout laws home (side_atom L.table x.side) (work_plan L.site.geom (L.table.standing x.side.view) x.work) at e)
 
   pub next_card_allowed : (x : WholeView V) (at : Atom) → MayBe (Good L good layout) x → next_of L x ≡ Some at → IsCardAtom at → UsesCards L.table x.rank
-  next_card_allowed x at m e c =
-      ⊎_elim
-      (λ q. subst (UsesCards L.table) (sym (m.is_ruled.own m.rank x m.has))
-      (card_atom_allowed V L.table good further layout laws _ m.rank x.side q.0 m.is_ruled.lock_part (get_map side_of m.views m.rank x m.has) q.1 (unshifted q.0 (subst IsCardAtom (sym q.2) c))))
-      (λ q. absurd (plain_no_card at (planned_plain x at q.1) c))
-      (next_cases V L good further layout laws home (side_atom L.table x.side) (work_plan L.site.geom (L.table.standing x.side.view) x.work) at e)
-
-  local_unshifted : (at : Atom) → IsLocalAtom (shifted L.base at) → IsLocalAtom at
-  local_unshifted (atom.Load w) h = h
-  local_unshifted (atom.Store w v) h = h
-  local_unshifted (atom.LocalCas w old new) h = h
-  local_unshifted (atom.Take n) h = h
-  local_unshifted (atom.CardLoad w) h = h
-  local_unshifted (atom.CardStore w v) h = h
-  local_unshifted (atom.Leave n) h = h
+  next_card_allowed = next_allowed IsCardAtom (UsesCards L.table) (λ at. (unshifted L.base at).0) (λ at p. (plain_neither at p).0) (card_atom_allowed V L.table good further layout laws)
 
   pub next_local_allowed : (x : WholeView V) (at : Atom) → MayBe (Good L good layout) x → next_of L x ≡ Some at → IsLocalAtom at → UsesLocals L.table x.rank
-  next_local_allowed x at m e c =
-      ⊎_elim
-      (λ q. subst (UsesLocals L.table) (sym (m.is_ruled.own m.rank x m.has))
-      (local_atom_allowed V L.table good further layout laws _ m.rank x.side q.0 m.is_ruled.lock_part (get_map side_of m.views m.rank x m.has) q.1 (local_unshifted q.0 (subst IsLocalAtom (sym q.2) c))))
-      (λ q. absurd (plain_no_local at (planned_plain x at q.1) c))
-      (next_cases V L good further layout laws home (side_atom L.table x.side) (work_plan L.site.geom (L.table.standing x.side.view) x.work) at e)
+  next_local_allowed = next_allowed IsLocalAtom (UsesLocals L.table) (λ at. (unshifted L.base at).1) (λ at p. (plain_neither at p).1) (local_atom_allowed V L.table good further layout laws)
 
   -- so each shard under the rule keeps them
   pub keeps_domains : (h : TheWindow) (vs : List (WholeView V)) (trace : List (ℕ × Event)) → Good L good layout h vs → KeepsDomains (record { lock = L; held = h; views = vs; trace = trace })

@@ -17,7 +17,8 @@ use Rattle.rl_whole.specs.declared.card_state.CardState.TheVariants.{Free, InCar
 use Rattle.rl_whole.specs.declared.effect.Effect.TheVariants.{Stay, Learn}
 use Rattle.rl_whole.specs.declared.whole.WholeView.{WholeView}
 use Rattle.rl_whole.specs.Running.{LockAt}
-use Rattle.rl_whole.specs.Split.{home_of, first_at, card_atom, effect_at, answer_of, plan_home, skips, HolderFits}
+use Rattle.rl_whole.specs.SplitActs.{begins_so}
+use Rattle.rl_whole.specs.Split.{home_of, card_atom, effect_at, answer_of, plan_home, skips, HolderFits}
 use Rattle.rl_whole.specs.Whole.{Good, lock_or_work, work_plan, shifted_answer, is_open, next_of, after_of, effect_turned, after_effect, whole_table}
 use Rattle.rl_whole.specs.WholeLaws.{whole_laws}
 use Rattle.rl_whole.specs.WholeOwes.{holder_fits, may_learn, plan_there}
@@ -37,15 +38,6 @@ open_with : (V : Type 0) (L : LockAt V) (good : LockState V → Type 0) (further
     MayBe (Good L good layout) x → (at : Atom) → next_of L x ≡ Some at → is_open L x ≡ true
 open_with V L good further layout laws home x may at next =
     isnt_false (is_open L x) (λ shut. let bad : Some at ≡ None = sym next ∙ shut_is_none V L good further layout laws home x may shut in cc)
-
--- an act through a card begins with the Take
-begins_so : (home : ℕ) (a : Act) → by_card a ≡ true → first_at home a ≡ atom.Take home
-begins_so home (act.Load w) b = cc
-begins_so home (act.Store w v) b = cc
-begins_so home (act.LocalCas w old new) b = cc
-begins_so home (act.CardCas w old new) b = refl
-begins_so home (act.CardSwap w v) b = refl
-begins_so home (act.CardAdd w d) b = refl
 
 module _ {V : Type 0} (L : LockAt V) (x : WholeView V) (a : Act) (planned : L.table.plan x.side.view ≡ Some a) (free : x.side.card ≡ Free) (card : by_card a ≡ true) where
   abbrev node : ℕ

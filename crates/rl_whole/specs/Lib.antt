@@ -25,6 +25,7 @@ pub mod ShiftLaws
 pub mod Changes
 pub mod SplitActs
 pub mod SplitLaws
+pub mod HomeLaws
 pub mod LearnLaws
 pub mod Bridge
 pub mod WholeOwes
@@ -54,4 +55,5 @@ pub mod RecordLaws
 pub mod ReplayLaws
 pub mod RestLaws
 pub mod IdleLaws
-pub mod RestSteps
+pub mod Rested
+pub mod RestedLaws

@@ -1,8 +1,8 @@
 -- A shard's words say its journal, place by place; and what ranks have done is counted shard by shard.
 use Rattle.std.specs.Prelude.{◌≡◌, ℕ, zero, suc, ◌+◌, ◌*◌, ◌/◌, ◌^◌, ◌<◌, ◌≤◌, List, [], ◌∷◌, ◌++◌, length, map, get_or, take, slice_get, slice_index, Some, refl}
 use Rattle.std.proofs.Common.{sym, ◌∙◌, ap, add-one, arith}
-use Rattle.std.proofs.lemmas.List.{get_or-take, length-map}
-use Rattle.std.proofs.lemmas.Option.{same_Some, slice_get_within, slice_get-get_or}
+use Rattle.std.proofs.lemmas.List.{get_or-take}
+use Rattle.std.proofs.lemmas.Option.{same_Some, slice_get_within}
 use Rattle.rl_word.specs.Acts.{Layout}
 use Rattle.rl_model.specs.declared.entry.Entry.{Entry}
 use Rattle.rl_model.specs.declared.geom.Geom.{Geom}
@@ -25,7 +25,7 @@ use Rattle.rl_whole.specs.declared.whole.WholeView.{WholeView}
 use Rattle.rl_whole.specs.Whole.{work_side, Good}
 use Rattle.rl_whole.specs.ShardSteps.{kept_on, entries_in}
 use Rattle.rl_whole.specs.State.{shard_view, machine_view, cores_of, IsMachine}
-use Rattle.rl_whole.specs.StateLaws.{IsThere, is_there, few_calls}
+use Rattle.rl_whole.specs.StateLaws.{few_calls}
 use Rattle.rl_whole.specs.Promises.{IsSound}
 use Rattle.rl_whole.specs.SoundLaws.{is_sound}
 use Rattle.rl_whole.specs.Run.{calls_by, done_of}
@@ -111,13 +111,6 @@ module _ (V : Type 0) (L : LockAt V) (good : LockState V → Type 0) (layout : L
       let e : Entry = entry_of L.site.shard at (six_from h.words (journal_base L.site.geom + 6 * at)) in
       let q : e.part < 8 = part_low L.site.geom g.work_part.journal at e g.work_part.legal.journal_is (ap (λ j. slice_get j at) (sym same_journal) ∙ update_is at low) in
       omega arith
-
--- a shard of the code by its number, with all that is true of it
-pub indexed : (A V : Type 0) (table : A → LockTable V) (good : A → LockState V → Type 0) (layout : A → Layout) (m : MachineState A V) (is : IsMachine A V table good layout (machine_view m)) (s : ℕ) (item : ShardState A V) →
-    s < length (machine_view m).shards → item ≡ get_or m.shards.items s item → IsThere A V table good layout m is s item
-indexed A V table good layout m is s item low at =
-    let within : s < length m.shards.items = let n = length-map m.shards.items shard_view in omega arith in
-    is_there A V table good layout m is s item (slice_get-get_or m.shards.items s item within ∙ ap Some (sym at))
 
 -- one element more of a list
 pub take_next : {X : Type 0} (xs : List X) (i : ℕ) (x : X) → slice_get xs i ≡ Some x → take (i + 1) xs ≡ take i xs ++ x ∷ []

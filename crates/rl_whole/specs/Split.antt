@@ -69,6 +69,14 @@ abbrev pub plan_word : Option Act → Option ℕ
 plan_word None = None
 plan_word (Some a) = Some (word_of a)
 
+-- the word whose home is asked for, by the planned act and the card state: none where the act isn't made through a card
+abbrev pub card_word : Option Act → CardState → Option ℕ
+card_word None c = None
+card_word (Some a) Free = if by_card a then Some (word_of a) else None
+card_word (Some a) InCard = Some (word_of a)
+card_word (Some a) (Loaded g) = Some (word_of a)
+card_word (Some a) (ToLeave n) = Some (word_of a)
+
 -- the home of a word, if there is one
 abbrev pub word_home : {V : Type 0} → LockTable V → Option ℕ → ℕ
 word_home T None = 0

@@ -16,7 +16,7 @@ use Rattle.rl_step.specs.Do.{do_words, do_cards, do_got}
 use Rattle.rl_whole.specs.declared.card_state.CardState.{CardState}
 use Rattle.rl_whole.specs.declared.card_state.CardState.TheVariants.{Free, InCard, Loaded, ToLeave}
 use Rattle.rl_whole.specs.declared.effect.Effect.TheVariants.{Stay, Learn}
-use Rattle.rl_whole.specs.Split.{card_after, StandsStill, skips, home_of, turned_by, first_atom}
+use Rattle.rl_whole.specs.Split.{card_after, StandsStill, skips, home_of, turned_by, first_at, first_atom}
 
 pub plain_not_card : class.Plain ≡ class.Card → ⊥
 plain_not_card e = cc
@@ -54,76 +54,61 @@ zeros zero n = refl
 zeros (suc m) zero = refl
 zeros (suc m) (suc n) = zeros m n
 
+-- acts by card, and acts of one atom
+pub card_cases : (P : Act → Type 0) → ((w old new : ℕ) → P (act.CardCas w old new)) → ((w v : ℕ) → P (act.CardSwap w v)) → ((w d : ℕ) → P (act.CardAdd w d)) → (a : Act) → by_card a ≡ true → P a
+card_cases P cas swap add (act.Load w) e = cc
+card_cases P cas swap add (act.Store w v) e = cc
+card_cases P cas swap add (act.LocalCas w old new) e = cc
+card_cases P cas swap add (act.CardCas w old new) e = cas w old new
+card_cases P cas swap add (act.CardSwap w v) e = swap w v
+card_cases P cas swap add (act.CardAdd w d) e = add w d
+
+pub plain_cases : (P : Act → Type 0) → ((w : ℕ) → P (act.Load w)) → ((w v : ℕ) → P (act.Store w v)) → ((w old new : ℕ) → P (act.LocalCas w old new)) → (a : Act) → by_card a ≡ false → P a
+plain_cases P load store cas (act.Load w) e = load w
+plain_cases P load store cas (act.Store w v) e = store w v
+plain_cases P load store cas (act.LocalCas w old new) e = cas w old new
+plain_cases P load store cas (act.CardCas w old new) e = cc
+plain_cases P load store cas (act.CardSwap w v) e = cc
+plain_cases P load store cas (act.CardAdd w d) e = cc
+
+-- a card act begins with a take
+pub begins_so : (home : ℕ) (a : Act) → by_card a ≡ true → first_at home a ≡ atom.Take home
+begins_so home = card_cases (λ a. first_at home a ≡ atom.Take home) (λ w old new. refl) (λ w v. refl) (λ w d. refl)
+
 module _ (V : Type 0) (T : LockTable V) where
-  -- a card act begins with a take
   pub first_card : (a : Act) → by_card a ≡ true → first_atom T a ≡ atom.Take (home_of T (word_of a))
-  first_card (act.Load w) e = cc
-  first_card (act.Store w v) e = cc
-  first_card (act.LocalCas w old new) e = cc
-  first_card (act.CardCas w old new) e = refl
-  first_card (act.CardSwap w v) e = refl
-  first_card (act.CardAdd w d) e = refl
+  first_card a e = begins_so (home_of T (word_of a)) a e
 
   -- any other act is one atom
   pub plain_words : (a : Act) (ws : List ℕ) → by_card a ≡ false → do_words (first_atom T a) ws ≡ slice_set ws (word_of a) (written a (slice_index ws (word_of a)))
-  plain_words (act.Load w) ws e = sym (set-get_or ws w 0)
-  plain_words (act.Store w v) ws e = refl
-  plain_words (act.LocalCas w old new) ws e = cas_writes ws w old new (slice_index ws w == old)
-  plain_words (act.CardCas w old new) ws e = cc
-  plain_words (act.CardSwap w v) ws e = cc
-  plain_words (act.CardAdd w d) ws e = cc
+  plain_words a ws e =
+      plain_cases (λ b. do_words (first_atom T b) ws ≡ slice_set ws (word_of b) (written b (slice_index ws (word_of b))))
+      (λ w. sym (set-get_or ws w 0)) (λ w v. refl) (λ w old new. cas_writes ws w old new (slice_index ws w == old)) a e
 
   pub plain_cards : (a : Act) (r : ℕ) (cs : List ℕ) → by_card a ≡ false → do_cards r (first_atom T a) cs ≡ cs
-  plain_cards (act.Load w) r cs e = refl
-  plain_cards (act.Store w v) r cs e = refl
-  plain_cards (act.LocalCas w old new) r cs e = refl
-  plain_cards (act.CardCas w old new) r cs e = cc
-  plain_cards (act.CardSwap w v) r cs e = cc
-  plain_cards (act.CardAdd w d) r cs e = cc
+  plain_cards a r cs e = plain_cases (λ b. do_cards r (first_atom T b) cs ≡ cs) (λ w. refl) (λ w v. refl) (λ w old new. refl) a e
 
   pub plain_got : (a : Act) (ws cs : List ℕ) → by_card a ≡ false → do_got (first_atom T a) ws cs ≡ told a (slice_index ws (word_of a))
-  plain_got (act.Load w) ws cs e = refl
-  plain_got (act.Store w v) ws cs e = refl
-  plain_got (act.LocalCas w old new) ws cs e = refl
-  plain_got (act.CardCas w old new) ws cs e = cc
-  plain_got (act.CardSwap w v) ws cs e = cc
-  plain_got (act.CardAdd w d) ws cs e = cc
+  plain_got a ws cs e = plain_cases (λ b. do_got (first_atom T b) ws cs ≡ told b (slice_index ws (word_of b))) (λ w. refl) (λ w v. refl) (λ w old new. refl) a e
 
   -- a card act whose store is skipped writes nothing, and tells what it loads
   pub skipped_words : (a : Act) (g : ℕ) → by_card a ≡ true → skips a g ≡ true → written a g ≡ g
-  skipped_words (act.Load w) g c e = cc
-  skipped_words (act.Store w v) g c e = cc
-  skipped_words (act.LocalCas w old new) g c e = cc
-  skipped_words (act.CardCas w old new) g c e =
-      ⊎_elim (λ q. absurd (true≢false (sym e ∙ ap not q.0))) (λ q. rw q.0) (eqb_tells g old)
-  skipped_words (act.CardSwap w v) g c e = cc
-  skipped_words (act.CardAdd w d) g c e = cc
+  skipped_words a g c e =
+      card_cases (λ b. skips b g ≡ true → written b g ≡ g)
+      (λ w old new s. ⊎_elim (λ q. absurd (true≢false (sym s ∙ ap not q.0))) (λ q. rw q.0) (eqb_tells g old)) (λ w v s. cc) (λ w d s. cc) a c e
 
   pub told_card : (a : Act) (g : ℕ) → by_card a ≡ true → told a g ≡ g
-  told_card (act.Load w) g c = cc
-  told_card (act.Store w v) g c = cc
-  told_card (act.LocalCas w old new) g c = cc
-  told_card (act.CardCas w old new) g c = refl
-  told_card (act.CardSwap w v) g c = refl
-  told_card (act.CardAdd w d) g c = refl
+  told_card a g c = card_cases (λ b. told b g ≡ g) (λ w old new. refl) (λ w v. refl) (λ w d. refl) a c
 
   -- the class of a word that a lawful act writes
   pub card_class : (nodes : List ℕ) (r : ℕ) (spot : Spot) (a : Act) → by_card a ≡ true → IsAllowed nodes r spot a → spot.class ≡ class.Card
-  card_class nodes r spot (act.Load w) e l = cc
-  card_class nodes r spot (act.Store w v) e l = cc
-  card_class nodes r spot (act.LocalCas w old new) e l = cc
-  card_class nodes r spot (act.CardCas w old new) e l = l
-  card_class nodes r spot (act.CardSwap w v) e l = l
-  card_class nodes r spot (act.CardAdd w d) e l = l
+  card_class nodes r spot a e l = card_cases (λ b. IsAllowed nodes r spot b → spot.class ≡ class.Card) (λ w old new k. k) (λ w v k. k) (λ w d k. k) a e l
 
   -- an act of one atom writes nothing, or its word is of no Card class
   pub plain_class : (nodes : List ℕ) (r : ℕ) (spot : Spot) (a : Act) → by_card a ≡ false → IsAllowed nodes r spot a → ((g : ℕ) → written a g ≡ g) ⊎ (spot.class ≢ class.Card)
-  plain_class nodes r spot (act.Load w) e l = inl (λ g. refl)
-  plain_class nodes r spot (act.Store w v) e l = inr (λ c. plain_not_card (sym l ∙ c))
-  plain_class nodes r spot (act.LocalCas w old new) e l = inr (λ c. local_not_card (sym l.0 ∙ c))
-  plain_class nodes r spot (act.CardCas w old new) e l = cc
-  plain_class nodes r spot (act.CardSwap w v) e l = cc
-  plain_class nodes r spot (act.CardAdd w d) e l = cc
+  plain_class nodes r spot a e l =
+      plain_cases (λ b. IsAllowed nodes r spot b → ((g : ℕ) → written b g ≡ g) ⊎ (spot.class ≢ class.Card))
+      (λ w k. inl (λ g. refl)) (λ w v k. inr (λ c. plain_not_card (sym k ∙ c))) (λ w old new k. inr (λ c. local_not_card (sym k.0 ∙ c))) a e l
 
   -- what an atom leaves, by cases
   pub after_plain : (r : ℕ) (v : V) (a : Act) (got : ℕ) → by_card a ≡ false → card_after T r v (Some a) Free got ≡ turned_by T r v (Some a) (Learn Free got (skips a got))

@@ -29,6 +29,12 @@ pub view_set : {A V : Type 0} (items : List (ShardState A V)) (s : ℕ) (item ne
 view_set items s item new has same =
     map_set shard_view items s new ∙ ap (slice_set (map shard_view items) s) same ∙ set_same_get (map shard_view items) s (shard_view item) (get_map shard_view items s item has)
 
+-- so a machine whose shard has the same value is the same
+pub kept_set : {A V : Type 0} (m : MachineState A V) (s : ℕ) (item new : ShardState A V) → slice_get m.shards.items s ≡ Some item → shard_view new ≡ shard_view item →
+    record { shards = map shard_view (slice_set m.shards.items s new); geom = m.geom; calls = m.ops.by_rank; sizes = m.ops.sizes; opened = m.opened.items; steps = m.steps } ≡ machine_view m
+kept_set m s item new has same =
+    ap (λ z. record { shards = z; geom = m.geom; calls = m.ops.by_rank; sizes = m.ops.sizes; opened = m.opened.items; steps = m.steps }) (view_set m.shards.items s item new has same)
+
 pub core_set : {A V : Type 0} (items : List (ShardState A V)) (s : ℕ) (item new : ShardState A V) → slice_get items s ≡ Some item → new.core ≡ item.core →
     map (λ (x : TheShard A V). x.core) (map shard_view (slice_set items s new)) ≡ map (λ (x : TheShard A V). x.core) (map shard_view items)
 core_set items s item new has same =

@@ -1,16 +1,20 @@
--- A step keeps all that is true of a machine.
-use Rattle.std.specs.Prelude.{◌≡◌, ℕ, ◌≤◌, ◌<◌, Bool, true, false, List, length, refl}
+-- A step keeps all that is true of a machine, and its answer has its cause.
+use Rattle.std.specs.Prelude.{◌≡◌, ◌↔◌, ℕ, ◌≤◌, ◌<◌, Bool, true, false, List, length, refl}
 use Rattle.std.proofs.Common.{sym, ◌∙◌, ap, subst}
 use Rattle.rl_word.specs.Acts.{Layout}
 use Rattle.rl_model.specs.Geom.{GeomFits}
 use Rattle.rl_step.specs.declared.events.Event.{Event}
+use Rattle.rl_step.specs.declared.events.Stepped.{Stepped}
+use Rattle.rl_step.specs.declared.events.Stepped.TheVariants.{Finished}
 use Rattle.rl_step.specs.Lock.{LockTable, LockState, LockLaws, Deed}
 use Rattle.rl_ops.specs.Ops.{total_calls}
 use Rattle.rl_whole.specs.Running.{Running, TheMachine, running}
-use Rattle.rl_whole.specs.Run.{opens, opened_if, stepped}
+use Rattle.rl_whole.specs.Causes.{StepCause, IsFinished, OnlyCountsBusy}
+use Rattle.rl_whole.specs.Run.{opens, opened_if, block_opened, only_counted, stepped, answer_of_step}
 use Rattle.rl_whole.specs.RunActs.{step_acts}
 use Rattle.rl_whole.specs.MachineGood.{MachineGood}
 use Rattle.rl_whole.specs.MachineLaws.{stepped_good}
+use Rattle.rl_whole.specs.StepCauses.{step_cause, step_finished, step_busy}
 use Rattle.rl_whole.specs.State.{cores_of, IsMachine}
 
 module _ {V : Type 0} where
@@ -34,3 +38,23 @@ module _ (A V : Type 0) (table : A → LockTable V) (good : A → LockState V �
         fits = subst GeomFits (sym (ap (λ z. z.geom) made ∙ shape.0)) is.fits;
         few = subst (λ c. total_calls c ≤ 20000) (sym (ap (λ z. z.calls) made ∙ shape.1)) is.few;
       }
+
+  -- what a step's answer tells of the machine before it, whose value is n
+  module _ (m n : TheMachine A V) (value : m ≡ n) (k : ℕ) (answer : Stepped) (is : IsMachine A V table good layout m) (low : k < length n.calls) (told : answer ≡ answer_of_step (running table m) k) where
+    before : IsMachine A V table good layout n
+    before = subst (IsMachine A V table good layout) value is
+
+    told_there : answer ≡ answer_of_step (running table n) k
+    told_there = told ∙ ap (λ z. answer_of_step (running table z) k) value
+
+    pub cause_told : StepCause (running table n) k answer
+    cause_told = subst (StepCause (running table n) k) (sym told_there) (step_cause A V table good further layout laws (cores_of n) before.acts (running table n) k before.is_good low)
+
+    pub finished_told : (answer ≡ Finished) ↔ IsFinished (running table n) k
+    finished_told = subst (λ a. (a ≡ Finished) ↔ IsFinished (running table n) k) (sym told_there) (step_finished A V table good further layout laws (cores_of n) before.acts (running table n) k before.is_good low)
+
+    pub busy_told : (after : Running V) → after ≡ stepped (running table m) k → OnlyCountsBusy (running table n) k after answer
+    busy_told after made node holder q =
+        made ∙ ap (λ z. stepped (running table z) k) value
+        ∙ step_busy A V table good further layout laws (cores_of n) before.acts (running table n) k before.is_good low node holder (sym told_there ∙ q)
+        ∙ ap (only_counted (block_opened (running table n) k)) (sym q)

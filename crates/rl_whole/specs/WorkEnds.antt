@@ -20,6 +20,7 @@ use Rattle.rl_whole.specs.declared.effect.Effect.{Effect}
 use Rattle.rl_whole.specs.declared.effect.Effect.TheVariants as effect
 use Rattle.rl_whole.specs.declared.whole.WholeView.{WholeView}
 use Rattle.rl_whole.specs.Split.{SplitState, lock_of, view_of, effect_at, plan_home}
+use Rattle.rl_whole.specs.Changes.{shift_cases}
 use Rattle.rl_whole.specs.LearnLaws.{learns_at}
 use Rattle.rl_whole.specs.Whole.{side_of, work_side, split_of, left_if, next_of, after_of, whole_table, effect_turned, Good}
 use Rattle.rl_whole.specs.WholeOwes.{work_holds, got_is}
@@ -49,19 +50,7 @@ AtomWork shard rank x y old new = GoesOn x y old new ⊎ EndsWork shard rank x y
 
 -- an act of the lock leaves a rank at work as it was
 shift_works : (r : ℕ) (old new : Standing) (es : List Event) → Shift r old new es → is_working new ≡ is_working old
-shift_works r Out new es s = absurd s
-shift_works r Asking Out es s = absurd s
-shift_works r Asking Asking es s = refl
-shift_works r Asking Writer es s = refl
-shift_works r Asking Reader es s = refl
-shift_works r Asking Leaving es s = absurd s
-shift_works r Writer new es s = absurd s
-shift_works r Reader new es s = absurd s
-shift_works r Leaving Out es s = refl
-shift_works r Leaving Asking es s = absurd s
-shift_works r Leaving Writer es s = absurd s
-shift_works r Leaving Reader es s = absurd s
-shift_works r Leaving Leaving es s = refl
+shift_works r old new es s = shift_cases r es (λ o n. is_working n ≡ is_working o) (λ e. refl) (λ e. refl) (λ e. refl) (λ e. refl) (λ e. refl) old new s
 
 holder_works : (st : Standing) → IsHolder st → is_working st ≡ true
 holder_works Out h = absurd h

@@ -21,6 +21,7 @@
 mod card_state;
 mod effect;
 mod idle;
+mod last_rest;
 mod machine;
 mod opening;
 mod records;
@@ -36,7 +37,8 @@ mod whole;
 
 pub use card_state::CardState;
 pub use effect::Effect;
+pub use last_rest::{LastRest, no_rests};
 pub use machine::{Machine, soundness};
-pub use runs::replay;
+pub use runs::{replay, take_steps};
 pub use side::Side;
 pub use whole::{Whole, WholeView, domains};

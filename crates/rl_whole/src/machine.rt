@@ -11,11 +11,13 @@ ghost use Rattle.rl_whole.specs.Cores.{EachCore, EachHandsOn};
 ghost use Rattle.rl_whole.specs.Promises.{IsSound, StaysSound};
 ghost use Rattle.rl_whole.specs.Records.{journal_at, transcripts_at};
 ghost use Rattle.rl_whole.specs.Rest.{Rests};
+ghost use Rattle.rl_whole.specs.Rested.{Rested};
 ghost use Rattle.rl_whole.specs.Run.{done_of, stepped, answer_of_step, run_of, has_open_call, trace_of, kept_by};
 ghost use Rattle.rl_whole.specs.Running.{running};
 ghost use Rattle.rl_whole.specs.Start.{start_of};
 ghost use Rattle.rl_whole.specs.State.{cores_of};
 
+use crate::last_rest::LastRest;
 use crate::records;
 use crate::rest::count_more;
 use crate::start::{first_shards, none_opened};
@@ -113,24 +115,31 @@ impl<A: Algo> Machine<A> {
         Ok(answer)
     }
 
-    /// The answer with which the rank rests, where that is seen at once: Busy where another rank is in the card that it takes,
-    /// Waiting where its load leaves the lock's view as it was, and Finished. `None` says nothing of its next step. `same` says
-    /// that equal views are one.
+    /// Where the rank rests after a step with this answer, if it is seen that it does: the card that it takes is held, its load leaves
+    /// the lock's view as it was, or all its calls are done. `None` says nothing of its next step.
     #[inline(always)]
-    pub(crate) fn resting(&self, rank: u32) -> Option<Stepped>
-    where
-        A::View: PartialEq,
-        requires same { (x y : A.View) → A.View.eq x y ≡ true → x ≡ y }
+    pub(crate) fn rest_after(&self, rank: u32, answer: Stepped) -> Option<LastRest>
+        requires { rank < length self.now.calls }
+        ensures rests { IfSome result (λ last. Rests (running A.table self.now) rank last.answer) }
+        ensures rested { IfSome result (λ last. Rested (running A.table self.now).shards rank last.shard last.answer) }
+    {
+        match answer {
+            Stepped::Busy { .. } => self.state.held_off(rank),
+            Stepped::Waiting { .. } => self.state.waiting(rank),
+            Stepped::Finished => self.state.finished(rank),
+            Stepped::Moved | Stepped::Lost { .. } => None,
+        }
+    }
+
+    /// The answer with which a rank rests that was seen to rest last so, where the card or the word that it waits for shows it. `None`
+    /// says nothing of its next step.
+    #[inline(always)]
+    pub(crate) fn still_resting(&self, rank: u32, last: LastRest) -> Option<Stepped>
         requires there { rank < length self.now.calls }
+        requires rested { Rested (running A.table self.now).shards rank last.shard last.answer }
         ensures { IfSome result (Rests (running A.table self.now) rank) }
     {
-        if let Some(answer) = self.state.held_off(rank) {
-            return Some(answer);
-        }
-        if let Some(answer) = self.state.waiting(rank) {
-            return Some(answer);
-        }
-        self.state.finished(rank)
+        self.state.still_resting(rank, last)
     }
 
     /// One step of a rank, made in full.
@@ -147,6 +156,7 @@ impl<A: Algo> Machine<A> {
 
     /// So many steps of a rank that rests: each is answered so and changes nothing else, so they are counted at once. The rank
     /// is named for the contract alone.
+    #[inline(always)]
     pub(crate) fn rest(&mut self, _rank: u32, answer: Stepped, count: u32)
         requires rests { Rests (running A.table self.old) _rank answer }
         requires few { steps_made self.old.steps + count < 2 ^ 32 }
@@ -169,7 +179,7 @@ impl<A: Algo> Machine<A> {
         requires { shard < length self.now.shards }
         ensures { result.now ≡ trace_of (running A.table self.now) shard }
     {
-        self.state.shards[shard as usize].events.as_slice()
+        self.state.shard(shard).events.as_slice()
     }
 
     /// The rank's entries on a shard so far, in the order in which they were done.
@@ -178,10 +188,7 @@ impl<A: Algo> Machine<A> {
         requires rank { rank < length self.now.calls }
         ensures { result.now ≡ get_or (kept_by (running A.table self.now) rank) shard [] }
     {
-        self.state.shards[shard as usize]
-            .flat
-            .view(rank)
-            .transcript()
+        self.state.shard(shard).flat.view(rank).transcript()
     }
 
     /// How many updates were done on a shard, as the word that counts them says.
@@ -189,7 +196,7 @@ impl<A: Algo> Machine<A> {
         requires { shard < length self.now.shards }
         ensures { result ≡ length (journal_at (running A.table self.now) shard) }
     {
-        records::updates(&self.state.shards[shard as usize])
+        records::updates(self.state.shard(shard))
     }
 
     /// The journal of a shard: its updates in the order in which they were done, as its words say. Refused only for want of
@@ -198,7 +205,7 @@ impl<A: Algo> Machine<A> {
         requires { shard < length self.now.shards }
         ensures { IfOk result (λ entries. entries.items ≡ journal_at (running A.table self.now) shard) }
     {
-        records::journal(alloc, &self.state.shards[shard as usize])
+        records::journal(alloc, self.state.shard(shard))
     }
 
     /// A copy of every rank's entries on a shard, rank by rank. Refused only for want of memory.
@@ -206,7 +213,7 @@ impl<A: Algo> Machine<A> {
         requires { shard < length self.now.shards }
         ensures { IfOk result (λ copies. map (λ t. t.items) copies.items ≡ transcripts_at (running A.table self.now) shard) }
     {
-        let kept = &self.state.shards[shard as usize];
+        let kept = self.state.shard(shard);
         let ranks = self.state.ops.by_rank.as_slice().len() as u32;
         records::transcripts(alloc, kept, ranks)
     }

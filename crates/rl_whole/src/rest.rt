@@ -7,6 +7,7 @@ ghost use Rattle.rl_whole.specs.Rest.{counted_more};
 use rl_step::{Stepped, Steps};
 
 /// Counts so many more answers of one kind. Fewer than 2^32 steps are counted then.
+#[inline(always)]
 pub fn count_more(steps: &mut Steps, answer: Stepped, more: u32)
     requires few { steps_made steps.old + more < 2 ^ 32 }
     ensures { steps.new ≡ counted_more answer more steps.old }

@@ -10,10 +10,12 @@ ghost use Rattle.rl_ops.specs.Schedule.{TurnFits, steps_of};
 ghost use Rattle.rl_whole.specs.Promises.{IsSound, EachKeepsQueues};
 ghost use Rattle.rl_whole.specs.Run.{run_of, turn_ranks, ranks_of, steps_in};
 ghost use Rattle.rl_whole.specs.RunActs.{EachSays};
+ghost use Rattle.rl_whole.specs.Rested.{Rested, AllRested};
 ghost use Rattle.rl_whole.specs.Running.{running};
 ghost use Rattle.rl_whole.specs.Start.{start_of};
 ghost use Rattle.rl_whole.specs.State.{cores_of};
 
+use crate::last_rest::{LastRest, no_rests};
 use crate::machine::{Machine, soundness};
 use rl_model::Geom;
 use rl_ops::{Ops, Turn};
@@ -21,42 +23,81 @@ use rl_step::Algo;
 use rl_word::{Knobs, Shape};
 use std::alloc::{AllocError as OutOfMemory, Global};
 
-/// Takes so many steps of one rank. Once it is seen to rest, all that are left are counted at once.
-fn take_steps<A: Algo>(machine: &mut Machine<A>, rank: u32, count: u32) -> Result<(), OutOfMemory>
-where
-    A::View: PartialEq,
-    requires same { (x y : A.View) → A.View.eq x y ≡ true → x ≡ y }
+/// Takes so many steps of one rank, and tells where it rests after them. Once it is seen to rest, all that are left are counted at
+/// once.
+#[inline(always)]
+fn until_rest<A: Algo>(
+    machine: &mut Machine<A>,
+    rank: u32,
+    count: u32,
+) -> Result<LastRest, OutOfMemory>
     requires there { rank < length machine.old.calls }
     requires few { steps_made machine.old.steps + count < 2 ^ 32 }
     ensures cores { cores_of machine.new ≡ cores_of machine.old }
     ensures run { IfOk result (λ _. running A.table machine.new ≡ run_of (running A.table machine.old) (replicate count rank)) }
-    ensures steps { IfOk result (λ _. steps_made machine.new.steps ≡ steps_made machine.old.steps + count) }
-    ensures calls { IfOk result (λ _. machine.new.calls ≡ machine.old.calls) }
+    ensures rested { IfOk result (λ last. Rested (running A.table machine.new).shards rank last.shard last.answer) }
 {
     for made in 0..count {
-        if let Some(answer) = machine.resting(rank) {
-            machine.rest(rank, answer, count - made);
-            return Ok(());
+        let answer = machine.move_on(rank)?;
+        if let Some(last) = machine.rest_after(rank, answer) {
+            machine.rest(rank, last.answer, count - made - 1);
+            return Ok(last);
         }
-        machine.move_on(rank)?;
     }
+    Ok(LastRest::unknown())
+}
+
+/// Takes so many steps of one rank, as `Machine::step` would one by one. Where the rank rested last, by `rests`, it is looked for
+/// first: while the card that it takes is held, or the word that it waits for has the same value, its steps are counted at once, and so
+/// are those after it is seen to rest. `rests` begins as `no_rests` and belongs to this machine, all of whose steps are taken so.
+///
+/// Fewer than 2^32 steps are made in all. Refused only for want of memory.
+#[inline(always)]
+pub fn take_steps<A: Algo>(
+    machine: &mut Machine<A>,
+    rests: &mut Vec<LastRest>,
+    rank: u32,
+    count: u32,
+) -> Result<(), OutOfMemory>
+    requires there { rank < length machine.old.calls }
+    requires few { steps_made machine.old.steps + count < 2 ^ 32 }
+    requires many { length rests.old.items ≡ length machine.old.calls }
+    requires rested { AllRested (running A.table machine.old).shards rests.old.items }
+    ensures cores { cores_of machine.new ≡ cores_of machine.old }
+    ensures run { IfOk result (λ _. running A.table machine.new ≡ run_of (running A.table machine.old) (replicate count rank)) }
+    ensures steps { IfOk result (λ _. steps_made machine.new.steps ≡ steps_made machine.old.steps + count) }
+    ensures calls { IfOk result (λ _. machine.new.calls ≡ machine.old.calls) }
+    ensures many { length rests.new.items ≡ length rests.old.items }
+    ensures rested { IfOk result (λ _. AllRested (running A.table machine.new).shards rests.new.items) }
+{
+    let at = rank as usize;
+    if let Some(answer) = machine.still_resting(rank, rests[at]) {
+        machine.rest(rank, answer, count);
+        return Ok(());
+    }
+    rests[at] = until_rest(machine, rank, count)?;
     Ok(())
 }
 
 /// Takes the steps of one turn. A stop has none.
-fn take_turn<A: Algo>(machine: &mut Machine<A>, turn: Turn) -> Result<(), OutOfMemory>
-where
-    A::View: PartialEq,
-    requires same { (x y : A.View) → A.View.eq x y ≡ true → x ≡ y }
+fn take_turn<A: Algo>(
+    machine: &mut Machine<A>,
+    rests: &mut Vec<LastRest>,
+    turn: Turn,
+) -> Result<(), OutOfMemory>
     requires there { TurnFits (length machine.old.calls) turn }
     requires few { steps_made machine.old.steps + steps_of turn < 2 ^ 32 }
+    requires many { length rests.old.items ≡ length machine.old.calls }
+    requires rested { AllRested (running A.table machine.old).shards rests.old.items }
     ensures cores { cores_of machine.new ≡ cores_of machine.old }
     ensures run { IfOk result (λ _. running A.table machine.new ≡ run_of (running A.table machine.old) (turn_ranks turn)) }
     ensures steps { IfOk result (λ _. steps_made machine.new.steps ≡ steps_made machine.old.steps + steps_of turn) }
     ensures calls { IfOk result (λ _. machine.new.calls ≡ machine.old.calls) }
+    ensures many { length rests.new.items ≡ length rests.old.items }
+    ensures rested { IfOk result (λ _. AllRested (running A.table machine.new).shards rests.new.items) }
 {
     match turn {
-        Turn::Steps { rank, count } => take_steps(machine, rank, count),
+        Turn::Steps { rank, count } => take_steps(machine, rests, rank, count),
         Turn::Stop { .. } => Ok(()),
     }
 }
@@ -68,7 +109,6 @@ where
 /// shape's, and there are fewer than 2^32 steps in all. Refused only for want of memory. Whatever the schedule, the machine
 /// is sound (`IsSound` of `specs/Promises.antt`); on each shard the lock's queues, whose members and budgets are the
 /// placement's, keep their promises; and what a lock promises beside holds of its events and acts on each shard.
-/// Views of the lock that `==` finds equal are the same: so it is seen where a rank waits on.
 /// The contract speaks of the run by its definition (`run_of` of `specs/Run.antt`), which knows no vectors.
 pub fn replay<A: Algo>(
     alloc: Global,
@@ -79,9 +119,6 @@ pub fn replay<A: Algo>(
     ops: Ops,
     turns: &[Turn],
 ) -> Result<Machine<A>, OutOfMemory>
-where
-    A::View: PartialEq,
-    requires same { (x y : A.View) → A.View.eq x y ≡ true → x ≡ y }
     requires proper { IsProper shape.now }
     requires knobs { A.suits_knobs shape.now knobs }
     requires fits { GeomFits geom }
@@ -96,8 +133,9 @@ where
     ensures further { IfOk result (λ _. EachSays A.promised shape.now knobs homes.now (start_of A.defined shape.now knobs geom homes.now ops) (ranks_of turns.now)) }
 {
     let mut machine = Machine::new(alloc, shape, knobs, geom, homes, ops)?;
+    let mut rests = no_rests(alloc, &machine)?;
     for turn in turns {
-        take_turn(&mut machine, *turn)?;
+        take_turn(&mut machine, &mut rests, *turn)?;
     }
     soundness(&machine);
     Ok(machine)

@@ -2,7 +2,7 @@
 
 ghost use Rattle.std.specs.Prelude.{◌≡◌, ◌+◌, ◌<◌, ◌^◌, true};
 ghost use Rattle.rl_word.specs.Acts.{word_of, written as written_by, told as told_by, by_card as is_by_card};
-ghost use Rattle.rl_whole.specs.Split.{first_at, atom_at, plan_word, skips as skips_at, effect_at, answer_of, guess_of, HolderFits};
+ghost use Rattle.rl_whole.specs.Split.{first_at, atom_at, plan_word, card_word as card_word_at, skips as skips_at, effect_at, answer_of, guess_of, HolderFits};
 
 use crate::card_state::CardState;
 use crate::effect::Effect;
@@ -29,6 +29,18 @@ pub fn word_planned(plan: Option<Act>) -> Option<u32>
     ensures { result ≡ plan_word plan }
 {
     Some(word(plan?))
+}
+
+/// The word whose home is asked for, by the planned act and the card state: none where the act isn't made through a card.
+#[inline(always)]
+pub fn card_word(plan: Option<Act>, card: CardState) -> Option<u32>
+    ensures { result ≡ card_word_at plan card }
+{
+    let act = plan?;
+    match card {
+        CardState::Free => if by_card(act) { Some(word(act)) } else { None },
+        CardState::InCard | CardState::Loaded { .. } | CardState::ToLeave { .. } => Some(word(act)),
+    }
 }
 
 /// What an act writes where its word has this value.

@@ -1,15 +1,17 @@
 //! A machine in plain vectors, and the two kinds of its steps.
 
-ghost use Rattle.std.specs.Prelude.{ℕ, ◌≡◌, ◌+◌, ◌<◌, ◌≤◌, ◌-◌, ◌^◌, [], true, length, get_or, nat_lt, slice_index, IfOk, IfSome, OnErr};
+ghost use Rattle.std.specs.Prelude.{ℕ, ◌≡◌, ◌+◌, ◌<◌, ◌≤◌, ◌-◌, ◌^◌, [], true, false, length, get_or, nat_lt, slice_get, slice_index, Some, IfOk, IfSome, OnErr};
 ghost use Rattle.rl_model.specs.Geom.{GeomFits};
 ghost use Rattle.rl_step.specs.Answers.{steps_made};
 ghost use Rattle.rl_whole.specs.Asks.{place_after, block_from, block_shard};
 ghost use Rattle.rl_whole.specs.Rest.{Rests};
+ghost use Rattle.rl_whole.specs.Rested.{Shows, RestsAt, Rested};
 ghost use Rattle.rl_whole.specs.Run.{done_of, place_of, has_open_call, opens, atom_made, atom_answer, stepped, answer_of_step};
 ghost use Rattle.rl_whole.specs.Running.{running};
-ghost use Rattle.rl_whole.specs.State.{machine_view, cores_of, IsMachine};
+ghost use Rattle.rl_whole.specs.State.{running_shard, machine_view, cores_of, IsRuled, IsMachine};
 
-use crate::idle::{idle, waits};
+use crate::idle::{idle, shown, waits};
+use crate::last_rest::LastRest;
 use crate::shard::{ShardState, open_and_step, step_on};
 use rl_model::{Call, Geom};
 use rl_ops::Ops;
@@ -34,6 +36,7 @@ pub struct MachineState<A: Algo> {
 }
 
 /// How many steps were made.
+#[inline(always)]
 fn made(steps: Steps) -> u32
     requires { steps_made steps < 2 ^ 32 }
     ensures { result ≡ steps_made steps }
@@ -82,6 +85,7 @@ fn block_shard(geom: Geom, block: &[Call]) -> u32
 }
 
 /// The shard where a rank stands that has opened so many of its calls: that of the last of them, and shard 0 before the first.
+#[inline(always)]
 fn place_after(geom: Geom, calls: &[Call], opened: u32) -> u32
     requires fits { GeomFits geom }
     requires within { opened ≤ length calls.now }
@@ -103,6 +107,7 @@ fn note_place(seen: &mut Vec<u32>, at: usize, place: u32) {
 
 impl<A: Algo> MachineState<A> {
     /// The shard where the rank stands.
+    #[inline(always)]
     pub fn place(&self, rank: u32) -> u32
         requires there { rank < length self.now.ops.by_rank }
         requires good { IsMachine A A.View A.table A.good A.layout (machine_view self.now) }
@@ -113,13 +118,69 @@ impl<A: Algo> MachineState<A> {
         place_after(self.geom, calls_of(&self.ops, rank), self.opened[at])
     }
 
+    /// The shard with this number, with what is true of it.
+    #[inline(always)]
+    pub fn shard(&self, shard: u32) -> &ShardState<A>
+        requires there { shard < length self.now.shards.items }
+        requires good { IsMachine A A.View A.table A.good A.layout (machine_view self.now) }
+        ensures has { slice_get (running A.table (machine_view self.now)).shards shard ≡ Some (running_shard A.table result.now) }
+        ensures ranks { length result.now.flat.views.items ≡ length self.now.ops.by_rank }
+        ensures ruled { IsRuled A.table A.good A.layout result.now }
+    {
+        &self.shards[shard as usize]
+    }
+
+    /// The shard where the rank stands, with what is true of it.
+    #[inline(always)]
+    pub fn shard_of_rank(&self, rank: u32) -> &ShardState<A>
+        requires there { rank < length self.now.ops.by_rank }
+        requires good { IsMachine A A.View A.table A.good A.layout (machine_view self.now) }
+        ensures has { slice_get (running A.table (machine_view self.now)).shards (place_of (running A.table (machine_view self.now)) rank) ≡ Some (running_shard A.table result.now) }
+        ensures ranks { length result.now.flat.views.items ≡ length self.now.ops.by_rank }
+        ensures ruled { IsRuled A.table A.good A.layout result.now }
+    {
+        self.shard(self.place(rank))
+    }
+
+    /// The shard where the rank opened its last block, as it is guessed, where there is one.
+    #[inline(always)]
+    fn seen_place(&self, rank: u32) -> Option<u32>
+        ensures { IfSome result (λ place. place < length self.now.shards.items) }
+    {
+        let place = *self.seen.get(rank as usize)?;
+        if (place as usize) < self.shards.len() {
+            Some(place)
+        } else {
+            None
+        }
+    }
+
+    /// The shard where the rank stands, where a call of it is seen to be open: that of its last block. `None` says nothing of it.
+    #[inline(always)]
+    fn open_place(&self, rank: u32) -> Option<u32>
+        requires there { rank < length self.now.ops.by_rank }
+        requires good { IsMachine A A.View A.table A.good A.layout (machine_view self.now) }
+        ensures stands { IfSome result (λ place. place ≡ place_of (running A.table (machine_view self.now)) rank) }
+        ensures there { IfSome result (λ place. place < length self.now.shards.items) }
+        ensures open { IfSome result (λ _. opens (running A.table (machine_view self.now)) rank ≡ false) }
+    {
+        let place = self.seen_place(rank)?;
+        let shard = self.shard(place);
+        if shard.core.is_open(shard.flat.view(rank)) {
+            Some(place)
+        } else {
+            None
+        }
+    }
+
     /// Whether a call of the rank is open.
+    #[inline(always)]
     pub fn is_open(&self, rank: u32) -> bool
         requires there { rank < length self.now.ops.by_rank }
         requires good { IsMachine A A.View A.table A.good A.layout (machine_view self.now) }
         ensures { result ≡ has_open_call (running A.table (machine_view self.now)) rank }
     {
-        let shard = &self.shards[self.place(rank) as usize];
+        let shard = self.shard_of_rank(rank);
         shard.core.is_open(shard.flat.view(rank))
     }
 
@@ -137,6 +198,7 @@ impl<A: Algo> MachineState<A> {
     }
 
     /// Whether the rank has a call that it hasn't opened.
+    #[inline(always)]
     fn has_left(&self, rank: u32) -> bool
         requires there { rank < length self.now.ops.by_rank }
         requires good { IsMachine A A.View A.table A.good A.layout (machine_view self.now) }
@@ -147,6 +209,7 @@ impl<A: Algo> MachineState<A> {
     }
 
     /// Whether the rank's next step opens a block: no call is open, and one is left.
+    #[inline(always)]
     pub fn opens(&self, rank: u32) -> bool
         requires there { rank < length self.now.ops.by_rank }
         requires good { IsMachine A A.View A.table A.good A.layout (machine_view self.now) }
@@ -155,49 +218,54 @@ impl<A: Algo> MachineState<A> {
         !self.is_open(rank) && self.has_left(rank)
     }
 
-    /// Busy, where the rank's next atom is the Take of a card that another rank is in. `None` says nothing of its next step.
+    /// Where the rank rests: on this shard, where it was seen to rest with this answer.
     #[inline(always)]
-    pub fn held_off(&self, rank: u32) -> Option<Stepped>
+    fn rest_at(&self, rank: u32, place: u32, answer: Stepped) -> LastRest
         requires there { rank < length self.now.ops.by_rank }
         requires good { IsMachine A A.View A.table A.good A.layout (machine_view self.now) }
-        ensures { IfSome result (Rests (running A.table (machine_view self.now)) rank) }
+        requires seen { (r : RestsAt (running A.table (machine_view self.now)).shards rank place answer) × Shows r.shard.held answer answer }
+        ensures rests { Rests (running A.table (machine_view self.now)) rank result.answer }
+        ensures rested { Rested (running A.table (machine_view self.now)).shards rank result.shard result.answer }
     {
-        let place = *self.seen.get(rank as usize)?;
-        let shard = self.shards.get(place as usize)?;
-        idle(&shard.core, shard.flat.view(rank), shard.flat.words())
+        LastRest {
+            shard: place,
+            answer,
+        }
     }
 
-    /// Waiting, where the rank's next atom is a load of the lock whose test isn't met and which leaves the lock's view as it was.
-    /// `same` says that equal views are one. `None` says nothing of its next step.
+    /// Busy, where the rank's next atom is the Take of a card that another rank is in. `None` says nothing of its next step.
     #[inline(always)]
-    pub fn waiting(&self, rank: u32) -> Option<Stepped>
-    where
-        A::View: PartialEq,
-        requires same { (x y : A.View) → A.View.eq x y ≡ true → x ≡ y }
+    pub fn held_off(&self, rank: u32) -> Option<LastRest>
         requires there { rank < length self.now.ops.by_rank }
         requires good { IsMachine A A.View A.table A.good A.layout (machine_view self.now) }
-        ensures { IfSome result (Rests (running A.table (machine_view self.now)) rank) }
+        ensures rests { IfSome result (λ last. Rests (running A.table (machine_view self.now)) rank last.answer) }
+        ensures rested { IfSome result (λ last. Rested (running A.table (machine_view self.now)).shards rank last.shard last.answer) }
     {
-        let place = *self.seen.get(rank as usize)?;
-        let shard = self.shards.get(place as usize)?;
-        waits(&shard.core, shard.flat.view(rank), shard.flat.words())
+        let place = self.seen_place(rank)?;
+        let shard = self.shard(place);
+        let answer = idle(&shard.core, shard.flat.view(rank), shard.flat.words())?;
+        Some(self.rest_at(rank, place, answer))
     }
 
     /// Finished, where no call of the rank is open and none is left. `None` says nothing of its next step.
     #[inline(always)]
-    pub fn finished(&self, rank: u32) -> Option<Stepped>
+    pub fn finished(&self, rank: u32) -> Option<LastRest>
         requires there { rank < length self.now.ops.by_rank }
         requires good { IsMachine A A.View A.table A.good A.layout (machine_view self.now) }
-        ensures { IfSome result (Rests (running A.table (machine_view self.now)) rank) }
+        ensures rests { IfSome result (λ last. Rests (running A.table (machine_view self.now)) rank last.answer) }
+        ensures rested { IfSome result (λ last. Rested (running A.table (machine_view self.now)).shards rank last.shard last.answer) }
     {
-        let shard = &self.shards[self.place(rank) as usize];
+        let shard = self.shard_of_rank(rank);
         let view = shard.flat.view(rank);
         if shard.core.is_open(view) {
             None
         } else if self.has_left(rank) {
             None
         } else {
-            Some(Stepped::Finished)
+            Some(LastRest {
+                shard: 0,
+                answer: Stepped::Finished,
+            })
         }
     }
 
@@ -209,14 +277,67 @@ impl<A: Algo> MachineState<A> {
         requires good { IsMachine A A.View A.table A.good A.layout (machine_view self.now) }
         ensures { IfSome result (Rests (running A.table (machine_view self.now)) rank) }
     {
-        if let Some(answer) = self.held_off(rank) {
-            return Some(answer);
+        if let Some(last) = self.held_off(rank) {
+            return Some(last.answer);
         }
-        self.finished(rank)
+        let last = self.finished(rank)?;
+        Some(last.answer)
+    }
+
+    /// The answer with which the rank rests, where its next atom is a load of the lock that is seen to wait. `None` says nothing of
+    /// its next step.
+    #[inline(always)]
+    pub fn waiting(&self, rank: u32) -> Option<LastRest>
+        requires there { rank < length self.now.ops.by_rank }
+        requires good { IsMachine A A.View A.table A.good A.layout (machine_view self.now) }
+        ensures rests { IfSome result (λ last. Rests (running A.table (machine_view self.now)) rank last.answer) }
+        ensures rested { IfSome result (λ last. Rested (running A.table (machine_view self.now)).shards rank last.shard last.answer) }
+    {
+        let place = self.seen_place(rank)?;
+        let shard = self.shard(place);
+        let answer = waits(&shard.core, shard.flat.view(rank), shard.flat.words())?;
+        Some(self.rest_at(rank, place, answer))
+    }
+
+    /// The answer with which a rank rests that was seen to rest last so, where the card or the word that it waits for shows it. `None`
+    /// says nothing of its next step.
+    #[inline(always)]
+    pub fn still_resting(&self, rank: u32, last: LastRest) -> Option<Stepped>
+        requires there { rank < length self.now.ops.by_rank }
+        requires good { IsMachine A A.View A.table A.good A.layout (machine_view self.now) }
+        requires rested { Rested (running A.table (machine_view self.now)).shards rank last.shard last.answer }
+        ensures { IfSome result (Rests (running A.table (machine_view self.now)) rank) }
+    {
+        let shard = self.shards.get(last.shard as usize)?;
+        shown(shard.flat.words(), last.answer)
     }
 }
 
+/// Makes the next atom of the rank, if it has one, on the shard where it stands, and counts the answer.
+#[inline(always)]
+fn go_on_at<A: Algo>(
+    state: &mut MachineState<A>,
+    rank: u32,
+    place: u32,
+) -> Result<Stepped, OutOfMemory>
+    requires there { rank < length state.old.ops.by_rank }
+    requires good { IsMachine A A.View A.table A.good A.layout (machine_view state.old) }
+    requires few { steps_made state.old.steps < 2 ^ 32 - 1 }
+    requires stands { place ≡ place_of (running A.table (machine_view state.old)) rank }
+    requires place { place < length state.old.shards.items }
+    ensures made { IfOk result (λ _. running A.table (machine_view state.new) ≡ atom_made (running A.table (machine_view state.old)) rank) }
+    ensures answer { IfOk result (λ answer. answer ≡ atom_answer (running A.table (machine_view state.old)) rank) }
+    ensures cores { cores_of (machine_view state.new) ≡ cores_of (machine_view state.old) }
+    ensures kept { OnErr result (machine_view state.new ≡ machine_view state.old) }
+{
+    let step = made(state.steps);
+    let answer = step_on(&mut state.shards[place as usize], rank, step)?;
+    state.steps.count(answer);
+    Ok(answer)
+}
+
 /// Makes the next atom of the rank, where it stands, if it has one, and counts the answer.
+#[inline(always)]
 pub fn go_on<A: Algo>(state: &mut MachineState<A>, rank: u32) -> Result<Stepped, OutOfMemory>
     requires there { rank < length state.old.ops.by_rank }
     requires good { IsMachine A A.View A.table A.good A.layout (machine_view state.old) }
@@ -227,10 +348,7 @@ pub fn go_on<A: Algo>(state: &mut MachineState<A>, rank: u32) -> Result<Stepped,
     ensures kept { OnErr result (machine_view state.new ≡ machine_view state.old) }
 {
     let place = state.place(rank);
-    let step = made(state.steps);
-    let answer = step_on(&mut state.shards[place as usize], rank, step)?;
-    state.steps.count(answer);
-    Ok(answer)
+    go_on_at(state, rank, place)
 }
 
 /// Opens the rank's next block, on the shard of its calls, makes the next atom there, and counts the answer.
@@ -268,7 +386,9 @@ pub fn move_on<A: Algo>(state: &mut MachineState<A>, rank: u32) -> Result<Steppe
     ensures cores { cores_of (machine_view state.new) ≡ cores_of (machine_view state.old) }
     ensures kept { OnErr result (machine_view state.new ≡ machine_view state.old) }
 {
-    if state.opens(rank) {
+    if let Some(place) = state.open_place(rank) {
+        go_on_at(state, rank, place)
+    } else if state.opens(rank) {
         open_next(state, rank)
     } else {
         go_on(state, rank)

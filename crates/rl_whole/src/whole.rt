@@ -9,7 +9,7 @@ ghost use Rattle.rl_step.specs.declared.events.Event.TheVariants.{Touch as touch
 ghost use Rattle.rl_whole.specs.Domains.{KeepsToCards, KeepsToLocals};
 ghost use Rattle.rl_whole.specs.Opening.{first_view, opened_in};
 ghost use Rattle.rl_whole.specs.Running.{lock_at};
-ghost use Rattle.rl_whole.specs.Split.{plan_word, plan_home};
+ghost use Rattle.rl_whole.specs.Split.{card_word, word_home};
 ghost use Rattle.rl_whole.specs.Start.{lock_with, site_with};
 ghost use Rattle.rl_whole.specs.Whole.{whole_table, next_of, is_at_work, is_open, mode_of, rule_of, departure_if};
 ghost use Rattle.rl_whole.specs.WholeLaws.{whole_laws};
@@ -18,7 +18,7 @@ use crate::card_state::CardState;
 use crate::effect::Effect;
 use crate::shift::{shift, shift_answer};
 use crate::side::Side;
-use crate::split::{answer, effect, next_atom, word_planned};
+use crate::split::{answer, card_word, effect, next_atom};
 use arrayvec::ArrayVec;
 use rl_model::{Call, Entry, Geom};
 use rl_step::{After, Algo, Core, Event, Standing, Stepped};
@@ -94,13 +94,13 @@ fn mode(calls: &[Call]) -> Mode
 }
 
 impl<A: Algo> Whole<A> {
-    /// The home of a planned act's word.
+    /// The home of a planned act's word, where the card state asks for it, and else 0.
     #[inline(always)]
-    fn plan_home(&self, plan: Option<Act>) -> u32
-        requires { (word : ℕ) → plan_word plan ≡ Some word → word < (A.table self.now.algo).size }
-        ensures { result ≡ plan_home (A.table self.now.algo) plan }
+    fn plan_home(&self, plan: Option<Act>, card: CardState) -> u32
+        requires { (word : ℕ) → card_word plan card ≡ Some word → word < (A.table self.now.algo).size }
+        ensures { result ≡ word_home (A.table self.now.algo) (card_word plan card) }
     {
-        match word_planned(plan) {
+        match card_word(plan, card) {
             Some(word) => self.algo.spot(word).home,
             None => 0,
         }
@@ -117,7 +117,7 @@ impl<A: Algo> Core for Whole<A> {
     #[inline(always)]
     fn next(&self, view: &WholeView<A::View>) -> Option<Atom> {
         let plan = self.algo.plan(view.side.view);
-        let home = self.plan_home(plan);
+        let home = self.plan_home(plan, view.side.card);
         match next_atom(home, plan, view.side.card) {
             Some(atom) => Some(shift(self.base, atom)),
             None => match self.algo.standing(view.side.view) {
@@ -127,10 +127,11 @@ impl<A: Algo> Core for Whole<A> {
         }
     }
 
+    #[tactic(auto, using(crate::specs::HomeLaws::asked_effect))]
     #[inline(always)]
     fn after(&self, view: &mut WholeView<A::View>, got: u64) -> After {
         let plan = self.algo.plan(view.side.view);
-        let home = self.plan_home(plan);
+        let home = self.plan_home(plan, view.side.card);
         match effect(home, plan, view.side.card, got) {
             Effect::Work => {
                 let rank = view.rank;
@@ -155,12 +156,13 @@ impl<A: Algo> Core for Whole<A> {
                 }
             }
             Effect::Learn { card, told, lost } => {
-                let learnt = self.algo.learn(view.side.view, told);
+                let mut events = ArrayVec::new();
+                let learnt = self.algo.learn(view.side.view, told, &mut events);
                 view.side.view = learnt.view;
                 view.side.card = card;
                 After {
                     stepped: shift_answer(self.base, answer(plan, told, lost, learnt.waits)),
-                    events: learnt.events,
+                    events,
                 }
             }
         }

@@ -1,15 +1,11 @@
 -- A sound run of a placement's lock keeps all that is promised of a replay.
-use Rattle.std.proofs.Common.{◌≡◌, ℕ, ◌+◌, ◌<◌, List, [], length, map, get_or, slice_get, Some, refl, ap, sym, subst, ◌∙◌, arith}
+use Rattle.std.proofs.Common.{◌≡◌, ℕ, ◌<◌, List, [], length, get_or, ap, sym, subst, ◌∙◌}
 use Rattle.std.proofs.lemmas.List.{length-map}
-use Rattle.std.proofs.lemmas.Option.{same_Some, slice_get_within}
 use Rattle.rl_word.specs.Shapes.{TheShape}
 use Rattle.rl_word.specs.declared.shapes.Knobs.{Knobs}
 use Rattle.rl_word.specs.declared.locks.LockName.{LockName}
-use Rattle.rl_word.specs.Places.{get_map, get_map_back, some_at}
 use Rattle.rl_step.specs.declared.events.Event.{Event}
 use Rattle.rl_step.specs.Lock.{LockTable, Deed}
-use Rattle.rl_step.specs.LockQueues.{queues_of}
-use Rattle.rl_step.specs.QueuePromises.{KeepQueues}
 use Rattle.rl_model.specs.declared.geom.Geom.{Geom}
 use Rattle.rl_journal.specs.Legal.{IsLegal}
 use Rattle.rl_journal.specs.History.{IsReplay}
@@ -22,12 +18,11 @@ use Rattle.rl_ops.specs.declared.schedule.Schedule.{Schedule}
 use Rattle.rl_ops.specs.declared.schedule.Turn.{Turn}
 use Rattle.std.specs.FinMap as finite
 use Rattle.rl_whole.specs.Running.{LockAt, ShardRun, Running}
-use Rattle.rl_whole.specs.ShardSteps.{events_of}
 use Rattle.rl_whole.specs.Whole.{kept_of}
 use Rattle.rl_whole.specs.Asks.{asked_of}
 use Rattle.rl_whole.specs.Start.{start_of}
-use Rattle.rl_whole.specs.StartLaws.{shard_first, shards_length}
-use Rattle.rl_whole.specs.Run.{on_shard, calls_by, sizes_by, run_of, ranks_of, trace_of, done_of, kept_by}
+use Rattle.rl_whole.specs.StartLaws.{shards_length}
+use Rattle.rl_whole.specs.Run.{calls_by, run_of, ranks_of, done_of, kept_by}
 use Rattle.rl_whole.specs.RunActs.{EachSays}
 use Rattle.rl_whole.specs.Promises.{journal_on, history_on, IsSound, EachKeepsQueues}
 use Rattle.rmalock.specs.Replay.{start_with, run_with}

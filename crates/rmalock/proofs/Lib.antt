@@ -12,5 +12,4 @@ mod MadePlaceLaws
 mod RoundLaws
 mod SummaryLaws
 mod MakeLaws
-pub mod SameViews
 mod SeatLists

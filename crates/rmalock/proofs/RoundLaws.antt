@@ -2,6 +2,7 @@
 use Rattle.std.proofs.Common.{◌≡◌, ℕ, zero, suc, ◌+◌, ◌<◌, length, Bool, true, false, ◌||◌, ◌⊎◌, inl, inr, refl, sym, ap, ◌∙◌, add-one, arith}
 use Rattle.rl_word.specs.Places.{same_or_not}
 use Rattle.rl_whole.specs.Running.{Running}
+use Rattle.rl_whole.specs.Run.{stepped}
 use Rattle.rmalock.specs.Rounds.{has_work, any_has_work, may_step, stepped_if, turns, goes_on, next_round, rounds}
 use Rattle.rmalock.proofs.RunLaws.{IsAlike, alike_then, stepped_alike}
 
@@ -30,6 +31,17 @@ module _ {V : Type 0} where
   stepped_if_alike : (may : Bool) (m : Running V) (rank : ℕ) → IsAlike (stepped_if may m rank) m
   stepped_if_alike true m rank = stepped_alike m rank
   stepped_if_alike false m rank = alike_self m
+
+  -- one turn more, with a step or without
+  pub turn_more : (most : ℕ) (m now new : Running V) (rank : ℕ) → now ≡ turns most m rank → may_step most now ≡ true → new ≡ stepped now rank → new ≡ turns most m (rank + 1)
+  turn_more most m now new rank is may made =
+      let may_then : may_step most (turns most m rank) ≡ true = ap (may_step most) (sym is) ∙ may in
+      made ∙ ap (λ u. stepped u rank) is ∙ sym (rw (add-one, may_then) refl)
+
+  pub turn_none : (most : ℕ) (m now : Running V) (rank : ℕ) → now ≡ turns most m rank → may_step most now ≡ false → now ≡ turns most m (rank + 1)
+  turn_none most m now rank is may =
+      let may_then : may_step most (turns most m rank) ≡ false = ap (may_step most) (sym is) ∙ may in
+      is ∙ sym (rw (add-one, may_then) refl)
 
   pub turns_alike : (most : ℕ) (m : Running V) (ranks : ℕ) → IsAlike (turns most m ranks) m
   turns_alike most m zero = alike_self m

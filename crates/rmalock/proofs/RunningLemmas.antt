@@ -1,5 +1,5 @@
 -- A run by threads, from what its two files came to.
-use Rattle.std.proofs.Common.{lit≤, inl, inr, ◌≡◌, ◌≢◌, ◌<◌, ◌≤◌, ◌⊎◌, ◌^◌, ℕ, List, [], length, take, Option, Some, Result, Ok, Err, IfOk, refl, sym, ap, subst, ◌∙◌, arith, unwrap_or, Vec, Global}
+use Rattle.std.proofs.Common.{◌≡◌, ◌<◌, ◌^◌, ℕ, List, [], length, Option, Some, Result, Ok, Err, refl, sym, ap, subst, arith, unwrap_or, Vec, Global}
 use Rattle.std.specs.FinMap as map
 use Rattle.std.proofs.lemmas.Option.{slice_get_within}
 use Rattle.std.specs.List.{slice_get}
@@ -8,7 +8,6 @@ use Rattle.rl_journal.specs.History.{IsReplay as IsReplayedByOneThread}
 use Rattle.rl_journal.specs.HistoryLaws.{replayed}
 use Rattle.rl_place.specs.Places.{ThePlace, IsProper}
 use Rattle.rl_ops.specs.declared.ops.Ops.{Ops}
-use Rattle.rl_io.specs.Outside.{Appends, GoesOn}
 use Rattle.rl_history.specs.Naming.{naming_of}
 use Rattle.rl_history.specs.Reports.{TheShard, TheReport}
 use Rattle.rl_history.specs.Spelling.{report_spelling}
@@ -19,9 +18,8 @@ use Rattle.rl_replay.specs.declared.complaint.Stop.TheVariants as stop
 use Rattle.rmalock.specs.Command.{RunNames}
 use Rattle.rl_replay.specs.Files.{Texts}
 use Rattle.rmalock.specs.RunHeadline.{IsRun}
-use Rattle.rl_replay.specs.Reading.{◌>>=◌, Fits, EndsEarly, WasRead, placed, called}
-use Rattle.rmalock.specs.Answer.{TheAnswer}
-use Rattle.rmalock.specs.RunAnswer.{run_read, IsReadAs, WasRun, AnswersRun, Answers, WasRunAnswered, IsRunDone}
+use Rattle.rl_replay.specs.Reading.{◌>>=◌, EndsEarly, WasRead, placed, called}
+use Rattle.rmalock.specs.RunAnswer.{run_read, WasRun}
 use Rattle.rl_replay.proofs.ReadLemmas.{fits_told}
 use Rattle.rmalock.proofs.SpelledLaws.{PlaceRead, place_read, calls_read}
 

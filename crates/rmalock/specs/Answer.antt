@@ -1,6 +1,5 @@
 -- What the program answers to the words of its command line, for the bytes of the files that they name.
-use Rattle.std.specs.Prelude.{◌≡◌, ◌≢◌, ◌≤◌, ◌<◌, ◌⊎◌, ℕ, List, [], ◌∷◌, take, length, codes, Bool, IsTrue, Option, Some, None, Result, Ok, Err, IfOk}
-use Rattle.rl_text.specs.Spelling.{line_text, refusal_words}
+use Rattle.std.specs.Prelude.{◌≡◌, ◌≢◌, ◌≤◌, ◌<◌, ◌⊎◌, ℕ, List, take, length, Bool, IsTrue, Option, Some, None, Result, Ok, Err, IfOk}
 use Rattle.rl_place.specs.ShapeText.{shape_spelling}
 use Rattle.rl_history.specs.Naming.{naming_of}
 use Rattle.rl_history.specs.Spelling.{report_spelling}
@@ -10,9 +9,6 @@ use Rattle.rmalock.specs.Headline.{IsReplay}
 use Rattle.std.specs.Global.{Vec}
 use Rattle.rl_io.specs.Outside.{Appends, GoesOn}
 use Rattle.rl_replay.specs.declared.complaint.Which.{Which}
-use Rattle.rl_replay.specs.declared.complaint.Which.TheVariants as which
-use Rattle.rl_replay.specs.declared.complaint.Trouble.{Trouble}
-use Rattle.rl_replay.specs.declared.complaint.Trouble.TheVariants.{TooLong, Refused}
 use Rattle.rl_replay.specs.declared.complaint.Complaint.{Complaint}
 use Rattle.rl_replay.specs.declared.complaint.Stop.{Stop}
 use Rattle.rmalock.specs.declared.complaint.Quit.{Quit}

@@ -1,5 +1,5 @@
 //! The run over a placement and calls that are made from a number.
-ghost use Rattle.std.specs.Prelude.{◌≡◌, ◌≤◌, length, IfOk};
+ghost use Rattle.std.specs.Prelude.{◌≡◌, true, ◌≤◌, length, IfOk};
 ghost use Rattle.rl_place.specs.declared.limits.TheConstants.{MOST_RANKS};
 ghost use Rattle.rl_place.specs.Places.{IsProper};
 ghost use Rattle.rl_place.specs.Shapes.{shape_of, knobs_of};
@@ -48,7 +48,7 @@ fn report_of_rounds<A: Algo>(
         homes,
         ops,
     )?;
-    make_rounds(&mut machine, ranks, most)?;
+    make_rounds(alloc, &mut machine, ranks, most)?;
     report_of_machine(alloc, place, &machine)
 }
 

@@ -34,9 +34,6 @@ fn report_with<A: Algo>(
     ops: Ops,
     schedule: &Schedule,
 ) -> Result<Report, OutOfMemory>
-where
-    A::View: PartialEq,
-    requires same { (x y : A.View) → A.View.eq x y ≡ true → x ≡ y }
     requires proper { IsProper place.now }
     requires knobs { A.suits_knobs (shape_of place.now) (knobs_of place.now.lock) }
     requires kind { A.name ≡ name_of place.now.lock }

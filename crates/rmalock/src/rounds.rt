@@ -1,12 +1,13 @@
 //! Rounds: the ranks of a machine take turns, one step each.
-ghost use Rattle.std.specs.Prelude.{◌≡◌, ◌≤◌, ◌<◌, length, nat_lt, IfOk};
+ghost use Rattle.std.specs.Prelude.{◌≡◌, true, ◌≤◌, ◌<◌, length, nat_lt, IfOk};
 ghost use Rattle.rl_step.specs.Answers.{steps_made};
+ghost use Rattle.rl_whole.specs.Rested.{AllRested};
 ghost use Rattle.rl_whole.specs.Running.{running};
 ghost use Rattle.rmalock.specs.Rounds.{has_work as has_work_at, any_has_work as any_has_work_at, goes_on as goes_on_at, turns, all_rounds};
 
 use rl_step::{Algo, Steps};
-use rl_whole::Machine;
-use std::alloc::AllocError as OutOfMemory;
+use rl_whole::{LastRest, Machine, no_rests, take_steps};
+use std::alloc::{AllocError as OutOfMemory, Global};
 
 /// Whether fewer steps than the most were made.
 fn may_step(steps: Steps, most: u32) -> bool
@@ -50,13 +51,22 @@ fn goes_on<A: Algo>(machine: &Machine<A>, ranks: u32, most: u32) -> bool
 }
 
 /// A turn of each of the first ranks, while fewer steps than the most were made.
-fn take_turns<A: Algo>(machine: &mut Machine<A>, ranks: u32, most: u32) -> Result<(), OutOfMemory>
-    requires { ranks ≤ length machine.old.calls }
-    ensures { IfOk result (λ _. running A.table machine.new ≡ turns most (running A.table machine.old) ranks) }
+fn take_turns<A: Algo>(
+    machine: &mut Machine<A>,
+    rests: &mut Vec<LastRest>,
+    ranks: u32,
+    most: u32,
+) -> Result<(), OutOfMemory>
+    requires there { ranks ≤ length machine.old.calls }
+    requires many { length rests.old.items ≡ length machine.old.calls }
+    requires rested { AllRested (running A.table machine.old).shards rests.old.items }
+    ensures turns { IfOk result (λ _. running A.table machine.new ≡ turns most (running A.table machine.old) ranks) }
+    ensures many { length rests.new.items ≡ length rests.old.items }
+    ensures rested { IfOk result (λ _. AllRested (running A.table machine.new).shards rests.new.items) }
 {
     for rank in 0..ranks {
         if may_step(machine.steps(), most) {
-            machine.step(rank)?;
+            take_steps(machine, rests, rank, 1)?;
         }
     }
     Ok(())
@@ -65,6 +75,7 @@ fn take_turns<A: Algo>(machine: &mut Machine<A>, ranks: u32, most: u32) -> Resul
 /// Round after round of all ranks: before each it ends where every rank has no open call and none left, and before each step
 /// where so many steps were made. Refused only for want of memory.
 pub fn make_rounds<A: Algo>(
+    alloc: Global,
     machine: &mut Machine<A>,
     ranks: u32,
     most: u32,
@@ -72,11 +83,12 @@ pub fn make_rounds<A: Algo>(
     requires { ranks ≡ length machine.old.calls }
     ensures { IfOk result (λ _. running A.table machine.new ≡ all_rounds most (running A.table machine.old)) }
 {
+    let mut rests = no_rests(alloc, machine)?;
     for _ in 0..most {
         if !goes_on(machine, ranks, most) {
             return Ok(());
         }
-        take_turns(machine, ranks, most)?;
+        take_turns(machine, &mut rests, ranks, most)?;
     }
     Ok(())
 }

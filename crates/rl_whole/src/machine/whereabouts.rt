@@ -43,7 +43,7 @@ impl<A: Algo> MachineState<A> {
         requires good { IsMachine A A.View A.table A.good A.layout (machine_view self.now) }
         ensures { result ≡ standing_by (running A.table (machine_view self.now)) rank }
     {
-        let shard = &self.shards[self.place(rank) as usize];
+        let shard = self.shard_of_rank(rank);
         shard.core.algo.standing(shard.flat.view(rank).side.view)
     }
 
@@ -53,7 +53,7 @@ impl<A: Algo> MachineState<A> {
         requires good { IsMachine A A.View A.table A.good A.layout (machine_view self.now) }
         ensures { result ≡ card_by (running A.table (machine_view self.now)) rank }
     {
-        let shard = &self.shards[self.place(rank) as usize];
+        let shard = self.shard_of_rank(rank);
         shard.core.card(shard.flat.view(rank))
     }
 }

@@ -20,7 +20,7 @@ use Rattle.rl_whole.proofs.runs.replay.Goals as goal
 pub loop-turn-init : goal.loop-turn-init
 loop-turn-init g c =
     let made = c.in_ok-machine.ensures.made in
-    (made, ap (λ m. steps_made m.steps) made, ap (λ m. length m.calls) made ∙ c.requires.ops.ranks_there)
+    (made, ap (λ m. steps_made m.steps) made, ap (λ m. length m.calls) made ∙ c.requires.ops.ranks_there, c.in_ok-rests.ensures.many, c.in_ok-rests.ensures.rested)
 
 pub take_turn-requires-clause-few : goal.take_turn-requires-clause-few
 take_turn-requires-clause-few g c =
@@ -47,6 +47,8 @@ loop-turn-preserved g c =
       took.run ∙ ap (λ m. run_of m steps) c.loop-turn.invariant.0 ∙ sym (run_append first (ranks_of (take i ts)) steps) ∙ sym (ap (run_of first) (ranks-more ts i t at)),
       took.steps ∙ ap (λ n. n + steps_of t) c.loop-turn.invariant.1 ∙ sym (steps-more ts i t at),
       ap length took.calls ∙ c.loop-turn.invariant.2,
+      took.many ∙ c.loop-turn.invariant.3 ∙ sym (ap length took.calls),
+      took.rested,
     )
 
 pub returns-clause-further : goal.returns-clause-further

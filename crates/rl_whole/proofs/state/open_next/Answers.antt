@@ -7,7 +7,7 @@ use Rattle.rl_whole.specs.Running.{running, shard_run}
 use Rattle.rl_whole.specs.ShardSteps.{opened_on, atom_on}
 use Rattle.rl_whole.specs.State.{shard_view, machine_view}
 use Rattle.rl_whole.specs.MachineSteps.{machine_with}
-use Rattle.rl_whole.specs.StateLaws.{shard_set, view_set, core_set}
+use Rattle.rl_whole.specs.StateLaws.{shard_set, kept_set, core_set}
 use Rattle.rl_whole.specs.OpenSteps.{IsBlockThere, block_there, CanOpen, can_open, place_there}
 use Rattle.rl_whole.proofs.state.open_next.Goals as goal
 use Rattle.rl_whole.proofs.state.open_next.Goals.{After-index-first, After-block_shard-place, After-index_mut-shard}
@@ -84,11 +84,9 @@ returns-in_err-answer-clause-cores g c =
 
 pub returns-in_err-answer-clause-kept : goal.returns-in_err-answer-clause-kept
 returns-in_err-answer-clause-kept g c =
-    let m = c.args.state.now in
     let at = goal.at.returns-in_err-answer-clause-kept g c in
     let p = err_from_is_err_and c.from_residual.result c.from_residual.ensures.1 in
-    let same = view_set m.shards.items c.block_shard-place.result c.index_mut-shard.result.now c.open_and_step.new.shard (has g at.After-index_mut-shard (first_is g at.After-index-first)) c.in_err-answer.ensures.kept in
-    rw p.1 (ap (λ z. record { shards = z; geom = m.geom; calls = m.ops.by_rank; sizes = m.ops.sizes; opened = m.opened.items; steps = m.steps }) same)
+    rw p.1 (kept_set c.args.state.now c.block_shard-place.result c.index_mut-shard.result.now c.open_and_step.new.shard (has g at.After-index_mut-shard (first_is g at.After-index-first)) c.in_err-answer.ensures.kept)
 
 pub returns-clause-made : goal.returns-clause-made
 returns-clause-made g c =

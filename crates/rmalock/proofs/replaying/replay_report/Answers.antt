@@ -5,7 +5,6 @@ use Rattle.rmalock.specs.Locks.{kind_of}
 use Rattle.rmalock.specs.Replay.{run_with, report_in, queue_count}
 use Rattle.rmalock.specs.Headline.{IsKept}
 use Rattle.rl_replay.proofs.BudgetLaws.{budgeted, suits_rw}
-use Rattle.rmalock.proofs.SameViews.{same_tree, same_rw}
 use Rattle.rmalock.proofs.replaying.replay_report.Goals as goal
 
 pub report_with-requires-in-Mcs-clause-knobs : goal.report_with-requires-in-Mcs-clause-knobs
@@ -37,9 +36,3 @@ returns-in-Rw-clause-kept c =
     let place = c.args.place.now in
     let is : place.lock ≡ lock.Rw c.in-Rw.budgets c.in-Rw.writers c.in-Rw.readers c.in-Rw.group = ap (λ p. p.lock) (sym c.place.view_is) ∙ c.in-Rw.is in
     subst (λ (l : Lock). IfOk c.report_with-in-Rw.result (λ _. IsKept (kind_of l).defined (kind_of l).promised place c.args.ops c.args.schedule.now)) (sym is) c.report_with-in-Rw.ensures.kept
-
-pub report_with-requires-in-Mcs-clause-same : goal.report_with-requires-in-Mcs-clause-same
-report_with-requires-in-Mcs-clause-same c = same_tree
-
-pub report_with-requires-in-Rw-clause-same : goal.report_with-requires-in-Rw-clause-same
-report_with-requires-in-Rw-clause-same c = same_rw

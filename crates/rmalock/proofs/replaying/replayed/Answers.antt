@@ -1,4 +1,4 @@
-use Rattle.std.proofs.Common.{◌∙◌, sym, subst, Ok, Err, ap}
+use Rattle.std.proofs.Common.{◌∙◌, subst, Ok, Err, ap}
 use Rattle.std.proofs.lemmas.Result.{err_from_is_err_and}
 use Rattle.rl_replay.specs.Reading.{WasRead, called, scheduled}
 use Rattle.rl_history.specs.Naming.{naming_of}

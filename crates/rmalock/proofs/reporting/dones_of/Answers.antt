@@ -1,4 +1,4 @@
-use Rattle.std.proofs.Common.{◌≡◌, ◌<◌, [], ◌∷◌, ◌++◌, length, take, ap, sym, ◌∙◌, arith}
+use Rattle.std.proofs.Common.{◌<◌, [], ◌∷◌, ◌++◌, length, take, ap, sym, ◌∙◌, arith}
 use Rattle.rl_history.specs.declared.report.Done.{Done}
 use Rattle.rl_whole.specs.Running.{running}
 use Rattle.rl_whole.specs.Run.{done_of}

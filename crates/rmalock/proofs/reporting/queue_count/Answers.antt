@@ -1,4 +1,4 @@
-use Rattle.std.proofs.Common.{◌≡◌, ◌<◌, ◌^◌, length, ap, subst, ◌∙◌, sym, arith}
+use Rattle.std.proofs.Common.{◌<◌, ◌^◌, length, ap, subst, ◌∙◌, sym, arith}
 use Rattle.std.proofs.lemmas.List.{length-map}
 use Rattle.rl_place.specs.Numbering.{element_paths}
 use Rattle.rl_history.specs.Naming.{queue_names, element_queue}

@@ -5,20 +5,25 @@ use Rattle.rmalock.proofs.RoundLaws.{rounds_alike, no_round, round_more, all_mad
 use Rattle.rmalock.proofs.rounds.make_rounds.Goals as goal
 
 pub loop-init : goal.loop-init
-loop-init g c = sym (no_round c.args.most (running g.A.Algo.table c.args.machine.now))
+loop-init g c = (sym (no_round c.args.most (running g.A.Algo.table c.args.machine.now)), c.in_ok-rests.ensures.many, c.in_ok-rests.ensures.rested)
 
 pub goes_on-requires : goal.goes_on-requires
 goes_on-requires g c =
     let old = running g.A.Algo.table c.args.machine.now in
-    let same : length c.loop.machine.calls ≡ length old.calls = ap (λ m. length m.calls) c.loop.invariant ∙ ap length (rounds_alike c.args.most old c.loop.counter).calls in
+    let same : length c.loop.machine.calls ≡ length old.calls = ap (λ m. length m.calls) c.loop.invariant.0 ∙ ap length (rounds_alike c.args.most old c.loop.counter).calls in
     c.requires ∙ sym same
 
-pub take_turns-requires : goal.take_turns-requires
-take_turns-requires g c =
+pub take_turns-requires-clause-there : goal.take_turns-requires-clause-there
+take_turns-requires-clause-there g c =
     let old = running g.A.Algo.table c.args.machine.now in
-    let same : length c.loop.machine.calls ≡ length old.calls = ap (λ m. length m.calls) c.loop.invariant ∙ ap length (rounds_alike c.args.most old c.loop.counter).calls in
+    let same : length c.loop.machine.calls ≡ length old.calls = ap (λ m. length m.calls) c.loop.invariant.0 ∙ ap length (rounds_alike c.args.most old c.loop.counter).calls in
     let all : c.args.ranks ≡ length old.calls = c.requires in
     omega (arith, all, same)
+
+pub take_turns-requires-clause-many : goal.take_turns-requires-clause-many
+take_turns-requires-clause-many g c =
+    let old = running g.A.Algo.table c.args.machine.now in
+    c.loop.invariant.1 ∙ sym (ap (λ m. length m.calls) c.loop.invariant.0 ∙ ap length (rounds_alike c.args.most old c.loop.counter).calls)
 
 pub returns-then-not-goes_on : goal.returns-then-not-goes_on
 returns-then-not-goes_on g c =
@@ -26,9 +31,9 @@ returns-then-not-goes_on g c =
     let most = c.args.most in
     let n = c.loop.counter in
     let low = c.loop-test.true in
-    let off : goes_on most (rounds most old n) ≡ false = ap (goes_on most) (sym c.loop.invariant) ∙ sym c.goes_on.ensures ∙ c.if-not-goes_on.true in
+    let off : goes_on most (rounds most old n) ≡ false = ap (goes_on most) (sym c.loop.invariant.0) ∙ sym c.goes_on.ensures ∙ c.if-not-goes_on.true in
     let all : (most - n) + n ≡ most = omega (arith, low) in
-    c.loop.invariant ∙ sym (all_made most old n (most - n) off) ∙ ap (rounds most old) all
+    c.loop.invariant.0 ∙ sym (all_made most old n (most - n) off) ∙ ap (rounds most old) all
 
 pub loop-preserved : goal.loop-preserved
 loop-preserved g c =
@@ -36,8 +41,11 @@ loop-preserved g c =
     let most = c.args.most in
     let n = c.loop.counter in
     let now = rounds most old n in
-    let same : length now.calls ≡ length old.calls = ap length (rounds_alike most old n).calls in
-    c.in_ok-take_turns.ensures
-    ∙ ap (λ m. turns most m c.args.ranks) c.loop.invariant
-    ∙ ap (turns most now) (c.requires ∙ sym same)
-    ∙ sym (round_more most old n (ap (goes_on most) (sym c.loop.invariant) ∙ sym c.goes_on.ensures ∙ c.if-not-goes_on.false))
+    let same : length now.calls ≡ length old.calls = ap length (rounds_alike most old n).calls in (
+      c.in_ok-take_turns.ensures.turns
+          ∙ ap (λ m. turns most m c.args.ranks) c.loop.invariant.0
+          ∙ ap (turns most now) (c.requires ∙ sym same)
+          ∙ sym (round_more most old n (ap (goes_on most) (sym c.loop.invariant.0) ∙ sym c.goes_on.ensures ∙ c.if-not-goes_on.false)),
+      c.take_turns.ensures.many ∙ c.loop.invariant.1,
+      c.in_ok-take_turns.ensures.rested,
+    )

@@ -1,6 +1,7 @@
 -- What the calls of the lock ask follows from the rule, by the lock's laws.
 use Rattle.std.proofs.Common.{◌≡◌, ◌∷◌, ap, sym, ◌∙◌, subst}
 use Rattle.rl_whole.specs.Running.{lock_at}
+use Rattle.rl_whole.specs.HomeLaws.{asked_effect, asked_word}
 use Rattle.rl_whole.specs.Split.{plan_word, plan_home, effect_at, answer_of, HolderFits}
 use Rattle.rl_whole.specs.declared.effect.Effect.{Effect}
 use Rattle.rl_whole.specs.declared.effect.Effect.TheVariants.{Work, Stay}
@@ -28,7 +29,7 @@ plan_home-home-requires g c = λ word is.
     let layout = g.A.Algo.layout c.args.self.now.algo in
     let laws = g.met.A.Algo.laws c.args.self.now.algo in
     plan_word_there _ (lock_at g.A.Algo.table c.args.self.now) good (g.A.Algo.further c.args.self.now.algo) layout laws c.args.self.now.home c.args.view.now word
-    (may_be _ (lock_at g.A.Algo.table c.args.self.now) good (g.A.Algo.further c.args.self.now.algo) layout laws c.args.self.now.home c.args.view.now c.args.got c.requires) (sym (ap plan_word c.plan-plan.ensures) ∙ is)
+    (may_be _ (lock_at g.A.Algo.table c.args.self.now) good (g.A.Algo.further c.args.self.now.algo) layout laws c.args.self.now.home c.args.view.now c.args.got c.requires) (sym (ap plan_word c.plan-plan.ensures) ∙ asked_word c.plan-plan.result c.args.view.now.side.card word is)
 
 pub effect-requires : goal.effect-requires
 effect-requires g c =
@@ -36,18 +37,18 @@ effect-requires g c =
     (holder_fits _ (lock_at g.A.Algo.table c.args.self.now) (g.A.Algo.good c.args.self.now.algo) (g.A.Algo.further c.args.self.now.algo) (g.A.Algo.layout c.args.self.now.algo) (g.met.A.Algo.laws c.args.self.now.algo)
     c.args.self.now.home c.args.view.now c.args.got c.requires)
 
-pub learn-learnt-requires : goal.learn-learnt-requires
-learn-learnt-requires g c =
+pub learn-learnt-requires-clause-may : goal.learn-learnt-requires-clause-may
+learn-learnt-requires-clause-may g c =
     let T = g.A.Algo.table c.args.self.now.algo in
     may_learn _ (lock_at g.A.Algo.table c.args.self.now) (g.A.Algo.good c.args.self.now.algo) (g.A.Algo.further c.args.self.now.algo) (g.A.Algo.layout c.args.self.now.algo) (g.met.A.Algo.laws c.args.self.now.algo)
     c.args.self.now.home c.args.view.now c.args.got c.in-Learn.card c.in-Learn.told c.in-Learn.lost c.requires
-    (sym (c.in-Learn.ensures ∙ ap (λ z. effect_at z c.plan-plan.result c.args.view.now.side.card c.args.got) c.plan_home-home.ensures ∙ ap (λ p. effect_at (plan_home T p) p c.args.view.now.side.card c.args.got) c.plan-plan.ensures))
+    (sym (c.in-Learn.ensures ∙ ap (λ z. effect_at z c.plan-plan.result c.args.view.now.side.card c.args.got) c.plan_home-home.ensures ∙ asked_effect T c.plan-plan.result c.args.view.now.side.card c.args.got ∙ ap (λ p. effect_at (plan_home T p) p c.args.view.now.side.card c.args.got) c.plan-plan.ensures))
 
 -- the effect is the table's
 the_effect : (g : Over) (c : After-effect g) → effect_at (plan_home (g.A.Algo.table c.args.self.now.algo) ((g.A.Algo.table c.args.self.now.algo).plan c.args.view.now.side.view)) ((g.A.Algo.table c.args.self.now.algo).plan c.args.view.now.side.view) c.args.view.now.side.card c.args.got ≡ c.effect.result
 the_effect g c =
     let T = g.A.Algo.table c.args.self.now.algo in
-    sym (c.effect.ensures ∙ ap (λ z. effect_at z c.plan-plan.result c.args.view.now.side.card c.args.got) c.plan_home-home.ensures ∙ ap (λ p. effect_at (plan_home T p) p c.args.view.now.side.card c.args.got) c.plan-plan.ensures)
+    sym (c.effect.ensures ∙ ap (λ z. effect_at z c.plan-plan.result c.args.view.now.side.card c.args.got) c.plan_home-home.ensures ∙ asked_effect T c.plan-plan.result c.args.view.now.side.card c.args.got ∙ ap (λ p. effect_at (plan_home T p) p c.args.view.now.side.card c.args.got) c.plan-plan.ensures)
 
 -- what the effect leaves is what the table says
 the_after : (g : Over) (c : After-effect g) (t : Effect) → c.effect.result ≡ t → effect_turned (lock_at g.A.Algo.table c.args.self.now) c.args.view.now (work_after c.args.self.now.geom c.args.self.now.shard c.args.view.now.rank c.args.view.now.work c.args.got) t ≡ after_of (lock_at g.A.Algo.table c.args.self.now) c.args.view.now c.args.got

@@ -1,7 +1,8 @@
 -- What the calls of the lock ask follows from the rule, by the lock's laws.
 use Rattle.std.proofs.Common.{ap, sym, ◌∙◌}
 use Rattle.rl_whole.specs.Running.{lock_at}
-use Rattle.rl_whole.specs.Split.{plan_word, plan_home, atom_at}
+use Rattle.rl_whole.specs.HomeLaws.{asked_atom, asked_word}
+use Rattle.rl_whole.specs.Split.{plan_word, atom_at, card_atom}
 use Rattle.rl_whole.specs.WholeOwes.{may_step, plan_word_there, shifts, work_names}
 use Rattle.rl_whole.proofs.whole.WholeCore.next.Goals as goal
 
@@ -13,14 +14,14 @@ plan-plan-requires g c =
 pub plan_home-home-requires : goal.plan_home-home-requires
 plan_home-home-requires g c = λ word is.
     plan_word_there _ (lock_at g.A.Algo.table c.args.self.now) (g.A.Algo.good c.args.self.now.algo) (g.A.Algo.further c.args.self.now.algo) (g.A.Algo.layout c.args.self.now.algo) (g.met.A.Algo.laws c.args.self.now.algo)
-    c.args.self.now.home c.args.view.now word c.requires (sym (ap plan_word c.plan-plan.ensures) ∙ is)
+    c.args.self.now.home c.args.view.now word c.requires (sym (ap plan_word c.plan-plan.ensures) ∙ asked_word c.plan-plan.result c.args.view.now.side.card word is)
 
 pub shift-requires : goal.shift-requires
 shift-requires g c =
     let T = g.A.Algo.table c.args.self.now.algo in
     shifts _ (lock_at g.A.Algo.table c.args.self.now) (g.A.Algo.good c.args.self.now.algo) (g.A.Algo.further c.args.self.now.algo) (g.A.Algo.layout c.args.self.now.algo) (g.met.A.Algo.laws c.args.self.now.algo)
     c.args.self.now.home c.args.view.now c.in-Some.atom c.requires
-    (sym (c.in-Some.ensures ∙ ap (λ z. atom_at z c.plan-plan.result c.args.view.now.side.card) c.plan_home-home.ensures ∙ ap (λ p. atom_at (plan_home T p) p c.args.view.now.side.card) c.plan-plan.ensures))
+    (sym (c.in-Some.ensures ∙ ap (λ z. atom_at z c.plan-plan.result c.args.view.now.side.card) c.plan_home-home.ensures ∙ asked_atom T c.plan-plan.result c.args.view.now.side.card ∙ ap (λ p. card_atom T p c.args.view.now.side.card) c.plan-plan.ensures))
 
 pub next-requires-clause-can : goal.next-requires-clause-can
 next-requires-clause-can g c =

@@ -3,7 +3,7 @@ use Rattle.std.proofs.Common.{◌≡◌, replicate}
 use Rattle.rl_whole.specs.Running.{running}
 use Rattle.rl_whole.specs.Run.{run_of}
 use Rattle.rl_whole.specs.State.{cores_of}
-use Rattle.rl_whole.proofs.runs.take_steps.Given as goal
+use Rattle.rl_whole.proofs.runs.until_rest.Given as goal
 
 abbrev pub invariant-loop-made : goal.invariant-loop-made
 invariant-loop-made g l =

@@ -8,22 +8,22 @@ use Rattle.rl_whole.specs.Run.{place_of}
 use Rattle.rl_whole.specs.ShardSteps.{atom_on}
 use Rattle.rl_whole.specs.State.{shard_view, machine_view}
 use Rattle.rl_whole.specs.MachineSteps.{machine_with, atom_is}
-use Rattle.rl_whole.specs.StateLaws.{IsThere, is_there, shard_set, view_set, core_set}
-use Rattle.rl_whole.proofs.state.go_on.Goals as goal
-use Rattle.rl_whole.proofs.state.go_on.Goals.{After-index_mut}
-use Rattle.rl_whole.proofs.state.go_on.Given.{Over}
+use Rattle.rl_whole.specs.StateLaws.{IsThere, is_there, shard_set, kept_set, core_set}
+use Rattle.rl_whole.proofs.state.go_on_at.Goals as goal
+use Rattle.rl_whole.proofs.state.go_on_at.Goals.{After-index_mut}
+use Rattle.rl_whole.proofs.state.go_on_at.Given.{Over}
 
 -- the shard where the rank stands
 abbrev Shard : Over → Type 0
 Shard g = ShardState g.row.A.Denot g.row.A-View.Denot
 
-has : (g : Over) (c : After-index_mut g) → slice_get c.args.state.now.shards.items c.place-place.result ≡ Some c.index_mut.result.now
+has : (g : Over) (c : After-index_mut g) → slice_get c.args.state.now.shards.items c.args.place ≡ Some c.index_mut.result.now
 has g c =
     let items = c.args.state.now.shards.items in
-    slice_get-get_or items c.place-place.result c.index_mut.result.now c.place-place.ensures.there ∙ ap Some (sym c.index_mut.ensures.value)
+    slice_get-get_or items c.args.place c.index_mut.result.now c.requires.place ∙ ap Some (sym c.index_mut.ensures.value)
 
-there : (g : Over) (c : After-index_mut g) → IsThere _ _ g.A.Algo.table g.A.Algo.good g.A.Algo.layout c.args.state.now c.requires.good c.place-place.result c.index_mut.result.now
-there g c = is_there _ _ g.A.Algo.table g.A.Algo.good g.A.Algo.layout c.args.state.now c.requires.good c.place-place.result c.index_mut.result.now (has g c)
+there : (g : Over) (c : After-index_mut g) → IsThere _ _ g.A.Algo.table g.A.Algo.good g.A.Algo.layout c.args.state.now c.requires.good c.args.place c.index_mut.result.now
+there g c = is_there _ _ g.A.Algo.table g.A.Algo.good g.A.Algo.layout c.args.state.now c.requires.good c.args.place c.index_mut.result.now (has g c)
 
 pub step_on-requires-clause-there : goal.step_on-requires-clause-there
 step_on-requires-clause-there g c = let all = (there g c).ranks in let low = c.requires.there in omega arith
@@ -33,15 +33,13 @@ step_on-requires-clause-ruled g c = (there g c).ruled
 
 pub returns-in_err-answer-clause-cores : goal.returns-in_err-answer-clause-cores
 returns-in_err-answer-clause-cores g c =
-    core_set c.args.state.now.shards.items c.place-place.result c.index_mut.result.now c.step_on.new.shard
+    core_set c.args.state.now.shards.items c.args.place c.index_mut.result.now c.step_on.new.shard
     (has g (goal.at.returns-in_err-answer-clause-cores g c).After-index_mut) c.step_on.ensures.core
 
 pub returns-in_err-answer-clause-kept : goal.returns-in_err-answer-clause-kept
 returns-in_err-answer-clause-kept g c =
-    let m = c.args.state.now in
     let p = err_from_is_err_and c.from_residual.result c.from_residual.ensures.1 in
-    let same = view_set m.shards.items c.place-place.result c.index_mut.result.now c.step_on.new.shard (has g (goal.at.returns-in_err-answer-clause-kept g c).After-index_mut) c.in_err-answer.ensures.kept in
-    rw p.1 (ap (λ z. record { shards = z; geom = m.geom; calls = m.ops.by_rank; sizes = m.ops.sizes; opened = m.opened.items; steps = m.steps }) same)
+    rw p.1 (kept_set c.args.state.now c.args.place c.index_mut.result.now c.step_on.new.shard (has g (goal.at.returns-in_err-answer-clause-kept g c).After-index_mut) c.in_err-answer.ensures.kept)
 
 -- the step is the definition's
 pub returns-clause-made : goal.returns-clause-made
@@ -51,11 +49,11 @@ returns-clause-made g c =
     let rank = c.args.rank in
     let S = shard_run g.A.Algo.table (shard_view c.index_mut.result.now) in
     let S' = shard_run g.A.Algo.table (shard_view c.step_on.new.shard) in
-    let place = c.place-place.ensures.place in
+    let place = c.requires.stands in
     let t = there g (goal.at.returns-clause-made g c).After-index_mut in
     let made = c.in_ok-answer.ensures.made ∙ ap (λ n. atom_on rank n S) c.made-step.ensures in
     let q = atom_is m rank S S' c.in_ok-answer.answer (ap (slice_get m.shards) (sym place) ∙ t.has) made c.in_ok-answer.ensures.answer in
-    ap (λ z. machine_with m z m.opened c.count.new.self) (shard_set g.A.Algo.table state.shards.items c.place-place.result c.step_on.new.shard ∙ ap (λ s. slice_set m.shards s S') place)
+    ap (λ z. machine_with m z m.opened c.count.new.self) (shard_set g.A.Algo.table state.shards.items c.args.place c.step_on.new.shard ∙ ap (λ s. slice_set m.shards s S') place)
     ∙ ap (λ z. machine_with m (slice_set m.shards (place_of m rank) S') m.opened z) c.count.ensures ∙ q.0
 
 pub returns-clause-answer : goal.returns-clause-answer
@@ -66,9 +64,9 @@ returns-clause-answer g c =
     let S' = shard_run g.A.Algo.table (shard_view c.step_on.new.shard) in
     let t = there g (goal.at.returns-clause-answer g c).After-index_mut in
     let made = c.in_ok-answer.ensures.made ∙ ap (λ n. atom_on rank n S) c.made-step.ensures in
-    (atom_is m rank S S' c.in_ok-answer.answer (ap (slice_get m.shards) (sym c.place-place.ensures.place) ∙ t.has) made c.in_ok-answer.ensures.answer).1
+    (atom_is m rank S S' c.in_ok-answer.answer (ap (slice_get m.shards) (sym c.requires.stands) ∙ t.has) made c.in_ok-answer.ensures.answer).1
 
 pub returns-clause-cores : goal.returns-clause-cores
 returns-clause-cores g c =
-    core_set c.args.state.now.shards.items c.place-place.result c.index_mut.result.now c.step_on.new.shard
+    core_set c.args.state.now.shards.items c.args.place c.index_mut.result.now c.step_on.new.shard
     (has g (goal.at.returns-clause-cores g c).After-index_mut) c.step_on.ensures.core

@@ -1,0 +1,82 @@
+-- After some of the turn's steps the run of them was made.
+use Rattle.std.proofs.Common.{◌≡◌, ◌∷◌, [], ℕ, ◌<◌, ◌+◌, ◌-◌, length, ap, sym, ◌∙◌, subst, arith, replicate}
+use Rattle.std.proofs.lemmas.List.{replicate-append-replicate}
+use Rattle.rl_step.specs.Answers.{steps_made}
+use Rattle.rl_whole.specs.Running.{Running, running}
+use Rattle.rl_whole.specs.Run.{stepped, run_of}
+use Rattle.rl_whole.specs.RestLaws.{rest_run}
+use Rattle.rl_whole.specs.Rested.{Rested}
+use Rattle.rl_whole.specs.ReplayLaws.{turn_counts, run_append, replicate-end}
+use Rattle.rl_whole.proofs.runs.until_rest.Goals as goal
+use Rattle.rl_whole.proofs.runs.until_rest.Goals.{After-rest}
+use Rattle.rl_whole.proofs.runs.until_rest.Given.{Over}
+
+pub move_on-requires-clause-there : goal.move_on-requires-clause-there
+move_on-requires-clause-there g c =
+    let counts = turn_counts (running g.A.Algo.table c.args.machine.now) c.loop-made.made c.args.rank in
+    subst (λ l. c.args.rank < length l) (sym (ap (λ m. m.calls) c.loop-made.invariant.1 ∙ counts.1)) c.requires.there
+
+pub move_on-requires-clause-few : goal.move_on-requires-clause-few
+move_on-requires-clause-few g c =
+    let old = running g.A.Algo.table c.args.machine.now in
+    let counts = turn_counts old c.loop-made.made c.args.rank in
+    let made : steps_made c.loop-made.machine.steps ≡ steps_made old.steps + c.loop-made.made = ap (λ m. steps_made m.steps) c.loop-made.invariant.1 ∙ counts.0 in
+    let more : c.loop-made.made < c.args.count = c.loop-made-test.true in
+    let few = c.requires.few in
+    omega arith
+
+-- one step more makes the run one longer
+longer : {V : Type 0} (old now next : Running V) (n rank : ℕ) → now ≡ run_of old (replicate n rank) → next ≡ stepped now rank → next ≡ run_of old (replicate (n + 1) rank)
+longer old now next n rank is made =
+    made ∙ ap (λ m. stepped m rank) is ∙ sym (run_append old (replicate n rank) (rank ∷ [])) ∙ sym (ap (run_of old) (replicate-end n rank))
+
+pub rest_after-requires : goal.rest_after-requires
+rest_after-requires g c =
+    let old = running g.A.Algo.table c.args.machine.now in
+    let n = c.loop-made.made in
+    let now = longer old (running g.A.Algo.table c.loop-made.machine) (running g.A.Algo.table c.move_on.new.self) n c.args.rank c.loop-made.invariant.1 c.in_ok-answer.ensures.stepped in
+    subst (λ l. c.args.rank < length l) (sym (ap (λ m. m.calls) now ∙ (turn_counts old (n + 1) c.args.rank).1)) c.requires.there
+
+pub loop-made-preserved : goal.loop-made-preserved
+loop-made-preserved g c =
+    let old = running g.A.Algo.table c.args.machine.now in (
+      c.in_ok-answer.ensures.cores ∙ c.loop-made.invariant.0,
+      longer old (running g.A.Algo.table c.loop-made.machine) (running g.A.Algo.table c.move_on.new.self) c.loop-made.made c.args.rank c.loop-made.invariant.1 c.in_ok-answer.ensures.stepped,
+    )
+
+pub rest-requires-clause-few : goal.rest-requires-clause-few
+rest-requires-clause-few g c =
+    let old = running g.A.Algo.table c.args.machine.now in
+    let n = c.loop-made.made in
+    let now = longer old (running g.A.Algo.table c.loop-made.machine) (running g.A.Algo.table c.move_on.new.self) n c.args.rank c.loop-made.invariant.1 c.in_ok-answer.ensures.stepped in
+    let made : steps_made c.move_on.new.self.steps ≡ steps_made old.steps + (n + 1) = ap (λ m. steps_made m.steps) now ∙ (turn_counts old (n + 1) c.args.rank).0 in
+    let more : n < c.args.count = c.loop-made-test.true in
+    let few = c.requires.few in
+    omega arith
+
+-- the rest of the turn makes it whole
+whole : (g : Over) (c : After-rest g) → running g.A.Algo.table c.rest.new.self ≡ run_of (running g.A.Algo.table c.args.machine.now) (replicate c.args.count c.args.rank)
+whole g c =
+    let old = running g.A.Algo.table c.args.machine.now in
+    let rank = c.args.rank in
+    let n = c.loop-made.made in
+    let left = c.args.count - n - 1 in
+    let more : n < c.args.count = c.loop-made-test.true in
+    let parts : c.args.count ≡ n + 1 + left = omega arith in
+    let now = longer old (running g.A.Algo.table c.loop-made.machine) (running g.A.Algo.table c.move_on.new.self) n rank c.loop-made.invariant.1 c.in_ok-answer.ensures.stepped in
+    c.rest.ensures.run ∙ ap (λ m. run_of m (replicate left rank)) now ∙ sym (run_append old (replicate (n + 1) rank) (replicate left rank)) ∙
+    ap (run_of old) (replicate-append-replicate (n + 1) left rank ∙ ap (λ m. replicate m rank) (sym parts))
+
+pub returns-in-Some-clause-cores : goal.returns-in-Some-clause-cores
+returns-in-Some-clause-cores g c = c.rest.ensures.cores ∙ c.in_ok-answer.ensures.cores ∙ c.loop-made.invariant.0
+
+pub returns-in-Some-clause-run : goal.returns-in-Some-clause-run
+returns-in-Some-clause-run g c = whole g c
+
+pub returns-in-Some-clause-rested : goal.returns-in-Some-clause-rested
+returns-in-Some-clause-rested g c =
+    let m = running g.A.Algo.table c.move_on.new.self in
+    subst (λ u. Rested u.shards c.args.rank c.in-Some.last.shard c.in-Some.last.answer) (sym (c.rest.ensures.run ∙ rest_run m c.args.rank c.in-Some.last.answer (c.args.count - c.loop-made.made - 1) c.in-Some.ensures.rests)) c.in-Some.ensures.rested
+
+pub returns-clause-rested : goal.returns-clause-rested
+returns-clause-rested g c = subst (λ a. Rested (running g.A.Algo.table c.loop-made.machine).shards c.args.rank c.unknown.result.shard a) (sym c.unknown.ensures) tt

@@ -1,0 +1,49 @@
+-- A rank that rested rests still while the card that it takes, or the word that it loads, is as it was.
+use Rattle.std.specs.Prelude.{◌≡◌, ℕ, ◌-◌, ◌<◌, ◌==◌, true, false, List, length, slice_get, slice_index, Some}
+use Rattle.rl_step.specs.declared.events.Stepped.{Stepped}
+use Rattle.rl_step.specs.declared.events.Stepped.TheVariants.{Moved, Waiting, Lost, Busy, Finished}
+use Rattle.rl_step.specs.Do.{TheWindow}
+use Rattle.rl_whole.specs.declared.last_rest.LastRest.{LastRest}
+use Rattle.rl_whole.specs.declared.whole.WholeView.{WholeView}
+use Rattle.rl_whole.specs.Running.{ShardRun}
+use Rattle.rl_whole.specs.Whole.{is_open, next_of}
+use Rattle.rl_whole.specs.Rest.{IsIdle}
+
+-- the window shows that a rank which rested with the first answer rests with the second: another rank is in the card that it takes, or
+-- the word that it loads has the value that it had
+abbrev pub Shows : TheWindow → Stepped → Stepped → Type 0
+Shows h Moved a = ⊥
+Shows h (Waiting w v) a = (slice_index h.words w ≡ v) × (a ≡ Waiting w v)
+Shows h (Lost guess seen) a = ⊥
+Shows h (Busy n holder) a = ((slice_index h.cards n == 0) ≡ false) × (a ≡ Busy n (slice_index h.cards n - 1))
+Shows h Finished a = ⊥
+
+-- the card or the word is there
+abbrev pub IsNamed : TheWindow → Stepped → Type 0
+IsNamed h Moved = Unit {0}
+IsNamed h (Waiting w v) = w < length h.words
+IsNamed h (Lost guess seen) = Unit {0}
+IsNamed h (Busy n holder) = n < length h.cards
+IsNamed h Finished = Unit {0}
+
+-- rank k is in a call on shard s, and whatever the window is, while it shows so the rank's next atom is idle
+pub record RestsAt {V : Type 0} (shards : List (ShardRun V)) (k s : ℕ) (answer : Stepped) : Type 0 where
+  pub shard : ShardRun V
+  pub view : WholeView V
+  pub has : slice_get shards s ≡ Some shard
+  pub seen : slice_get shard.views k ≡ Some view
+  pub in_call : is_open shard.lock view ≡ true
+  pub named : IsNamed shard.held answer
+  pub idle : (h : TheWindow) (a : Stepped) → Shows h answer a → IsIdle shard.lock h k view (next_of shard.lock view) a
+
+-- the same of a Busy or a Waiting; no other answer says anything
+abbrev pub Rested : {V : Type 0} → List (ShardRun V) → ℕ → ℕ → Stepped → Type 0
+Rested shards k s Moved = Unit {0}
+Rested shards k s (Waiting w v) = RestsAt shards k s (Waiting w v)
+Rested shards k s (Lost guess seen) = Unit {0}
+Rested shards k s (Busy n holder) = RestsAt shards k s (Busy n holder)
+Rested shards k s Finished = Unit {0}
+
+-- and of each rank, by where it rested last
+abbrev pub AllRested : {V : Type 0} → List (ShardRun V) → List LastRest → Type 0
+AllRested shards rests = (k : ℕ) (r : LastRest) → slice_get rests k ≡ Some r → Rested shards k r.shard r.answer

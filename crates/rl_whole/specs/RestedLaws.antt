@@ -1,0 +1,228 @@
+-- Another rank's step leaves what is known of a rank that rested.
+use Rattle.std.specs.Prelude.{◌≡◌, ◌≢◌, ℕ, zero, suc, ◌+◌, ◌<◌, ◌==◌, Bool, true, false, List, length, replicate, if◌then◌else◌, nat_lt, slice_get, slice_index, slice_set, Option, Some, None, refl}
+use Rattle.std.proofs.Common.{sym, ◌∙◌, ap, subst, ⊎_elim, length-set}
+use Rattle.std.proofs.lemmas.Bool.Decides.{eqb_tells}
+use Rattle.rl_word.specs.Places.{get_set_cases, get_set_other, get_set_same, one_at, same_or_not}
+use Rattle.rl_word.specs.Acts.{Layout}
+use Rattle.rl_word.specs.declared.acts.Atom.{Atom}
+use Rattle.rl_word.specs.declared.acts.Atom.TheVariants as atom
+use Rattle.rl_model.specs.declared.call.Call.{Call}
+use Rattle.rl_step.specs.declared.events.Stepped.{Stepped}
+use Rattle.rl_step.specs.declared.events.Stepped.TheVariants.{Moved, Waiting, Lost, Busy, Finished}
+use Rattle.rl_step.specs.Answers.{steps_made}
+use Rattle.rl_step.specs.Do.{TheWindow, do_cards, do_got}
+use Rattle.rl_step.specs.Lock.{LockTable, LockState}
+use Rattle.rl_whole.specs.declared.last_rest.LastRest.{LastRest}
+use Rattle.rl_whole.specs.declared.shard.ShardState.{ShardState}
+use Rattle.rl_whole.specs.declared.state.MachineState.{MachineState}
+use Rattle.rl_whole.specs.declared.whole.WholeView.{WholeView}
+use Rattle.rl_whole.specs.Opening.{opened_in}
+use Rattle.rl_whole.specs.Running.{ShardRun, Running, shard_run, running}
+use Rattle.rl_whole.specs.ShardSteps.{opened_at, opened_on, makes, made_at, atom_on, open_at, open_on}
+use Rattle.rl_whole.specs.ShiftLaws.{length-do_words}
+use Rattle.rl_whole.specs.Asks.{block_shard}
+use Rattle.rl_whole.specs.Run.{changed_if, on_shard, calls_by, next_block, place_of, has_open_call, opens, opened_if, block_opened, stepped, run_of}
+use Rattle.rl_whole.specs.State.{shard_view, machine_view, IsMachine}
+use Rattle.rl_whole.specs.StateLaws.{is_there}
+use Rattle.rl_whole.specs.Whole.{is_open, next_of, after_of}
+use Rattle.rl_whole.specs.Rest.{Rests, IsIdle}
+use Rattle.rl_whole.specs.RestLaws.{open_shuts, idle_rests, rest_run}
+use Rattle.rl_whole.specs.Rested.{Shows, IsNamed, RestsAt, Rested, AllRested}
+
+-- an atom doesn't change the number of cards
+length_either : (cs ds : List ℕ) (b : Bool) → length ds ≡ length cs → length (if b then ds else cs) ≡ length cs
+length_either cs ds true e = e
+length_either cs ds false e = refl
+
+length-do_cards : (j : ℕ) (at : Atom) (cs : List ℕ) → length (do_cards j at cs) ≡ length cs
+length-do_cards j (atom.Load w) cs = refl
+length-do_cards j (atom.Store w v) cs = refl
+length-do_cards j (atom.LocalCas w old new) cs = refl
+length-do_cards j (atom.Take n) cs = length_either cs (slice_set cs n (j + 1)) (slice_index cs n == 0) (length-set cs n (j + 1))
+length-do_cards j (atom.CardLoad w) cs = refl
+length-do_cards j (atom.CardStore w v) cs = refl
+length-do_cards j (atom.Leave n) cs = length-set cs n 0
+
+-- a shard before and after a step, as far as rank k goes that doesn't make it
+record IsAlike {V : Type 0} (k : ℕ) (S T : ShardRun V) : Type 0 where
+  lock : T.lock ≡ S.lock
+  view : slice_get T.views k ≡ slice_get S.views k
+  words : length T.held.words ≡ length S.held.words
+  cards : length T.held.cards ≡ length S.held.cards
+
+named_alike : (answer : Stepped) (g h : TheWindow) → length h.words ≡ length g.words → length h.cards ≡ length g.cards → IsNamed g answer → IsNamed h answer
+named_alike Moved g h words cards n = n
+named_alike (Waiting w v) g h words cards n = subst (λ l. w < l) (sym words) n
+named_alike (Lost guess seen) g h words cards n = n
+named_alike (Busy m holder) g h words cards n = subst (λ l. m < l) (sym cards) n
+named_alike Finished g h words cards n = n
+
+module _ {V : Type 0} (k j : ℕ) (other : k ≢ j) where
+  alike_self : (S : ShardRun V) → IsAlike k S S
+  alike_self S = record { lock = refl; view = refl; words = refl; cards = refl }
+
+  opened_alike : (S : ShardRun V) (block : List Call) (seq : ℕ) (o : Option (WholeView V)) → IsAlike k S (opened_at S j block seq o)
+  opened_alike S block seq None = alike_self S
+  opened_alike S block seq (Some x) = record { lock = refl; view = get_set_other S.views j k (opened_in S.lock.table block seq x) other; words = refl; cards = refl }
+
+  makes_alike : (S : ShardRun V) (step : ℕ) (x : WholeView V) (o : Option Atom) → IsAlike k S (makes S j step x o)
+  makes_alike S step x None = alike_self S
+  makes_alike S step x (Some at) =
+      record {
+        lock = refl;
+        view = get_set_other S.views j k (after_of S.lock x (do_got at S.held.words S.held.cards)).view other;
+        words = length-do_words at S.held.words;
+        cards = length-do_cards j at S.held.cards;
+      }
+
+  atom_alike : (S : ShardRun V) (step : ℕ) (o : Option (WholeView V)) → IsAlike k S (made_at S j step o)
+  atom_alike S step None = alike_self S
+  atom_alike S step (Some x) = makes_alike S step x (next_of S.lock x)
+
+  module _ (s : ℕ) (answer : Stepped) where
+    rests_then : (old new : List (ShardRun V)) (r : RestsAt old k s answer) (T : ShardRun V) → IsAlike k r.shard T → slice_get new s ≡ Some T → RestsAt new k s answer
+    rests_then old new r T a has =
+        record {
+          shard = T;
+          view = r.view;
+          has = has;
+          seen = a.view ∙ r.seen;
+          in_call = subst (λ L. is_open L r.view ≡ true) (sym a.lock) r.in_call;
+          named = named_alike answer r.shard.held T.held a.words a.cards r.named;
+          idle = subst (λ L. (h : TheWindow) (b : Stepped) → Shows h answer b → IsIdle L h k r.view (next_of L r.view) b) (sym a.lock) r.idle;
+        }
+
+    rests_set : (shards : List (ShardRun V)) (p : ℕ) (S T : ShardRun V) → slice_get shards p ≡ Some S → IsAlike k S T → RestsAt shards k s answer → RestsAt (slice_set shards p T) k s answer
+    rests_set shards p S T has a r =
+        ⊎_elim
+        (λ (same : s ≡ p).
+        let is : r.shard ≡ S = one_at shards p r.shard S (ap (slice_get shards) (sym same) ∙ r.has) has in
+        rests_then shards (slice_set shards p T) r T (subst (λ z. IsAlike k z T) (sym is) a) (ap (slice_get (slice_set shards p T)) same ∙ get_set_same shards p S T has))
+        (λ (apart : s ≢ p). rests_then shards (slice_set shards p T) r r.shard (alike_self r.shard) (get_set_other shards p s T apart ∙ r.has))
+        (same_or_not s p)
+
+    rests_if : (shards : List (ShardRun V)) (p : ℕ) (f : ShardRun V → ShardRun V) (o : Option (ShardRun V)) → slice_get shards p ≡ o → ((S : ShardRun V) → IsAlike k S (f S)) → RestsAt shards k s answer → RestsAt (changed_if shards p f o) k s answer
+    rests_if shards p f None e alike r = r
+    rests_if shards p f (Some S) e alike r = rests_set shards p S (f S) e (alike S) r
+
+    rests_opened : (m : Running V) (b : Bool) → RestsAt m.shards k s answer → RestsAt (opened_if m j b).shards k s answer
+    rests_opened m false r = r
+    rests_opened m true r =
+        let p : ℕ = block_shard m.geom (next_block m j) in
+        rests_if m.shards p (opened_on j (next_block m j) (slice_index m.opened j)) (slice_get m.shards p) refl (λ S. opened_alike S (next_block m j) (slice_index m.opened j) (slice_get S.views j)) r
+
+    rests_stepped : (m : Running V) → RestsAt m.shards k s answer → RestsAt (stepped m j).shards k s answer
+    rests_stepped m r =
+        let n : Running V = block_opened m j in
+        rests_if n.shards (place_of n j) (atom_on j (steps_made n.steps)) (slice_get n.shards (place_of n j)) refl (λ S. atom_alike S (steps_made n.steps) (slice_get S.views j)) (rests_opened m (opens m j) r)
+
+  rested_stepped : (m : Running V) (s : ℕ) (answer : Stepped) → Rested m.shards k s answer → Rested (stepped m j).shards k s answer
+  rested_stepped m s Moved r = r
+  rested_stepped m s (Waiting w v) r = rests_stepped s (Waiting w v) m r
+  rested_stepped m s (Lost guess seen) r = r
+  rested_stepped m s (Busy n holder) r = rests_stepped s (Busy n holder) m r
+  rested_stepped m s Finished r = r
+
+-- the elements of a list of equal ones
+one_alike : (z : LastRest) (n k : ℕ) (r : LastRest) → slice_get (replicate n z) k ≡ Some r → r ≡ z
+one_alike z zero k r get = cc
+one_alike z (suc n) zero r get = cc
+one_alike z (suc n) (suc k) r get = one_alike z n k r get
+
+module _ {V : Type 0} where
+  -- what is known of the answer is what is noted of it
+  pub rested_is : (shards : List (ShardRun V)) (k s : ℕ) (answer : Stepped) → RestsAt shards k s answer → Rested shards k s answer
+  rested_is shards k s Moved r = tt
+  rested_is shards k s (Waiting w v) r = r
+  rested_is shards k s (Lost guess seen) r = tt
+  rested_is shards k s (Busy n holder) r = r
+  rested_is shards k s Finished r = tt
+
+  -- a rank that is seen to rest, by its view on a shard and that shard's window
+  pub seen_rests : (shards : List (ShardRun V)) (k s : ℕ) (S : ShardRun V) (x : WholeView V) (h : TheWindow) (answer : Stepped) → slice_get shards s ≡ Some S → slice_get S.views k ≡ Some x → h ≡ S.held →
+      is_open S.lock x ≡ true → IsNamed h answer → Shows h answer answer → ((j : ℕ) (w : TheWindow) (a : Stepped) → Shows w answer a → IsIdle S.lock w j x (next_of S.lock x) a) →
+      (r : RestsAt shards k s answer) × Shows r.shard.held answer answer
+  seen_rests shards k s S x h answer has seen same in_call named shows idle =
+      (record { shard = S; view = x; has = has; seen = seen; in_call = in_call; named = subst (λ w. IsNamed w answer) same named; idle = idle k }, subst (λ w. Shows w answer answer) same shows)
+
+  rested_other : (m : Running V) (k j s : ℕ) (answer : Stepped) → k ≢ j → Rested m.shards k s answer → Rested (stepped m j).shards k s answer
+  rested_other m k j s answer other r = rested_stepped k j other m s answer r
+
+  -- so many steps of another rank
+  run_others : (m : Running V) (k j s : ℕ) (answer : Stepped) → k ≢ j → (n : ℕ) → Rested m.shards k s answer → Rested (run_of m (replicate n j)).shards k s answer
+  run_others m k j s answer other zero r = r
+  run_others m k j s answer other (suc n) r = run_others (stepped m j) k j s answer other n (rested_other m k j s answer other r)
+
+  -- and so many steps of a rank that rests
+  pub all_run : (m : Running V) (j : ℕ) (a : Stepped) (n : ℕ) (rests : List LastRest) → Rests m j a → AllRested m.shards rests → AllRested (run_of m (replicate n j)).shards rests
+  all_run m j a n rests r all = subst (λ (u : Running V). AllRested u.shards rests) (sym (rest_run m j a n r)) all
+
+  -- of a rank of which nothing is known nothing is said
+  pub none_rested : (shards : List (ShardRun V)) (z : LastRest) → z.answer ≡ Moved → (n : ℕ) → AllRested shards (replicate n z)
+  none_rested shards z awake n = λ k r get.
+      subst (λ a. Rested shards k r.shard a) (sym (ap (λ q. q.answer) (one_alike z n k r get) ∙ awake)) tt
+
+  -- what is noted of a rank after its steps, and what was noted of the others
+  pub all_noted : (m : Running V) (rests : List LastRest) (j n : ℕ) (z : LastRest) → Rested (run_of m (replicate n j)).shards j z.shard z.answer → AllRested m.shards rests →
+      AllRested (run_of m (replicate n j)).shards (slice_set rests j z)
+  all_noted m rests j n z now all = λ k r get.
+      let shards = (run_of m (replicate n j)).shards in
+      ⊎_elim
+      (λ (q : (k ≡ j) × (r ≡ z)). subst (λ i. Rested shards i r.shard r.answer) (sym q.0) (subst (λ u. Rested shards j u.shard u.answer) (sym q.1) now))
+      (λ (q : (k ≢ j) × (slice_get rests k ≡ Some r)). run_others m k j r.shard r.answer q.0 n (all k r q.1))
+      (get_set_cases rests j k z r get)
+
+module _ (A V : Type 0) (table : A → LockTable V) (good : A → LockState V → Type 0) (layout : A → Layout) (m : MachineState A V) (is : IsMachine A V table good layout (machine_view m)) (k s : ℕ) (low : k < length m.ops.by_rank) where
+  abbrev run : Running V
+  run = running table (machine_view m)
+
+  -- a rank whose view on some shard is open stands there
+  module _ (S : ShardRun V) (x : WholeView V) (has : slice_get run.shards s ≡ Some S) (seen : slice_get S.views k ≡ Some x) (in_call : is_open S.lock x ≡ true) where
+    pub open_stands : place_of run k ≡ s
+    open_stands =
+        let on = (is.is_good.ranks k low).on s S x has seen in
+        ⊎_elim (λ q. sym q.1) (λ q. let shut : is_open S.lock x ≡ false = on.elsewhere q.1 in let bad : true ≡ false = sym in_call ∙ shut in cc) (eqb_tells s (place_of run k))
+
+    at_place : slice_get run.shards (place_of run k) ≡ Some S
+    at_place = ap (slice_get run.shards) open_stands ∙ has
+
+    -- and opens no block
+    pub open_opens : opens run k ≡ false
+    open_opens =
+        let is_in : has_open_call run k ≡ true = ap (on_shard false (open_on k)) at_place ∙ ap (open_at S) seen ∙ in_call in
+        open_shuts (has_open_call run k) (nat_lt (slice_index run.opened k) (length (calls_by run k))) is_in
+
+    -- where its atom is idle it rests
+    pub open_rests : (answer : Stepped) → IsIdle S.lock S.held k x (next_of S.lock x) answer → Rests run k answer
+    open_rests answer idle = idle_rests run k S x answer at_place seen open_opens idle
+
+  -- a rank that rested rests, where the window of its shard shows it
+  pub still_rests : (answer a : Stepped) (r : RestsAt run.shards k s answer) → Shows r.shard.held answer a → Rests run k a
+  still_rests answer a r shows = open_rests r.shard r.view r.has r.seen r.in_call a (r.idle r.shard.held a shows)
+
+  -- the shard of which it is known is the code's
+  module _ (item : ShardState A V) (has : slice_get m.shards.items s ≡ Some item) where
+    stands_at : (answer : Stepped) (r : RestsAt run.shards k s answer) → r.shard ≡ shard_run table (shard_view item)
+    stands_at answer r = one_at run.shards s r.shard (shard_run table (shard_view item)) r.has (is_there A V table good layout m is s item has).has
+
+    named_at : (answer : Stepped) → RestsAt run.shards k s answer → IsNamed item.flat.words answer
+    named_at answer r = subst (λ (S : ShardRun V). IsNamed S.held answer) (stands_at answer r) r.named
+
+    shown_at : (answer a : Stepped) → RestsAt run.shards k s answer → Shows item.flat.words answer a → Rests run k a
+    shown_at answer a r shows = still_rests answer a r (subst (λ (S : ShardRun V). Shows S.held answer a) (sym (stands_at answer r)) shows)
+
+    -- the card or the word of a rank that rested is there
+    pub named_there : (answer : Stepped) → Rested run.shards k s answer → IsNamed item.flat.words answer
+    named_there Moved r = tt
+    named_there (Waiting w v) r = named_at (Waiting w v) r
+    named_there (Lost guess seen) r = tt
+    named_there (Busy n holder) r = named_at (Busy n holder) r
+    named_there Finished r = tt
+
+    -- where it shows so, the rank rests still
+    pub shown_rests : (answer a : Stepped) → Rested run.shards k s answer → Shows item.flat.words answer a → Rests run k a
+    shown_rests Moved a r shows = absurd shows
+    shown_rests (Waiting w v) a r shows = shown_at (Waiting w v) a r shows
+    shown_rests (Lost guess seen) a r shows = absurd shows
+    shown_rests (Busy n holder) a r shows = shown_at (Busy n holder) a r shows
+    shown_rests Finished a r shows = absurd shows
