@@ -255,11 +255,12 @@ impl<A: Algo> MachineState<A> {
         ensures rests { IfSome result (λ last. Rests (running A.table (machine_view self.now)) rank last.answer) }
         ensures rested { IfSome result (λ last. Rested (running A.table (machine_view self.now)).shards rank last.shard last.answer) }
     {
+        if self.has_left(rank) {
+            return None;
+        }
         let shard = self.shard_of_rank(rank);
         let view = shard.flat.view(rank);
         if shard.core.is_open(view) {
-            None
-        } else if self.has_left(rank) {
             None
         } else {
             Some(LastRest {
@@ -299,8 +300,8 @@ impl<A: Algo> MachineState<A> {
         Some(self.rest_at(rank, place, answer))
     }
 
-    /// The answer with which a rank rests that was seen to rest last so, where the card or the word that it waits for shows it. `None`
-    /// says nothing of its next step.
+    /// The answer with which a rank rests that was seen to rest last so, where the card or the word that it waits for shows it, or where it
+    /// is finished still. `None` says nothing of its next step.
     #[inline(always)]
     pub fn still_resting(&self, rank: u32, last: LastRest) -> Option<Stepped>
         requires there { rank < length self.now.ops.by_rank }
@@ -308,6 +309,9 @@ impl<A: Algo> MachineState<A> {
         requires rested { Rested (running A.table (machine_view self.now)).shards rank last.shard last.answer }
         ensures { IfSome result (Rests (running A.table (machine_view self.now)) rank) }
     {
+        if let Stepped::Finished = last.answer {
+            return Some(self.finished(rank)?.answer);
+        }
         let shard = self.shards.get(last.shard as usize)?;
         shown(shard.flat.words(), last.answer)
     }

@@ -9,8 +9,8 @@ use Rattle.rl_whole.specs.State.{running_shard, machine_view}
 use Rattle.rl_whole.specs.Whole.{next_of}
 use Rattle.rl_whole.proofs.state.MachineState.finished.Goals as goal
 
-pub returns-else-has_left-clause-rests : goal.returns-else-has_left-clause-rests
-returns-else-has_left-clause-rests g c =
+pub returns-else-is_open-clause-rests : goal.returns-else-is_open-clause-rests
+returns-else-is_open-clause-rests g c =
     let m = running g.A.Algo.table (machine_view c.args.self.now) in
     let S = running_shard g.A.Algo.table c.shard_of_rank-shard.result.now in
     let k = c.args.rank in
