@@ -49,6 +49,12 @@ module _ {V : Type 0} (defined : TheShape → ℕ → Knobs → LockTable V) (pl
       (subst (λ g. at (shape_of place) (knobs_of place.lock) g homes turns) geom_is
       (subst (λ k. at (shape_of place) k geom homes turns) knobs_is (subst (λ s. at s knobs geom homes turns) shape_is says))))
 
+-- A run of a machine that was made from the parts of a placement and a schedule.
+pub ran : {V : Type 0} (defined : TheShape → ℕ → Knobs → LockTable V) (place : ThePlace) (ops : Ops) (schedule : Schedule) (inside : ThePlace) (shape : TheShape) (knobs : Knobs) (homes : List ℕ) (turns : List Turn) (end : Running V) →
+    inside ≡ place → shape ≡ shape_of place → knobs ≡ knobs_of place.lock → homes ≡ inside.homes → turns ≡ schedule.turns → end ≡ run_of (start_of defined shape knobs inside.geom homes ops) (ranks_of turns) → end ≡ run_with defined place ops schedule
+ran defined place ops schedule inside shape knobs homes turns end same shape_is knobs_is homes_are turns_are run =
+    run ∙ run_is defined place ops schedule shape knobs inside.geom homes turns shape_is knobs_is (ap (λ (p : ThePlace). p.geom) same) (homes_are ∙ ap (λ (p : ThePlace). p.homes) same) turns_are
+
 -- The queues of a run, by the parts of a placement.
 pub keeps_is : {V : Type 0} (name : LockName) (place : ThePlace) (shape : TheShape) (knobs : Knobs) (homes : List ℕ) (m n : Running V) → name ≡ name_of place.lock → shape ≡ shape_of place → knobs ≡ knobs_of place.lock → homes ≡ place.homes →
     m ≡ n → EachKeepsQueues name shape knobs homes m → EachKeepsQueues (name_of place.lock) (shape_of place) (knobs_of place.lock) place.homes n

@@ -33,6 +33,12 @@ module _ {V : Type 0} (defined : TheShape → ℕ → Knobs → LockTable V) (pl
       ap (λ s. start_of defined s knobs geom homes ops) shape_is ∙ ap (λ k. start_of defined (shape_of place) k geom homes ops) knobs_is
       ∙ ap (λ g. start_of defined (shape_of place) (knobs_of place.lock) g homes ops) geom_is ∙ ap (λ hs. start_of defined (shape_of place) (knobs_of place.lock) place.geom hs ops) homes_are
 
+  -- rounds from a start that was made from the parts of the placement
+  pub rounds_from : (inside : ThePlace) (shape : TheShape) (knobs : Knobs) (homes : List ℕ) (most : ℕ) (start end : Running V) → inside ≡ place → shape ≡ shape_of place → knobs ≡ knobs_of place.lock → homes ≡ inside.homes →
+      start ≡ start_of defined shape knobs inside.geom homes ops → end ≡ all_rounds most start → end ≡ all_rounds most first
+  rounds_from inside shape knobs homes most start end same shape_is knobs_is homes_are made run =
+      run ∙ ap (all_rounds most) (made ∙ start_is shape knobs inside.geom homes shape_is knobs_is (ap (λ (p : ThePlace). p.geom) same) (homes_are ∙ ap (λ (p : ThePlace). p.homes) same))
+
   -- there are as many shards as homes
   pub as_many_shards : (m : Running V) → IsAlike m first → length m.shards ≡ length place.homes
   as_many_shards m alike =

@@ -1,5 +1,6 @@
 -- A replay, from what its three files came to.
-use Rattle.std.proofs.Common.{◌≡◌, ℕ, List, [], Option, Result, Ok, Err, IfOk, unwrap_or, ap, sym, Vec, Global}
+use Rattle.std.proofs.Common.{◌≡◌, ℕ, List, [], Option, Result, Ok, Err, IfOk, IsErrAnd, unwrap_or, ap, sym, subst, ◌∙◌, Vec, Global}
+use Rattle.std.proofs.lemmas.Result.{err_from_is_err_and}
 use Rattle.rl_place.specs.Places.{ThePlace}
 use Rattle.rl_ops.specs.declared.ops.Ops.{Ops}
 use Rattle.rl_ops.specs.declared.schedule.Schedule.{Schedule}
@@ -17,10 +18,20 @@ use Rattle.rl_replay.proofs.ReadLemmas.{fits_told}
 use Rattle.rmalock.proofs.HeadlineLaws.{is_replay}
 
 -- a step that ends early ends all that follows
-stops_at : {Y : Type 0} (why : Stop) (told : Result Y Complaint) (next : Y → Result (List ℕ) Complaint) → EndsEarly why told → EndsEarly why (told >>= next)
+pub stops_at : {X Y : Type 0} (why : Stop) (told : Result X Complaint) (next : X → Result Y Complaint) → EndsEarly why told → EndsEarly why (told >>= next)
 stops_at (stop.Refused complaint) told next e = ap (λ z. z >>= next) e
 stops_at stop.Fault told next e = tt
 stops_at stop.Memory told next e = tt
+
+-- what `?` returns is what ended the call before it
+pub ended : {X : Type 0} (P : Result X Stop → Type 0) (why : Stop) (result : Result X Stop) → IsErrAnd result (λ e. e ≡ why) → P (Err why) → P result
+ended P why result e holds =
+    let is = err_from_is_err_and result e in
+    subst P (sym (is.1 ∙ ap (λ y. Err y) is.2)) holds
+
+-- what was read where the files are still those of before
+pub still_read : {X Y : Type 0} {view : X → Y} {reading : List ℕ → Result Y Complaint} {result : Result X Stop} {now before : Option (List ℕ)} → now ≡ before → WasRead now view reading result → WasRead before view reading result
+still_read {X} {Y} {view} {reading} {result} same read = subst (λ told. WasRead told view reading result) same read
 
 module _ (file : List ℕ → Option (List ℕ)) (names : Names) where
   -- texts that fit, and what the replay came to for them

@@ -21,6 +21,7 @@ use Rattle.rmalock.specs.RunHeadline.{IsRun}
 use Rattle.rl_replay.specs.Reading.{◌>>=◌, EndsEarly, WasRead, placed, called}
 use Rattle.rmalock.specs.RunAnswer.{run_read, WasRun}
 use Rattle.rl_replay.proofs.ReadLemmas.{fits_told}
+use Rattle.rmalock.proofs.ReplayLemmas.{stops_at}
 use Rattle.rmalock.proofs.SpelledLaws.{PlaceRead, place_read, calls_read}
 
 -- the replies of a lawful report are those of one thread
@@ -51,12 +52,6 @@ is_run texts place ops report text p c is lawful =
       lawful = lawful;
       replies = replies_are place ops report read.proper lawful;
     }
-
--- a step that ends early ends all that follows
-stops_at : {X Y : Type 0} (why : Stop) (told : Result X Complaint) (next : X → Result Y Complaint) → EndsEarly why told → EndsEarly why (told >>= next)
-stops_at (stop.Refused complaint) told next e = ap (λ z. z >>= next) e
-stops_at stop.Fault told next e = tt
-stops_at stop.Memory told next e = tt
 
 module _ (file : List ℕ → Option (List ℕ)) (names : RunNames) where
   abbrev texts_of : List ℕ → List ℕ → Texts

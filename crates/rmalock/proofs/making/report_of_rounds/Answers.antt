@@ -1,52 +1,38 @@
 use Rattle.std.proofs.Common.{◌≡◌, length, IfOk, ap, sym, subst, ◌∙◌}
 use Rattle.std.proofs.lemmas.List.{length-map}
-use Rattle.rl_place.specs.Places.{ThePlace}
 use Rattle.rl_whole.specs.Running.{running, shard_run}
 use Rattle.rmalock.specs.Replay.{start_with, report_in, queue_count}
 use Rattle.rmalock.specs.Rounds.{all_rounds}
 use Rattle.rmalock.proofs.RoundLaws.{rounds_alike}
-use Rattle.rmalock.proofs.MakeLaws.{start_is, as_many_shards, as_many_told}
+use Rattle.rmalock.proofs.MakeLaws.{rounds_from, as_many_shards, as_many_told}
 use Rattle.rmalock.proofs.making.report_of_rounds.Goals as goal
 
 pub report_of_machine-requires-clause-shards : goal.report_of_machine-requires-clause-shards
 report_of_machine-requires-clause-shards g c =
     let place = c.args.place.now in
-    let first = start_with g.A.Algo.defined place c.args.ops in
-    let machine = c.make_rounds.new.machine in
-    let run : running g.A.Algo.table machine ≡ all_rounds c.args.most first =
-    c.in_ok-make_rounds.ensures
-    ∙ ap (all_rounds c.args.most) (c.in_ok-machine.ensures.made
-    ∙ start_is g.A.Algo.defined place c.args.ops _ _ _ _ c.in_ok-shape.ensures.exact c.knobs.ensures (ap (λ (p : ThePlace). p.geom) c.place.view_is) (c.as_slice-homes.ensures.value ∙ ap (λ (p : ThePlace). p.homes) c.place.view_is)) in
-    sym (length-map machine.shards (shard_run g.A.Algo.table)) ∙ ap (λ m. length m.shards) run
-    ∙ as_many_shards g.A.Algo.defined place c.args.ops (all_rounds c.args.most first) (rounds_alike c.args.most first c.args.most) ∙ c.requires.proper.each_shard
+    let run = rounds_from g.A.Algo.defined place c.args.ops _ _ _ _ c.args.most _ (running g.A.Algo.table c.make_rounds.new.machine)
+    c.place.view_is c.in_ok-shape.ensures.exact c.knobs.ensures c.as_slice-homes.ensures.value c.in_ok-machine.ensures.made c.in_ok-make_rounds.ensures in
+    sym (length-map c.make_rounds.new.machine.shards (shard_run g.A.Algo.table)) ∙ ap (λ m. length m.shards) run
+    ∙ as_many_shards g.A.Algo.defined place c.args.ops (all_rounds c.args.most (start_with g.A.Algo.defined place c.args.ops)) (rounds_alike c.args.most (start_with g.A.Algo.defined place c.args.ops) c.args.most) ∙ c.requires.proper.each_shard
 
 pub report_of_machine-requires-clause-ranks : goal.report_of_machine-requires-clause-ranks
 report_of_machine-requires-clause-ranks g c =
     let place = c.args.place.now in
-    let first = start_with g.A.Algo.defined place c.args.ops in
-    let run : running g.A.Algo.table c.make_rounds.new.machine ≡ all_rounds c.args.most first =
-    c.in_ok-make_rounds.ensures
-    ∙ ap (all_rounds c.args.most) (c.in_ok-machine.ensures.made
-    ∙ start_is g.A.Algo.defined place c.args.ops _ _ _ _ c.in_ok-shape.ensures.exact c.knobs.ensures (ap (λ (p : ThePlace). p.geom) c.place.view_is) (c.as_slice-homes.ensures.value ∙ ap (λ (p : ThePlace). p.homes) c.place.view_is)) in
-    ap (λ m. length m.calls) run ∙ ap length (rounds_alike c.args.most first c.args.most).calls ∙ c.requires.calls.ranks_there
+    let run = rounds_from g.A.Algo.defined place c.args.ops _ _ _ _ c.args.most _ (running g.A.Algo.table c.make_rounds.new.machine)
+    c.place.view_is c.in_ok-shape.ensures.exact c.knobs.ensures c.as_slice-homes.ensures.value c.in_ok-machine.ensures.made c.in_ok-make_rounds.ensures in
+    ap (λ m. length m.calls) run ∙ ap length (rounds_alike c.args.most (start_with g.A.Algo.defined place c.args.ops) c.args.most).calls ∙ c.requires.calls.ranks_there
 
 pub returns-clause-report : goal.returns-clause-report
 returns-clause-report g c =
     let place = c.args.place.now in
-    let first = start_with g.A.Algo.defined place c.args.ops in
-    let run : running g.A.Algo.table c.make_rounds.new.machine ≡ all_rounds c.args.most first =
-    c.in_ok-make_rounds.ensures
-    ∙ ap (all_rounds c.args.most) (c.in_ok-machine.ensures.made
-    ∙ start_is g.A.Algo.defined place c.args.ops _ _ _ _ c.in_ok-shape.ensures.exact c.knobs.ensures (ap (λ (p : ThePlace). p.geom) c.place.view_is) (c.as_slice-homes.ensures.value ∙ ap (λ (p : ThePlace). p.homes) c.place.view_is)) in
+    let run = rounds_from g.A.Algo.defined place c.args.ops _ _ _ _ c.args.most _ (running g.A.Algo.table c.make_rounds.new.machine)
+    c.place.view_is c.in_ok-shape.ensures.exact c.knobs.ensures c.as_slice-homes.ensures.value c.in_ok-machine.ensures.made c.in_ok-make_rounds.ensures in
     subst (λ m. IfOk c.report_of_machine.result (λ report. report ≡ report_in (queue_count place) m)) run c.report_of_machine.ensures
 
 pub returns-clause-ranks : goal.returns-clause-ranks
 returns-clause-ranks g c =
     let place = c.args.place.now in
-    let first = start_with g.A.Algo.defined place c.args.ops in
-    let run : running g.A.Algo.table c.make_rounds.new.machine ≡ all_rounds c.args.most first =
-    c.in_ok-make_rounds.ensures
-    ∙ ap (all_rounds c.args.most) (c.in_ok-machine.ensures.made
-    ∙ start_is g.A.Algo.defined place c.args.ops _ _ _ _ c.in_ok-shape.ensures.exact c.knobs.ensures (ap (λ (p : ThePlace). p.geom) c.place.view_is) (c.as_slice-homes.ensures.value ∙ ap (λ (p : ThePlace). p.homes) c.place.view_is)) in
-    let ranks = ap (λ m. length m.calls) run ∙ ap length (rounds_alike c.args.most first c.args.most).calls ∙ c.requires.calls.ranks_there in
+    let run = rounds_from g.A.Algo.defined place c.args.ops _ _ _ _ c.args.most _ (running g.A.Algo.table c.make_rounds.new.machine)
+    c.place.view_is c.in_ok-shape.ensures.exact c.knobs.ensures c.as_slice-homes.ensures.value c.in_ok-machine.ensures.made c.in_ok-make_rounds.ensures in
+    let ranks = ap (λ m. length m.calls) run ∙ ap length (rounds_alike c.args.most (start_with g.A.Algo.defined place c.args.ops) c.args.most).calls ∙ c.requires.calls.ranks_there in
     as_many_told (queue_count place) (running g.A.Algo.table c.make_rounds.new.machine) (length place.paths) c.report_of_machine.result ranks c.report_of_machine.ensures
