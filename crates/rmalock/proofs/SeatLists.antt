@@ -39,6 +39,11 @@ queue_count_is place name shape knobs n kind exact set e home =
     ∙ ap (λ s. length (queues_of name s home (knobs_of place.lock))) (sym exact)
     ∙ ap (λ k. length (queues_of name shape home k)) (sym set)
 
+-- room for one of each rank is as long as the shape's list of ranks
+pub room_long : (place : ThePlace) (shape : TheShape) (ranks : ℕ) (room : List ℕ) → shape ≡ shape_of place → ranks ≡ length place.paths → room ≡ replicate ranks 1 → length room ≡ length shape.node_of
+room_long place shape ranks room exact there ones =
+    ap length ones ∙ length-replicate ranks 1 ∙ there ∙ sym (ap (λ (s : TheShape). length s.node_of) exact ∙ length-map place.paths _)
+
 -- one update of each rank
 pub sum_ones : (n : ℕ) → sum (replicate n 1) ≡ n
 sum_ones n = let all : sum (replicate n 1) ≡ n * 1 = sum_by-replicate (λ (x : ℕ). x) n 1 in omega arith

@@ -1,6 +1,6 @@
 -- The seats of a new shard, whose ranks have room for one call each.
 use Rattle.std.proofs.Common.{rules, ℕ, ◌≡◌, ◌<◌, ◌≤◌, length, replicate, sum, vec_len, ap, sym, subst, ◌∙◌, arith}
-use Rattle.std.proofs.lemmas.List.{length-map, length-replicate}
+use Rattle.std.proofs.lemmas.List.{length-map}
 use Rattle.std.proofs.lemmas.Option.{slice_get_within}
 use Rattle.rl_word.specs.Shapes.{TheShape}
 use Rattle.rl_place.specs.Places.{ThePlace}
@@ -9,7 +9,7 @@ use Rattle.rl_whole.specs.Start.{lock_with, site_with}
 use Rattle.rl_shard.specs.Counting.{first_counted}
 use Rattle.rl_shard.specs.Shards.{IsShardOf, core_at}
 use Rattle.rl_shard.proofs.FreshLaws.{fresh_at}
-use Rattle.rmalock.proofs.SeatLists.{node_there, sum_ones, new_long, queue_count_is}
+use Rattle.rmalock.proofs.SeatLists.{node_there, sum_ones, new_long, queue_count_is, room_long}
 use Rattle.rmalock.proofs.seat_tests.opened.Goals as goal
 
 pub new-requires-clause-home : goal.new-requires-clause-home
@@ -22,24 +22,20 @@ new-requires-clause-queues g c =
 
 pub new-requires-clause-calls : goal.new-requires-clause-calls
 new-requires-clause-calls g c =
-    let long : length c.in_ok-shape.shape.node_of ≡ length c.args.place.now.paths = ap (λ (s : TheShape). length s.node_of) c.in_ok-shape.ensures.exact ∙ length-map c.args.place.now.paths _ in
     let counted : c.len-ranks.result ≡ length c.place.inside.paths.items = search rules in
-    let there : c.len-ranks.result ≡ length c.args.place.now.paths = counted ∙ ap (λ (p : ThePlace). length p.paths) c.place.view_is in
-    let calls : c.in_ok-room.room.calls.items ≡ replicate (length c.args.place.now.paths) 1 = c.in_ok-room.ensures.calls ∙ ap (λ (n : ℕ). replicate n 1) there in
-    let many : length c.in_ok-room.room.calls.items ≡ length c.args.place.now.paths = ap length calls ∙ length-replicate (length c.args.place.now.paths) 1 in
+    let there = counted ∙ ap (λ (p : ThePlace). length p.paths) c.place.view_is in
+    let long : length c.in_ok-room.room.calls.items ≡ length c.in_ok-shape.shape.node_of = room_long c.args.place.now _ _ _ c.in_ok-shape.ensures.exact there c.in_ok-room.ensures.calls in
     search rules
 
 pub new-requires-clause-updates : goal.new-requires-clause-updates
 new-requires-clause-updates g c =
-    let long : length c.in_ok-shape.shape.node_of ≡ length c.args.place.now.paths = ap (λ (s : TheShape). length s.node_of) c.in_ok-shape.ensures.exact ∙ length-map c.args.place.now.paths _ in
     let counted : c.len-ranks.result ≡ length c.place.inside.paths.items = search rules in
-    let there : c.len-ranks.result ≡ length c.args.place.now.paths = counted ∙ ap (λ (p : ThePlace). length p.paths) c.place.view_is in
-    let updates : c.in_ok-room.room.updates.items ≡ replicate (length c.args.place.now.paths) 1 = c.in_ok-room.ensures.updates ∙ ap (λ (n : ℕ). replicate n 1) there in
-    let many : length c.in_ok-room.room.updates.items ≡ length c.args.place.now.paths = ap length updates ∙ length-replicate (length c.args.place.now.paths) 1 in
+    let there = counted ∙ ap (λ (p : ThePlace). length p.paths) c.place.view_is in
+    let long : length c.in_ok-room.room.updates.items ≡ length c.in_ok-shape.shape.node_of = room_long c.args.place.now _ _ _ c.in_ok-shape.ensures.exact there c.in_ok-room.ensures.updates in
     let ones = sum_ones (length c.args.place.now.paths) in
     let few = c.requires.proper.most_ranks in
     let small : sum (replicate (length c.args.place.now.paths) 1) ≤ 20000 = omega arith in
-    (search rules, subst (λ l. sum l ≤ 20000) (sym updates) small)
+    (search rules, subst (λ l. sum l ≤ 20000) (sym (c.in_ok-room.ensures.updates ∙ ap (λ (n : ℕ). replicate n 1) there)) small)
 
 pub returns-clause-shard : goal.returns-clause-shard
 returns-clause-shard g c =
