@@ -5,6 +5,14 @@ use rl_model::Call;
 use rl_place::{Lock, Path};
 use std::test::*;
 
+/// The path of a node at the first level.
+fn node(number: u32) -> Path {
+    Path {
+        len: 1,
+        parts: [number, 0, 0],
+    }
+}
+
 #[test]
 fn draws_of_one(rt: HostRuntime) {
     let mut generator = Generator::new(1);
@@ -36,10 +44,7 @@ fn two_calls_of_one_rank(rt: HostRuntime) {
 #[test]
 fn seven_calls_of_three_ranks(rt: HostRuntime) {
     let (place, ops) = generate(rt.alloc(), 15, 3, 7).expect(&rt, "memory");
-    let path = Path {
-        len: 1,
-        parts: [0, 0, 0],
-    };
+    let path = node(0);
     assert_eq!(rt; place.paths.as_slice(), [path, path, path].as_slice());
     let lists = ops.by_rank.into_vec();
     let first = [
@@ -69,12 +74,8 @@ fn seven_calls_of_three_ranks(rt: HostRuntime) {
 #[test]
 fn nine_ranks_on_three_nodes(rt: HostRuntime) {
     let (place, ops) = generate(rt.alloc(), 7, 9, 0).expect(&rt, "memory");
-    let last = Path {
-        len: 1,
-        parts: [2, 0, 0],
-    };
     assert_eq!(rt; place.paths.len(), 9);
-    assert_eq!(rt; place.paths.as_slice()[8], last);
+    assert_eq!(rt; place.paths.as_slice()[8], node(2));
     assert_eq!(rt; place.homes.as_slice(), [0, 1, 2, 0].as_slice());
     assert_eq!(rt; ops.by_rank.into_vec().len(), 9);
 }

@@ -2,6 +2,7 @@
 
 use crate::seat_tests::trial_and_seats;
 use std::alloc::{AllocError as OutOfMemory, Global};
+use std::process::Abort;
 use std::test::Fail;
 
 /// A placement with this lock, one shard on node 0, and all ranks on node 0, one for each digit; and so many holds for each as its
@@ -22,56 +23,99 @@ fn together(alloc: Global, lock: &str, calls: &str) -> Result<(String, String), 
     Ok((place, text))
 }
 
+/// Looks that the steps of these ranks, over the placement and the calls of these texts, tell this.
+fn look<R: AllocGlobal + Abort>(
+    rt: &R,
+    place: &str,
+    calls: &str,
+    ranks: &str,
+    want: &str,
+) -> Result<(), Fail> {
+    let told = trial_and_seats(rt, place, calls, ranks)?;
+    assert_eq!(rt; told.as_str(), want, "{ranks}");
+    Ok(())
+}
+
+/// The same of ranks that are together, with each of these.
+fn look_together<R: AllocGlobal + Abort>(
+    rt: &R,
+    lock: &str,
+    calls: &str,
+    cases: &[(&str, &str)],
+) -> Result<(), Fail> {
+    let (place, text) = together(rt.alloc(), lock, calls)?;
+    for (ranks, want) in cases {
+        look(rt, &place, &text, ranks, want)?;
+    }
+    Ok(())
+}
+
 #[test]
 fn spin(rt: HostRuntime) -> Result<(), Fail> {
-    for (calls, ranks, want) in [
-        ("1", "000000000", "m m m+0 m m*0-0 m m m m"),
-        ("0", "", ""),
-        ("0", "00", "f f"),
-        ("1", "00000000000000", "m m m+0 m m*0-0 m m m m f f f f f"),
-        (
-            "2",
+    look_together(
+        &rt,
+        "spin",
+        "1",
+        &[
+            ("000000000", "m m m+0 m m*0-0 m m m m"),
+            ("00000000000000", "m m m+0 m m*0-0 m m m m f f f f f"),
+        ],
+    )?;
+    look_together(&rt, "spin", "0", &[("", ""), ("00", "f f")])?;
+    look_together(
+        &rt,
+        "spin",
+        "2",
+        &[(
             "000000000000000000",
             "m m m+0 m m*0-0 m m m m m m m+0 m m*0-0 m m m m",
-        ),
-        ("11", "001", "m m b0.0"),
-        ("11", "0001", "m m m+0 b0.0"),
-        ("11", "0000111", "m m m+0 m m l0.1 m"),
-        ("11", "000011111", "m m m+0 m m l0.1 m m l0.1"),
-        ("11", "1111000", "m m m+1 m m l0.2 m"),
-        ("11", "0011001", "m m b0.0 b0.0 m+0 m m"),
-        (
-            "11",
-            "000000000111111111",
-            "m m m+0 m m*0-0 m m m m m m m+1 m m*1-1 m m m m",
-        ),
-        (
-            "11",
-            "111111111000000000",
-            "m m m+1 m m*1-1 m m m m m m m+0 m m*0-0 m m m m",
-        ),
-        ("11", "0101010101", "m b0.0 m b0.0 m+0 b0.0 m m m*0-0 l0.1"),
-        (
-            "11",
-            "0000011010000111",
-            "m m m+0 m m*0-0 m l0.1 b0.1 m m m m m m m m+1",
-        ),
-        (
-            "11",
-            "00000000101111",
-            "m m m+0 m m*0-0 m m m b0.0 m m m m+1 m",
-        ),
-        ("10", "0101", "m f m f"),
-        ("01", "0011111111110", "f f m m m+1 m m*1-1 m m m m f f"),
-        ("111", "012012012", "m b0.0 b0.0 m b0.0 b0.0 m+0 b0.0 b0.0"),
-        ("111", "0000111222", "m m m+0 m m l0.1 m m l0.1 m"),
-        ("111", "2222000", "m m m+2 m m l0.3 m"),
-        ("111", "201", "m b0.2 b0.2"),
-    ] {
-        let (place, text) = together(rt.alloc(), "spin", calls)?;
-        let told = trial_and_seats(&rt, &place, &text, ranks)?;
-        assert_eq!(rt; told.as_str(), want, "{calls} {ranks}");
-    }
+        )],
+    )?;
+    look_together(
+        &rt,
+        "spin",
+        "11",
+        &[
+            ("001", "m m b0.0"),
+            ("0001", "m m m+0 b0.0"),
+            ("0000111", "m m m+0 m m l0.1 m"),
+            ("000011111", "m m m+0 m m l0.1 m m l0.1"),
+            ("1111000", "m m m+1 m m l0.2 m"),
+            ("0011001", "m m b0.0 b0.0 m+0 m m"),
+            (
+                "000000000111111111",
+                "m m m+0 m m*0-0 m m m m m m m+1 m m*1-1 m m m m",
+            ),
+            (
+                "111111111000000000",
+                "m m m+1 m m*1-1 m m m m m m m+0 m m*0-0 m m m m",
+            ),
+            ("0101010101", "m b0.0 m b0.0 m+0 b0.0 m m m*0-0 l0.1"),
+            (
+                "0000011010000111",
+                "m m m+0 m m*0-0 m l0.1 b0.1 m m m m m m m m+1",
+            ),
+            ("00000000101111", "m m m+0 m m*0-0 m m m b0.0 m m m m+1 m"),
+        ],
+    )?;
+    look_together(&rt, "spin", "10", &[("0101", "m f m f")])?;
+    look_together(
+        &rt,
+        "spin",
+        "01",
+        &[("0011111111110", "f f m m m+1 m m*1-1 m m m m f f")],
+    )?;
+    look_together(
+        &rt,
+        "spin",
+        "111",
+        &[
+            ("012012012", "m b0.0 b0.0 m b0.0 b0.0 m+0 b0.0 b0.0"),
+            ("0000111222", "m m m+0 m m l0.1 m m l0.1 m"),
+            ("2222000", "m m m+2 m m l0.3 m"),
+            ("201", "m b0.2 b0.2"),
+        ],
+    )?;
     Ok(())
 }
 
@@ -79,32 +123,31 @@ fn spin(rt: HostRuntime) -> Result<(), Fail> {
 /// stand the tail, word 6, and then the next word and the status word of each rank: words 7 and 8, 9 and 10.
 #[test]
 fn one_queue_of_all_ranks(rt: HostRuntime) -> Result<(), Fail> {
-    for (calls, ranks, want) in [
-        (
-            "1",
-            "0000000000000",
-            "m m m m mj0.0s0.0+0 m m*0-0 m m m m m f",
-        ),
-        // The leaver finds no link, loses its compare-and-swap and waits.
-        (
-            "11",
-            "0000001111111110000001001",
-            "m m m m mj0.0s0.0+0 m m m m l0.1 m m m mj0.1 m m*0-0 m m l1.2 m w7.0 m m mp0.1 m+1",
-        ),
-        // The leaver finds the link, and the one that it passes to has waited.
-        (
-            "11",
-            "000000111111111110001",
-            "m m m m mj0.0s0.0+0 m m m m l0.1 m m m mj0.1 m m w10.0 m*0-0 m mp0.1 m+1",
-        ),
-        // Two joiners meet at the card of the tail.
-        ("11", "0001110", "m m m m m b0.0 m"),
-    ] {
-        let (place, text) = together(rt.alloc(), "dmcs", calls)?;
-        let told = trial_and_seats(&rt, &place, &text, ranks)?;
-        assert_eq!(rt; told.as_str(), want, "{calls} {ranks}");
-    }
-    Ok(())
+    look_together(
+        &rt,
+        "dmcs",
+        "1",
+        &[("0000000000000", "m m m m mj0.0s0.0+0 m m*0-0 m m m m m f")],
+    )?;
+    look_together(
+        &rt,
+        "dmcs",
+        "11",
+        &[
+            // The leaver finds no link, loses its compare-and-swap and waits.
+            (
+                "0000001111111110000001001",
+                "m m m m mj0.0s0.0+0 m m m m l0.1 m m m mj0.1 m m*0-0 m m l1.2 m w7.0 m m mp0.1 m+1",
+            ),
+            // The leaver finds the link, and the one that it passes to has waited.
+            (
+                "000000111111111110001",
+                "m m m m mj0.0s0.0+0 m m m m l0.1 m m m mj0.1 m m w10.0 m*0-0 m mp0.1 m+1",
+            ),
+            // Two joiners meet at the card of the tail.
+            ("0001110", "m m m m m b0.0 m"),
+        ],
+    )
 }
 
 const HOLDS: &str = "rmalock-calls 1\n0 hold 0\n1 hold 0\nend\n";
@@ -134,58 +177,45 @@ fn two_cohorts(rt: HostRuntime) -> Result<(), Fail> {
         // The remote rank stops in the card, and the local one does its whole call.
         ("11100000000", "m m m m m mj0.0 ma1 ms0.0+0 m*0-0 m m"),
     ] {
-        let told = trial_and_seats(&rt, BOTH_COHORTS, HOLDS, ranks)?;
-        assert_eq!(rt; told.as_str(), want, "{ranks}");
+        look(&rt, BOTH_COHORTS, HOLDS, ranks, want)?;
     }
     Ok(())
 }
 
-/// After the remote rank's announcement two local ones enter, which is the bound: the local budget and once more.
+/// A local bound, budgets of 0, and a tree.
 #[test]
-fn local_ranks_overtake_within_their_bound(rt: HostRuntime) -> Result<(), Fail> {
-    let place =
-        "rmalock-place 1\nlevels 1\nlock alock\nbudget 1 1\nshards 1\nbuckets 1\noverflow 0\nrank 0 at 0\nrank 1 at 0\nrank 2 at 0\nrank 3 at 1\nhome 0 0\nend\n";
-    let told = trial_and_seats(
-        &rt,
-        place,
-        HOLDS_OF_FOUR,
-        "000033333330011111222220001111222233",
-    )?;
-    assert_eq!(rt;
-        told.as_str(),
-        "m m mj0.0 ma1 m m m m mj1.3 m ma2 m ms0.0+0 m m l0.1 mj0.1 m m m l0.2 mj0.2 m m*0-0 m mp0.1 m+1 m*1-1 m m m ma1 m w8.1 m ms1.3+3"
-    );
-    Ok(())
-}
-
-/// With budgets of 0 each head settles anew.
-#[test]
-fn no_budget_settles_each_time(rt: HostRuntime) -> Result<(), Fail> {
-    let place =
-        "rmalock-place 1\nlevels 1\nlock alock\nbudget 0 0\nshards 1\nbuckets 1\noverflow 0\nrank 0 at 0\nrank 1 at 0\nhome 0 0\nend\n";
-    let told = trial_and_seats(&rt, place, HOLDS, "0000011111000111")?;
-    assert_eq!(rt;
-        told.as_str(),
-        "m m mj0.0 ma1 ms0.0+0 m m l0.1 mj0.1 m m*0-0 m m m ma1 ms0.1+1"
-    );
-    Ok(())
-}
-
-/// Queue 0 is the root's, queues 1 and 2 are those of the two nodes: a node's budget of 1 is used up, and the root passes on.
-#[test]
-fn a_tree_of_two_nodes(rt: HostRuntime) -> Result<(), Fail> {
-    let place =
-        "rmalock-place 1\nlevels 1\nlock mcs\nbudget 1\nshards 1\nbuckets 1\noverflow 0\nrank 0 at 0\nrank 1 at 0\nrank 2 at 1\nrank 3 at 1\nhome 0 0\nend\n";
-    let told = trial_and_seats(
-        &rt,
-        place,
-        HOLDS_OF_THREE,
-        "0000000000001111111111222222222222222200011111111112",
-    )?;
-    assert_eq!(rt;
-        told.as_str(),
-        "m m m m mj1.0 m m m m m mj0.1s0.1s1.0+0 m m m m l0.1 m m m mj1.1 m m m m m m mj2.2 m m m m l0.2 m m m mj0.2 m m m*0-0 m mp1.1 m+1 m*1-1 m m m mp0.2 m m m m ms2.2+2"
-    );
+fn ranks_of_several_nodes(rt: HostRuntime) -> Result<(), Fail> {
+    for (lock, ranks_at, calls, ranks, want) in [
+        // After the remote rank's announcement two local ones enter, which is the bound: the local budget and once more.
+        (
+            "alock\nbudget 1 1",
+            "rank 0 at 0\nrank 1 at 0\nrank 2 at 0\nrank 3 at 1",
+            HOLDS_OF_FOUR,
+            "000033333330011111222220001111222233",
+            "m m mj0.0 ma1 m m m m mj1.3 m ma2 m ms0.0+0 m m l0.1 mj0.1 m m m l0.2 mj0.2 m m*0-0 m mp0.1 m+1 m*1-1 m m m ma1 m w8.1 m ms1.3+3",
+        ),
+        // With budgets of 0 each head settles anew.
+        (
+            "alock\nbudget 0 0",
+            "rank 0 at 0\nrank 1 at 0",
+            HOLDS,
+            "0000011111000111",
+            "m m mj0.0 ma1 ms0.0+0 m m l0.1 mj0.1 m m*0-0 m m m ma1 ms0.1+1",
+        ),
+        // Queue 0 is the root's, queues 1 and 2 are those of the two nodes: a node's budget of 1 is used up, and the root passes on.
+        (
+            "mcs\nbudget 1",
+            "rank 0 at 0\nrank 1 at 0\nrank 2 at 1\nrank 3 at 1",
+            HOLDS_OF_THREE,
+            "0000000000001111111111222222222222222200011111111112",
+            "m m m m mj1.0 m m m m m mj0.1s0.1s1.0+0 m m m m l0.1 m m m mj1.1 m m m m m m mj2.2 m m m m l0.2 m m m mj0.2 m m m*0-0 m mp1.1 m+1 m*1-1 m m m mp0.2 m m m m ms2.2+2",
+        ),
+    ] {
+        let place = format!(in rt.alloc();
+            "rmalock-place 1\nlevels 1\nlock {lock}\nshards 1\nbuckets 1\noverflow 0\n{ranks_at}\nhome 0 0\nend\n"
+        )?;
+        look(&rt, &place, calls, ranks, want)?;
+    }
     Ok(())
 }
 

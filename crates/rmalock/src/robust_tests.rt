@@ -2,18 +2,15 @@
 ghost use Rattle.std.specs.Prelude.{◌≤◌};
 
 use crate::offline::offline;
-use crate::program::rmalock;
 use crate::tests::{
-    HELD_ONCE, NINE_STEPS, ONE_HOLD, ONE_RANK, files, named, replay_held, replay_of, words,
+    FAR_RANK, HELD_ONCE, NINE_STEPS, ONE_HOLD, ONE_RANK, files, look, named, replay_held,
+    replay_of, run_through, words,
 };
-use rl_io::{FixedSink, MemFiles, MemSink, OpenGate, SureFiles};
+use rl_io::{FixedSink, MemFiles, MemSink, SureFiles};
 use std::alloc::AllocError as OutOfMemory;
 use std::sync::Wait;
 use std::test::*;
 use std::thread::Threads;
-
-const FAR_RANK: &str =
-    "rmalock-place 1\nlevels 1\nlock spin\nshards 1\nbuckets 1\noverflow 0\nrank 32 at 0\nhome 0 0\nend\n";
 
 const RUN_ONCE: &str =
     "rmalock-report 2\nrun spin\nranks 1 shards 1\nshard 0 updates 0 entries 1\nentry 0 0 0 hold 0 = held\nrank 0 done 1 of 1\nend\n";
@@ -42,18 +39,10 @@ fn run_over<R: Threads + Wait + Sync + AllocGlobal>(
     held: Vec<(String, Vec<u8>)>,
     failing: &[u32],
 ) -> Result<(u8, Vec<u8>), OutOfMemory> {
-    let line = words(rt, &["run", "p", "c"])?;
     let failing = Vec::from_slice(rt.alloc(), failing)?;
     let mut source = MemFiles::new(held, 4096, failing);
     let mut out = FixedSink::new(rt.alloc(), 4096)?;
-    let status = rmalock(
-        rt,
-        rt.alloc(),
-        line.as_slice(),
-        &mut source,
-        &mut out,
-        &OpenGate,
-    );
+    let status = run_through(rt, &mut source, &mut out)?;
     Ok((status, Vec::from_slice(rt.alloc(), out.bytes())?))
 }
 
@@ -79,17 +68,11 @@ fn a_read_fails_at_each_place(rt: HostRuntime) -> Result<(), Fail> {
 #[test]
 fn reads_that_do_not_fail(rt: HostRuntime) -> Result<(), Fail> {
     let held = files(&rt, ONE_RANK, ONE_HOLD, NINE_STEPS)?;
-    let (status, text) = replay_over(&rt, held, 1, &[])?;
-    assert_eq!(rt; status, 0);
-    assert_eq!(rt; text.as_slice(), HELD_ONCE.as_bytes());
+    look(&rt, replay_over(&rt, held, 1, &[])?, 0, HELD_ONCE);
     let held = files(&rt, ONE_RANK, ONE_HOLD, NINE_STEPS)?;
-    let (status, text) = replay_over(&rt, held, 4096, &[9])?;
-    assert_eq!(rt; status, 0);
-    assert_eq!(rt; text.as_slice(), HELD_ONCE.as_bytes());
+    look(&rt, replay_over(&rt, held, 4096, &[9])?, 0, HELD_ONCE);
     let held = files(&rt, ONE_RANK, ONE_HOLD, "")?;
-    let (status, text) = run_over(&rt, held, &[6])?;
-    assert_eq!(rt; status, 0);
-    assert_eq!(rt; text.as_slice(), RUN_ONCE.as_bytes());
+    look(&rt, run_over(&rt, held, &[6])?, 0, RUN_ONCE);
     Ok(())
 }
 
@@ -108,18 +91,10 @@ fn run_into<R: Threads + Wait + Sync + AllocGlobal>(
     rt: &R,
     number: u32,
 ) -> Result<(u8, Vec<u8>), OutOfMemory> {
-    let line = words(rt, &["run", "p", "c"])?;
     let mut source = SureFiles::new(files(rt, ONE_RANK, ONE_HOLD, "")?);
     let failing = Vec::from_slice(rt.alloc(), &[number])?;
     let mut out = MemSink::new(rt.alloc(), 4096, 4, failing)?;
-    let status = rmalock(
-        rt,
-        rt.alloc(),
-        line.as_slice(),
-        &mut source,
-        &mut out,
-        &OpenGate,
-    );
+    let status = run_through(rt, &mut source, &mut out)?;
     Ok((status, Vec::from_slice(rt.alloc(), out.bytes())?))
 }
 
@@ -181,9 +156,8 @@ fn bytes_that_do_not_belong(rt: HostRuntime) -> Result<(), Fail> {
         ("end\nx", "refused p 10 0 extra\n"),
     ] {
         let place = format!(in rt.alloc(); "{head}{tail}")?;
-        let (status, text) = replay_of(&rt, &place, ONE_HOLD, "0 9\nend\n")?;
-        assert_eq!(rt; status, 2);
-        assert_eq!(rt; text.as_slice(), refusal.as_bytes());
+        let answer = replay_of(&rt, &place, ONE_HOLD, "0 9\nend\n")?;
+        look(&rt, answer, 2, refusal);
     }
     Ok(())
 }
@@ -199,9 +173,7 @@ fn files_at_their_limit(rt: HostRuntime) -> Result<(), Fail> {
         held.push(named(&rt, "p", ONE_RANK)?)?;
         let newlines = vec![in rt.alloc(); b'\n'; length]?;
         held.push((String::from_str(rt.alloc(), "c")?, newlines))?;
-        let (status, text) = replay_held(&rt, held)?;
-        assert_eq!(rt; status, 2);
-        assert_eq!(rt; text.as_slice(), refusal.as_bytes());
+        look(&rt, replay_held(&rt, held)?, 2, refusal);
     }
     Ok(())
 }
@@ -216,14 +188,11 @@ fn alone(rt: &HostRuntime, place: &str) -> Result<Vec<(String, Vec<u8>)>, OutOfM
 /// The calls file isn't there. A placement that is refused comes first; and where every name can be opened, the file is empty.
 #[test]
 fn a_file_is_missing(rt: HostRuntime) -> Result<(), Fail> {
-    let (status, text) = replay_over(&rt, alone(&rt, ONE_RANK)?, 4096, &[])?;
-    assert_eq!(rt; status, 3);
-    assert!(rt; text.is_empty());
-    let (status, text) = replay_over(&rt, alone(&rt, FAR_RANK)?, 4096, &[])?;
-    assert_eq!(rt; status, 2);
-    assert_eq!(rt; text.as_slice(), b"refused p 7 2 range\n".as_slice());
-    let (status, text) = replay_held(&rt, alone(&rt, ONE_RANK)?)?;
-    assert_eq!(rt; status, 2);
-    assert_eq!(rt; text.as_slice(), b"refused c 1 0 noend\n".as_slice());
+    let answer = replay_over(&rt, alone(&rt, ONE_RANK)?, 4096, &[])?;
+    look(&rt, answer, 3, "");
+    let answer = replay_over(&rt, alone(&rt, FAR_RANK)?, 4096, &[])?;
+    look(&rt, answer, 2, "refused p 7 2 range\n");
+    let answer = replay_held(&rt, alone(&rt, ONE_RANK)?)?;
+    look(&rt, answer, 2, "refused c 1 0 noend\n");
     Ok(())
 }

@@ -1,7 +1,7 @@
 //! Worked cases of runs by threads, with values from their definition, and gates that lead the ranks.
 
-use crate::program::rmalock;
 use crate::running::run_report;
+use crate::tests::{look, named, run_through};
 use crate::trials::trial;
 use crossbeam_utils::Backoff;
 use rl_history::Report;
@@ -31,17 +31,16 @@ struct Led {
 }
 
 impl Led {
-    fn new<R: AllocGlobal>(rt: &R, turns: &[(u32, u32)]) -> Result<Led, OutOfMemory> {
-        let mut list = Vec::new(rt.alloc());
+    /// The turns come as the ranks' digits.
+    fn new<R: AllocGlobal>(rt: &R, ranks: &str) -> Result<Led, OutOfMemory> {
+        let mut turns = Vec::new(rt.alloc());
         let mut answers = Vec::new(rt.alloc());
-        for (rank, count) in turns {
-            for _ in 0..*count {
-                list.push(*rank)?;
-                answers.push(AtomicU64::new(0))?;
-            }
+        for digit in ranks.as_bytes() {
+            turns.push(u32::from(digit.saturating_sub(b'0')))?;
+            answers.push(AtomicU64::new(0))?;
         }
         Ok(Led {
-            turns: list,
+            turns,
             answers,
             made: AtomicU64::new(0),
             missed: AtomicU64::new(0),
@@ -114,24 +113,12 @@ fn run_of<R: Threads + Wait + Sync + AllocGlobal>(
     place: &str,
     calls: &str,
 ) -> Result<(u8, Vec<u8>), OutOfMemory> {
-    let mut words = Vec::new(rt.alloc());
-    let mut files = Vec::new(rt.alloc());
-    words.push(String::from_str(rt.alloc(), "run")?)?;
-    for (name, text) in [("p", place), ("c", calls)] {
-        words.push(String::from_str(rt.alloc(), name)?)?;
-        let bytes = Vec::from_slice(rt.alloc(), text.as_bytes())?;
-        files.push((String::from_str(rt.alloc(), name)?, bytes))?;
-    }
-    let mut source = SureFiles::new(files);
+    let mut held = Vec::new(rt.alloc());
+    held.push(named(rt, "p", place)?)?;
+    held.push(named(rt, "c", calls)?)?;
+    let mut source = SureFiles::new(held);
     let mut out = FixedSink::new(rt.alloc(), 65_536)?;
-    let status = rmalock(
-        rt,
-        rt.alloc(),
-        words.as_slice(),
-        &mut source,
-        &mut out,
-        &OpenGate,
-    );
+    let status = run_through(rt, &mut source, &mut out)?;
     Ok((status, Vec::from_slice(rt.alloc(), out.bytes())?))
 }
 
@@ -151,6 +138,8 @@ fn report_of<G: Gate, R: Threads + Wait + Sync + AllocGlobal>(
     Ok(run_report(rt, rt.alloc(), &place, ops, gate)?)
 }
 
+const SMALL: &str = "buckets 1\noverflow 0";
+
 /// A placement with this lock, of one shard with so many buckets and cells on node 0, and ranks on these nodes.
 fn one_shard<R: AllocGlobal>(
     rt: &R,
@@ -168,8 +157,6 @@ fn one_shard<R: AllocGlobal>(
     place.push_str("home 0 0\nend\n")?;
     Ok(place)
 }
-
-const SMALL: &str = "buckets 1\noverflow 0";
 
 /// One rank alone: what its calls come to doesn't depend on threads.
 #[test]
@@ -210,12 +197,10 @@ fn one_rank_runs(rt: HostRuntime) -> Result<(), Fail> {
     ];
     for (size, calls, want) in cases {
         let place = one_shard(&rt, "spin", size, "0")?;
-        let (status, text) = run_of(&rt, &place, calls)?;
-        assert_eq!(rt; status, 0);
         let report = format!(in rt.alloc();
             "rmalock-report 2\nrun spin\nranks 1 shards 1\n{want}end\n"
         )?;
-        assert_eq!(rt; text.as_slice(), report.as_bytes());
+        look(&rt, run_of(&rt, &place, calls)?, 0, &report);
     }
     Ok(())
 }
@@ -261,23 +246,17 @@ fn answer_of(sign: &str) -> u64 {
     }
 }
 
-/// Runs these texts led by turns, and looks that the ranks got the answers that the machine gives for the same turns, of each kind so
-/// many: moved, waiting, lost, busy.
+/// Runs these texts led by the turns of these ranks, and looks that the ranks got the answers that the machine gives for the same turns,
+/// of each kind so many.
 fn run_led<R: Threads + Wait + Sync + AllocGlobal + Abort>(
     rt: &R,
     place: &str,
     calls: &str,
-    turns: &[(u32, u32)],
-    counts: [u64; 4],
+    ranks: &str,
+    counts: &str,
 ) -> Result<Report, Fail> {
-    let mut ranks = String::new(rt.alloc());
-    for (rank, count) in turns {
-        for _ in 0..*count {
-            ranks.push_str(&format!(in rt.alloc(); "{rank}")?)?;
-        }
-    }
-    let told = trial(rt.alloc(), place, calls, &ranks)?;
-    let gate = Led::new(rt, turns)?;
+    let told = trial(rt.alloc(), place, calls, ranks)?;
+    let gate = Led::new(rt, ranks)?;
     let report = report_of(rt, place, calls, &gate)?;
     assert_eq!(rt; gate.missed.load(Ordering::SeqCst), 0);
     let mut seen = [0u64; 5];
@@ -289,9 +268,11 @@ fn run_led<R: Threads + Wait + Sync + AllocGlobal + Abort>(
             *count = count.saturating_add(1);
         }
     }
-    for (count, want) in seen.iter().skip(1).zip(counts.iter()) {
-        assert_eq!(rt; *count, *want);
-    }
+    let [_, moved, waiting, lost, busy] = seen;
+    let counted = format!(in rt.alloc();
+        "moved {moved} waiting {waiting} lost {lost} busy {busy}"
+    )?;
+    assert_eq!(rt; counted.as_str(), counts);
     for done in report.done.as_slice() {
         assert_eq!(rt; done.done, done.given);
     }
@@ -312,73 +293,63 @@ fn runs_led_by_turns(rt: HostRuntime) -> Result<(), Fail> {
             "spin",
             "00",
             HOLDS_OF_TWO,
-            [(0, 2), (1, 1)].as_slice(),
-            [2, 0, 0, 1],
+            "001",
+            "moved 2 waiting 0 lost 0 busy 1",
         ),
         (
             "spin",
             "00",
             HOLDS_OF_TWO,
-            [(0, 4), (1, 3)].as_slice(),
-            [6, 0, 1, 0],
+            "0000111",
+            "moved 6 waiting 0 lost 1 busy 0",
         ),
         (
             "dmcs",
             "00",
             HOLDS_OF_TWO,
-            [(0, 6), (1, 9), (0, 6), (1, 1), (0, 2), (1, 1)].as_slice(),
-            [22, 1, 2, 0],
+            "0000001111111110000001001",
+            "moved 22 waiting 1 lost 2 busy 0",
         ),
         (
             "alock\nbudget 1 1",
             "01",
             HOLDS_OF_TWO,
-            [(1, 4), (0, 5), (1, 5)].as_slice(),
-            [13, 1, 0, 0],
+            "11110000011111",
+            "moved 13 waiting 1 lost 0 busy 0",
         ),
         (
             "alock\nbudget 1 1",
             "01",
             HOLDS_OF_TWO,
-            [(0, 3), (1, 6), (0, 1), (1, 1), (0, 2), (1, 2)].as_slice(),
-            [14, 1, 0, 0],
+            "000111111010011",
+            "moved 14 waiting 1 lost 0 busy 0",
         ),
         (
             "alock\nbudget 0 0",
             "00",
             HOLDS_OF_TWO,
-            [(0, 5), (1, 5), (0, 3), (1, 3)].as_slice(),
-            [15, 0, 1, 0],
+            "0000011111000111",
+            "moved 15 waiting 0 lost 1 busy 0",
         ),
         (
             "mcs\nbudget 1",
             "0011",
             HOLDS_OF_THREE,
-            [(0, 12), (1, 10), (2, 16), (0, 3), (1, 10), (2, 1)].as_slice(),
-            [50, 0, 2, 0],
+            "0000000000001111111111222222222222222200011111111112",
+            "moved 50 waiting 0 lost 2 busy 0",
         ),
         (
             "rw\nbudget 1\nwriters 1\nreaders 1000\ngroup 32",
             "0120",
             "rmalock-calls 1\n0 hold 0\n1 hold 0\n2 hold 0\n3 get 0\nend\n",
-            [
-                (0, 18),
-                (1, 16),
-                (2, 16),
-                (3, 11),
-                (0, 9),
-                (1, 18),
-                (3, 5),
-                (2, 7),
-            ]
-            .as_slice(),
-            [96, 2, 2, 0],
+            "0000000000000000001111111111111111222222222222222233333333333000000000111111111111111111333332222222",
+            "moved 96 waiting 2 lost 2 busy 0",
         ),
     ];
-    for (lock, nodes, calls, turns, counts) in cases {
+    for (lock, nodes, calls, ranks, counts) in cases {
         let place = one_shard(&rt, lock, SMALL, nodes)?;
         for _ in 0..5 {
-            let _report = run_led(&rt, &place, calls, turns, counts)?;
+            let _report = run_led(&rt, &place, calls, ranks, counts)?;
         }
     }
     Ok(())
@@ -388,19 +359,14 @@ fn runs_led_by_turns(rt: HostRuntime) -> Result<(), Fail> {
 #[test]
 fn a_budget_is_used_up_by_turns(rt: HostRuntime) -> Result<(), Fail> {
     let place = one_shard(&rt, "alock\nbudget 1 1", SMALL, "0001")?;
-    let turns = [
-        (0, 4),
-        (3, 7),
-        (0, 2),
-        (1, 5),
-        (2, 5),
-        (0, 3),
-        (1, 4),
-        (2, 4),
-        (3, 2),
-    ];
     for _ in 0..5 {
-        let report = run_led(&rt, &place, HOLDS_OF_FOUR, turns.as_slice(), [33, 1, 2, 0])?;
+        let report = run_led(
+            &rt,
+            &place,
+            HOLDS_OF_FOUR,
+            "000033333330011111222220001111222233",
+            "moved 33 waiting 1 lost 2 busy 0",
+        )?;
         if let Some(shard) = report.shards.as_slice().first() {
             assert_eq!(rt; shard.queues.len(), 2);
             assert!(rt;
@@ -422,9 +388,9 @@ fn who_goes_first(rt: HostRuntime) -> Result<(), Fail> {
     let place = one_shard(&rt, "spin", SMALL, "00")?;
     let calls = "rmalock-calls 1\n0 put 0 1\n1 get 0\nend\n";
     for _ in 0..5 {
-        let report = run_led(&rt, &place, calls, [(0, 3)].as_slice(), [3, 0, 0, 0])?;
+        let report = run_led(&rt, &place, calls, "000", "moved 3 waiting 0 lost 0 busy 0")?;
         assert!(rt; matches!(reply_of(&report, 1, 0), Some((1, Reply::Val(1)))));
-        let report = run_led(&rt, &place, calls, [(1, 3)].as_slice(), [3, 0, 0, 0])?;
+        let report = run_led(&rt, &place, calls, "111", "moved 3 waiting 0 lost 0 busy 0")?;
         assert!(rt; matches!(reply_of(&report, 1, 0), Some((0, Reply::Nothing))));
     }
     Ok(())

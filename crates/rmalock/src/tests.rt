@@ -1,15 +1,33 @@
 //! Worked cases of the program, with values from its definition.
+ghost use Rattle.std.specs.Prelude.{IsTrue};
 
 use crate::offline::offline;
-use rl_io::{FixedSink, SureFiles};
+use crate::program::rmalock;
+use rl_io::{FixedSink, OpenGate, Sink, Source, SureFiles};
 use std::alloc::AllocError as OutOfMemory;
+use std::process::Abort;
+use std::sync::Wait;
 use std::test::*;
+use std::thread::Threads;
 
 pub(crate) const ONE_RANK: &str =
     "rmalock-place 1\nlevels 1\nlock spin\nshards 1\nbuckets 1\noverflow 0\nrank 0 at 0\nhome 0 0\nend\n";
 
 const TWO_RANKS: &str =
     "rmalock-place 1\nlevels 1\nlock spin\nshards 1\nbuckets 1\noverflow 0\nrank 0 at 0\nrank 1 at 0\nhome 0 0\nend\n";
+
+pub(crate) const FAR_RANK: &str =
+    "rmalock-place 1\nlevels 1\nlock spin\nshards 1\nbuckets 1\noverflow 0\nrank 32 at 0\nhome 0 0\nend\n";
+
+const TWO_BUCKETS: &str =
+    "rmalock-place 1\nlevels 1\nlock spin\nshards 1\nbuckets 2\noverflow 0\nrank 0 at 0\nhome 0 0\nend\n";
+
+const TWO_SHARDS: &str =
+    "rmalock-place 1\nlevels 1\nlock spin\nshards 2\nbuckets 1\noverflow 0\nrank 0 at 0\nrank 1 at 0\nhome 0 0\nhome 1 0\nend\n";
+
+/// A tree of two nodes, with two ranks on each.
+const TWO_NODES: &str =
+    "rmalock-place 1\nlevels 1\nlock mcs\nbudget 1\nshards 1\nbuckets 1\noverflow 0\nrank 0 at 0\nrank 1 at 0\nrank 2 at 1\nrank 3 at 1\nhome 0 0\nend\n";
 
 pub(crate) const ONE_HOLD: &str = "rmalock-calls 1\n0 hold 0\nend\n";
 
@@ -55,16 +73,25 @@ pub(crate) fn files<R: AllocGlobal>(
     Ok(files)
 }
 
+/// The status and the text of what this line asks for, over these files and a sink, which never fail.
+fn answer_of(
+    rt: &HostRuntime,
+    line: &[&str],
+    held: Vec<(String, Vec<u8>)>,
+) -> Result<(u8, Vec<u8>), OutOfMemory> {
+    let line = words(rt, line)?;
+    let mut source = SureFiles::new(held);
+    let mut out = FixedSink::new(rt.alloc(), 4096)?;
+    let status = offline(rt.alloc(), line.as_slice(), &mut source, &mut out);
+    Ok((status, Vec::from_slice(rt.alloc(), out.bytes())?))
+}
+
 /// The status and the text of `replay p c s`, over these files and a sink, which never fail.
 pub(crate) fn replay_held(
     rt: &HostRuntime,
     held: Vec<(String, Vec<u8>)>,
 ) -> Result<(u8, Vec<u8>), OutOfMemory> {
-    let line = words(rt, &["replay", "p", "c", "s"])?;
-    let mut source = SureFiles::new(held);
-    let mut out = FixedSink::new(rt.alloc(), 4096)?;
-    let status = offline(rt.alloc(), line.as_slice(), &mut source, &mut out);
-    Ok((status, Vec::from_slice(rt.alloc(), out.bytes())?))
+    answer_of(rt, &["replay", "p", "c", "s"], held)
 }
 
 /// The same over files of these texts. The lines of the schedule come without the first.
@@ -78,11 +105,28 @@ pub(crate) fn replay_of(
     replay_held(rt, files(rt, place, calls, &schedule)?)
 }
 
+/// The status of `run p c` over these files and this sink, with a gate that is always open.
+pub(crate) fn run_through<S: Source, K: Sink, R: Threads + Wait + Sync + AllocGlobal>(
+    rt: &R,
+    source: &mut S,
+    out: &mut K,
+) -> Result<u8, OutOfMemory>
+    requires { (name : _) → IsTrue (S.may_open source.old name) }
+{
+    let line = words(rt, &["run", "p", "c"])?;
+    Ok(rmalock(rt, rt.alloc(), line.as_slice(), source, out, &OpenGate))
+}
+
+/// Looks that an answer has this status and this text.
+pub(crate) fn look<R: Abort>(rt: &R, answer: (u8, Vec<u8>), status: u8, text: &str) {
+    assert_eq!(rt; answer.0, status);
+    assert_eq!(rt; answer.1.as_slice(), text.as_bytes());
+}
+
 #[test]
 fn one_rank_holds_once(rt: HostRuntime) -> Result<(), Fail> {
-    let (status, text) = replay_of(&rt, ONE_RANK, ONE_HOLD, "0 9\nend\n")?;
-    assert_eq!(rt; status, 0);
-    assert_eq!(rt; text.as_slice(), HELD_ONCE.as_bytes());
+    let answer = replay_of(&rt, ONE_RANK, ONE_HOLD, "0 9\nend\n")?;
+    look(&rt, answer, 0, HELD_ONCE);
     Ok(())
 }
 
@@ -151,11 +195,9 @@ fn every_update_of_a_small_table(rt: HostRuntime) -> Result<(), Fail> {
 /// Full, the largest numbers, and each kind of call on keys that are there and that aren't.
 #[test]
 fn replies(rt: HostRuntime) -> Result<(), Fail> {
-    let two_buckets =
-        "rmalock-place 1\nlevels 1\nlock spin\nshards 1\nbuckets 2\noverflow 0\nrank 0 at 0\nhome 0 0\nend\n";
     let cases = [
         (
-            two_buckets,
+            TWO_BUCKETS,
             "0 put 0 1\n0 put 1 1\n0 put 2 1\nend\n",
             "shard 0 updates 3 entries 3\nentry 0 0 0 put 0 1 = new\nentry 1 0 1 put 1 1 = new\nentry 2 0 2 put 2 1 = full\nevent 2",
         ),
@@ -165,7 +207,7 @@ fn replies(rt: HostRuntime) -> Result<(), Fail> {
             "shard 0 updates 3 entries 3\nentry 0 0 0 put 18446744073709551615 18446744073709551615 = new\nentry 1 0 1 add 18446744073709551615 1 = over 18446744073709551615\nentry 2 0 2 add 18446744073709551615 0 = sum 18446744073709551615\nevent 2",
         ),
         (
-            two_buckets,
+            TWO_BUCKETS,
             "0 get 5\n0 put 5 1\n0 cas 5 1 2\n0 cas 5 1 3\n0 cas 6 0 0\n0 del 6\n0 get 5\n0 get 6\n0 hold 0\nend\n",
             "shard 0 updates 5 entries 9\nentry 0 0 0 get 5 = none\nentry 0 0 1 put 5 1 = new\nentry 1 0 2 cas 5 1 2 = was 1\nentry 2 0 3 cas 5 1 3 = no 2\nentry 3 0 4 cas 6 0 0 = none\nentry 4 0 5 del 6 = none\nentry 5 0 6 get 5 = val 2\nentry 5 0 7 get 6 = none\nentry 5 0 8 hold 0 = held\nevent 2",
         ),
@@ -185,15 +227,11 @@ fn replies(rt: HostRuntime) -> Result<(), Fail> {
 /// Nobody is busy, since each shard has cards of its own.
 #[test]
 fn two_ranks_on_two_shards(rt: HostRuntime) -> Result<(), Fail> {
-    let place =
-        "rmalock-place 1\nlevels 1\nlock spin\nshards 2\nbuckets 1\noverflow 0\nrank 0 at 0\nrank 1 at 0\nhome 0 0\nhome 1 0\nend\n";
     let calls = "rmalock-calls 1\n0 put 0 1\n1 put 1 1\nend\n";
-    let (status, text) = replay_of(&rt, place, calls, "0 2\n1 20\n0 18\nend\n")?;
-    assert_eq!(rt; status, 0);
-    assert_eq!(rt;
-        text.as_slice(),
-        b"rmalock-report 2\nreplay spin\nranks 2 shards 2\nshard 0 updates 1 entries 1\nentry 0 0 0 put 0 1 = new\nevent 22 enter-w 0\nevent 35 leave-w 0\nshard 1 updates 1 entries 1\nentry 0 1 0 put 1 1 = new\nevent 4 enter-w 1\nevent 17 leave-w 1\nrank 0 done 1 of 1\nrank 1 done 1 of 1\nsteps 40 moved 40 waiting 0 lost 0 busy 0 finished 0\nend\n".as_slice()
-    );
+    let answer = replay_of(&rt, TWO_SHARDS, calls, "0 2\n1 20\n0 18\nend\n")?;
+    let report =
+        "rmalock-report 2\nreplay spin\nranks 2 shards 2\nshard 0 updates 1 entries 1\nentry 0 0 0 put 0 1 = new\nevent 22 enter-w 0\nevent 35 leave-w 0\nshard 1 updates 1 entries 1\nentry 0 1 0 put 1 1 = new\nevent 4 enter-w 1\nevent 17 leave-w 1\nrank 0 done 1 of 1\nrank 1 done 1 of 1\nsteps 40 moved 40 waiting 0 lost 0 busy 0 finished 0\nend\n";
+    look(&rt, answer, 0, report);
     Ok(())
 }
 
@@ -202,11 +240,12 @@ fn two_ranks_on_two_shards(rt: HostRuntime) -> Result<(), Fail> {
 fn batches(rt: HostRuntime) -> Result<(), Fail> {
     let calls =
         "rmalock-calls 2\n0 put 0 1\n0 batch 2\n0 put 0 5\n0 put 1 6\n0 batch 2\n0 del 0\n0 put 1 7\nend\n";
-    let (status, text) = replay_of(&rt, ONE_RANK, calls, "0 75\nend\n")?;
-    assert_eq!(rt; status, 0);
-    assert_eq!(rt;
-        text.as_slice(),
-        b"rmalock-report 2\nreplay spin\nranks 1 shards 1\nshard 0 updates 5 entries 5\nentry 0 0 0 put 0 1 = new\nentry 1 0 1 put 0 5 = undone part 0 of 2\nentry 2 0 2 put 1 6 = full part 1 of 2\nentry 3 0 3 del 0 = was 1 part 0 of 2\nentry 4 0 4 put 1 7 = new part 1 of 2\nevent 2 enter-w 0\nevent 15 leave-w 0\nevent 22 enter-w 0\nevent 41 leave-w 0\nevent 48 enter-w 0\nevent 70 leave-w 0\nrank 0 done 5 of 5\nsteps 75 moved 75 waiting 0 lost 0 busy 0 finished 0\nend\n".as_slice()
+    let answer = replay_of(&rt, ONE_RANK, calls, "0 75\nend\n")?;
+    look(
+        &rt,
+        answer,
+        0,
+        "rmalock-report 2\nreplay spin\nranks 1 shards 1\nshard 0 updates 5 entries 5\nentry 0 0 0 put 0 1 = new\nentry 1 0 1 put 0 5 = undone part 0 of 2\nentry 2 0 2 put 1 6 = full part 1 of 2\nentry 3 0 3 del 0 = was 1 part 0 of 2\nentry 4 0 4 put 1 7 = new part 1 of 2\nevent 2 enter-w 0\nevent 15 leave-w 0\nevent 22 enter-w 0\nevent 41 leave-w 0\nevent 48 enter-w 0\nevent 70 leave-w 0\nrank 0 done 5 of 5\nsteps 75 moved 75 waiting 0 lost 0 busy 0 finished 0\nend\n",
     );
     Ok(())
 }
@@ -216,8 +255,6 @@ fn batches(rt: HostRuntime) -> Result<(), Fail> {
 fn queues_in_reports(rt: HostRuntime) -> Result<(), Fail> {
     let dmcs =
         "rmalock-place 1\nlevels 1\nlock dmcs\nshards 1\nbuckets 1\noverflow 0\nrank 0 at 0\nrank 1 at 0\nhome 0 0\nend\n";
-    let tree =
-        "rmalock-place 1\nlevels 1\nlock mcs\nbudget 1\nshards 1\nbuckets 1\noverflow 0\nrank 0 at 0\nrank 1 at 0\nrank 2 at 1\nrank 3 at 1\nhome 0 0\nend\n";
     let cases = [
         (
             dmcs,
@@ -226,16 +263,14 @@ fn queues_in_reports(rt: HostRuntime) -> Result<(), Fail> {
             "rmalock-report 2\nreplay dmcs\nranks 2 shards 1\nshard 0 updates 0 entries 1\nentry 0 0 0 hold 0 = held\nqueue all settled 1 passed 1\nevent 4 join all 0\nevent 4 settle all 0\nevent 4 enter-w 0\nevent 13 join all 1\nevent 15 leave-w 0\nevent 23 pass all 1\nevent 24 enter-w 1\nrank 0 done 1 of 1\nrank 1 done 0 of 1\nsteps 25 moved 22 waiting 1 lost 2 busy 0 finished 0\nend\n",
         ),
         (
-            tree,
+            TWO_NODES,
             "rmalock-calls 1\n0 hold 0\n1 hold 0\n2 hold 0\nend\n",
             "0 12\n1 10\n2 16\n0 3\n1 10\n2 1\nend\n",
             "rmalock-report 2\nreplay mcs\nranks 4 shards 1\nshard 0 updates 0 entries 2\nentry 0 0 0 hold 0 = held\nentry 0 1 0 hold 0 = held\nqueue root settled 1 passed 1\nqueue 0 settled 1 passed 1\nqueue 1 settled 1 passed 0\nevent 4 join 0 0\nevent 10 join root 0\nevent 10 settle root 0\nevent 10 settle 0 0\nevent 10 enter-w 0\nevent 19 join 0 1\nevent 26 join 1 2\nevent 35 join root 1\nevent 38 leave-w 0\nevent 40 pass 0 1\nevent 41 enter-w 1\nevent 42 leave-w 1\nevent 46 pass root 1\nevent 51 settle 1 2\nevent 51 enter-w 2\nrank 0 done 1 of 1\nrank 1 done 1 of 1\nrank 2 done 0 of 1\nrank 3 done 0 of 0\nsteps 52 moved 50 waiting 0 lost 2 busy 0 finished 0\nend\n",
         ),
     ];
     for (place, calls, turns, want) in cases {
-        let (status, text) = replay_of(&rt, place, calls, turns)?;
-        assert_eq!(rt; status, 0);
-        assert_eq!(rt; text.as_slice(), want.as_bytes());
+        look(&rt, replay_of(&rt, place, calls, turns)?, 0, want);
     }
     Ok(())
 }
@@ -272,10 +307,8 @@ fn readers_beside_each_other(rt: HostRuntime) -> Result<(), Fail> {
     for (readers, ranks, calls, turns, want) in cases {
         let place = format!(in rt.alloc(); "{head}{readers}{sizes}{ranks}home 0 0\nend\n")?;
         let calls = format!(in rt.alloc(); "rmalock-calls 1\n{calls}")?;
-        let (status, text) = replay_of(&rt, &place, &calls, turns)?;
-        assert_eq!(rt; status, 0);
         let report = format!(in rt.alloc(); "rmalock-report 2\nreplay rw\n{want}")?;
-        assert_eq!(rt; text.as_slice(), report.as_bytes());
+        look(&rt, replay_of(&rt, &place, &calls, turns)?, 0, &report);
     }
     Ok(())
 }
@@ -283,10 +316,8 @@ fn readers_beside_each_other(rt: HostRuntime) -> Result<(), Fail> {
 /// The first file that is refused, with its place and cause.
 #[test]
 fn refusals(rt: HostRuntime) -> Result<(), Fail> {
-    let far =
-        "rmalock-place 1\nlevels 1\nlock spin\nshards 1\nbuckets 1\noverflow 0\nrank 32 at 0\nhome 0 0\nend\n";
     let cases = [
-        (far, ONE_HOLD, "0 9\nend\n", "refused p 7 2 range\n"),
+        (FAR_RANK, ONE_HOLD, "0 9\nend\n", "refused p 7 2 range\n"),
         (
             ONE_RANK,
             "rmalock-calls 1\n0 hold 1\nend\n",
@@ -320,9 +351,7 @@ fn refusals(rt: HostRuntime) -> Result<(), Fail> {
         (ONE_RANK, ONE_HOLD, "0 9\n", "refused s 3 0 noend\n"),
     ];
     for (place, calls, turns, line) in cases {
-        let (status, text) = replay_of(&rt, place, calls, turns)?;
-        assert_eq!(rt; status, 2);
-        assert_eq!(rt; text.as_slice(), line.as_bytes());
+        look(&rt, replay_of(&rt, place, calls, turns)?, 2, line);
     }
     Ok(())
 }
@@ -341,12 +370,7 @@ fn words_that_are_no_form(rt: HostRuntime) -> Result<(), Fail> {
         &[],
     ];
     for line in lines {
-        let line = words(&rt, line)?;
-        let mut source = SureFiles::new(Vec::new(rt.alloc()));
-        let mut out = FixedSink::new(rt.alloc(), 4096)?;
-        let status = offline(rt.alloc(), line.as_slice(), &mut source, &mut out);
-        assert_eq!(rt; status, 1);
-        assert_eq!(rt; out.bytes(), USAGE.as_bytes());
+        look(&rt, answer_of(&rt, line, Vec::new(rt.alloc()))?, 1, USAGE);
     }
     Ok(())
 }
@@ -365,12 +389,7 @@ fn summaries(rt: HostRuntime) -> Result<(), Fail> {
         ),
     ];
     for (line, text) in cases {
-        let line = words(&rt, line)?;
-        let mut source = SureFiles::new(Vec::new(rt.alloc()));
-        let mut out = FixedSink::new(rt.alloc(), 4096)?;
-        let status = offline(rt.alloc(), line.as_slice(), &mut source, &mut out);
-        assert_eq!(rt; status, 0);
-        assert_eq!(rt; out.bytes(), text.as_bytes());
+        look(&rt, answer_of(&rt, line, Vec::new(rt.alloc()))?, 0, text);
     }
     Ok(())
 }
@@ -378,15 +397,9 @@ fn summaries(rt: HostRuntime) -> Result<(), Fail> {
 /// The shape of a tree of two nodes.
 #[test]
 fn a_shape(rt: HostRuntime) -> Result<(), Fail> {
-    let place =
-        "rmalock-place 1\nlevels 1\nlock mcs\nbudget 1\nshards 1\nbuckets 1\noverflow 0\nrank 0 at 0\nrank 1 at 0\nrank 2 at 1\nrank 3 at 1\nhome 0 0\nend\n";
     let shape =
         "rmalock-shape 1\nranks 4 nodes 2 elements 3\nnode 0 0\nnode 1 1\nelement 0 root parent none budget none\nelement 1 0 parent 0 budget 1\nelement 2 1 parent 0 budget 1\nshard 0 home 0\nend\n";
-    let line = words(&rt, &["show", "p"])?;
-    let mut source = SureFiles::new(files(&rt, place, "", "")?);
-    let mut out = FixedSink::new(rt.alloc(), 4096)?;
-    let status = offline(rt.alloc(), line.as_slice(), &mut source, &mut out);
-    assert_eq!(rt; status, 0);
-    assert_eq!(rt; out.bytes(), shape.as_bytes());
+    let answer = answer_of(&rt, &["show", "p"], files(&rt, TWO_NODES, "", "")?)?;
+    look(&rt, answer, 0, shape);
     Ok(())
 }
