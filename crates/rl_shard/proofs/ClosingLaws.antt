@@ -1,14 +1,13 @@
 -- What the words of a window say on which no block is open: the journal, place by place, and the table after it.
-use Rattle.std.specs.Prelude.{◌≡◌, ◌<◌, ◌≤◌, ℕ, ◌+◌, ◌-◌, ◌*◌, ◌/◌, ◌^◌, false, List, [], ◌∷◌, length, map, take, drop, sum, slice_get, slice_index, Some, None, refl}
+use Rattle.std.specs.Prelude.{◌≡◌, ◌<◌, ◌≤◌, ℕ, ◌+◌, ◌-◌, ◌*◌, ◌/◌, ◌^◌, List, length, map, take, drop, sum, slice_get, slice_index, Some, None, refl}
 use Rattle.std.specs.FinMap as finite
 use Rattle.std.proofs.Common.{sym, ◌∙◌, ap, subst, arith}
-use Rattle.std.proofs.lemmas.List.{drop-take, take-take, length-map}
+use Rattle.std.proofs.lemmas.List.{drop-take, take-take}
 use Rattle.rl_word.specs.Places.{get_map, get_map_back}
 use Rattle.rl_word.specs.Acts.{Layout}
 use Rattle.rl_model.specs.declared.entry.Entry.{Entry}
 use Rattle.rl_model.specs.Geom.{GeomFits}
 use Rattle.rl_step.specs.declared.events.Event.{Event}
-use Rattle.rl_step.specs.declared.events.Standing.{Standing}
 use Rattle.rl_step.specs.declared.events.Standing.TheVariants.{Out}
 use Rattle.rl_step.specs.Lock.{LockTable, LockState, LockLaws, Deed, IsHolder}
 use Rattle.rl_step.specs.Do.{TheWindow}
@@ -19,17 +18,17 @@ use Rattle.rl_volume.specs.Words.{volume_words}
 use Rattle.rl_volume.specs.Volume.{IsVolume}
 use Rattle.rl_work.specs.declared.stage.Stage.{Stage}
 use Rattle.rl_work.specs.declared.stage.Stage.TheVariants.{Rest, Begin, Read, Journal, Volume}
-use Rattle.rl_work.specs.Site.{Site, places, journal_base, lock_base, volume_of}
+use Rattle.rl_work.specs.Site.{Site, places, journal_base, volume_of}
 use Rattle.rl_work.specs.WorkGood.{WorkSide, FitsAt, IsInCall, is_writing}
 use Rattle.rl_work.specs.RoomLaws.{journal_short}
 use Rattle.rl_work.specs.RuleLaws.{journal_is}
 use Rattle.rl_whole.specs.declared.whole.Whole.{Whole}
 use Rattle.rl_whole.specs.declared.whole.WholeView.{WholeView}
 use Rattle.rl_whole.specs.Running.{LockAt, lock_at}
-use Rattle.rl_whole.specs.Whole.{Good, next_of, work_side, rule_of}
+use Rattle.rl_whole.specs.Whole.{Good, next_of, work_side}
 use Rattle.rl_whole.specs.OpenLaws.{closed_is_out}
 use Rattle.rl_whole.specs.RecordLaws.{count_is, few_updates, place_low, update_is, part_fits}
-use Rattle.rl_shard.specs.Closing.{IsLeft, journal_left, pairs_left}
+use Rattle.rl_shard.specs.Closing.{IsLeft, journal_left}
 
 -- a rank that is out rests
 out_rests : (site : Site) (words : List ℕ) (journal : List Entry) (before : List ℕ) (r : ℕ) (x : WorkSide) (st : Stage) → FitsAt site words journal before r x st → x.standing ≡ Out → st ≡ Rest

@@ -1,10 +1,9 @@
 -- What the rule tells once no block is open: the parts that a closed shard leaves are right.
 use Rattle.std.proofs.Common.{◌≡◌, ◌<◌, ◌≤◌, ℕ, ◌+◌, ◌*◌, Bool, true, false, List, [], ◌∷◌, All, count_by, length, map, take, sum_by, get_or, slice_get, Some, None, sym, refl, ap, ◌∙◌, subst, ⊎_elim, arith}
 use Rattle.std.specs.Prelude.{if◌then◌else◌}
-use Rattle.std.specs.FinMap as finite
 use Rattle.std.proofs.lemmas.List.{length-map}
 use Rattle.std.proofs.lemmas.List.Elements.{All-head, All-tail, All-nil, All-cons}
-use Rattle.std.proofs.lemmas.List.Sums.{get_or-le-sum_by, sum_by-cons}
+use Rattle.std.proofs.lemmas.List.Sums.{get_or-le-sum_by}
 use Rattle.std.proofs.lemmas.Option.{slice_get_within, get_or_from_slice_get}
 use Rattle.rl_word.specs.Places.{get_map, get_map_back}
 use Rattle.rl_word.specs.Acts.{Layout}
@@ -12,22 +11,19 @@ use Rattle.rl_model.specs.Table.{sum_below}
 use Rattle.rl_model.specs.declared.entry.Entry.{Entry}
 use Rattle.rl_step.specs.declared.events.Event.{Event}
 use Rattle.rl_step.specs.declared.tallies.Tally.{Tally}
-use Rattle.rl_step.specs.Lock.{LockTable, LockState, LockLaws, Deed, AllOut}
+use Rattle.rl_step.specs.Lock.{LockState, LockLaws, Deed, AllOut}
 use Rattle.rl_step.specs.Do.{TheWindow}
-use Rattle.rl_step.specs.Queues.{QueueOf, IsWithinBudget, settled, passed, tenures}
+use Rattle.rl_step.specs.Queues.{QueueOf, settled, passed, tenures}
 use Rattle.rl_step.specs.QueueLemmas.{within_bound}
-use Rattle.rl_journal.specs.Legal.{IsLegal, table_after}
-use Rattle.rl_journal.specs.History.{history, IsReplay, IsSorted}
-use Rattle.rl_journal.specs.HistoryLaws.{replayed}
+use Rattle.rl_journal.specs.Legal.{IsLegal}
+use Rattle.rl_journal.specs.History.{history, IsSorted}
 use Rattle.rl_journal.specs.HistoryCounts.{same_entries}
-use Rattle.rl_journal.specs.Ranks.{IsOwn, count_in}
+use Rattle.rl_journal.specs.Ranks.{IsOwn}
 use Rattle.rl_work.specs.Rule.{journal_of}
 use Rattle.rl_work.specs.WorkGood.{IsOwnTranscript}
-use Rattle.rl_whole.specs.declared.whole.Whole.{Whole}
-use Rattle.rl_whole.specs.declared.whole.WholeView.{WholeView}
-use Rattle.rl_whole.specs.Running.{LockAt, lock_at}
+use Rattle.rl_whole.specs.Running.{LockAt}
 use Rattle.rl_whole.specs.Split.{lock_of, view_of}
-use Rattle.rl_whole.specs.Whole.{Good, side_of, split_of, next_of, work_side, kept_of, leaves, is_tenure}
+use Rattle.rl_whole.specs.Whole.{side_of, split_of, next_of, work_side, kept_of, leaves, is_tenure}
 use Rattle.rl_whole.specs.OpenLaws.{closed_is_out}
 use Rattle.rl_whole.specs.LegalAll.{all_legal, all_sorted}
 use Rattle.rl_shard.specs.declared.counting.CountedView.{CountedView}

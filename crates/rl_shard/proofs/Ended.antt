@@ -1,18 +1,15 @@
 -- A closed shard's parts are what is promised of them.
-use Rattle.std.proofs.Common.{◌≡◌, ◌<◌, ℕ, List, [], ◌∷◌, length, map, sum_by, slice_get, Some, sym, refl, ap, ◌∙◌, subst, arith, vec_items}
+use Rattle.std.proofs.Common.{◌≡◌, ◌<◌, ℕ, List, [], ◌∷◌, length, map, sum_by, slice_get, Some, sym, refl, ap, ◌∙◌, subst, arith}
 use Rattle.std.specs.FinMap as finite
 use Rattle.std.proofs.lemmas.List.Sums.{sum_by-cons}
 use Rattle.rl_word.specs.Places.{get_map, get_map_back, some_at}
 use Rattle.rl_word.specs.Acts.{Layout}
-use Rattle.rl_model.specs.declared.entry.Entry.{Entry}
 use Rattle.rl_step.specs.declared.events.Event.{Event}
-use Rattle.rl_step.specs.declared.tallies.Tally.{Tally}
 use Rattle.rl_step.specs.Lock.{LockTable, LockState, LockLaws, Deed}
 use Rattle.rl_step.specs.Do.{TheWindow}
 use Rattle.rl_journal.specs.Legal.{IsLegal, table_after}
 use Rattle.rl_journal.specs.History.{history, IsSorted}
 use Rattle.rl_journal.specs.HistoryLaws.{replayed}
-use Rattle.rl_work.specs.WorkGood.{IsOwnTranscript}
 use Rattle.rl_whole.specs.declared.whole.Whole.{Whole}
 use Rattle.rl_whole.specs.Running.{LockAt, lock_at}
 use Rattle.rl_whole.specs.Whole.{next_of}
@@ -23,7 +20,7 @@ use Rattle.rl_shard.specs.declared.counting.Counting.{Counting}
 use Rattle.rl_shard.specs.declared.counting.CountedView.{CountedView}
 use Rattle.rl_shard.specs.Tallies.{full, tally_at}
 use Rattle.rl_shard.specs.Queues.{AreTallied}
-use Rattle.rl_shard.specs.Counting.{whole_of, settled_by, passed_by, counting_rule, CountGood}
+use Rattle.rl_shard.specs.Counting.{whole_of, settled_by, passed_by, counting_rule}
 use Rattle.rl_shard.specs.Shards.{AreClosed, core_at, counting_at, counted_at, entries_at, tallies_at}
 use Rattle.rl_shard.specs.Ends.{IsEnd, transcripts_of, history_of, all_settled, all_passed}
 use Rattle.rl_shard.specs.Closing.{entries_in, IsLeft, AreTotals, journal_left, pairs_left}

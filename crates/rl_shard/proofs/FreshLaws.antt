@@ -1,12 +1,11 @@
 -- The two seats of a new shard, for tests.
-use Rattle.std.proofs.Common.{◌≡◌, ◌<◌, ◌≤◌, ℕ, zero, suc, ◌+◌, List, [], ◌∷◌, ◌++◌, length, map, sum, replicate, slice_get, slice_index, Some, None, refl, sym, ap, ◌∙◌, subst, arith, length-append}
+use Rattle.std.proofs.Common.{◌≡◌, ◌<◌, ℕ, zero, suc, ◌+◌, List, [], ◌∷◌, ◌++◌, length, map, replicate, slice_get, slice_index, Some, refl, sym, ap, ◌∙◌, subst, arith, length-append}
 use Rattle.std.proofs.lemmas.List.{length-map}
-use Rattle.std.proofs.lemmas.Option.{same_Some, slice_get_within}
+use Rattle.std.proofs.lemmas.Option.{same_Some}
 use Rattle.rl_word.specs.Places.{get_map, get_map_back}
 use Rattle.rl_word.specs.Acts.{Layout}
 use Rattle.rl_model.specs.declared.geom.Geom.{Geom}
 use Rattle.rl_step.specs.Lock.{LockTable, LockState}
-use Rattle.rl_whole.specs.declared.whole.Whole.{Whole}
 use Rattle.rl_whole.specs.declared.whole.WholeView.{WholeView}
 use Rattle.rl_whole.specs.Running.{LockAt, lock_at}
 use Rattle.rl_whole.specs.Opening.{first_view, first_views}

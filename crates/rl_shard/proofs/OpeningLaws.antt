@@ -1,9 +1,9 @@
 -- A shard at its start meets the rule, and no block is open.
-use Rattle.std.proofs.Common.{◌≡◌, ◌<◌, ◌≤◌, ◌^◌, ℕ, zero, suc, ◌+◌, ◌++◌, List, [], ◌∷◌, true, false, length, map, replicate, take, sum, sum_by, slice_get, slice_index, Some, None, sym, refl, ap, ◌∙◌, subst, inr, arith, length-append}
+use Rattle.std.proofs.Common.{◌≡◌, ◌<◌, ◌≤◌, ◌^◌, ℕ, zero, suc, ◌+◌, ◌++◌, List, [], ◌∷◌, false, length, map, replicate, take, sum, sum_by, slice_get, slice_index, Some, None, sym, refl, ap, ◌∙◌, subst, inr, arith, length-append}
 use Rattle.std.proofs.lemmas.List.{length-map, length-replicate, map-append}
 use Rattle.std.proofs.lemmas.Option.{same_Some}
 use Rattle.std.proofs.lemmas.List.Sums.{sum_by-cons}
-use Rattle.rl_word.specs.Places.{get_map, get_map_back}
+use Rattle.rl_word.specs.Places.{get_map_back}
 use Rattle.rl_word.specs.Acts.{Layout}
 use Rattle.rl_word.specs.Shapes.{TheShape, layout_of}
 use Rattle.rl_word.specs.declared.locks.LockName.{LockName}
@@ -15,7 +15,6 @@ use Rattle.rl_model.specs.Geom.{GeomFits}
 use Rattle.rl_step.specs.declared.events.Event.{Event}
 use Rattle.rl_step.specs.declared.tallies.Tally.{Tally}
 use Rattle.rl_step.specs.Lock.{LockTable, LockState, LockLaws, Deed}
-use Rattle.rl_step.specs.Core.{MayBe}
 use Rattle.rl_step.specs.Queues.{settled, passed}
 use Rattle.rl_work.specs.Site.{lock_base}
 use Rattle.rl_work.specs.WorkGood.{opening_words}
@@ -33,7 +32,7 @@ use Rattle.rl_whole.specs.Filling.{views_next}
 use Rattle.rl_shard.specs.declared.counting.CountedView.{CountedView}
 use Rattle.rl_shard.specs.Tallies.{no_tally, tally_at}
 use Rattle.rl_shard.specs.Queues.{AreMembersThere}
-use Rattle.rl_shard.specs.Counting.{whole_of, settled_by, passed_by, first_counted, counting_rule, CountGood, ComeTo}
+use Rattle.rl_shard.specs.Counting.{whole_of, settled_by, passed_by, first_counted, counting_rule, CountGood}
 
 -- a view with a tally of nothing for each queue
 abbrev pub fresh : {V : Type 0} → ℕ → WholeView V → CountedView V

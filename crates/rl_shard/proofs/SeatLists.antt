@@ -1,5 +1,5 @@
 -- The seats of a shard, as its window has them.
-use Rattle.std.proofs.Common.{◌≡◌, ℕ, ◌++◌, List, [], ◌∷◌, length, map, slice_get, Some, None, sym, refl, ap, ◌∙◌, subst}
+use Rattle.std.proofs.Common.{◌≡◌, ℕ, List, [], ◌∷◌, length, map, slice_get, Some, None, sym, refl, ap, ◌∙◌, subst}
 use Rattle.std.proofs.lemmas.List.{length-map}
 use Rattle.rl_word.specs.Places.{get_map, get_map_back}
 use Rattle.rl_word.specs.Acts.{Layout}
@@ -14,7 +14,7 @@ use Rattle.rl_shard.specs.declared.seat.Seat.{Seat}
 use Rattle.rl_shard.specs.declared.counting.Counting.{Counting}
 use Rattle.rl_shard.specs.declared.counting.CountedView.{CountedView}
 use Rattle.rl_shard.specs.Counting.{counting_rule}
-use Rattle.rl_shard.specs.Shards.{IsOf, AreOf, AreClosed, core_at, counted_at}
+use Rattle.rl_shard.specs.Shards.{AreOf, AreClosed, core_at, counted_at}
 use Rattle.rl_shard.specs.Closing.{inner_of, seated}
 
 module _ {A V : Type 0} where

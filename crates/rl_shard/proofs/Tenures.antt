@@ -1,5 +1,5 @@
 -- The tenures of a queue are what the transcripts and the settlements say.
-use Rattle.std.proofs.Common.{◌≡◌, ◌≢◌, ◌<◌, ◌≤◌, ◌+◌, ℕ, zero, suc, ◌==◌, ◌&&◌, not, cond, Bool, true, false, List, [], ◌∷◌, All, count_by, length, slice_get, Some, sym, refl, ap, ◌∙◌, subst, ⊎_elim, zero-add, arith}
+use Rattle.std.proofs.Common.{◌≡◌, ◌≢◌, ◌<◌, ◌+◌, ℕ, zero, suc, ◌==◌, ◌&&◌, not, cond, Bool, true, false, List, [], ◌∷◌, All, count_by, length, slice_get, Some, sym, refl, ap, ◌∙◌, subst, ⊎_elim, zero-add, arith}
 use Rattle.std.specs.Prelude.{if◌then◌else◌}
 use Rattle.std.proofs.lemmas.Bool.Decides.{nat_tests}
 use Rattle.std.proofs.lemmas.List.Elements.{All-head, All-tail}
@@ -10,7 +10,7 @@ use Rattle.rl_model.proofs.Counts.{count-cons}
 use Rattle.rl_journal.specs.Ranks.{count_in}
 use Rattle.rl_step.specs.declared.events.Event.{Event}
 use Rattle.rl_step.specs.declared.events.Event.TheVariants as event
-use Rattle.rl_step.specs.Queues.{QueueOf, count, ends, tenures, settled}
+use Rattle.rl_step.specs.Queues.{QueueOf, count, tenures, settled}
 use Rattle.rl_whole.specs.Whole.{one_if, leaves, is_tenure}
 use Rattle.rl_shard.specs.Queues.{is_had_by}
 

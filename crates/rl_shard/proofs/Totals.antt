@@ -1,12 +1,12 @@
 -- One tally more.
-use Rattle.std.proofs.Common.{◌≡◌, ◌≢◌, ◌<◌, ◌≤◌, ◌+◌, ℕ, zero, suc, ◌++◌, List, [], ◌∷◌, min, length, sum_by, take, get_or, sym, refl, ap, ◌∙◌, subst, ⊎_elim, arith, length-append}
+use Rattle.std.proofs.Common.{◌≡◌, ◌≢◌, ◌<◌, ◌+◌, ℕ, zero, suc, ◌++◌, List, [], ◌∷◌, min, length, sum_by, take, sym, refl, ap, ◌∙◌, ⊎_elim, arith, length-append}
 use Rattle.std.specs.Prelude.{◌⊎◌, slice_get, Some}
 use Rattle.std.proofs.Common.{inl, inr}
 use Rattle.std.proofs.lemmas.List.Sums.{sum_by-append, sum_by-cons}
 use Rattle.rl_whole.specs.RecordLaws.{take_next}
 use Rattle.rl_step.specs.declared.tallies.Tally.{Tally}
 use Rattle.rl_shard.specs.declared.seat.Seat.{Seat}
-use Rattle.rl_shard.specs.Tallies.{full, no_tally, tally_at}
+use Rattle.rl_shard.specs.Tallies.{full, tally_at}
 use Rattle.rl_shard.specs.Shards.{tallies_at}
 use Rattle.rl_shard.specs.Ends.{all_settled, all_passed}
 use Rattle.rl_shard.specs.Closing.{AreTotals}

@@ -5,12 +5,11 @@ use Rattle.rl_word.specs.Acts.{Layout}
 use Rattle.rl_model.specs.declared.entry.Entry.{Entry}
 use Rattle.rl_step.specs.declared.tallies.Tally.{Tally}
 use Rattle.rl_step.specs.Lock.{LockTable, LockState}
-use Rattle.rl_step.specs.Do.{TheWindow}
 use Rattle.rl_journal.specs.Legal.{table_after}
 use Rattle.rl_work.specs.Rule.{journal_of}
 use Rattle.rl_whole.specs.declared.whole.Whole.{Whole}
 use Rattle.rl_whole.specs.declared.whole.WholeView.{WholeView}
-use Rattle.rl_whole.specs.Running.{LockAt, lock_at}
+use Rattle.rl_whole.specs.Running.{lock_at}
 use Rattle.rl_whole.specs.Whole.{next_of, rule_of}
 use Rattle.rl_window.specs.declared.window.WinSeat.{WinSeat}
 use Rattle.rl_shard.specs.declared.seat.Seat.{Seat}

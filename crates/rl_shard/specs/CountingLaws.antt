@@ -1,5 +1,5 @@
 -- The whole machine with tallies keeps the laws of a core, for every lock; and blocks that are opened keep its rule.
-use Rattle.std.specs.Prelude.{◌≡◌, ℕ, ◌+◌, ◌<◌, ◌^◌, List, [], ◌++◌, length, map, slice_get, slice_set, Some, None, refl}
+use Rattle.std.specs.Prelude.{◌≡◌, ℕ, List, [], ◌++◌, length, map, slice_get, slice_set, Some, None, refl}
 use Rattle.std.proofs.Common.{sym, ◌∙◌, ap, subst, ⊎_elim, arith}
 use Rattle.std.proofs.lemmas.List.{append-nil}
 use Rattle.rl_word.specs.Places.{get_map, map_set, get_set_cases}
@@ -7,18 +7,15 @@ use Rattle.rl_word.specs.Acts.{Layout}
 use Rattle.rl_word.specs.declared.acts.Atom.{Atom}
 use Rattle.rl_model.specs.declared.call.Call.{Call}
 use Rattle.rl_step.specs.declared.events.Event.{Event}
-use Rattle.rl_step.specs.declared.tallies.Tally.{Tally}
-use Rattle.rl_step.specs.Lock.{LockTable, LockState, LockLaws, Deed}
+use Rattle.rl_step.specs.Lock.{LockState, LockLaws, Deed}
 use Rattle.rl_step.specs.Do.{TheWindow, do_atom, do_got}
 use Rattle.rl_step.specs.Core.{CoreLaws, Plans, MayBe, MayGet}
 use Rattle.rl_step.specs.Queues.{settled, passed}
 use Rattle.rl_step.specs.QueueLemmas.{settled-append, passed-append}
 use Rattle.rl_work.specs.WorkGood.{IsOpen}
-use Rattle.rl_whole.specs.declared.whole.WholeView.{WholeView}
 use Rattle.rl_whole.specs.Running.{LockAt}
 use Rattle.rl_whole.specs.Opening.{opened_in}
-use Rattle.rl_whole.specs.Split.{grown}
-use Rattle.rl_whole.specs.Whole.{Good, next_of, after_of, whole_table, made_deeds}
+use Rattle.rl_whole.specs.Whole.{Good, next_of, after_of, whole_table}
 use Rattle.rl_whole.specs.WholeLaws.{keeps_at, whole_laws}
 use Rattle.rl_whole.specs.OpenLaws.{open_keeps}
 use Rattle.rl_shard.specs.declared.counting.CountedView.{CountedView}

@@ -1,14 +1,12 @@
 -- What a closed shard leaves.
-use Rattle.std.specs.Prelude.{◌≡◌, ◌<◌, ℕ, ◌+◌, List, length, map, sum_by, slice_get, Some, vec_items}
+use Rattle.std.specs.Prelude.{◌≡◌, ◌<◌, ℕ, List, length, map, sum_by, slice_get, Some, vec_items}
 use Rattle.std.specs.FinMap as finite
 use Rattle.rl_model.specs.declared.entry.Entry.{Entry}
-use Rattle.rl_step.specs.declared.tallies.Tally.{Tally}
 use Rattle.rl_step.specs.Lock.{LockTable}
 use Rattle.rl_journal.specs.Legal.{IsLegal, table_after}
 use Rattle.rl_journal.specs.History.{history, IsReplay, IsSorted}
-use Rattle.rl_work.specs.Site.{Site}
 use Rattle.rl_work.specs.WorkGood.{IsOwnTranscript}
-use Rattle.rl_whole.specs.Running.{LockAt, lock_at}
+use Rattle.rl_whole.specs.Running.{lock_at}
 use Rattle.rl_shard.specs.declared.shard.Shard.{Shard}
 use Rattle.rl_shard.specs.declared.seat.Seat.{Seat}
 use Rattle.rl_shard.specs.declared.closed.Closed.{Closed}

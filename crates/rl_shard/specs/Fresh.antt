@@ -1,5 +1,5 @@
 -- For tests: a seat that can begin one call.
-use Rattle.std.specs.Prelude.{◌≡◌, ◌<◌, ◌≤◌, ◌+◌, ◌^◌, true, false, ℕ, List, [], ◌∷◌, All, length, count_by, slice_index, refl}
+use Rattle.std.specs.Prelude.{◌≡◌, ◌<◌, ◌≤◌, true, false, ℕ, [], ◌∷◌, All, length, count_by, slice_index, refl}
 use Rattle.std.proofs.Common.{sym, ap, subst, ◌∙◌, arith}
 use Rattle.std.proofs.lemmas.List.Elements.{All-cons, All-nil}
 use Rattle.rl_word.specs.Acts.{Layout}
@@ -7,10 +7,8 @@ use Rattle.rl_model.specs.declared.call.Call.{Call}
 use Rattle.rl_model.specs.declared.entry.Entry.{Entry}
 use Rattle.rl_model.specs.declared.geom.Geom.{Geom}
 use Rattle.rl_model.specs.Call.{shard_of, is_update}
-use Rattle.rl_model.specs.Asked.{IsAsked}
 use Rattle.rl_journal.specs.Legal.{updates}
 use Rattle.rl_step.specs.Lock.{LockTable, LockState}
-use Rattle.rl_work.specs.Site.{Site}
 use Rattle.rl_work.specs.WorkGood.{IsOpen, places_needed}
 use Rattle.rl_work.specs.Transcript.{TheTranscript}
 use Rattle.rl_whole.specs.Running.{lock_at}

@@ -1,19 +1,17 @@
 -- What the rule tells of a seat, and what its calls change.
-use Rattle.std.specs.Prelude.{◌≡◌, ◌↔◌, ℕ, true, false, List, [], ◌∷◌, length, map, slice_get, Option, Some, None, refl}
+use Rattle.std.specs.Prelude.{◌≡◌, ℕ, true, false, List, map, slice_get, Option, Some, None, refl}
 use Rattle.std.proofs.Common.{sym, ◌∙◌, ap, subst, inl}
 use Rattle.rl_word.specs.Places.{get_map}
 use Rattle.rl_word.specs.Acts.{Layout}
 use Rattle.rl_word.specs.declared.acts.Atom.{Atom}
 use Rattle.rl_model.specs.declared.call.Call.{Call}
-use Rattle.rl_model.specs.declared.entry.Entry.{Entry}
 use Rattle.rl_step.specs.declared.events.Event.{Event}
 use Rattle.rl_step.specs.declared.events.Stepped.{Stepped}
 use Rattle.rl_step.specs.declared.events.Stepped.TheVariants.{Finished}
 use Rattle.rl_step.specs.Lock.{LockTable, LockState, LockLaws, Deed}
-use Rattle.rl_step.specs.Do.{TheWindow, do_got}
-use Rattle.rl_step.specs.Core.{MayBe, MayGet, Performs}
+use Rattle.rl_step.specs.Do.{TheWindow}
+use Rattle.rl_step.specs.Core.{MayBe, Performs}
 use Rattle.rl_work.specs.WorkGood.{IsOpen, IsOwnTranscript}
-use Rattle.rl_whole.specs.declared.whole.Whole.{Whole}
 use Rattle.rl_whole.specs.declared.whole.WholeView.{WholeView}
 use Rattle.rl_whole.specs.Running.{LockAt, lock_at}
 use Rattle.rl_whole.specs.Opening.{opened_in}
@@ -26,17 +24,17 @@ use Rattle.rl_whole.specs.RankGood.{is_working}
 use Rattle.rl_whole.specs.WorkEnds.{AtomWork, atom_work}
 use Rattle.rl_window.specs.declared.window.Window.{Window}
 use Rattle.rl_window.specs.declared.window.WinSeat.{WinSeat}
-use Rattle.rl_window.specs.Rule.{Keeps, MayBeAt}
+use Rattle.rl_window.specs.Rule.{Keeps}
 use Rattle.rl_window.specs.Seats.{IsSeatOf, IsKept, with_view, core_of, view_of, seat_rank}
-use Rattle.rl_window.specs.SeatLemmas.{changed, seat_may_be, plain_may_be}
+use Rattle.rl_window.specs.SeatLemmas.{changed, seat_may_be}
 use Rattle.rl_shard.specs.declared.shard.Shard.{Shard}
 use Rattle.rl_shard.specs.declared.seat.Seat.{Seat}
 use Rattle.rl_shard.specs.declared.counting.Counting.{Counting}
 use Rattle.rl_shard.specs.declared.counting.CountedView.{CountedView}
 use Rattle.rl_shard.specs.Counting.{whole_of, counted_table, counting_rule, CountGood}
 use Rattle.rl_shard.specs.CountingLaws.{open_counts, whole_may_be}
-use Rattle.rl_shard.specs.Shards.{IsOf, IsClosed, core_at, counting_at, counted_at, view_at, entries_at, rank_at, standing_at, next_at}
-use Rattle.rl_shard.specs.Steps.{HasCause, CauseAt, TurnsAt}
+use Rattle.rl_shard.specs.Shards.{IsOf, IsClosed, core_at, counted_at, view_at, entries_at, rank_at, standing_at, next_at}
+use Rattle.rl_shard.specs.Steps.{HasCause, CauseAt}
 
 -- nothing goes on where nothing changes
 pub stays : {V : Type 0} (T : LockTable V) (shard rank : ℕ) (x y : WholeView V) → y ≡ x → AtomWork shard rank x.work y.work (stand T x) (stand T y)

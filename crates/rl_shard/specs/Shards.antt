@@ -9,7 +9,7 @@ use Rattle.rl_step.specs.declared.tallies.Tally.{Tally}
 use Rattle.rl_step.specs.Lock.{LockTable, LockState}
 use Rattle.rl_whole.specs.declared.whole.Whole.{Whole}
 use Rattle.rl_whole.specs.declared.whole.WholeView.{WholeView}
-use Rattle.rl_whole.specs.Running.{LockAt, lock_at}
+use Rattle.rl_whole.specs.Running.{lock_at}
 use Rattle.rl_whole.specs.Whole.{next_of}
 use Rattle.rl_window.specs.Seats.{IsSeatOf, IsKept, HasSeats, core_of, view_of, seat_rank, table_steps}
 use Rattle.rl_shard.specs.declared.shard.Shard.{Shard}

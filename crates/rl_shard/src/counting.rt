@@ -1,16 +1,17 @@
 //! A rank's whole machine, with the rank's tallies of the queues.
 
-ghost use Rattle.std.specs.Prelude.{◌≡◌, ◌↔◌, ◌≤◌, false, None, length};
+ghost use Rattle.std.specs.Prelude.{◌≡◌, ◌↔◌, ◌≤◌, [], false, None, length};
 ghost use Rattle.rl_step.specs.Core.{MayBe};
 ghost use Rattle.rl_whole.specs.Opening.{opened_in};
 ghost use Rattle.rl_whole.specs.Running.{lock_at};
-ghost use Rattle.rl_whole.specs.Whole.{next_of};
+ghost use Rattle.rl_whole.specs.Whole.{next_of, planned_in};
 ghost use Rattle.rl_shard.specs.Counting.{counted_table, counting_rule};
 ghost use Rattle.rl_shard.specs.CountingLaws.{counting_laws};
 
 use crate::tallies::Tallies;
+use arrayvec::ArrayVec;
 use rl_model::Call;
-use rl_step::{After, Algo, Core};
+use rl_step::{Algo, Core, Event, Plan, Stepped};
 use rl_whole::{Whole, WholeView};
 use rl_word::Atom;
 
@@ -34,16 +35,26 @@ impl<A: Algo> Core for Counting<A> {
 
     ghost table = { λ c. counted_table (lock_at A.table c.whole) c.whole.home };
 
+    ghost plan_of = { λ c x. planned_in (lock_at A.table c.whole).table x.whole };
+
     ghost rule = { counting_rule A.table A.good A.layout };
 
-    fn next(&self, view: &CountedView<A::View>) -> Option<Atom> {
+    #[inline(always)]
+    fn next(&self, view: &CountedView<A::View>) -> Option<(Atom, Plan)> {
         self.whole.next(&view.whole)
     }
 
-    fn after(&self, view: &mut CountedView<A::View>, got: u64) -> After {
-        let after = self.whole.after(&mut view.whole, got);
-        view.tallies.count(after.events.as_slice());
-        after
+    #[inline(always)]
+    fn after(
+        &self,
+        view: &mut CountedView<A::View>,
+        plan: Plan,
+        got: u64,
+        events: &mut ArrayVec<Event, 8>,
+    ) -> Stepped {
+        let stepped = self.whole.after(&mut view.whole, plan, got, events);
+        view.tallies.count(events.as_slice());
+        stepped
     }
 
     fn home(&self, word: u32) -> u32 {

@@ -12,6 +12,7 @@ ghost use Rattle.rl_shard.specs.Steps.{Makes, CauseAt, TurnsAt, IsUnhindered};
 use crate::counting::Counting;
 use crate::shard::Shard;
 use crate::stepping::step;
+use arrayvec::ArrayVec;
 use rl_model::{Call, Entry};
 use rl_step::{Algo, Stepped, Tally};
 use rl_window::WinSeat;
@@ -125,6 +126,6 @@ impl<A: Algo> Seat<A> {
         ensures alone { length (A.layout (core_at shard.now).algo).node_of ≡ 1 → IsUnhindered result }
         ensures turned { TurnsAt A.table shard.now self.old self.new }
     {
-        step(&shard.window, &mut self.seat).stepped
+        step(&shard.window, &mut self.seat, &mut ArrayVec::new())
     }
 }

@@ -13,6 +13,14 @@ pub record Turned (V : Type 0) : Type 0 where
   pub events : List Event
   pub stepped : Stepped
 
+abbrev pub turned_with : {V : Type 0} → V → List Event → Stepped → Turned V
+turned_with view events stepped = record { view = view; events = events; stepped = stepped }
+
+-- the atom that is handed on with something
+abbrev pub atom_in : {P : Type 0} → Option (Atom × P) → Option Atom
+atom_in None = None
+atom_in (Some p) = Some p.0
+
 -- a core as plain functions: a view's next atom, what the view is after it found a number, how many words the window has, and
 -- the home of each
 pub record CoreTable (V : Type 0) : Type 0 where

@@ -1,11 +1,21 @@
 //! What a core is: a rank's whole machine, whose atoms are the smallest steps.
 
-ghost use Rattle.std.specs.Prelude.{◌≡◌, ◌<◌, List};
+ghost use Rattle.std.specs.Prelude.{◌≡◌, ◌<◌, [], List, IfSome};
+ghost use Rattle.rl_step.specs.declared.cores.Plan.{Plan as ThePlan};
 ghost use Rattle.rl_step.specs.Do.{TheWindow};
-ghost use Rattle.rl_step.specs.Core.{CoreTable, CoreLaws, MayBe, MayGet};
+ghost use Rattle.rl_step.specs.Core.{CoreTable, CoreLaws, MayBe, MayGet, atom_in, turned_with};
 
-use crate::events::After;
-use rl_word::Atom;
+use crate::events::{Event, Stepped};
+use arrayvec::ArrayVec;
+use rl_word::{Act, Atom};
+
+/// What a core works out of a view to find its next atom: the act that the atom belongs to, if there is one, and the home of the act's
+/// word, where that is asked for. `next` hands it on to `after`, which so needn't work it out again.
+#[derive(Clone, Copy, PartialEq, Eq, Debug)]
+pub struct Plan {
+    pub act: Option<Act>,
+    pub home: u32,
+}
 
 /// A rank's whole machine over one window of words and cards.
 ///
@@ -17,20 +27,31 @@ pub trait Core: Drop {
     /// The core as plain functions, which the methods compute.
     ghost table: { Self → CoreTable Self.View };
 
+    /// The plan of a view.
+    ghost plan_of: { Self → Self.View → ThePlan };
+
     /// The rule.
     ghost rule: { Self → TheWindow → List Self.View → Type 0 };
 
-    /// The next atom of a rank; none exactly where it has no call open.
-    fn next(&self, view: &Self::View) -> Option<Atom>
+    /// The next atom of a rank, with the view's plan; none exactly where it has no call open.
+    fn next(&self, view: &Self::View) -> Option<(Atom, Plan)>
         requires { MayBe (rule self.now) view.now }
-        ensures { result ≡ (table self.now).next view.now };
+        ensures atom { atom_in result ≡ (table self.now).next view.now }
+        ensures plan { IfSome result (λ p. p.1 ≡ plan_of self.now view.now) };
 
-    /// Changes the view as its next atom does, which gave `got`, and tells the answer and what happened.
-    fn after(&self, view: &mut Self::View, got: u64) -> After
-        requires { MayGet (table self.now) (rule self.now) view.old got }
-        ensures view { view.new ≡ ((table self.now).after view.old got).view }
-        ensures events { result.events.items ≡ ((table self.now).after view.old got).events }
-        ensures stepped { result.stepped ≡ ((table self.now).after view.old got).stepped };
+    /// Changes the view, whose plan this is, as its next atom does, which gave `got`, and tells the answer. What happened with the atom
+    /// is put into `events`, which is empty: at most 8 events, in the order of their kinds.
+    fn after(
+        &self,
+        view: &mut Self::View,
+        plan: Plan,
+        got: u64,
+        events: &mut ArrayVec<Event, 8>,
+    ) -> Stepped
+        requires may { MayGet (table self.now) (rule self.now) view.old got }
+        requires plan { plan ≡ plan_of self.now view.old }
+        requires none { events.old.items ≡ [] }
+        ensures { turned_with view.new events.new.items result ≡ (table self.now).after view.old got };
 
     /// The home of a word, one of the window's.
     fn home(&self, word: u32) -> u32

@@ -2,8 +2,6 @@
 
 ghost use Rattle.std.specs.Prelude.{◌≡◌};
 
-use arrayvec::ArrayVec;
-
 /// How a rank stands to its shard's lock.
 #[derive(Clone, Copy, PartialEq, Eq, Debug)]
 pub enum Standing {
@@ -71,11 +69,4 @@ pub enum Stepped {
 pub struct Learnt<V> {
     pub view: V,
     pub waits: bool,
-}
-
-/// How a step went, and what happened with it: at most 8 events, in the order of their kinds.
-#[derive(Drop)]
-pub struct After {
-    pub stepped: Stepped,
-    pub events: ArrayVec<Event, 8>,
 }

@@ -6,10 +6,11 @@ ghost use Rattle.rl_word.specs.Places.{one_at, some_at, set_same_get};
 ghost use Rattle.rl_step.specs.Core.{card_word_of, Answers};
 ghost use Rattle.rl_step.specs.Do.{do_atom, do_got};
 
-use crate::cores::Core;
-use crate::events::{After, Stepped};
+use crate::cores::{Core, Plan};
+use crate::events::{Event, Stepped};
 use crate::port::{Port, advance};
 use crate::words::Words;
+use arrayvec::ArrayVec;
 use rl_word::Atom;
 
 /// A window and the views of all ranks. The core stays with the caller, who lends it to `advance`.
@@ -102,14 +103,21 @@ impl<'a, C: Core> Port<C> for FlatPort<'a, C> {
         &self.flat.views[self.rank as usize]
     }
 
-    fn perform(&mut self, core: &C, atom: Atom) -> After {
+    #[inline(always)]
+    fn perform(
+        &mut self,
+        core: &C,
+        atom: Atom,
+        plan: Plan,
+        events: &mut ArrayVec<Event, 8>,
+    ) -> Stepped {
         let home = match card_word(atom) {
             Some(word) => core.home(word),
             None => 0,
         };
         let got = self.flat.words.apply(home, self.rank, atom);
         let view = &mut self.flat.views[self.rank as usize];
-        core.after(view, got)
+        core.after(view, plan, got, events)
     }
 
     ghost has_rank = { λ p c f. f.1 };
@@ -128,18 +136,26 @@ impl<'a, C: Core> Port<C> for FlatPort<'a, C> {
 /// Makes one atom of a rank of a flat machine, if it has one to make: `advance` on the rank's port.
 ///
 /// The answer is Finished exactly where the rank has no next atom, and then nothing changes. Otherwise the window is as
-/// the atom leaves it, the rank's view, the answer and the events are those of the core, and the other views stay.
-pub fn advance_flat<C: Core>(core: &C, flat: &mut Flat<C>, rank: u32) -> After
+/// the atom leaves it, the rank's view, the answer and the events are those of the core, and the other views stay. The
+/// list of events is empty before.
+#[inline(always)]
+pub fn advance_flat<C: Core>(
+    core: &C,
+    flat: &mut Flat<C>,
+    rank: u32,
+    events: &mut ArrayVec<Event, 8>,
+) -> Stepped
     requires ruled { C.rule core.now flat.old.words flat.old.views.items }
     requires there { rank < length flat.old.views.items }
+    requires none { events.old.items ≡ [] }
     ensures ruled { C.rule core.now flat.new.words flat.new.views.items }
     ensures there { rank < length flat.new.views.items }
-    ensures finished { (v : C.View) → slice_get flat.old.views.items rank ≡ Some v → (C.table core.now).next v ≡ None → (result.stepped ≡ Stepped.Finished) × (result.events.items ≡ []) × (flat.new ≡ flat.old) }
-    ensures goes_on { (v : C.View) (at : _) → slice_get flat.old.views.items rank ≡ Some v → (C.table core.now).next v ≡ Some at → result.stepped ≢ Stepped.Finished }
+    ensures finished { (v : C.View) → slice_get flat.old.views.items rank ≡ Some v → (C.table core.now).next v ≡ None → (result ≡ Stepped.Finished) × (events.new.items ≡ []) × (flat.new ≡ flat.old) }
+    ensures goes_on { (v : C.View) (at : _) → slice_get flat.old.views.items rank ≡ Some v → (C.table core.now).next v ≡ Some at → result ≢ Stepped.Finished }
     ensures words { (v : C.View) (at : _) → slice_get flat.old.views.items rank ≡ Some v → (C.table core.now).next v ≡ Some at → flat.new.words ≡ do_atom rank at flat.old.words }
     ensures views { (v : C.View) (at : _) → slice_get flat.old.views.items rank ≡ Some v → (C.table core.now).next v ≡ Some at → flat.new.views.items ≡ slice_set flat.old.views.items rank ((C.table core.now).after v (do_got at flat.old.words.words flat.old.words.cards)).view }
-    ensures answer { (v : C.View) (at : _) → slice_get flat.old.views.items rank ≡ Some v → (C.table core.now).next v ≡ Some at → Answers (C.table core.now) v (do_got at flat.old.words.words flat.old.words.cards) result.events.items result.stepped }
+    ensures answer { (v : C.View) (at : _) → slice_get flat.old.views.items rank ≡ Some v → (C.table core.now).next v ≡ Some at → Answers (C.table core.now) v (do_got at flat.old.words.words flat.old.words.cards) events.new.items result }
 {
     let mut port = FlatPort { flat, rank };
-    advance(core, &mut port)
+    advance(core, &mut port, events)
 }

@@ -21,8 +21,8 @@ mod tallies;
 mod words;
 
 pub use algo::Algo;
-pub use cores::Core;
-pub use events::{After, Event, Learnt, Standing, Stepped};
+pub use cores::{Core, Plan};
+pub use events::{Event, Learnt, Standing, Stepped};
 pub use flat::{Flat, FlatPort, advance_flat};
 pub use port::{Port, advance};
 pub use tallies::{Steps, Tally};

@@ -1,11 +1,11 @@
 //! Atoms on a window without classes, counts of answers, and a flat machine.
 
-ghost use Rattle.std.specs.Prelude.{◌≡◌, length, [], Some};
+ghost use Rattle.std.specs.Prelude.{◌≡◌, length, [], None, Some};
 ghost use Rattle.rl_word.specs.declared.acts.Atom.TheVariants.{Load};
 ghost use Rattle.rl_step.specs.declared.events.Stepped.TheVariants.{Moved};
 ghost use Rattle.rl_step.specs.Loader.{can_load, load_keeps, goes_on};
 
-use crate::{After, Core, Flat, Stepped, Steps, Words, advance, advance_flat};
+use crate::{Core, Event, Flat, Plan, Stepped, Steps, Words, advance, advance_flat};
 use arrayvec::ArrayVec;
 use rl_word::Atom;
 use std::alloc::AllocError;
@@ -74,18 +74,24 @@ impl Core for Loader {
 
     ghost table = { λ c. record { next = λ v. Some (Load 0); after = λ v got. record { view = got; events = []; stepped = Moved }; size = 1; home = λ w. 0 } };
 
+    ghost plan_of = { λ c v. record { act = None; home = 0 } };
+
     ghost rule = { λ c h vs. length h.words ≡ 1 };
 
-    fn next(&self, _view: &u64) -> Option<Atom> {
-        Some(Atom::Load { word: 0 })
+    fn next(&self, _view: &u64) -> Option<(Atom, Plan)> {
+        let plan = Plan { act: None, home: 0 };
+        Some((Atom::Load { word: 0 }, plan))
     }
 
-    fn after(&self, view: &mut u64, got: u64) -> After {
+    fn after(
+        &self,
+        view: &mut u64,
+        _plan: Plan,
+        got: u64,
+        _events: &mut ArrayVec<Event, 8>,
+    ) -> Stepped {
         *view = got;
-        After {
-            stepped: Stepped::Moved,
-            events: ArrayVec::new(),
-        }
+        Stepped::Moved
     }
 
     fn home(&self, _word: u32) -> u32 {
@@ -102,13 +108,14 @@ fn each_rank_of_a_flat_machine_has_its_view(rt: HostRuntime) -> Result<(), Alloc
     let mut flat: Flat<Loader> = Flat::new(window, vec![in rt.alloc(); 5, 7]?);
     *flat.view_mut(0) = 9;
     assert_eq!(rt; *flat.view(0), 9);
-    let after = advance_flat(&Loader, &mut flat, 1);
-    assert_eq!(rt; after.stepped, Stepped::Moved);
+    let mut events = ArrayVec::new();
+    let stepped = advance_flat(&Loader, &mut flat, 1, &mut events);
+    assert_eq!(rt; stepped, Stepped::Moved);
     assert_eq!(rt; *flat.view(0), 9);
     assert_eq!(rt; *flat.view(1), 6);
     let mut port = flat.port(0);
-    let after = advance(&Loader, &mut port);
-    assert_eq!(rt; after.stepped, Stepped::Moved);
+    let stepped = advance(&Loader, &mut port, &mut events);
+    assert_eq!(rt; stepped, Stepped::Moved);
     assert_eq!(rt; *flat.view(0), 6);
     assert_eq!(rt; flat.words().value(0), 6);
     Ok(())

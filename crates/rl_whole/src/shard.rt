@@ -44,11 +44,11 @@ fn open_in<A: Algo>(core: &Whole<A>, flat: &mut Flat<Whole<A>>, rank: u32, calls
 }
 
 /// Appends an atom's events with the number of its step.
-fn note(events: &mut Vec<(u32, Event)>, step: u32, noted: &ArrayVec<Event, EVENTS>)
-    requires room { vec_len events.old + length noted.now.items ≤ vec_capacity events.old }
-    ensures { events.new.items ≡ events.old.items ++ numbered step noted.now.items }
+fn note(events: &mut Vec<(u32, Event)>, step: u32, noted: &[Event])
+    requires room { vec_len events.old + length noted.now ≤ vec_capacity events.old }
+    ensures { events.new.items ≡ events.old.items ++ numbered step noted.now }
 {
-    for event in noted.as_slice() {
+    for event in noted {
         events.push_reserved((step, *event));
     }
 }
@@ -62,9 +62,10 @@ fn make_atom<A: Algo>(shard: &mut ShardState<A>, rank: u32, step: u32) -> Steppe
     ensures answer { result ≡ answer_on rank (running_shard A.table shard.old) }
     ensures core { shard.new.core ≡ shard.old.core }
 {
-    let after = advance_flat(&shard.core, &mut shard.flat, rank);
-    note(&mut shard.events, step, &after.events);
-    after.stepped
+    let mut events = ArrayVec::new();
+    let stepped = advance_flat(&shard.core, &mut shard.flat, rank, &mut events);
+    note(&mut shard.events, step, events.as_slice());
+    stepped
 }
 
 /// Makes room for events, and then the rank's next atom. After want of memory nothing has changed.

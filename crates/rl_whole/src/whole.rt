@@ -1,6 +1,6 @@
 //! A rank's whole machine over any lock.
 
-ghost use Rattle.std.specs.Prelude.{◌≡◌, ◌↔◌, ◌∷◌, ◌+◌, ◌<◌, ◌≤◌, ℕ, false, None, Some, length, sum, IfOk};
+ghost use Rattle.std.specs.Prelude.{◌≡◌, ◌↔◌, ◌∷◌, ◌+◌, ◌<◌, ◌≤◌, ℕ, [], false, None, Some, length, sum, IfOk};
 ghost use Rattle.rl_model.specs.Geom.{GeomFits};
 ghost use Rattle.rl_word.specs.Shapes.{IsProper, layout_of};
 ghost use Rattle.rl_step.specs.Core.{MayBe};
@@ -11,7 +11,7 @@ ghost use Rattle.rl_whole.specs.Opening.{first_view, opened_in};
 ghost use Rattle.rl_whole.specs.Running.{lock_at};
 ghost use Rattle.rl_whole.specs.Split.{card_word, word_home};
 ghost use Rattle.rl_whole.specs.Start.{lock_with, site_with};
-ghost use Rattle.rl_whole.specs.Whole.{whole_table, next_of, is_at_work, is_open, mode_of, rule_of, departure_if};
+ghost use Rattle.rl_whole.specs.Whole.{whole_table, planned_in, next_of, is_at_work, is_open, mode_of, rule_of, departure_if};
 ghost use Rattle.rl_whole.specs.WholeLaws.{whole_laws};
 
 use crate::card_state::CardState;
@@ -21,7 +21,7 @@ use crate::side::Side;
 use crate::split::{answer, card_word, effect, next_atom};
 use arrayvec::ArrayVec;
 use rl_model::{Call, Entry, Geom};
-use rl_step::{After, Algo, Core, Event, Standing, Stepped};
+use rl_step::{Algo, Core, Event, Plan, Standing, Stepped};
 use rl_word::{Act, Atom, Knobs, Mode, Shape};
 use rl_work::{Work, journal_base};
 use std::alloc::{AllocError as OutOfMemory, Global};
@@ -54,11 +54,17 @@ pub struct Whole<A: Algo> {
     pub rooms: Vec<u32>,
 }
 
-/// The events of an atom of the work: the touch, and the holder's leave where the work is over with it.
-fn work_events(rank: u32, standing: Standing, write: bool, over: bool) -> ArrayVec<Event, 8>
-    ensures { result.items ≡ touched_by rank write ∷ departure_if rank standing over }
+/// Tells the events of an atom of the work: the touch, and the holder's leave where the work is over with it. None was told before.
+fn tell_work(
+    rank: u32,
+    standing: Standing,
+    write: bool,
+    over: bool,
+    events: &mut ArrayVec<Event, 8>,
+)
+    requires { events.old.items ≡ [] }
+    ensures { events.new.items ≡ touched_by rank write ∷ departure_if rank standing over }
 {
-    let mut events = ArrayVec::new();
     events.push(Event::Touch { rank, write });
     if over {
         match standing {
@@ -67,7 +73,6 @@ fn work_events(rank: u32, standing: Standing, write: bool, over: bool) -> ArrayV
             _ => {}
         }
     }
-    events
 }
 
 /// Whether a rank that stands so, and is there in a split act, is in a call.
@@ -105,6 +110,17 @@ impl<A: Algo> Whole<A> {
             None => 0,
         }
     }
+
+    /// The act that a view plans, and the home of its word, where the card state asks for it.
+    #[inline(always)]
+    fn planned(&self, view: &WholeView<A::View>) -> Plan
+        requires { MayBe (rule_of A.table A.good A.layout self.now) view.now }
+        ensures { result ≡ planned_in (lock_at A.table self.now).table view.now }
+    {
+        let act = self.algo.plan(view.side.view);
+        let home = self.plan_home(act, view.side.card);
+        Plan { act, home }
+    }
 }
 
 impl<A: Algo> Core for Whole<A> {
@@ -112,58 +128,52 @@ impl<A: Algo> Core for Whole<A> {
 
     ghost table = { λ c. whole_table (lock_at A.table c) c.home };
 
+    ghost plan_of = { λ c. planned_in (lock_at A.table c).table };
+
     ghost rule = { rule_of A.table A.good A.layout };
 
     #[inline(always)]
-    fn next(&self, view: &WholeView<A::View>) -> Option<Atom> {
-        let plan = self.algo.plan(view.side.view);
-        let home = self.plan_home(plan, view.side.card);
-        match next_atom(home, plan, view.side.card) {
-            Some(atom) => Some(shift(self.base, atom)),
+    fn next(&self, view: &WholeView<A::View>) -> Option<(Atom, Plan)> {
+        let plan = self.planned(view);
+        match next_atom(plan.home, plan.act, view.side.card) {
+            Some(atom) => Some((shift(self.base, atom), plan)),
             None => match self.algo.standing(view.side.view) {
-                Standing::Writer | Standing::Reader => view.work.next(self.geom),
+                Standing::Writer | Standing::Reader => Some((view.work.next(self.geom)?, plan)),
                 _ => None,
             },
         }
     }
 
-    #[tactic(auto, using(crate::specs::HomeLaws::asked_effect))]
     #[inline(always)]
-    fn after(&self, view: &mut WholeView<A::View>, got: u64) -> After {
-        let plan = self.algo.plan(view.side.view);
-        let home = self.plan_home(plan, view.side.card);
-        match effect(home, plan, view.side.card, got) {
+    fn after(
+        &self,
+        view: &mut WholeView<A::View>,
+        plan: Plan,
+        got: u64,
+        events: &mut ArrayVec<Event, 8>,
+    ) -> Stepped {
+        match effect(plan.home, plan.act, view.side.card, got) {
             Effect::Work => {
                 let rank = view.rank;
                 let standing = self.algo.standing(view.side.view);
                 let write = view.work.stores();
                 let over = view.work.turn(self.geom, self.shard, rank, got);
-                let events = work_events(rank, standing, write, over);
+                tell_work(rank, standing, write, over, events);
                 view.side.card = CardState::Free;
                 if over {
                     view.side.view = self.algo.leave(view.side.view);
                 }
-                After {
-                    stepped: Stepped::Moved,
-                    events,
-                }
+                Stepped::Moved
             }
             Effect::Stay { card, stepped } => {
                 view.side.card = card;
-                After {
-                    stepped,
-                    events: ArrayVec::new(),
-                }
+                stepped
             }
             Effect::Learn { card, told, lost } => {
-                let mut events = ArrayVec::new();
-                let learnt = self.algo.learn(view.side.view, told, &mut events);
+                let learnt = self.algo.learn(view.side.view, told, events);
                 view.side.view = learnt.view;
                 view.side.card = card;
-                After {
-                    stepped: shift_answer(self.base, answer(plan, told, lost, learnt.waits)),
-                    events,
-                }
+                shift_answer(self.base, answer(plan.act, told, lost, learnt.waits))
             }
         }
     }

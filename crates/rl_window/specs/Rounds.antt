@@ -2,8 +2,7 @@
 use Rattle.std.specs.Prelude.{◌≡◌, ◌≢◌, ℕ, zero, suc, ◌+◌, ◌%◌, ◌^◌, ◌<◌, ◌==◌, Bool, true, false, List, [], ◌∷◌, length, if◌then◌else◌, slice_get, slice_set, slice_index, Option, Some, None, refl}
 use Rattle.std.proofs.Common.{subst, sym, ap, ◌∙◌, ⊎_elim, arith, length-set}
 use Rattle.std.proofs.lemmas.Bool.{eqb-true}
-use Rattle.std.proofs.lemmas.Option.{same_Some}
-use Rattle.rl_word.specs.Places.{get_set_same, get_set_cases}
+use Rattle.rl_word.specs.Places.{get_set_cases}
 use Rattle.rl_word.specs.declared.acts.Atom.{Atom}
 use Rattle.rl_word.specs.declared.acts.Atom.TheVariants.{Load, Store, LocalCas, Take, CardLoad, CardStore, Leave}
 use Rattle.rl_step.specs.declared.events.Stepped.TheVariants.{Moved, Lost, Finished}

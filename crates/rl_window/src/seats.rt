@@ -1,13 +1,14 @@
 //! What a rank does by its seat.
 
-ghost use Rattle.std.specs.Prelude.{◌≡◌, ◌+◌, ℕ, Some, None};
+ghost use Rattle.std.specs.Prelude.{◌≡◌, ◌+◌, ℕ, [], Some, None};
 ghost use Rattle.rl_step.specs.Core.{Performs};
 ghost use Rattle.std.specs.Borrow.{Lends, sem};
 ghost use Rattle.rl_window.specs.contracts.window.WinSeat.{the_row};
 ghost use Rattle.rl_window.specs.Seats.{with_view, seat_rank, IsSeatOf, IsKept, last_view, table_steps};
 
 use crate::window::{WinSeat, Window};
-use rl_step::{After, Core};
+use arrayvec::ArrayVec;
+use rl_step::{Core, Event, Plan, Stepped};
 use rl_word::Atom;
 
 impl<C: Core> WinSeat<C> {
@@ -44,18 +45,28 @@ impl<C: Core> Window<C> {
         &self.core
     }
 
-    /// Makes the atom that the seat's view has next, in one table step. The view becomes what the core makes of it.
-    pub(crate) fn perform(&self, seat: &mut WinSeat<C>, core: &C, atom: Atom) -> After
+    /// Makes the atom that the seat's view has next, in one table step, with the view's plan. The view becomes what the core makes of it,
+    /// and what happened is put into `events`, which is empty.
+    pub(crate) fn perform(
+        &self,
+        seat: &mut WinSeat<C>,
+        core: &C,
+        atom: Atom,
+        plan: Plan,
+        events: &mut ArrayVec<Event, 8>,
+    ) -> Stepped
         requires seat { IsSeatOf C.rule self.now seat.old }
         requires kept { IsKept C.rule self.now seat.old }
         requires core { core.now ≡ self.now.core }
         requires planned { (C.table core.now).next seat.old.view ≡ Some atom }
+        requires plan { plan ≡ C.plan_of core.now seat.old.view }
+        requires none { events.old.items ≡ [] }
         ensures seat { IsSeatOf C.rule self.now seat.new }
         ensures same { (seat.new.rank ≡ seat.old.rank) × (last_view seat.new ≡ seat.new.view) }
         ensures step { table_steps seat.new ≡ table_steps seat.old + 1 }
-        ensures made { Performs (C.table core.now) (C.rule core.now) seat.old.rank atom seat.old.view seat.new.view None None result.events.items result.stepped }
+        ensures made { Performs (C.table core.now) (C.rule core.now) seat.old.rank atom seat.old.view seat.new.view None None events.new.items result }
     {
         let got = self.make(&mut seat.seat, seat.rank, &seat.view, atom);
-        core.after(&mut seat.view, got)
+        core.after(&mut seat.view, plan, got, events)
     }
 }

@@ -6,7 +6,8 @@ ghost use Rattle.rl_window.specs.Seats.{IsSeatOf, IsKept, last_view, table_steps
 ghost use Rattle.rl_window.specs.Ports.{IsFit, IsSamePort, IsMoved};
 
 use crate::window::{WinSeat, Window};
-use rl_step::{After, Core, Port};
+use arrayvec::ArrayVec;
+use rl_step::{Core, Event, Plan, Port, Stepped};
 use rl_word::Atom;
 
 /// The port of one seat, on words that other seats change at any moment: it tells its view, and neither words nor cards.
@@ -57,8 +58,14 @@ impl<'a, C: Core> Port<C> for TablePort<'a, C> {
         self.seat.view()
     }
 
-    fn perform(&mut self, core: &C, atom: Atom) -> After {
-        self.window.perform(self.seat, core, atom)
+    fn perform(
+        &mut self,
+        core: &C,
+        atom: Atom,
+        plan: Plan,
+        events: &mut ArrayVec<Event, 8>,
+    ) -> Stepped {
+        self.window.perform(self.seat, core, atom, plan, events)
     }
 
     ghost has_rank = { λ p c f. tt };

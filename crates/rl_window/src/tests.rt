@@ -1,12 +1,12 @@
 //! Each kind of table step, in an order worked out by hand, and by two threads.
 
-ghost use Rattle.std.specs.Prelude.{◌≡◌, ℕ, ◌+◌, List, length, Option, Some, IfOk, vec_len};
+ghost use Rattle.std.specs.Prelude.{◌≡◌, ℕ, ◌+◌, List, length, Option, None, Some, IfOk, vec_len};
 ghost use Rattle.rl_window.specs.Seats.{IsSeatOf, IsKept, IsAll, AreKept};
 ghost use Rattle.rl_window.specs.Rounds.{rounds_table, rounds_rule, after_found, rounds_laws};
 
 use crate::{WinSeat, Window};
 use arrayvec::ArrayVec;
-use rl_step::{After, Core, Stepped, advance};
+use rl_step::{Core, Event, Plan, Stepped, advance};
 use rl_word::Atom;
 use std::alloc::{AllocError as OutOfMemory, Global};
 use std::test::Fail;
@@ -82,19 +82,25 @@ impl Core for Rounds {
 
     ghost table = { λ c. rounds_table };
 
+    ghost plan_of = { λ c v. record { act = None; home = 0 } };
+
     ghost rule = { rounds_rule };
 
-    fn next(&self, view: &Option<Atom>) -> Option<Atom> {
-        *view
+    fn next(&self, view: &Option<Atom>) -> Option<(Atom, Plan)> {
+        let atom = (*view)?;
+        Some((atom, Plan { act: None, home: 0 }))
     }
 
-    fn after(&self, view: &mut Option<Atom>, got: u64) -> After {
+    fn after(
+        &self,
+        view: &mut Option<Atom>,
+        _plan: Plan,
+        got: u64,
+        _events: &mut ArrayVec<Event, 8>,
+    ) -> Stepped {
         let (next, stepped) = went_on(*view, got);
         *view = next;
-        After {
-            stepped,
-            events: ArrayVec::new(),
-        }
+        stepped
     }
 
     fn home(&self, _word: u32) -> u32 {
@@ -122,7 +128,7 @@ fn step(window: &Window<Rounds>, seat: &mut WinSeat<Rounds>) -> Stepped
     ensures rank { seat.new.rank ≡ seat.old.rank }
 {
     let mut port = window.port(seat);
-    advance(window.core(), &mut port).stepped
+    advance(window.core(), &mut port, &mut ArrayVec::new())
 }
 
 /// Begins a round, where none is under way, and says whether it did.

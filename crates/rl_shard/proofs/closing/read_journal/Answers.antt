@@ -1,5 +1,5 @@
 -- The count is the journal's length; one entry more.
-use Rattle.std.proofs.Common.{◌≡◌, ◌+◌, ◌<◌, ◌≤◌, ◌∷◌, [], ◌++◌, length, take, sum, vec_len, vec_capacity, slice_index, ap, sym, ◌∙◌, arith, rules}
+use Rattle.std.proofs.Common.{◌≡◌, ◌<◌, ◌∷◌, [], ◌++◌, length, take, vec_len, ap, sym, ◌∙◌, arith, rules}
 use Rattle.std.proofs.lemmas.List.{length-take-le}
 use Rattle.rl_whole.specs.Filling.{take_whole}
 use Rattle.rl_whole.specs.RecordLaws.{take_next}

@@ -1,5 +1,5 @@
 -- The words behind the count are the volume of the table after the journal.
-use Rattle.std.proofs.Common.{◌≡◌, ◌+◌, ◌-◌, List, ℕ, take, drop, ap, sym, subst, arith}
+use Rattle.std.proofs.Common.{◌≡◌, ◌+◌, ◌-◌, take, drop, subst, arith}
 use Rattle.std.specs.FinMap as finite
 use Rattle.rl_journal.specs.Legal.{table_after}
 use Rattle.rl_volume.specs.Words.{volume_words}

@@ -1,5 +1,5 @@
 -- One tally more.
-use Rattle.std.proofs.Common.{◌≡◌, ◌≤◌, ◌+◌, ap, sym, subst, arith}
+use Rattle.std.proofs.Common.{◌≡◌, ◌+◌, sym, subst, arith}
 use Rattle.rl_shard.specs.Closing.{AreTotals}
 use Rattle.rl_shard.proofs.Totals.{totals_more}
 use Rattle.rl_shard.proofs.closing.totals.Goals as goal

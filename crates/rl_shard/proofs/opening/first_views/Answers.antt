@@ -1,6 +1,5 @@
 -- One rank's view more.
-use Rattle.std.proofs.Common.{◌≡◌, ◌∷◌, [], ◌++◌, length, slice_index, take, ap, sym, ◌∙◌, arith}
-use Rattle.rl_whole.specs.Opening.{first_view}
+use Rattle.std.proofs.Common.{◌≡◌, ◌∷◌, [], ◌++◌, length, take, ap, sym, ◌∙◌, arith}
 use Rattle.rl_whole.specs.Running.{lock_at}
 use Rattle.rl_whole.specs.Filling.{take_whole}
 use Rattle.rl_shard.specs.Counting.{first_counted}

@@ -8,7 +8,7 @@ use Rattle.rl_step.proofs.flat.advance_flat.Given.{Over}
 
 made : (g : Over) (c : After-advance g) (v : g.row.C-View.Denot) (at : Atom) → slice_get c.args.flat.now.views.items c.args.rank ≡ Some v → (g.C.Core.table c.args.core.now).next v ≡ Some at →
     MadeFlat (g.C.Core.table c.args.core.now) c.args.flat.now.words c.advance.new.port.flat.now.words c.args.flat.now.views.items c.advance.new.port.flat.now.views.items c.args.rank v at
-    c.advance.result.events.items c.advance.result.stepped
+    c.advance.new.events.items c.advance.result
 made g c v at has next =
     let ws = c.advance.new.port.flat.now.views.items in
     let same : c.advance.new.port.rank ≡ c.args.rank = c.advance.ensures.frame.1 in

@@ -5,4 +5,4 @@ use Rattle.rl_whole.proofs.shard.note.Given as goal
 
 abbrev pub invariant-loop-event : goal.invariant-loop-event
 invariant-loop-event l =
-    (l.events.items ≡ l.fn.events.items ++ numbered l.step (take l.event-index l.noted.items)) × (l.events.len ≡ l.fn.events.len + l.event-index) × (l.events.cap ≡ l.fn.events.cap)
+    (l.events.items ≡ l.fn.events.items ++ numbered l.step (take l.event-index l.noted)) × (l.events.len ≡ l.fn.events.len + l.event-index) × (l.events.cap ≡ l.fn.events.cap)

@@ -1,5 +1,5 @@
 -- The machine that was just made, with its first words and views, meets the rule.
-use Rattle.std.proofs.Common.{◌≡◌, ◌<◌, ◌≤◌, ℕ, ◌+◌, ◌^◌, ◌∙◌, List, length, map, sum, vec_len, slice_get, Some, None, sym, ap, subst, arith, rules}
+use Rattle.std.proofs.Common.{◌≡◌, ◌≤◌, ◌∙◌, length, sum, vec_len, slice_get, None, sym, ap, subst, arith, rules}
 use Rattle.std.specs.Prelude.{Result, Ok, Err, IfOk}
 use Rattle.rl_word.specs.Shapes.{layout_of}
 use Rattle.rl_model.specs.Geom.{GeomFits}

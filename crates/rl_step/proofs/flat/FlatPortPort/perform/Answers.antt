@@ -23,8 +23,8 @@ apply-got-requires g c =
     subst (λ h. CanDo h c.args.self.now.rank c.args.atom c.args.self.now.flat.now.words.words c.args.self.now.flat.now.words.cards) (sym home)
     (laws.can _ _ _ _ _ (record { is_ruled = c.requires.fits.0; has = plan.1; planned = plan.2 }))
 
-pub after-requires : goal.after-requires
-after-requires g c =
+pub after-requires-clause-may : goal.after-requires-clause-may
+after-requires-clause-may g c =
     let plan = c.requires.planned in
     let same = lent_view c.args.self.now.flat.now.views.items c.args.self.now.rank _ plan.0 _ c.index_mut-view.ensures.value plan.1 in
     record {
@@ -36,13 +36,19 @@ after-requires g c =
       gives = c.apply-got.ensures.got;
     }
 
+pub after-requires-clause-plan : goal.after-requires-clause-plan
+after-requires-clause-plan g c =
+    let plan = c.requires.planned in
+    let same = lent_view c.args.self.now.flat.now.views.items c.args.self.now.rank _ plan.0 _ c.index_mut-view.ensures.value plan.1 in
+    plan.3 ∙ ap (g.C.Core.plan_of c.args.core.now) (sym same)
+
 pub returns-clause-fits : goal.returns-clause-fits
 returns-clause-fits g c =
     let plan = c.requires.planned in
     let same = lent_view c.args.self.now.flat.now.views.items c.args.self.now.rank _ plan.0 _ c.index_mut-view.ensures.value plan.1 in (
       rule_after (g.C.Core.table c.args.core.now) (g.C.Core.rule c.args.core.now) (g.met.C.Core.laws c.args.core.now) c.args.self.now.flat.now.words c.apply-got.new.self
           c.args.self.now.flat.now.views.items c.args.self.now.rank _ plan.0 c.after.new.view c.args.atom c.apply-got.result
-          (record { is_ruled = c.requires.fits.0; has = plan.1; planned = plan.2 }) same c.apply-got.ensures.window c.apply-got.ensures.got c.apply-got.type_inv c.after.ensures.view,
+          (record { is_ruled = c.requires.fits.0; has = plan.1; planned = plan.2 }) same c.apply-got.ensures.window c.apply-got.ensures.got c.apply-got.type_inv (ap (λ t. t.view) c.after.ensures),
       subst (λ n. c.args.self.now.rank < n) (sym (length-set c.args.self.now.flat.now.views.items c.args.self.now.rank c.after.new.view)) c.requires.fits.1,
     )
 
@@ -65,6 +71,6 @@ returns-clause-made g c = λ v w sv sw.
     one_at (slice_set c.args.self.now.flat.now.views.items c.args.self.now.rank c.after.new.view) c.args.self.now.rank _ _ sw
     (get_set_same c.args.self.now.flat.now.views.items c.args.self.now.rank v c.after.new.view sv) in
     performs_made (g.C.Core.table c.args.core.now) (g.C.Core.rule c.args.core.now) c.args.self.now.flat.now.words c.apply-got.new.self
-    c.args.self.now.flat.now.views.items c.args.self.now.rank c.index_mut-view.result.now v c.after.new.view w c.args.atom c.apply-got.result c.after.result.events.items c.after.result.stepped
+    c.args.self.now.flat.now.views.items c.args.self.now.rank c.index_mut-view.result.now v c.after.new.view w c.args.atom c.apply-got.result c.after.new.events.items c.after.result
     (record { is_ruled = c.requires.fits.0; has = sv; planned = ap (g.C.Core.table c.args.core.now).next (one_at c.args.self.now.flat.now.views.items c.args.self.now.rank _ _ sv here) ∙ plan.2 })
-    same set c.apply-got.ensures.window c.apply-got.ensures.got c.after.ensures.view c.after.ensures.events c.after.ensures.stepped
+    same set c.apply-got.ensures.window c.apply-got.ensures.got (ap (λ t. t.view) c.after.ensures) (ap (λ t. t.events) c.after.ensures) (ap (λ t. t.stepped) c.after.ensures)

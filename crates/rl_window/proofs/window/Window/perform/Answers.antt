@@ -1,3 +1,4 @@
+use Rattle.std.proofs.Common.{ap}
 use Rattle.rl_window.specs.SeatLemmas.{seat_may_be}
 use Rattle.rl_window.proofs.Made.{made_seat, made_performs}
 use Rattle.rl_window.proofs.window.Window.perform.Goals as goal
@@ -11,5 +12,5 @@ returns-clause-seat g c =
 
 pub returns-clause-made : goal.returns-clause-made
 returns-clause-made g c =
-    made_performs g.C.Core.rule g.C.Core.table c.args.self.now c.args.seat.now c.args.core.now c.make-got.new.seat.me.0 c.make-got.result c.args.atom c.after.new.view c.after.result.events.items c.after.result.stepped
-    c.requires.core c.requires.seat c.make-got.ensures.moves c.after.ensures.view c.after.ensures.events c.after.ensures.stepped
+    made_performs g.C.Core.rule g.C.Core.table c.args.self.now c.args.seat.now c.args.core.now c.make-got.new.seat.me.0 c.make-got.result c.args.atom c.after.new.view c.after.new.events.items c.after.result
+    c.requires.core c.requires.seat c.make-got.ensures.moves (ap (λ t. t.view) c.after.ensures) (ap (λ t. t.events) c.after.ensures) (ap (λ t. t.stepped) c.after.ensures)
