@@ -48,6 +48,7 @@ fn unseen(found: u64, tail: u64) -> bool
 }
 
 /// A rank without a task, of the group that has this counter.
+#[inline(always)]
 pub fn counter_idle(counter: u32) -> CounterView
     ensures { result ≡ record { counter = counter; doing = Doing.Nothing } }
 {
@@ -58,6 +59,7 @@ pub fn counter_idle(counter: u32) -> CounterView
 }
 
 /// Begins a task. No other is under way.
+#[inline(always)]
 pub fn counter_begin(view: CounterView, task: Task) -> CounterView
     requires { busy view.doing ≡ false }
     ensures { result ≡ record { counter = view.counter; doing = begun task } }
@@ -75,6 +77,7 @@ pub fn counter_begin(view: CounterView, task: Task) -> CounterView
 }
 
 /// Whether a task is under way.
+#[inline(always)]
 pub fn counter_busy(view: CounterView) -> bool
     ensures { result ≡ busy view.doing }
 {
@@ -85,6 +88,7 @@ pub fn counter_busy(view: CounterView) -> bool
 ///
 /// There are as many depart words as arrive words, fewer than 2^32, and the rank's counter and the one at which its task stands are
 /// among them.
+#[inline(always)]
 pub fn counter_plan(view: CounterView, names: &CounterNames) -> Option<Act>
     requires { NamesCounters names.now view.counter view.doing }
     ensures plan { result ≡ counter_act names.now view.counter view.doing }
@@ -111,6 +115,7 @@ pub fn counter_plan(view: CounterView, names: &CounterNames) -> Option<Act>
 }
 
 /// The view of a rank that goes on, and whether it has to make its round again.
+#[inline(always)]
 fn goes_on(view: CounterView, doing: Doing, waits: bool) -> Learnt<CounterView>
     ensures view { result.view ≡ record { counter = view.counter; doing = doing } }
     ensures waits { result.waits ≡ waits }
@@ -125,6 +130,7 @@ fn goes_on(view: CounterView, doing: Doing, waits: bool) -> Learnt<CounterView>
 }
 
 /// A reader has added itself to arrive, and found so many there: it is in, or refused.
+#[inline(always)]
 fn has_arrived(names: &CounterNames, got: u64) -> Doing
     ensures doing { result ≡ (counter_turn names.now Doing.Arrive got).doing }
     ensures waits { (counter_turn names.now Doing.Arrive got).waits ≡ false }
@@ -137,6 +143,7 @@ fn has_arrived(names: &CounterNames, got: u64) -> Doing
 }
 
 /// A refused reader has looked at the root's tail: it makes a reset where it has seen no writer, and else waits.
+#[inline(always)]
 fn has_seen(found: u64, tail: u64, names: &CounterNames) -> Doing
     ensures doing { result ≡ (counter_turn names.now (Doing.SeeTail found) tail).doing }
     ensures waits { (counter_turn names.now (Doing.SeeTail found) tail).waits ≡ false }
@@ -149,6 +156,7 @@ fn has_seen(found: u64, tail: u64, names: &CounterNames) -> Doing
 }
 
 /// A reader that waits has looked at arrive: it tries again where there is room, and else looks at the root's tail.
+#[inline(always)]
 fn has_looked(names: &CounterNames, got: u64) -> Doing
     ensures doing { result ≡ (counter_turn names.now Doing.Round got).doing }
     ensures waits { (counter_turn names.now Doing.Round got).waits ≡ false }
@@ -161,6 +169,7 @@ fn has_looked(names: &CounterNames, got: u64) -> Doing
 }
 
 /// Whether there is a counter behind this one.
+#[inline(always)]
 fn has_next(at: u32, names: &CounterNames) -> bool
     ensures { result ≡ nat_lt (at + 1) (length names.now.arrive) }
 {
@@ -168,6 +177,7 @@ fn has_next(at: u32, names: &CounterNames) -> bool
 }
 
 /// A writer has put a mark on a counter: it goes on to the next, and from the last to the first again, to wait there.
+#[inline(always)]
 fn has_put(at: u32, names: &CounterNames, got: u64) -> Doing
     requires { length names.now.arrive < 2 ^ 32 }
     ensures doing { result ≡ (counter_turn names.now (Doing.Put at) got).doing }
@@ -182,6 +192,7 @@ fn has_put(at: u32, names: &CounterNames, got: u64) -> Doing
 
 /// A writer has seen that so many have gone from a counter: where these are all that had come it goes on to the next, and else looks
 /// at the counter again.
+#[inline(always)]
 fn compared(
     view: CounterView,
     at: u32,
@@ -203,6 +214,7 @@ fn compared(
 }
 
 /// A writer has taken the mark off a counter: it goes on to the next.
+#[inline(always)]
 fn has_taken_off(at: u32, taken: u64, names: &CounterNames, got: u64) -> Doing
     requires { length names.now.arrive < 2 ^ 32 }
     ensures doing { result ≡ (counter_turn names.now (Doing.TakeOff at taken) got).doing }
@@ -217,6 +229,7 @@ fn has_taken_off(at: u32, taken: u64, names: &CounterNames, got: u64) -> Doing
 
 /// What a rank learns where its planned act told `got`: what it does next, and whether a round has to be made again. There are no
 /// events: that a reader is in shows in its view alone. The condition is that of `counter_plan`.
+#[inline(always)]
 pub fn counter_learn(view: CounterView, names: &CounterNames, got: u64) -> Learnt<CounterView>
     requires { NamesCounters names.now view.counter view.doing }
     ensures view { result.view ≡ record { counter = view.counter; doing = (counter_turn names.now view.doing got).doing } }

@@ -236,6 +236,7 @@ pub fn queue_learn(
 }
 
 /// Where a member stands. `queue_plan` gives an act exactly where it is joining or leaving.
+#[inline(always)]
 pub fn queue_stage(view: QueueView) -> Stage
     ensures { result ≡ stage_at view.phase }
 {
@@ -252,6 +253,7 @@ pub fn queue_stage(view: QueueView) -> Stage
 }
 
 /// How a rank stands to a lock that it has exactly where it has this queue.
+#[inline(always)]
 pub fn queue_standing(view: QueueView) -> Standing
     ensures { result ≡ standing_of view.phase }
 {

@@ -65,6 +65,7 @@ fn groups_of(ranks: u32, group: u32) -> u32
 }
 
 /// What a rank learnt in the tree, with its entry where it came in.
+#[inline(always)]
 fn within_tree(
     view: RwView,
     turn: Learnt<TreeView>,
@@ -84,6 +85,7 @@ fn within_tree(
 }
 
 /// A rank has come to the hook: it begins to put the marks up, or to take them down.
+#[inline(always)]
 fn comes_to_hook(view: RwView, turn: Learnt<TreeView>) -> Learnt<RwView>
     ensures { (told : List TheEvent) → told_with result told ≡ from_tree view true (told_with turn told) }
 {
@@ -101,6 +103,7 @@ fn comes_to_hook(view: RwView, turn: Learnt<TreeView>) -> Learnt<RwView>
 }
 
 /// A rank goes on at the counters.
+#[inline(always)]
 fn goes_on(view: RwView, counter: CounterView, waits: bool) -> Learnt<RwView>
     ensures { result ≡ record { view = record { tree = view.tree; counter = counter }; waits = waits } }
 {
@@ -128,6 +131,7 @@ impl Rw {
     }
 
     /// What a rank has learnt at the counters, where it does this next.
+    #[inline(always)]
     fn at_counters(
         &self,
         view: RwView,
@@ -276,6 +280,7 @@ impl Algo for Rw {
         }
     }
 
+    #[inline(always)]
     fn standing(&self, view: RwView) -> Standing {
         match view.counter.doing {
             Doing::Nothing => view.tree.standing(),

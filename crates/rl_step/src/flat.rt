@@ -40,6 +40,7 @@ impl<C: Core> Flat<C> {
     }
 
     /// The port of a rank, one of those that have a view.
+    #[inline(always)]
     pub fn port(&mut self, rank: u32) -> FlatPort<'_, C>
         requires { rank < length self.old.views.items }
         ensures same_reference { result.flat.ghost_name ≡ self.entry.ghost_name }
@@ -75,6 +76,7 @@ impl<C: Core> Flat<C> {
 }
 
 /// The word of a load or store through a card.
+#[inline(always)]
 fn card_word(atom: Atom) -> Option<u32>
     ensures { result ≡ card_word_of atom }
 {

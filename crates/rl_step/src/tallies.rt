@@ -37,6 +37,7 @@ impl Steps {
     }
 
     /// Counts one more answer. Fewer than 2^32 - 1 steps were counted so far.
+    #[inline(always)]
     pub fn count(&mut self, stepped: Stepped)
         requires { steps_made self.old < 2 ^ 32 - 1 }
         ensures { self.new ≡ counted stepped self.old }

@@ -37,6 +37,7 @@ impl Words {
     ///
     /// The atom's word or node is there. For a load or store through a card the rank is in the card of node `spot_home`,
     /// for a leave in the card that it leaves; no other atom looks at `spot_home`.
+    #[inline(always)]
     pub fn apply(&mut self, spot_home: u32, rank: u32, atom: Atom) -> u64
         requires { CanDo spot_home rank atom self.old.words self.old.cards }
         ensures window { self.new ≡ do_atom rank atom self.old }
@@ -70,6 +71,7 @@ impl Words {
     }
 
     /// The value of a word, one of the window's.
+    #[inline(always)]
     pub fn value(&self, word: u32) -> u64
         requires { word < length self.now.words }
         ensures { result ≡ slice_index self.now.words word }
@@ -78,6 +80,7 @@ impl Words {
     }
 
     /// What stands in a node's card: 0 where no rank is in it, and else the rank's number and one.
+    #[inline(always)]
     pub fn card(&self, node: u32) -> u64
         requires { node < length self.now.cards }
         ensures { result ≡ slice_index self.now.cards node }

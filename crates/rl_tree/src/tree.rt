@@ -195,6 +195,7 @@ impl Tree {
     }
 
     /// The parent of an element: the root has none.
+    #[inline(always)]
     pub(crate) fn parent(&self, element: u32) -> Option<u32>
         ensures { result ≡ (tree_of self.now.rooted).parent element }
     {
@@ -205,6 +206,7 @@ impl Tree {
     }
 
     /// The words of the queue of an element.
+    #[inline(always)]
     pub(crate) fn names(&self, element: u32) -> &QueueNames
         requires { element < how_many self.now.rooted }
         ensures { result.now ≡ names_in self.now.rooted element }

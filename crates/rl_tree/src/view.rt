@@ -43,6 +43,7 @@ impl TreeView {
     }
 
     /// The view at a level in a phase.
+    #[inline(always)]
     pub fn at_level(self, level: u32, phase: Phase) -> TreeView
         ensures { result ≡ level_view self level phase }
     {
@@ -77,6 +78,7 @@ impl TreeView {
     }
 
     /// Whether the rank stands at the hook above the root: it must settle there, or gives up what is above.
+    #[inline(always)]
     pub fn is_at_hook(self) -> bool
         ensures { result ≡ at_hook self }
     {
@@ -84,6 +86,7 @@ impl TreeView {
     }
 
     /// How the rank stands.
+    #[inline(always)]
     pub fn standing(self) -> Standing
         ensures { result ≡ tree_standing self }
     {

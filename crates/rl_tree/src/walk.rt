@@ -110,6 +110,7 @@ fn gives_up(top: bool, view: TreeView, level: u32, successor: Option<u32>) -> Tr
 }
 
 /// Who is inside enters: this stands behind what was told before.
+#[inline(always)]
 pub fn tree_enter(view: TreeView, events: &mut ArrayVec<Event, 8>)
     requires { length (events.old.items ++ entry_if view.query view.phase view.rank) ≤ 8 }
     ensures { events.new.items ≡ events.old.items ++ entry_if view.query view.phase view.rank }
@@ -121,6 +122,7 @@ pub fn tree_enter(view: TreeView, events: &mut ArrayVec<Event, 8>)
 
 impl Tree {
     /// The element at a level of the path up from a leaf.
+    #[inline(always)]
     fn element_at(&self, leaf: u32, level: u32) -> u32
         ensures { result ≡ path (tree_of self.now.rooted) leaf level }
     {
@@ -135,6 +137,7 @@ impl Tree {
     }
 
     /// The member for which a rank works at a level.
+    #[inline(always)]
     fn member_at(&self, rank: u32, leaf: u32, level: u32) -> u32
         ensures { result ≡ the_member (tree_of self.now.rooted) rank leaf level }
     {
@@ -202,6 +205,7 @@ impl Tree {
     }
 
     /// Goes on from what a rank's turn at a level led to.
+    #[inline(always)]
     fn walk(
         &self,
         view: TreeView,

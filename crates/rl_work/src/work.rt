@@ -96,6 +96,7 @@ impl Work {
 
     /// The next atom of a rank that holds the lock: a load or a store of a word before the lock's. None where no block is
     /// open. Its numbers fit, as they do under the rule ([`work_laws`](crate::work_laws)).
+    #[inline(always)]
     pub fn next(&self, geom: Geom) -> Option<Atom>
         requires fits { GeomFits geom }
         requires can { model.CanName geom self.now self.now.stage }
