@@ -69,6 +69,13 @@ abbrev pub plan_word : Option Act → Option ℕ
 plan_word None = None
 plan_word (Some a) = Some (word_of a)
 
+-- the planned act, where a card state asks for it: one that is about to leave its card asks for none
+abbrev pub asked_act : Option Act → CardState → Option Act
+asked_act p Free = p
+asked_act p InCard = p
+asked_act p (Loaded g) = p
+asked_act p (ToLeave n) = None
+
 -- the word whose home is asked for, by the planned act and the card state: none where the act isn't made through a card
 abbrev pub card_word : Option Act → CardState → Option ℕ
 card_word None c = None

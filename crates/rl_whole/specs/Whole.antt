@@ -32,7 +32,7 @@ use Rattle.rl_whole.specs.declared.whole.Whole.{Whole}
 use Rattle.rl_whole.specs.declared.whole.WholeView.{WholeView}
 use Rattle.rl_whole.specs.declared.side.Side.{Side}
 use Rattle.rl_whole.specs.Running.{LockAt, lock_at}
-use Rattle.rl_whole.specs.Split.{SplitState, LockGood, Past, SideTurned, departure, side_atom, side_after, home_of, word_home, card_word, turned_by, effect_at, plan_home}
+use Rattle.rl_whole.specs.Split.{SplitState, LockGood, Past, SideTurned, departure, side_atom, side_after, home_of, word_home, card_word, asked_act, turned_by, effect_at, plan_home}
 
 -- the lock's side of a rank's view
 abbrev pub side_of : {V : Type 0} → WholeView V → Side V
@@ -56,9 +56,11 @@ shifted_answer base (Lost guess seen) = Lost guess seen
 shifted_answer base (Busy node holder) = Busy node holder
 shifted_answer base Finished = Finished
 
--- the plan of a view: the lock's act, and the home of its word where the card state asks for it
+-- the plan of a view: the lock's act and the home of its word, each where the card state asks for it
 abbrev pub planned_in : {V : Type 0} → LockTable V → WholeView V → Plan
-planned_in T x = record { act = T.plan x.side.view; home = word_home T (card_word (T.plan x.side.view) x.side.card) }
+planned_in T x =
+    let act = asked_act (T.plan x.side.view) x.side.card in
+    record { act = act; home = word_home T (card_word act x.side.card) }
 
 -- the work of a call, by a rank that holds
 abbrev pub work_plan : Geom → Standing → TheWork → Option Atom

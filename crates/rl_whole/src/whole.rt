@@ -9,7 +9,7 @@ ghost use Rattle.rl_step.specs.declared.events.Event.TheVariants.{Touch as touch
 ghost use Rattle.rl_whole.specs.Domains.{KeepsToCards, KeepsToLocals};
 ghost use Rattle.rl_whole.specs.Opening.{first_view, opened_in};
 ghost use Rattle.rl_whole.specs.Running.{lock_at};
-ghost use Rattle.rl_whole.specs.Split.{card_word, word_home};
+ghost use Rattle.rl_whole.specs.Split.{asked_act, card_word, word_home};
 ghost use Rattle.rl_whole.specs.Start.{lock_with, site_with};
 ghost use Rattle.rl_whole.specs.Whole.{whole_table, planned_in, next_of, is_at_work, is_open, mode_of, rule_of, departure_if};
 ghost use Rattle.rl_whole.specs.WholeLaws.{whole_laws};
@@ -111,13 +111,27 @@ impl<A: Algo> Whole<A> {
         }
     }
 
-    /// The act that a view plans, and the home of its word, where the card state asks for it.
+    /// The act that a view plans, where the card state asks for it.
+    #[inline(always)]
+    fn asked_act(&self, view: &WholeView<A::View>) -> Option<Act>
+        requires { MayBe (rule_of A.table A.good A.layout self.now) view.now }
+        ensures { result ≡ asked_act ((A.table self.now.algo).plan view.now.side.view) view.now.side.card }
+    {
+        match view.side.card {
+            CardState::ToLeave { .. } => None,
+            CardState::Free | CardState::InCard | CardState::Loaded { .. } => {
+                self.algo.plan(view.side.view)
+            }
+        }
+    }
+
+    /// The act that a view plans and the home of its word, each where the card state asks for it.
     #[inline(always)]
     fn planned(&self, view: &WholeView<A::View>) -> Plan
         requires { MayBe (rule_of A.table A.good A.layout self.now) view.now }
         ensures { result ≡ planned_in (lock_at A.table self.now).table view.now }
     {
-        let act = self.algo.plan(view.side.view);
+        let act = self.asked_act(view);
         let home = self.plan_home(act, view.side.card);
         Plan { act, home }
     }

@@ -1,17 +1,18 @@
 -- What the calls of the lock ask follows from the rule, by the lock's laws.
-use Rattle.std.proofs.Common.{◌≡◌, ◌∷◌, List, [], Bool, ap, sym, ◌∙◌, subst}
+use Rattle.std.proofs.Common.{◌≡◌, ◌∷◌, ℕ, List, [], Bool, ap, sym, ◌∙◌, subst}
 use Rattle.rl_step.specs.Core.{turned_with}
 use Rattle.rl_step.specs.declared.events.Event.{Event}
 use Rattle.rl_step.specs.declared.events.Event.TheVariants.{Touch}
 use Rattle.rl_step.specs.declared.events.Standing.{Standing}
 use Rattle.rl_step.specs.declared.events.Stepped.TheVariants.{Moved}
 use Rattle.rl_work.specs.Work.{TheWork, WorkTurned, work_after, stores}
+use Rattle.rl_whole.specs.declared.card_state.CardState.{CardState}
 use Rattle.rl_whole.specs.declared.card_state.CardState.TheVariants.{Free}
 use Rattle.rl_whole.specs.declared.effect.Effect.{Effect}
 use Rattle.rl_whole.specs.declared.effect.Effect.TheVariants.{Work, Stay, Learn}
 use Rattle.rl_whole.specs.declared.whole.WholeView.{WholeView}
 use Rattle.rl_whole.specs.Running.{LockAt, lock_at}
-use Rattle.rl_whole.specs.HomeLaws.{asked_effect}
+use Rattle.rl_whole.specs.HomeLaws.{act_effect, act_holder, learnt_act}
 use Rattle.rl_whole.specs.Split.{plan_home, effect_at, answer_of, HolderFits}
 use Rattle.rl_whole.specs.WholeOwes.{work_turns, work_holds, may_be, holder_fits, may_learn, answer_fits}
 use Rattle.rl_whole.specs.AnswerLaws.{stays_answer}
@@ -25,19 +26,26 @@ the_effect : (g : Over) (c : After-effect g) → effect_at (plan_home (g.A.Algo.
 the_effect g c =
     let T = g.A.Algo.table c.args.self.now.algo in
     let x = c.args.view.now in
-    sym (c.effect.ensures ∙ ap (λ p. effect_at p.home p.act x.side.card c.args.got) c.requires.plan ∙ asked_effect T (T.plan x.side.view) x.side.card c.args.got)
+    sym (c.effect.ensures ∙ ap (λ p. effect_at p.home p.act x.side.card c.args.got) c.requires.plan ∙ act_effect T (T.plan x.side.view) x.side.card c.args.got)
 
 pub effect-requires : goal.effect-requires
 effect-requires g c =
     subst (λ p. HolderFits p.act c.args.view.now.side.card c.args.got) (sym c.requires.plan)
+    (act_holder _ c.args.view.now.side.card c.args.got
     (holder_fits _ (lock_at g.A.Algo.table c.args.self.now) (g.A.Algo.good c.args.self.now.algo) (g.A.Algo.further c.args.self.now.algo) (g.A.Algo.layout c.args.self.now.algo) (g.met.A.Algo.laws c.args.self.now.algo)
-    c.args.self.now.home c.args.view.now c.args.got c.requires.may)
+    c.args.self.now.home c.args.view.now c.args.got c.requires.may))
 
 pub learn-learnt-requires-clause-may : goal.learn-learnt-requires-clause-may
 learn-learnt-requires-clause-may g c =
     may_learn _ (lock_at g.A.Algo.table c.args.self.now) (g.A.Algo.good c.args.self.now.algo) (g.A.Algo.further c.args.self.now.algo) (g.A.Algo.layout c.args.self.now.algo) (g.met.A.Algo.laws c.args.self.now.algo)
     c.args.self.now.home c.args.view.now c.args.got c.in-Learn.card c.in-Learn.told c.in-Learn.lost c.requires.may
     (the_effect g (goal.at.learn-learnt-requires-clause-may g c).After-effect ∙ c.in-Learn.is)
+
+-- where something is learnt the plan's act is the view's
+learnt_plan : (g : Over) (c : After-effect g) (hand : CardState) (t : ℕ) (lost : Bool) → c.effect.result ≡ Learn hand t lost → c.args.plan.act ≡ (g.A.Algo.table c.args.self.now.algo).plan c.args.view.now.side.view
+learnt_plan g c hand t lost e =
+    let T = g.A.Algo.table c.args.self.now.algo in
+    ap (λ p. p.act) c.requires.plan ∙ learnt_act _ (T.plan c.args.view.now.side.view) c.args.view.now.side.card c.args.got hand t lost (the_effect g c ∙ e)
 
 -- what the effect leaves is what the table says
 the_after : (g : Over) (c : After-effect g) (t : Effect) → c.effect.result ≡ t → effect_turned (lock_at g.A.Algo.table c.args.self.now) c.args.view.now (work_after c.args.self.now.geom c.args.self.now.shard c.args.view.now.rank c.args.view.now.work c.args.got) t ≡ after_of (lock_at g.A.Algo.table c.args.self.now) c.args.view.now c.args.got
@@ -64,7 +72,7 @@ returns-in-Learn g c =
     let learnt = c.learn-learnt.result in
     let with : g.row.A-View.Denot → WholeView g.row.A-View.Denot = λ v. record { side = record { view = v; card = card }; rank = x.rank; work = x.work } in
     ap (turned_with (with learnt.view) c.learn-learnt.new.events.items)
-    (c.shift_answer.ensures ∙ ap (shifted_answer base) (c.answer.ensures ∙ ap (λ p. answer_of p.act told lost learnt.waits) c.requires.plan))
+    (c.shift_answer.ensures ∙ ap (shifted_answer base) (c.answer.ensures ∙ ap (λ p. answer_of p told lost learnt.waits) (learnt_plan g d card told lost c.in-Learn.is)))
     ∙ ap (λ z. turned_with (with z.view) z.events (shifted_answer base (answer_of (T.plan x.side.view) told lost z.waits))) c.learn-learnt.ensures
     ∙ the_after g d (Learn card told lost) c.in-Learn.is
 
@@ -110,7 +118,7 @@ shift_answer-requires g c =
     let told = c.in-Learn.told in
     let lost = c.in-Learn.lost in
     let waits = c.learn-learnt.result.waits in
-    subst (IsAnswerShiftable c.args.self.now.base) (sym (c.answer.ensures ∙ ap (λ p. answer_of p.act told lost waits) c.requires.plan))
+    subst (IsAnswerShiftable c.args.self.now.base) (sym (c.answer.ensures ∙ ap (λ p. answer_of p told lost waits) (learnt_plan g (goal.at.shift_answer-requires g c).After-effect c.in-Learn.card told lost c.in-Learn.is)))
     (answer_fits _ (lock_at g.A.Algo.table c.args.self.now) good (g.A.Algo.further c.args.self.now.algo) layout laws c.args.self.now.home c.args.view.now told lost waits
     (may_be _ (lock_at g.A.Algo.table c.args.self.now) good (g.A.Algo.further c.args.self.now.algo) layout laws c.args.self.now.home c.args.view.now c.args.got c.requires.may))
 
