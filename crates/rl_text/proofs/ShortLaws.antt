@@ -1,8 +1,8 @@
 -- A line of two numbers at the front of a text, and a number of two digits.
-use Rattle.std.proofs.Common.{◌≡◌, ℕ, ◌+◌, ◌*◌, ◌^◌, ◌<◌, ◌/◌, ◌%◌, ◌-◌, ◌≤◌, List, [], ◌∷◌, ◌++◌, length, get_or, take, drop, decimal, refl, sym, ap, ◌∙◌, arith}
+use Rattle.std.proofs.Common.{◌≡◌, ℕ, ◌+◌, ◌*◌, ◌<◌, ◌/◌, ◌%◌, ◌-◌, ◌≤◌, List, [], ◌∷◌, ◌++◌, length, get_or, take, drop, decimal, refl, sym, ap, ◌∙◌, arith}
 use Rattle.std.proofs.lemmas.List.{take_all}
 use Rattle.std.proofs.lemmas.Fmt.{decimal_digit, decimal_step}
-use Rattle.rl_text.specs.Rows.{Row, rows_from}
+use Rattle.rl_text.specs.Rows.{rows_from}
 use Rattle.rl_text.specs.Short.{pair_text, pair_row}
 use Rattle.rl_text.proofs.TextLaws.{row-text}
 use Rattle.rl_text.proofs.WordLaws.{plain-decimal}
@@ -17,6 +17,13 @@ front-rest [] h = absurd (omega arith)
 front-rest (x ∷ xs) h =
     let all : length xs ≤ length (x ∷ xs) - 1 = omega arith in
     ap (λ ys. x ∷ ys) (sym (take_all (length (x ∷ xs) - 1) xs all))
+
+-- the spelling of a number of one digit, and of two
+pub digit_text : (n : ℕ) → n < 10 → decimal n ≡ (48 + n) ∷ []
+digit_text n small = decimal_digit n small
+
+pub digits_text : (n : ℕ) → 10 ≤ n → n < 100 → decimal n ≡ (48 + n / 10) ∷ (48 + n % 10) ∷ []
+digits_text n least small = decimal_step n least (omega arith) ∙ rw (decimal_digit (n / 10) (omega arith)) refl
 
 -- a number of one digit, and of two
 pub one-digit : (value byte : ℕ) (text more : List ℕ) → value < 10 → byte ≡ 48 + value → text ≡ byte ∷ more → text ≡ decimal value ++ more

@@ -1,4 +1,4 @@
-use Rattle.std.proofs.Common.{◌≡◌, ℕ, ◌-◌, ◌<◌, ◌∷◌, List, length, get_or, take, drop, ap, ◌∙◌, arith}
+use Rattle.std.proofs.Common.{◌-◌, ◌<◌, ◌∷◌, length, get_or, take, drop, ap, ◌∙◌, arith}
 use Rattle.rl_text.proofs.ShortLaws.{front-rest, one-digit, two-digits}
 use Rattle.rl_text.proofs.short.short_number.Goals as goal
 
