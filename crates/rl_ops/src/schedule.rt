@@ -12,10 +12,13 @@ pub const MOST_STEPS: u32 = 2_000_000;
 #[derive(Clone, Copy, Debug, PartialEq, Eq)]
 pub enum Turn {
     /// So many steps of a rank, one after the other.
-    Steps { rank: u32, count: u32 },
+    Steps { rank: u8, count: u32 },
     /// The rank makes no step from here on: no later turn names it.
-    Stop { rank: u32 },
+    Stop { rank: u8 },
 }
+
+// A schedule may have as many turns as steps, and reading one is mostly writing them down: a turn is a single word.
+const _: () = prove!(size_of::<Turn>() == 8);
 
 impl Turn {
     /// How many steps the turn makes.
@@ -76,6 +79,7 @@ impl Turns {
     }
 
     /// One more turn, after those that are there.
+    #[inline(always)]
     pub fn push(&mut self, turn: Turn) -> Result<(), OutOfMemory>
         ensures ok { OnOk result (self.new ≡ self.old ++ turn ∷ []) }
         ensures err { OnErr result (self.new ≡ self.old) }

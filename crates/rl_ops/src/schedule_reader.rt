@@ -16,7 +16,7 @@ use std::marker::Model;
 #[derive(Drop)]
 struct SoFar {
     steps: u32,
-    stopped: Vec<u32>,
+    stopped: Vec<u8>,
 }
 
 impl Model for SoFar {
@@ -41,7 +41,7 @@ impl SoFar {
         }
     }
 
-    fn is_stopped(&self, rank: u32) -> bool
+    fn is_stopped(&self, rank: u8) -> bool
         ensures stopped { result ≡ is_stopped self.now.stopped rank }
         ensures within { self.now.steps ≤ MOST_STEPS }
     {
@@ -76,12 +76,12 @@ impl SoFar {
 
 // RANK COUNT, of a rank that isn't stopped
 #[tactic(auto, unfolding(crate::specs::ScheduleReading::steps_at))]
-fn steps_of(line: &Line<'_>, ranks: u32, so_far: &SoFar) -> Result<Turn, Refusal>
+fn steps_of(line: &Line<'_>, ranks: u8, so_far: &SoFar) -> Result<Turn, Refusal>
     ensures value { result ≡ steps_at ranks so_far.now (row_of line.now) }
     ensures few { IfOk result (λ turn. so_far.now.steps + steps_of turn ≤ MOST_STEPS) }
 {
     let mut words = line.words();
-    let rank = words.below(u64::from(ranks))? as u32;
+    let rank = words.below(u64::from(ranks))? as u8;
     if so_far.is_stopped(rank) {
         return Err(words.refusal(Why::Order));
     }
@@ -92,12 +92,12 @@ fn steps_of(line: &Line<'_>, ranks: u32, so_far: &SoFar) -> Result<Turn, Refusal
 
 // stop RANK, of a rank that isn't stopped
 #[tactic(auto, unfolding(crate::specs::ScheduleReading::stop_at))]
-fn stop_of(line: &Line<'_>, ranks: u32, so_far: &SoFar) -> Result<Turn, Refusal>
+fn stop_of(line: &Line<'_>, ranks: u8, so_far: &SoFar) -> Result<Turn, Refusal>
     ensures value { result ≡ stop_at ranks so_far.now (row_of line.now) }
     ensures few { IfOk result (λ turn. so_far.now.steps + steps_of turn ≤ MOST_STEPS) }
 {
     let mut words = line.words_from(2);
-    let rank = words.below(u64::from(ranks))? as u32;
+    let rank = words.below(u64::from(ranks))? as u8;
     if so_far.is_stopped(rank) {
         return Err(words.refusal(Why::Repeat));
     }
@@ -107,7 +107,7 @@ fn stop_of(line: &Line<'_>, ranks: u32, so_far: &SoFar) -> Result<Turn, Refusal>
 
 // A turn after those that were read.
 #[tactic(auto, unfolding(crate::specs::ScheduleReading::turn_after))]
-fn turn_of(line: &Line<'_>, ranks: u32, so_far: &SoFar) -> Result<Turn, Refusal>
+fn turn_of(line: &Line<'_>, ranks: u8, so_far: &SoFar) -> Result<Turn, Refusal>
     ensures value { result ≡ turn_after ranks so_far.now (row_of line.now) }
     ensures few { IfOk result (λ turn. so_far.now.steps + steps_of turn ≤ MOST_STEPS) }
 {
@@ -120,18 +120,21 @@ fn turn_of(line: &Line<'_>, ranks: u32, so_far: &SoFar) -> Result<Turn, Refusal>
 
 // Takes the next line where it is a turn of two short numbers and no rank is stopped: most lines are. `None` takes nothing.
 #[inline(always)]
-fn short_turn(lines: &mut Lines<'_>, ranks: u32, so_far: &SoFar) -> Option<Turn>
+fn short_turn(lines: &mut Lines<'_>, ranks: u8, so_far: &SoFar) -> Option<Turn>
     ensures { MatchOption result (lines.new ≡ lines.old) (IsNextTurn ranks so_far.now lines.old lines.new) }
 {
     if !so_far.all_go_on() {
         return None;
     }
-    let (rank, count) = lines.short_pair(ranks, so_far.steps_left() + 1)?;
-    Some(Turn::Steps { rank, count })
+    let (rank, count) = lines.short_pair(u32::from(ranks), so_far.steps_left() + 1)?;
+    Some(Turn::Steps {
+        rank: rank as u8,
+        count,
+    })
 }
 
 // Turns up to the line `end`.
-fn turns_of(alloc: Global, lines: &mut Lines<'_>, ranks: u32) -> Result<Turns, TextErr>
+fn turns_of(alloc: Global, lines: &mut Lines<'_>, ranks: u8) -> Result<Turns, TextErr>
     ensures { Gives result (turns_at ranks no_turn lines.old.read lines.old.rows) }
 {
     let mut turns = Turns::new(alloc);
@@ -154,7 +157,7 @@ fn turns_of(alloc: Global, lines: &mut Lines<'_>, ranks: u32) -> Result<Turns, T
 }
 
 #[tactic(auto, unfolding(crate::specs::ScheduleReading::schedule_at))]
-fn schedule_of(alloc: Global, ranks: u32, bytes: &[u8]) -> Result<Schedule, TextErr>
+fn schedule_of(alloc: Global, ranks: u8, bytes: &[u8]) -> Result<Schedule, TextErr>
     requires { length bytes.now < TEXT_LIMIT }
     ensures { Gives result (schedule_at ranks bytes.now) }
 {
@@ -173,7 +176,7 @@ fn schedule_of(alloc: Global, ranks: u32, bytes: &[u8]) -> Result<Schedule, Text
 /// they pass it is Range at word 2.
 ///
 /// The text has fewer than [`TEXT_LIMIT`] bytes. Refused with the first fault exactly where the text spells no schedule.
-pub fn read_schedule(alloc: Global, ranks: u32, bytes: &[u8]) -> Result<Schedule, TextErr>
+pub fn read_schedule(alloc: Global, ranks: u8, bytes: &[u8]) -> Result<Schedule, TextErr>
     requires { length bytes.now < TEXT_LIMIT }
     // What is read is spelled so, and keeps the limits.
     ensures found { IfOk result (λ schedule. SpellsSchedule ranks schedule bytes.now) }

@@ -112,7 +112,7 @@ pub fn read_scheduled<S: Source>(
     ensures same { SameFiles S.file S.may_open source.old source.new }
 {
     let bytes = read_within(alloc, source, name, Which::Schedule, MOST_SCHEDULE)?;
-    let ranks = place.paths.len() as u32;
+    let ranks = place.paths.len() as u8;
     match read_schedule(alloc, ranks, bytes.as_slice()) {
         Ok(schedule) => Ok(schedule),
         Err(error) => Err(stopped(Which::Schedule, error)),

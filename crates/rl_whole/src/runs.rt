@@ -97,7 +97,7 @@ fn take_turn<A: Algo>(
     ensures rested { IfOk result (λ _. AllRested (running A.table machine.new).shards rests.new.items) }
 {
     match turn {
-        Turn::Steps { rank, count } => take_steps(machine, rests, rank, count),
+        Turn::Steps { rank, count } => take_steps(machine, rests, u32::from(rank), count),
         Turn::Stop { .. } => Ok(()),
     }
 }

@@ -103,7 +103,9 @@ fn make_turn<A: Algo>(
     ensures counted { IfOk result (λ step. steps_made machine.new.steps ≡ step) }
 {
     match turn {
-        Turn::Steps { rank, count } => make_steps(machine, lanes, rank, count, step, until),
+        Turn::Steps { rank, count } => {
+            make_steps(machine, lanes, u32::from(rank), count, step, until)
+        }
         Turn::Stop { .. } => Ok(step),
     }
 }
