@@ -1,11 +1,13 @@
--- A rank that rested rests still while the card that it takes, or the word that it loads, is as it was.
+-- A rank that rested rests still while the card that it takes, or the word that it loads, is as it was; and for ever once its calls are done.
 use Rattle.std.specs.Prelude.{◌≡◌, ℕ, ◌-◌, ◌<◌, ◌==◌, true, false, List, length, slice_get, slice_index, Some}
 use Rattle.rl_step.specs.declared.events.Stepped.{Stepped}
 use Rattle.rl_step.specs.declared.events.Stepped.TheVariants.{Moved, Waiting, Lost, Busy, Finished}
 use Rattle.rl_step.specs.Do.{TheWindow}
 use Rattle.rl_whole.specs.declared.last_rest.LastRest.{LastRest}
+use Rattle.rl_whole.specs.declared.last_rest.LastRest.TheVariants as last
 use Rattle.rl_whole.specs.declared.whole.WholeView.{WholeView}
-use Rattle.rl_whole.specs.Running.{ShardRun}
+use Rattle.rl_whole.specs.Causes.{IsFinished}
+use Rattle.rl_whole.specs.Running.{ShardRun, Running}
 use Rattle.rl_whole.specs.Whole.{is_open, next_of}
 use Rattle.rl_whole.specs.Rest.{IsIdle}
 
@@ -36,14 +38,12 @@ pub record RestsAt {V : Type 0} (shards : List (ShardRun V)) (k s : ℕ) (answer
   pub named : IsNamed shard.held answer
   pub idle : (h : TheWindow) (a : Stepped) → Shows h answer a → IsIdle shard.lock h k view (next_of shard.lock view) a
 
--- the same of a Busy or a Waiting; no other answer says anything
-abbrev pub Rested : {V : Type 0} → List (ShardRun V) → ℕ → ℕ → Stepped → Type 0
-Rested shards k s Moved = Unit {0}
-Rested shards k s (Waiting w v) = RestsAt shards k s (Waiting w v)
-Rested shards k s (Lost guess seen) = Unit {0}
-Rested shards k s (Busy n holder) = RestsAt shards k s (Busy n holder)
-Rested shards k s Finished = Unit {0}
+-- what is noted of rank k is true: it rests where it was seen to, or it has no open call and none left
+abbrev pub Rested : {V : Type 0} → Running V → ℕ → LastRest → Type 0
+Rested m k last.Unknown = Unit {0}
+Rested m k (last.Still r) = RestsAt m.shards k r.shard r.answer
+Rested m k last.Finished = IsFinished m k
 
--- and of each rank, by where it rested last
-abbrev pub AllRested : {V : Type 0} → List (ShardRun V) → List LastRest → Type 0
-AllRested shards rests = (k : ℕ) (r : LastRest) → slice_get rests k ≡ Some r → Rested shards k r.shard r.answer
+-- what is noted of each rank is true
+abbrev pub AllRested : {V : Type 0} → Running V → List LastRest → Type 0
+AllRested m rests = (k : ℕ) (r : LastRest) → slice_get rests k ≡ Some r → Rested m k r

@@ -1,6 +1,6 @@
 -- Another rank's step leaves what is known of a rank that rested.
-use Rattle.std.specs.Prelude.{◌≡◌, ◌≢◌, ℕ, zero, suc, ◌+◌, ◌<◌, ◌==◌, Bool, true, false, List, length, replicate, if◌then◌else◌, nat_lt, slice_get, slice_index, slice_set, Option, Some, None, refl}
-use Rattle.std.proofs.Common.{sym, ◌∙◌, ap, subst, ⊎_elim, length-set}
+use Rattle.std.specs.Prelude.{◌≡◌, ◌≢◌, ℕ, zero, suc, ◌+◌, ◌<◌, ◌≤◌, ◌==◌, Bool, true, false, List, length, replicate, if◌then◌else◌, nat_lt, slice_get, slice_index, slice_set, Option, Some, None, refl}
+use Rattle.std.proofs.Common.{sym, ◌∙◌, ap, subst, ⊎_elim, length-set, get_or-set_other}
 use Rattle.std.proofs.lemmas.Bool.Decides.{eqb_tells}
 use Rattle.rl_word.specs.Places.{get_set_cases, get_set_other, get_set_same, one_at, same_or_not}
 use Rattle.rl_word.specs.Acts.{Layout}
@@ -9,10 +9,12 @@ use Rattle.rl_word.specs.declared.acts.Atom.TheVariants as atom
 use Rattle.rl_model.specs.declared.call.Call.{Call}
 use Rattle.rl_step.specs.declared.events.Stepped.{Stepped}
 use Rattle.rl_step.specs.declared.events.Stepped.TheVariants.{Moved, Waiting, Lost, Busy, Finished}
+use Rattle.rl_step.specs.declared.tallies.Steps.{Steps}
 use Rattle.rl_step.specs.Answers.{steps_made}
 use Rattle.rl_step.specs.Do.{TheWindow, do_cards, do_got}
 use Rattle.rl_step.specs.Lock.{LockTable, LockState}
 use Rattle.rl_whole.specs.declared.last_rest.LastRest.{LastRest}
+use Rattle.rl_whole.specs.declared.last_rest.LastRest.TheVariants as last
 use Rattle.rl_whole.specs.declared.shard.ShardState.{ShardState}
 use Rattle.rl_whole.specs.declared.state.MachineState.{MachineState}
 use Rattle.rl_whole.specs.declared.whole.WholeView.{WholeView}
@@ -20,12 +22,13 @@ use Rattle.rl_whole.specs.Opening.{opened_in}
 use Rattle.rl_whole.specs.Running.{ShardRun, Running, shard_run, running}
 use Rattle.rl_whole.specs.ShardSteps.{opened_at, opened_on, makes, made_at, atom_on, open_at, open_on}
 use Rattle.rl_whole.specs.ShiftLaws.{length-do_words}
-use Rattle.rl_whole.specs.Asks.{block_shard}
-use Rattle.rl_whole.specs.Run.{changed_if, on_shard, calls_by, next_block, place_of, has_open_call, opens, opened_if, block_opened, stepped, run_of}
+use Rattle.rl_whole.specs.Asks.{block_shard, place_after}
+use Rattle.rl_whole.specs.Run.{changed_if, on_shard, calls_by, next_block, place_of, has_open_call, opens, opened_if, block_opened, atom_made, stepped, run_of}
 use Rattle.rl_whole.specs.State.{shard_view, machine_view, IsMachine}
 use Rattle.rl_whole.specs.StateLaws.{is_there}
 use Rattle.rl_whole.specs.Whole.{is_open, next_of, after_of}
-use Rattle.rl_whole.specs.Rest.{Rests, IsIdle}
+use Rattle.rl_whole.specs.Causes.{IsFinished}
+use Rattle.rl_whole.specs.Rest.{counted_more, with_steps, Rests, IsIdle}
 use Rattle.rl_whole.specs.RestLaws.{open_shuts, idle_rests, rest_run}
 use Rattle.rl_whole.specs.Rested.{Shows, IsNamed, RestsAt, Rested, AllRested}
 
@@ -116,12 +119,45 @@ module _ {V : Type 0} (k j : ℕ) (other : k ≢ j) where
         let n : Running V = block_opened m j in
         rests_if n.shards (place_of n j) (atom_on j (steps_made n.steps)) (slice_get n.shards (place_of n j)) refl (λ S. atom_alike S (steps_made n.steps) (slice_get S.views j)) (rests_opened m (opens m j) r)
 
-  rested_stepped : (m : Running V) (s : ℕ) (answer : Stepped) → Rested m.shards k s answer → Rested (stepped m j).shards k s answer
-  rested_stepped m s Moved r = r
-  rested_stepped m s (Waiting w v) r = rests_stepped s (Waiting w v) m r
-  rested_stepped m s (Lost guess seen) r = r
-  rested_stepped m s (Busy n holder) r = rests_stepped s (Busy n holder) m r
-  rested_stepped m s Finished r = r
+  -- a step leaves whether rank k has an open call, and what is left of its calls
+  open_lock : (S T : ShardRun V) (o : Option (WholeView V)) → T.lock ≡ S.lock → open_at T o ≡ open_at S o
+  open_lock S T None e = refl
+  open_lock S T (Some x) e = ap (λ l. is_open l x) e
+
+  open_alike : (S T : ShardRun V) → IsAlike k S T → open_on k T ≡ open_on k S
+  open_alike S T a = ap (open_at T) a.view ∙ open_lock S T (slice_get S.views k) a.lock
+
+  open_set : (shards : List (ShardRun V)) (p q : ℕ) (f : ShardRun V → ShardRun V) (o : Option (ShardRun V)) → slice_get shards p ≡ o → ((S : ShardRun V) → IsAlike k S (f S)) →
+      on_shard false (open_on k) (slice_get (changed_if shards p f o) q) ≡ on_shard false (open_on k) (slice_get shards q)
+  open_set shards p q f None e alike = refl
+  open_set shards p q f (Some S) e alike =
+      ⊎_elim
+      (λ (same : q ≡ p).
+      ap (on_shard false (open_on k)) (ap (slice_get (slice_set shards p (f S))) same ∙ get_set_same shards p S (f S) e) ∙ open_alike S (f S) (alike S)
+      ∙ sym (ap (on_shard false (open_on k)) (ap (slice_get shards) same ∙ e)))
+      (λ (apart : q ≢ p). ap (on_shard false (open_on k)) (get_set_other shards p q (f S) apart))
+      (same_or_not q p)
+
+  finished_opened : (m : Running V) (b : Bool) → IsFinished m k → IsFinished (opened_if m j b) k
+  finished_opened m false f = f
+  finished_opened m true f =
+      let p : ℕ = block_shard m.geom (next_block m j) in
+      let n : ℕ = slice_index m.opened j in
+      let shards : List (ShardRun V) = changed_if m.shards p (opened_on j (next_block m j) n) (slice_get m.shards p) in
+      let same : slice_index (slice_set m.opened j (n + length (next_block m j))) k ≡ slice_index m.opened k = get_or-set_other m.opened j k (n + length (next_block m j)) 0 other in (
+        ap (λ i. on_shard false (open_on k) (slice_get shards (place_after m.geom (calls_by m k) i))) same
+            ∙ open_set m.shards p (place_of m k) (opened_on j (next_block m j) n) (slice_get m.shards p) refl (λ S. opened_alike S (next_block m j) n (slice_get S.views j)) ∙ f.0,
+        subst (λ i. length (calls_by m k) ≤ i) (sym same) f.1,
+      )
+
+  finished_atom : (m : Running V) → IsFinished m k → IsFinished (atom_made m j) k
+  finished_atom m f =
+      (open_set m.shards (place_of m j) (place_of m k) (atom_on j (steps_made m.steps)) (slice_get m.shards (place_of m j)) refl (λ S. atom_alike S (steps_made m.steps) (slice_get S.views j)) ∙ f.0, f.1)
+
+  rested_stepped : (m : Running V) (r : LastRest) → Rested m k r → Rested (stepped m j) k r
+  rested_stepped m last.Unknown r = r
+  rested_stepped m (last.Still at) r = rests_stepped at.shard at.answer m r
+  rested_stepped m last.Finished r = finished_atom (block_opened m j) (finished_opened m (opens m j) r)
 
 -- the elements of a list of equal ones
 one_alike : (z : LastRest) (n k : ℕ) (r : LastRest) → slice_get (replicate n z) k ≡ Some r → r ≡ z
@@ -130,14 +166,6 @@ one_alike z (suc n) zero r get = cc
 one_alike z (suc n) (suc k) r get = one_alike z n k r get
 
 module _ {V : Type 0} where
-  -- what is known of the answer is what is noted of it
-  pub rested_is : (shards : List (ShardRun V)) (k s : ℕ) (answer : Stepped) → RestsAt shards k s answer → Rested shards k s answer
-  rested_is shards k s Moved r = tt
-  rested_is shards k s (Waiting w v) r = r
-  rested_is shards k s (Lost guess seen) r = tt
-  rested_is shards k s (Busy n holder) r = r
-  rested_is shards k s Finished r = tt
-
   -- a rank that is seen to rest, by its view on a shard and that shard's window
   pub seen_rests : (shards : List (ShardRun V)) (k s : ℕ) (S : ShardRun V) (x : WholeView V) (h : TheWindow) (answer : Stepped) → slice_get shards s ≡ Some S → slice_get S.views k ≡ Some x → h ≡ S.held →
       is_open S.lock x ≡ true → IsNamed h answer → Shows h answer answer → ((j : ℕ) (w : TheWindow) (a : Stepped) → Shows w answer a → IsIdle S.lock w j x (next_of S.lock x) a) →
@@ -145,31 +173,38 @@ module _ {V : Type 0} where
   seen_rests shards k s S x h answer has seen same in_call named shows idle =
       (record { shard = S; view = x; has = has; seen = seen; in_call = in_call; named = subst (λ w. IsNamed w answer) same named; idle = idle k }, subst (λ w. Shows w answer answer) same shows)
 
-  rested_other : (m : Running V) (k j s : ℕ) (answer : Stepped) → k ≢ j → Rested m.shards k s answer → Rested (stepped m j).shards k s answer
-  rested_other m k j s answer other r = rested_stepped k j other m s answer r
+  rested_other : (m : Running V) (k j : ℕ) (r : LastRest) → k ≢ j → Rested m k r → Rested (stepped m j) k r
+  rested_other m k j r other is = rested_stepped k j other m r is
 
   -- so many steps of another rank
-  run_others : (m : Running V) (k j s : ℕ) (answer : Stepped) → k ≢ j → (n : ℕ) → Rested m.shards k s answer → Rested (run_of m (replicate n j)).shards k s answer
-  run_others m k j s answer other zero r = r
-  run_others m k j s answer other (suc n) r = run_others (stepped m j) k j s answer other n (rested_other m k j s answer other r)
+  run_others : (m : Running V) (k j : ℕ) (r : LastRest) → k ≢ j → (n : ℕ) → Rested m k r → Rested (run_of m (replicate n j)) k r
+  run_others m k j r other zero is = is
+  run_others m k j r other (suc n) is = run_others (stepped m j) k j r other n (rested_other m k j r other is)
 
-  -- and so many steps of a rank that rests
-  pub all_run : (m : Running V) (j : ℕ) (a : Stepped) (n : ℕ) (rests : List LastRest) → Rests m j a → AllRested m.shards rests → AllRested (run_of m (replicate n j)).shards rests
-  all_run m j a n rests r all = subst (λ (u : Running V). AllRested u.shards rests) (sym (rest_run m j a n r)) all
+  -- what is noted doesn't speak of the counts
+  pub rested_with : (m : Running V) (counts : Steps) (k : ℕ) (r : LastRest) → Rested m k r → Rested (with_steps m counts) k r
+  rested_with m counts k last.Unknown is = is
+  rested_with m counts k (last.Still at) is = is
+  rested_with m counts k last.Finished is = is
+
+  -- and so many steps of a rank that rests leave what is noted of it, and of all
+  pub rested_run : (m : Running V) (k : ℕ) (a : Stepped) (n : ℕ) (r : LastRest) → Rests m k a → Rested m k r → Rested (run_of m (replicate n k)) k r
+  rested_run m k a n r rests is = subst (λ (u : Running V). Rested u k r) (sym (rest_run m k a n rests)) (rested_with m (counted_more a n m.steps) k r is)
+
+  pub all_run : (m : Running V) (j : ℕ) (a : Stepped) (n : ℕ) (rests : List LastRest) → Rests m j a → AllRested m rests → AllRested (run_of m (replicate n j)) rests
+  all_run m j a n rests r all = subst (λ (u : Running V). AllRested u rests) (sym (rest_run m j a n r)) (λ k q get. rested_with m (counted_more a n m.steps) k q (all k q get))
 
   -- of a rank of which nothing is known nothing is said
-  pub none_rested : (shards : List (ShardRun V)) (z : LastRest) → z.answer ≡ Moved → (n : ℕ) → AllRested shards (replicate n z)
-  none_rested shards z awake n = λ k r get.
-      subst (λ a. Rested shards k r.shard a) (sym (ap (λ q. q.answer) (one_alike z n k r get) ∙ awake)) tt
+  pub none_rested : (m : Running V) (n : ℕ) → AllRested m (replicate n last.Unknown)
+  none_rested m n = λ k r get. subst (Rested m k) (sym (one_alike last.Unknown n k r get)) tt
 
   -- what is noted of a rank after its steps, and what was noted of the others
-  pub all_noted : (m : Running V) (rests : List LastRest) (j n : ℕ) (z : LastRest) → Rested (run_of m (replicate n j)).shards j z.shard z.answer → AllRested m.shards rests →
-      AllRested (run_of m (replicate n j)).shards (slice_set rests j z)
+  pub all_noted : (m : Running V) (rests : List LastRest) (j n : ℕ) (z : LastRest) → Rested (run_of m (replicate n j)) j z → AllRested m rests → AllRested (run_of m (replicate n j)) (slice_set rests j z)
   all_noted m rests j n z now all = λ k r get.
-      let shards = (run_of m (replicate n j)).shards in
+      let after : Running V = run_of m (replicate n j) in
       ⊎_elim
-      (λ (q : (k ≡ j) × (r ≡ z)). subst (λ i. Rested shards i r.shard r.answer) (sym q.0) (subst (λ u. Rested shards j u.shard u.answer) (sym q.1) now))
-      (λ (q : (k ≢ j) × (slice_get rests k ≡ Some r)). run_others m k j r.shard r.answer q.0 n (all k r q.1))
+      (λ (q : (k ≡ j) × (r ≡ z)). subst (λ i. Rested after i r) (sym q.0) (subst (Rested after j) (sym q.1) now))
+      (λ (q : (k ≢ j) × (slice_get rests k ≡ Some r)). run_others m k j r q.0 n (all k r q.1))
       (get_set_cases rests j k z r get)
 
 module _ (A V : Type 0) (table : A → LockTable V) (good : A → LockState V → Type 0) (layout : A → Layout) (m : MachineState A V) (is : IsMachine A V table good layout (machine_view m)) (k s : ℕ) (low : k < length m.ops.by_rank) where
@@ -205,24 +240,10 @@ module _ (A V : Type 0) (table : A → LockTable V) (good : A → LockState V �
     stands_at : (answer : Stepped) (r : RestsAt run.shards k s answer) → r.shard ≡ shard_run table (shard_view item)
     stands_at answer r = one_at run.shards s r.shard (shard_run table (shard_view item)) r.has (is_there A V table good layout m is s item has).has
 
-    named_at : (answer : Stepped) → RestsAt run.shards k s answer → IsNamed item.flat.words answer
+    -- its card or its word is there
+    pub named_at : (answer : Stepped) → RestsAt run.shards k s answer → IsNamed item.flat.words answer
     named_at answer r = subst (λ (S : ShardRun V). IsNamed S.held answer) (stands_at answer r) r.named
 
-    shown_at : (answer a : Stepped) → RestsAt run.shards k s answer → Shows item.flat.words answer a → Rests run k a
-    shown_at answer a r shows = still_rests answer a r (subst (λ (S : ShardRun V). Shows S.held answer a) (sym (stands_at answer r)) shows)
-
-    -- the card or the word of a rank that rested is there
-    pub named_there : (answer : Stepped) → Rested run.shards k s answer → IsNamed item.flat.words answer
-    named_there Moved r = tt
-    named_there (Waiting w v) r = named_at (Waiting w v) r
-    named_there (Lost guess seen) r = tt
-    named_there (Busy n holder) r = named_at (Busy n holder) r
-    named_there Finished r = tt
-
     -- where it shows so, the rank rests still
-    pub shown_rests : (answer a : Stepped) → Rested run.shards k s answer → Shows item.flat.words answer a → Rests run k a
-    shown_rests Moved a r shows = absurd shows
-    shown_rests (Waiting w v) a r shows = shown_at (Waiting w v) a r shows
-    shown_rests (Lost guess seen) a r shows = absurd shows
-    shown_rests (Busy n holder) a r shows = shown_at (Busy n holder) a r shows
-    shown_rests Finished a r shows = absurd shows
+    pub shown_at : (answer a : Stepped) → RestsAt run.shards k s answer → Shows item.flat.words answer a → Rests run k a
+    shown_at answer a r shows = still_rests answer a r (subst (λ (S : ShardRun V). Shows S.held answer a) (sym (stands_at answer r)) shows)

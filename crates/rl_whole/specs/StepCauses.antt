@@ -36,6 +36,8 @@ use Rattle.rl_whole.specs.RankLaws.{closed_rests}
 use Rattle.rl_whole.specs.Run.{changed, changed_if, on_shard, calls_by, sizes_by, place_of, has_open_call, opens, next_block, opened_if, block_opened, atom_answer, only_counted, atom_made, stepped, answer_of_step}
 use Rattle.rl_whole.specs.MachineGood.{MachineGood}
 use Rattle.rl_whole.specs.MachineLaws.{Found, found_at, laws_of, not_open, block_good, opened_calls}
+use Rattle.rl_whole.specs.Rest.{Rests, IsIdle}
+use Rattle.rl_whole.specs.RestLaws.{idle_rests}
 use Rattle.rl_whole.specs.Causes.{Cause, cause_at, cause_on, AtomCause, StepCause, IsFinished}
 use Rattle.rl_whole.specs.CauseLaws.{answer_cause}
 
@@ -263,3 +265,15 @@ module _ (A V : Type 0) (table : A → LockTable V) (good : A → LockState V �
     -- a step is answered by Finished exactly where no call of the rank is open and none is left
     pub step_finished : (answer_of_step m k ≡ Finished) ↔ IsFinished m k
     step_finished = (finished_if (opens m k) refl fine_opened still_there, if_finished)
+
+    -- a rank that is finished rests so
+    pub finished_rests : IsFinished m k → Rests m k Finished
+    finished_rests f =
+        let t : Stands acts m k = stands_there acts m k g h in
+        let S : ShardRun V = t.found.shard in
+        let few : length (calls_by m k) ≤ slice_index m.opened k = f.1 in
+        let none_is_left : nat_lt (slice_index m.opened k) (length (calls_by m k)) ≡ false = grind (arith, nat_tests) in
+        let still : opens m k ≡ false = opens_not (has_open_call m k) (nat_lt (slice_index m.opened k) (length (calls_by m k))) f.0 ∙ none_is_left in
+        let none : next_of S.lock t.view ≡ None =
+        shut_is_none V S.lock (good t.found.core.algo) (further t.found.core.algo) (layout t.found.core.algo) (lawful acts m k g h t) t.found.core.home t.view (may acts m k g h t) (sym (open_there acts m k g h t) ∙ f.0) in
+        idle_rests m k S t.view Finished t.found.has t.has_view still (subst (λ o. IsIdle S.lock S.held k t.view o Finished) (sym none) refl)

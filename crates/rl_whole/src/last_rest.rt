@@ -8,34 +8,31 @@ use crate::machine::Machine;
 use rl_step::{Algo, Stepped};
 use std::alloc::{AllocError as OutOfMemory, Global};
 
-/// Where a rank was seen to rest last.
+/// A shard on which a rank is in a call, and how its last step there was answered.
 #[derive(Clone, Copy, PartialEq, Eq, Debug)]
-pub struct LastRest {
+pub struct RestAt {
     /// The shard on which it stood.
     pub shard: u32,
-    /// How it was answered. A rank that was Busy or Waiting is so still while the card is held, or while the word has the value,
-    /// that the answer names. Any other answer says nothing.
+    /// Busy or Waiting: it is answered so still while the card is held, or while the word has the value, that this names.
     pub answer: Stepped,
 }
 
-impl LastRest {
-    /// Nothing is known of the rank.
-    #[inline(always)]
-    pub(crate) fn unknown() -> LastRest
-        ensures { result.answer ≡ Stepped.Moved }
-    {
-        LastRest {
-            shard: 0,
-            answer: Stepped::Moved,
-        }
-    }
+/// What is known of a rank since it was seen to rest last.
+#[derive(Clone, Copy, PartialEq, Eq, Debug)]
+pub enum LastRest {
+    /// Nothing.
+    Unknown,
+    /// It rests while its shard shows it.
+    Still(RestAt),
+    /// All its calls are done, so each further step is answered Finished.
+    Finished,
 }
 
 /// A list of where the machine's ranks were seen to rest, of none of which anything is known. Refused only for want of memory.
 pub fn no_rests<A: Algo>(alloc: Global, machine: &Machine<A>) -> Result<Vec<LastRest>, OutOfMemory>
     ensures many { IfOk result (λ rests. length rests.items ≡ length machine.now.calls) }
-    ensures rested { IfOk result (λ rests. AllRested (running A.table machine.now).shards rests.items) }
+    ensures rested { IfOk result (λ rests. AllRested (running A.table machine.now) rests.items) }
 {
     let ranks = machine.ops().by_rank.as_slice().len();
-    Ok(vec![in alloc; LastRest::unknown(); ranks]?)
+    Ok(vec![in alloc; LastRest::Unknown; ranks]?)
 }

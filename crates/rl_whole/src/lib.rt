@@ -37,7 +37,7 @@ mod whole;
 
 pub use card_state::CardState;
 pub use effect::Effect;
-pub use last_rest::{LastRest, no_rests};
+pub use last_rest::{LastRest, RestAt, no_rests};
 pub use machine::{Machine, soundness};
 pub use runs::{replay, take_steps};
 pub use side::Side;

@@ -115,28 +115,22 @@ impl<A: Algo> Machine<A> {
         Ok(answer)
     }
 
-    /// Where the rank rests after a step with this answer, if it is seen that it does: the card that it takes is held, its load leaves
-    /// the lock's view as it was, or all its calls are done. `None` says nothing of its next step.
+    /// What is known of the rank after a step with this answer: whether it is seen that the card that it takes is held, that its load
+    /// leaves the lock's view as it was, or that all its calls are done.
     #[inline(always)]
-    pub(crate) fn rest_after(&self, rank: u32, answer: Stepped) -> Option<LastRest>
+    pub(crate) fn rest_after(&self, rank: u32, answer: Stepped) -> LastRest
         requires { rank < length self.now.calls }
-        ensures rests { IfSome result (λ last. Rests (running A.table self.now) rank last.answer) }
-        ensures rested { IfSome result (λ last. Rested (running A.table self.now).shards rank last.shard last.answer) }
+        ensures { Rested (running A.table self.now) rank result }
     {
-        match answer {
-            Stepped::Busy { .. } => self.state.held_off(rank),
-            Stepped::Waiting { .. } => self.state.waiting(rank),
-            Stepped::Finished => self.state.finished(rank),
-            Stepped::Moved | Stepped::Lost { .. } => None,
-        }
+        self.state.rest_after(rank, answer)
     }
 
-    /// The answer with which a rank rests that was seen to rest last so, where the card or the word that it waits for shows it. `None`
-    /// says nothing of its next step.
+    /// The answer with which a rank rests of which this was noted: that of a card or a word where its shard shows it, and Finished once
+    /// its calls are done. `None` says nothing of its next step.
     #[inline(always)]
     pub(crate) fn still_resting(&self, rank: u32, last: LastRest) -> Option<Stepped>
         requires there { rank < length self.now.calls }
-        requires rested { Rested (running A.table self.now).shards rank last.shard last.answer }
+        requires rested { Rested (running A.table self.now) rank last }
         ensures { IfSome result (Rests (running A.table self.now) rank) }
     {
         self.state.still_resting(rank, last)

@@ -35,21 +35,22 @@ fn until_rest<A: Algo>(
     requires few { steps_made machine.old.steps + count < 2 ^ 32 }
     ensures cores { cores_of machine.new ≡ cores_of machine.old }
     ensures run { IfOk result (λ _. running A.table machine.new ≡ run_of (running A.table machine.old) (replicate count rank)) }
-    ensures rested { IfOk result (λ last. Rested (running A.table machine.new).shards rank last.shard last.answer) }
+    ensures rested { IfOk result (Rested (running A.table machine.new) rank) }
 {
     for made in 0..count {
         let answer = machine.move_on(rank)?;
-        if let Some(last) = machine.rest_after(rank, answer) {
-            machine.rest(rank, last.answer, count - made - 1);
+        let last = machine.rest_after(rank, answer);
+        if let Some(answer) = machine.still_resting(rank, last) {
+            machine.rest(rank, answer, count - made - 1);
             return Ok(last);
         }
     }
-    Ok(LastRest::unknown())
+    Ok(LastRest::Unknown)
 }
 
 /// Takes so many steps of one rank, as `Machine::step` would one by one. Where the rank rested last, by `rests`, it is looked for
-/// first: while the card that it takes is held, or the word that it waits for has the same value, its steps are counted at once, and so
-/// are those after it is seen to rest. `rests` begins as `no_rests` and belongs to this machine, all of whose steps are taken so.
+/// first: while the card that it takes is held, or the word that it waits for has the same value, or once all its calls are done, its
+/// steps are counted at once, and so are those after it is seen to rest. `rests` begins as `no_rests` and belongs to this machine, all of whose steps are taken so.
 ///
 /// Fewer than 2^32 steps are made in all. Refused only for want of memory.
 #[inline(always)]
@@ -62,13 +63,13 @@ pub fn take_steps<A: Algo>(
     requires there { rank < length machine.old.calls }
     requires few { steps_made machine.old.steps + count < 2 ^ 32 }
     requires many { length rests.old.items ≡ length machine.old.calls }
-    requires rested { AllRested (running A.table machine.old).shards rests.old.items }
+    requires rested { AllRested (running A.table machine.old) rests.old.items }
     ensures cores { cores_of machine.new ≡ cores_of machine.old }
     ensures run { IfOk result (λ _. running A.table machine.new ≡ run_of (running A.table machine.old) (replicate count rank)) }
     ensures steps { IfOk result (λ _. steps_made machine.new.steps ≡ steps_made machine.old.steps + count) }
     ensures calls { IfOk result (λ _. machine.new.calls ≡ machine.old.calls) }
     ensures many { length rests.new.items ≡ length rests.old.items }
-    ensures rested { IfOk result (λ _. AllRested (running A.table machine.new).shards rests.new.items) }
+    ensures rested { IfOk result (λ _. AllRested (running A.table machine.new) rests.new.items) }
 {
     let at = rank as usize;
     if let Some(answer) = machine.still_resting(rank, rests[at]) {
@@ -88,13 +89,13 @@ fn take_turn<A: Algo>(
     requires there { TurnFits (length machine.old.calls) turn }
     requires few { steps_made machine.old.steps + steps_of turn < 2 ^ 32 }
     requires many { length rests.old.items ≡ length machine.old.calls }
-    requires rested { AllRested (running A.table machine.old).shards rests.old.items }
+    requires rested { AllRested (running A.table machine.old) rests.old.items }
     ensures cores { cores_of machine.new ≡ cores_of machine.old }
     ensures run { IfOk result (λ _. running A.table machine.new ≡ run_of (running A.table machine.old) (turn_ranks turn)) }
     ensures steps { IfOk result (λ _. steps_made machine.new.steps ≡ steps_made machine.old.steps + steps_of turn) }
     ensures calls { IfOk result (λ _. machine.new.calls ≡ machine.old.calls) }
     ensures many { length rests.new.items ≡ length rests.old.items }
-    ensures rested { IfOk result (λ _. AllRested (running A.table machine.new).shards rests.new.items) }
+    ensures rested { IfOk result (λ _. AllRested (running A.table machine.new) rests.new.items) }
 {
     match turn {
         Turn::Steps { rank, count } => take_steps(machine, rests, u32::from(rank), count),

@@ -5,13 +5,14 @@ ghost use Rattle.rl_model.specs.Geom.{GeomFits};
 ghost use Rattle.rl_step.specs.Answers.{steps_made};
 ghost use Rattle.rl_whole.specs.Asks.{place_after, block_from, block_shard};
 ghost use Rattle.rl_whole.specs.Rest.{Rests};
+ghost use Rattle.rl_whole.specs.Causes.{IsFinished};
 ghost use Rattle.rl_whole.specs.Rested.{Shows, RestsAt, Rested};
 ghost use Rattle.rl_whole.specs.Run.{done_of, place_of, has_open_call, opens, atom_made, atom_answer, stepped, answer_of_step};
 ghost use Rattle.rl_whole.specs.Running.{running};
 ghost use Rattle.rl_whole.specs.State.{running_shard, machine_view, cores_of, IsRuled, IsMachine};
 
 use crate::idle::{idle, shown, waits};
-use crate::last_rest::LastRest;
+use crate::last_rest::{LastRest, RestAt};
 use crate::shard::{ShardState, open_and_step, step_on};
 use rl_model::{Call, Geom};
 use rl_ops::Ops;
@@ -220,14 +221,14 @@ impl<A: Algo> MachineState<A> {
 
     /// Where the rank rests: on this shard, where it was seen to rest with this answer.
     #[inline(always)]
-    fn rest_at(&self, rank: u32, place: u32, answer: Stepped) -> LastRest
+    fn rest_at(&self, rank: u32, place: u32, answer: Stepped) -> RestAt
         requires there { rank < length self.now.ops.by_rank }
         requires good { IsMachine A A.View A.table A.good A.layout (machine_view self.now) }
         requires seen { (r : RestsAt (running A.table (machine_view self.now)).shards rank place answer) × Shows r.shard.held answer answer }
         ensures rests { Rests (running A.table (machine_view self.now)) rank result.answer }
-        ensures rested { Rested (running A.table (machine_view self.now)).shards rank result.shard result.answer }
+        ensures rested { RestsAt (running A.table (machine_view self.now)).shards rank result.shard result.answer }
     {
-        LastRest {
+        RestAt {
             shard: place,
             answer,
         }
@@ -235,11 +236,11 @@ impl<A: Algo> MachineState<A> {
 
     /// Busy, where the rank's next atom is the Take of a card that another rank is in. `None` says nothing of its next step.
     #[inline(always)]
-    pub fn held_off(&self, rank: u32) -> Option<LastRest>
+    pub fn held_off(&self, rank: u32) -> Option<RestAt>
         requires there { rank < length self.now.ops.by_rank }
         requires good { IsMachine A A.View A.table A.good A.layout (machine_view self.now) }
         ensures rests { IfSome result (λ last. Rests (running A.table (machine_view self.now)) rank last.answer) }
-        ensures rested { IfSome result (λ last. Rested (running A.table (machine_view self.now)).shards rank last.shard last.answer) }
+        ensures rested { IfSome result (λ last. RestsAt (running A.table (machine_view self.now)).shards rank last.shard last.answer) }
     {
         let place = self.seen_place(rank)?;
         let shard = self.shard(place);
@@ -247,26 +248,27 @@ impl<A: Algo> MachineState<A> {
         Some(self.rest_at(rank, place, answer))
     }
 
-    /// Finished, where no call of the rank is open and none is left. `None` says nothing of its next step.
+    /// Whether no call of the rank is open and none is left.
     #[inline(always)]
-    pub fn finished(&self, rank: u32) -> Option<LastRest>
+    pub fn is_finished(&self, rank: u32) -> bool
         requires there { rank < length self.now.ops.by_rank }
         requires good { IsMachine A A.View A.table A.good A.layout (machine_view self.now) }
-        ensures rests { IfSome result (λ last. Rests (running A.table (machine_view self.now)) rank last.answer) }
-        ensures rested { IfSome result (λ last. Rested (running A.table (machine_view self.now)).shards rank last.shard last.answer) }
+        ensures { result ≡ true → IsFinished (running A.table (machine_view self.now)) rank }
     {
-        if self.has_left(rank) {
-            return None;
-        }
-        let shard = self.shard_of_rank(rank);
-        let view = shard.flat.view(rank);
-        if shard.core.is_open(view) {
-            None
+        !self.has_left(rank) && !self.is_open(rank)
+    }
+
+    /// Finished, where no call of the rank is open and none is left. `None` says nothing of its next step.
+    #[inline(always)]
+    fn finished(&self, rank: u32) -> Option<Stepped>
+        requires there { rank < length self.now.ops.by_rank }
+        requires good { IsMachine A A.View A.table A.good A.layout (machine_view self.now) }
+        ensures { IfSome result (Rests (running A.table (machine_view self.now)) rank) }
+    {
+        if self.is_finished(rank) {
+            Some(Stepped::Finished)
         } else {
-            Some(LastRest {
-                shard: 0,
-                answer: Stepped::Finished,
-            })
+            None
         }
     }
 
@@ -281,18 +283,17 @@ impl<A: Algo> MachineState<A> {
         if let Some(last) = self.held_off(rank) {
             return Some(last.answer);
         }
-        let last = self.finished(rank)?;
-        Some(last.answer)
+        self.finished(rank)
     }
 
     /// The answer with which the rank rests, where its next atom is a load of the lock that is seen to wait. `None` says nothing of
     /// its next step.
     #[inline(always)]
-    pub fn waiting(&self, rank: u32) -> Option<LastRest>
+    pub fn waiting(&self, rank: u32) -> Option<RestAt>
         requires there { rank < length self.now.ops.by_rank }
         requires good { IsMachine A A.View A.table A.good A.layout (machine_view self.now) }
         ensures rests { IfSome result (λ last. Rests (running A.table (machine_view self.now)) rank last.answer) }
-        ensures rested { IfSome result (λ last. Rested (running A.table (machine_view self.now)).shards rank last.shard last.answer) }
+        ensures rested { IfSome result (λ last. RestsAt (running A.table (machine_view self.now)).shards rank last.shard last.answer) }
     {
         let place = self.seen_place(rank)?;
         let shard = self.shard(place);
@@ -300,20 +301,55 @@ impl<A: Algo> MachineState<A> {
         Some(self.rest_at(rank, place, answer))
     }
 
-    /// The answer with which a rank rests that was seen to rest last so, where the card or the word that it waits for shows it, or where it
-    /// is finished still. `None` says nothing of its next step.
+    /// What is known of the rank after a step with this answer: whether it is seen that the card that it takes is held, that its load
+    /// leaves the lock's view as it was, or that all its calls are done.
+    #[inline(always)]
+    pub fn rest_after(&self, rank: u32, answer: Stepped) -> LastRest
+        requires there { rank < length self.now.ops.by_rank }
+        requires good { IsMachine A A.View A.table A.good A.layout (machine_view self.now) }
+        ensures { Rested (running A.table (machine_view self.now)) rank result }
+    {
+        match answer {
+            Stepped::Busy { .. } => match self.held_off(rank) {
+                Some(at) => LastRest::Still(at),
+                None => LastRest::Unknown,
+            },
+            Stepped::Waiting { .. } => match self.waiting(rank) {
+                Some(at) => LastRest::Still(at),
+                None => LastRest::Unknown,
+            },
+            Stepped::Finished if self.is_finished(rank) => LastRest::Finished,
+            Stepped::Finished | Stepped::Moved | Stepped::Lost { .. } => LastRest::Unknown,
+        }
+    }
+
+    /// The answer of a rank that was seen to rest there, where the card or the word that it waits for shows that it rests still. `None`
+    /// says nothing of its next step.
+    #[inline(always)]
+    fn rests_at(&self, rank: u32, last: RestAt) -> Option<Stepped>
+        requires there { rank < length self.now.ops.by_rank }
+        requires good { IsMachine A A.View A.table A.good A.layout (machine_view self.now) }
+        requires rested { RestsAt (running A.table (machine_view self.now)).shards rank last.shard last.answer }
+        ensures { IfSome result (Rests (running A.table (machine_view self.now)) rank) }
+    {
+        let shard = self.shards.get(last.shard as usize)?;
+        shown(shard.flat.words(), last.answer)
+    }
+
+    /// The answer with which a rank rests of which this was noted: that of a card or a word where its shard shows it, and Finished once
+    /// its calls are done. `None` says nothing of its next step.
     #[inline(always)]
     pub fn still_resting(&self, rank: u32, last: LastRest) -> Option<Stepped>
         requires there { rank < length self.now.ops.by_rank }
         requires good { IsMachine A A.View A.table A.good A.layout (machine_view self.now) }
-        requires rested { Rested (running A.table (machine_view self.now)).shards rank last.shard last.answer }
+        requires rested { Rested (running A.table (machine_view self.now)) rank last }
         ensures { IfSome result (Rests (running A.table (machine_view self.now)) rank) }
     {
-        if let Stepped::Finished = last.answer {
-            return Some(self.finished(rank)?.answer);
+        match last {
+            LastRest::Unknown => None,
+            LastRest::Still(at) => self.rests_at(rank, at),
+            LastRest::Finished => Some(Stepped::Finished),
         }
-        let shard = self.shards.get(last.shard as usize)?;
-        shown(shard.flat.words(), last.answer)
     }
 }
 

@@ -59,10 +59,10 @@ fn take_turns<A: Algo>(
 ) -> Result<(), OutOfMemory>
     requires there { ranks ≤ length machine.old.calls }
     requires many { length rests.old.items ≡ length machine.old.calls }
-    requires rested { AllRested (running A.table machine.old).shards rests.old.items }
+    requires rested { AllRested (running A.table machine.old) rests.old.items }
     ensures turns { IfOk result (λ _. running A.table machine.new ≡ turns most (running A.table machine.old) ranks) }
     ensures many { length rests.new.items ≡ length rests.old.items }
-    ensures rested { IfOk result (λ _. AllRested (running A.table machine.new).shards rests.new.items) }
+    ensures rested { IfOk result (λ _. AllRested (running A.table machine.new) rests.new.items) }
 {
     for rank in 0..ranks {
         if may_step(machine.steps(), most) {

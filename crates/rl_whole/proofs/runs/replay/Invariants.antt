@@ -11,4 +11,4 @@ abbrev pub invariant-loop-turn : goal.invariant-loop-turn
 invariant-loop-turn g l =
     (running g.A.Algo.table l.machine ≡ run_of (start (λ home. g.A.Algo.defined l.fn.shape home l.fn.knobs) l.fn.shape.nodes l.fn.geom l.fn.homes l.fn.ops.by_rank l.fn.ops.sizes) (ranks_of (take l.turn-index l.turns))) ×
     (steps_made l.machine.steps ≡ steps_in (take l.turn-index l.turns)) × (length l.machine.calls ≡ length l.fn.shape.node_of) ×
-    (length l.rests.items ≡ length l.machine.calls) × AllRested (running g.A.Algo.table l.machine).shards l.rests.items
+    (length l.rests.items ≡ length l.machine.calls) × AllRested (running g.A.Algo.table l.machine) l.rests.items

@@ -15,7 +15,7 @@ returns-in-Some-clause-calls g c = ap (λ m. m.calls) c.rest.ensures.run ∙ (tu
 
 pub returns-in-Some-clause-rested : goal.returns-in-Some-clause-rested
 returns-in-Some-clause-rested g c =
-    subst (λ u. AllRested u.shards c.args.rests.now.items) (sym c.rest.ensures.run)
+    subst (λ u. AllRested u c.args.rests.now.items) (sym c.rest.ensures.run)
     (all_run (running g.A.Algo.table c.args.machine.now) c.args.rank c.in-Some.answer c.args.count c.args.rests.now.items c.in-Some.ensures c.requires.rested)
 
 pub returns-clause-steps : goal.returns-clause-steps
@@ -29,5 +29,5 @@ returns-clause-rested g c =
     let old = running g.A.Algo.table c.args.machine.now in
     let rank = c.args.rank in
     let last = c.in_ok-rests.field-0 in
-    subst (λ u. AllRested u.shards (slice_set c.args.rests.now.items rank last)) (sym c.in_ok-rests.ensures.run)
-    (all_noted old c.args.rests.now.items rank c.args.count last (subst (λ u. Rested u.shards rank last.shard last.answer) c.in_ok-rests.ensures.run c.in_ok-rests.ensures.rested) c.requires.rested)
+    subst (λ u. AllRested u (slice_set c.args.rests.now.items rank last)) (sym c.in_ok-rests.ensures.run)
+    (all_noted old c.args.rests.now.items rank c.args.count last (subst (λ u. Rested u rank last) c.in_ok-rests.ensures.run c.in_ok-rests.ensures.rested) c.requires.rested)

@@ -4,11 +4,11 @@ use Rattle.std.proofs.lemmas.List.{replicate-append-replicate}
 use Rattle.rl_step.specs.Answers.{steps_made}
 use Rattle.rl_whole.specs.Running.{Running, running}
 use Rattle.rl_whole.specs.Run.{stepped, run_of}
-use Rattle.rl_whole.specs.RestLaws.{rest_run}
+use Rattle.rl_whole.specs.RestedLaws.{rested_run}
 use Rattle.rl_whole.specs.Rested.{Rested}
 use Rattle.rl_whole.specs.ReplayLaws.{turn_counts, run_append, replicate-end}
 use Rattle.rl_whole.proofs.runs.until_rest.Goals as goal
-use Rattle.rl_whole.proofs.runs.until_rest.Goals.{After-rest}
+use Rattle.rl_whole.proofs.runs.until_rest.Goals.{After-move_on, After-rest}
 use Rattle.rl_whole.proofs.runs.until_rest.Given.{Over}
 
 pub move_on-requires-clause-there : goal.move_on-requires-clause-there
@@ -30,12 +30,20 @@ longer : {V : Type 0} (old now next : Running V) (n rank : ℕ) → now ≡ run_
 longer old now next n rank is made =
     made ∙ ap (λ m. stepped m rank) is ∙ sym (run_append old (replicate n rank) (rank ∷ [])) ∙ sym (ap (run_of old) (replicate-end n rank))
 
-pub rest_after-requires : goal.rest_after-requires
-rest_after-requires g c =
-    let old = running g.A.Algo.table c.args.machine.now in
-    let n = c.loop-made.made in
-    let now = longer old (running g.A.Algo.table c.loop-made.machine) (running g.A.Algo.table c.move_on.new.self) n c.args.rank c.loop-made.invariant.1 c.in_ok-answer.ensures.stepped in
-    subst (λ l. c.args.rank < length l) (sym (ap (λ m. m.calls) now ∙ (turn_counts old (n + 1) c.args.rank).1)) c.requires.there
+-- the rank is there after a step more
+there : (g : Over) (c : After-move_on g) → running g.A.Algo.table c.move_on.new.self ≡ run_of (running g.A.Algo.table c.args.machine.now) (replicate (c.loop-made.made + 1) c.args.rank) → c.args.rank < length c.move_on.new.self.calls
+there g c now =
+    subst (λ l. c.args.rank < length l) (sym (ap (λ m. m.calls) now ∙ (turn_counts (running g.A.Algo.table c.args.machine.now) (c.loop-made.made + 1) c.args.rank).1)) c.requires.there
+
+pub rest_after-last-requires : goal.rest_after-last-requires
+rest_after-last-requires g c =
+    there g (goal.at.rest_after-last-requires g c).After-move_on
+    (longer (running g.A.Algo.table c.args.machine.now) (running g.A.Algo.table c.loop-made.machine) (running g.A.Algo.table c.move_on.new.self) c.loop-made.made c.args.rank c.loop-made.invariant.1 c.in_ok-answer.ensures.stepped)
+
+pub still_resting-requires-clause-there : goal.still_resting-requires-clause-there
+still_resting-requires-clause-there g c =
+    there g (goal.at.still_resting-requires-clause-there g c).After-move_on
+    (longer (running g.A.Algo.table c.args.machine.now) (running g.A.Algo.table c.loop-made.machine) (running g.A.Algo.table c.move_on.new.self) c.loop-made.made c.args.rank c.loop-made.invariant.1 c.in_ok-answer.ensures.stepped)
 
 pub loop-made-preserved : goal.loop-made-preserved
 loop-made-preserved g c =
@@ -76,7 +84,5 @@ returns-in-Some-clause-run g c = whole g c
 pub returns-in-Some-clause-rested : goal.returns-in-Some-clause-rested
 returns-in-Some-clause-rested g c =
     let m = running g.A.Algo.table c.move_on.new.self in
-    subst (λ u. Rested u.shards c.args.rank c.in-Some.last.shard c.in-Some.last.answer) (sym (c.rest.ensures.run ∙ rest_run m c.args.rank c.in-Some.last.answer (c.args.count - c.loop-made.made - 1) c.in-Some.ensures.rests)) c.in-Some.ensures.rested
-
-pub returns-clause-rested : goal.returns-clause-rested
-returns-clause-rested g c = subst (λ a. Rested (running g.A.Algo.table c.loop-made.machine).shards c.args.rank c.unknown.result.shard a) (sym c.unknown.ensures) tt
+    let last = c.rest_after-last.result in
+    subst (λ u. Rested u c.args.rank last) (sym c.rest.ensures.run) (rested_run m c.args.rank c.in-Some.answer (c.args.count - c.loop-made.made - 1) last c.in-Some.ensures c.rest_after-last.ensures)

@@ -7,4 +7,4 @@ use Rattle.rmalock.proofs.rounds.take_turns.Given as goal
 -- the ranks so far have taken their turns
 abbrev pub invariant-loop-rank : goal.invariant-loop-rank
 invariant-loop-rank g l =
-    (running g.A.Algo.table l.machine ≡ turns l.most (running g.A.Algo.table l.fn.machine) l.rank) × (length l.rests.items ≡ length l.fn.rests.items) × AllRested (running g.A.Algo.table l.machine).shards l.rests.items
+    (running g.A.Algo.table l.machine ≡ turns l.most (running g.A.Algo.table l.fn.machine) l.rank) × (length l.rests.items ≡ length l.fn.rests.items) × AllRested (running g.A.Algo.table l.machine) l.rests.items
