@@ -90,7 +90,7 @@ module _ {V : Type 0} (L : LockAt V) (x : WholeView V) (w : ℕ) (planned : L.ta
       ap (λ q. lock_or_work L.base q (work_plan L.site.geom (L.table.standing x.side.view) x.work))
       (ap (card_atom L.table (L.table.plan x.side.view)) free ∙ ap (λ q. card_atom L.table q Free) planned)
 
-  load_means : (got : ℕ) → effect_at (plan_home L.table (L.table.plan x.side.view)) (L.table.plan x.side.view) x.side.card got ≡ Learn Free got false
+  pub load_means : (got : ℕ) → effect_at (plan_home L.table (L.table.plan x.side.view)) (L.table.plan x.side.view) x.side.card got ≡ Learn Free got false
   load_means got =
       ap (λ c. effect_at (plan_home L.table (L.table.plan x.side.view)) (L.table.plan x.side.view) c got) free
       ∙ ap (λ q. effect_at (plan_home L.table q) q Free got) planned

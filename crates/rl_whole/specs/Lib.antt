@@ -55,5 +55,8 @@ pub mod RecordLaws
 pub mod ReplayLaws
 pub mod RestLaws
 pub mod IdleLaws
+pub mod Rounds
+pub mod RoundLaws
 pub mod Rested
 pub mod RestedLaws
+pub mod RoundSteps

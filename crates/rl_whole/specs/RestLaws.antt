@@ -22,14 +22,14 @@ use Rattle.rl_whole.specs.State.{IsMachine}
 use Rattle.rl_whole.specs.Rest.{counted_more, with_steps, Rests, IsIdle}
 
 -- no more of an answer, and one more before the others
-more_none : (a : Stepped) (s : Steps) → counted_more a 0 s ≡ s
+pub more_none : (a : Stepped) (s : Steps) → counted_more a 0 s ≡ s
 more_none Moved s = let e : s.moved + 0 ≡ s.moved = omega arith in ap (λ n. record { moved = n; waiting = s.waiting; lost = s.lost; busy = s.busy; finished = s.finished }) e
 more_none (Waiting w v) s = let e : s.waiting + 0 ≡ s.waiting = omega arith in ap (λ n. record { moved = s.moved; waiting = n; lost = s.lost; busy = s.busy; finished = s.finished }) e
 more_none (Lost g v) s = let e : s.lost + 0 ≡ s.lost = omega arith in ap (λ n. record { moved = s.moved; waiting = s.waiting; lost = n; busy = s.busy; finished = s.finished }) e
 more_none (Busy n h) s = let e : s.busy + 0 ≡ s.busy = omega arith in ap (λ n. record { moved = s.moved; waiting = s.waiting; lost = s.lost; busy = n; finished = s.finished }) e
 more_none Finished s = let e : s.finished + 0 ≡ s.finished = omega arith in ap (λ n. record { moved = s.moved; waiting = s.waiting; lost = s.lost; busy = s.busy; finished = n }) e
 
-one_before : (a : Stepped) (n : ℕ) (s : Steps) → counted_more a n (counted a s) ≡ counted_more a (suc n) s
+pub one_before : (a : Stepped) (n : ℕ) (s : Steps) → counted_more a n (counted a s) ≡ counted_more a (suc n) s
 one_before Moved n s = let e : s.moved + 1 + n ≡ s.moved + suc n = omega arith in ap (λ m. record { moved = m; waiting = s.waiting; lost = s.lost; busy = s.busy; finished = s.finished }) e
 one_before (Waiting w v) n s = let e : s.waiting + 1 + n ≡ s.waiting + suc n = omega arith in ap (λ m. record { moved = s.moved; waiting = m; lost = s.lost; busy = s.busy; finished = s.finished }) e
 one_before (Lost g v) n s = let e : s.lost + 1 + n ≡ s.lost + suc n = omega arith in ap (λ m. record { moved = s.moved; waiting = s.waiting; lost = m; busy = s.busy; finished = s.finished }) e

@@ -10,6 +10,7 @@ use Rattle.rl_whole.specs.Causes.{IsFinished}
 use Rattle.rl_whole.specs.Running.{ShardRun, Running}
 use Rattle.rl_whole.specs.Whole.{is_open, next_of}
 use Rattle.rl_whole.specs.Rest.{IsIdle}
+use Rattle.rl_whole.specs.Rounds.{IsInRound}
 
 -- the window shows that a rank which rested with the first answer rests with the second: another rank is in the card that it takes, or
 -- the word that it loads has the value that it had
@@ -38,12 +39,13 @@ pub record RestsAt {V : Type 0} (shards : List (ShardRun V)) (k s : ℕ) (answer
   pub named : IsNamed shard.held answer
   pub idle : (h : TheWindow) (a : Stepped) → Shows h answer a → IsIdle shard.lock h k view (next_of shard.lock view) a
 
--- what is noted of rank k is true: it rests where it was seen to, or it has no open call and none left
-abbrev pub Rested : {V : Type 0} → Running V → ℕ → LastRest → Type 0
+-- what is noted of rank k is true: it rests where it was seen to, or goes in a round, or it has no open call and none left
+abbrev pub Rested : {V : Type 0} → Running V → ℕ → LastRest V → Type 0
 Rested m k last.Unknown = Unit {0}
 Rested m k (last.Still r) = RestsAt m.shards k r.shard r.answer
+Rested m k (last.Round s round) = IsInRound m.shards k s round
 Rested m k last.Finished = IsFinished m k
 
 -- what is noted of each rank is true
-abbrev pub AllRested : {V : Type 0} → Running V → List LastRest → Type 0
-AllRested m rests = (k : ℕ) (r : LastRest) → slice_get rests k ≡ Some r → Rested m k r
+abbrev pub AllRested : {V : Type 0} → Running V → List (LastRest V) → Type 0
+AllRested m rests = (k : ℕ) (r : LastRest _) → slice_get rests k ≡ Some r → Rested m k r

@@ -15,6 +15,7 @@ use Rattle.rl_step.specs.Do.{TheWindow, do_cards, do_got}
 use Rattle.rl_step.specs.Lock.{LockTable, LockState}
 use Rattle.rl_whole.specs.declared.last_rest.LastRest.{LastRest}
 use Rattle.rl_whole.specs.declared.last_rest.LastRest.TheVariants as last
+use Rattle.rl_whole.specs.declared.round.Round.{Round}
 use Rattle.rl_whole.specs.declared.shard.ShardState.{ShardState}
 use Rattle.rl_whole.specs.declared.state.MachineState.{MachineState}
 use Rattle.rl_whole.specs.declared.whole.WholeView.{WholeView}
@@ -30,6 +31,7 @@ use Rattle.rl_whole.specs.Whole.{is_open, next_of, after_of}
 use Rattle.rl_whole.specs.Causes.{IsFinished}
 use Rattle.rl_whole.specs.Rest.{counted_more, with_steps, Rests, IsIdle}
 use Rattle.rl_whole.specs.RestLaws.{open_shuts, idle_rests, rest_run}
+use Rattle.rl_whole.specs.Rounds.{IsRound, IsInRound}
 use Rattle.rl_whole.specs.Rested.{Shows, IsNamed, RestsAt, Rested, AllRested}
 
 -- an atom doesn't change the number of cards
@@ -82,42 +84,78 @@ module _ {V : Type 0} (k j : ℕ) (other : k ≢ j) where
   atom_alike S step None = alike_self S
   atom_alike S step (Some x) = makes_alike S step x (next_of S.lock x)
 
-  module _ (s : ℕ) (answer : Stepped) where
-    rests_then : (old new : List (ShardRun V)) (r : RestsAt old k s answer) (T : ShardRun V) → IsAlike k r.shard T → slice_get new s ≡ Some T → RestsAt new k s answer
-    rests_then old new r T a has =
-        record {
-          shard = T;
-          view = r.view;
-          has = has;
-          seen = a.view ∙ r.seen;
-          in_call = subst (λ L. is_open L r.view ≡ true) (sym a.lock) r.in_call;
-          named = named_alike answer r.shard.held T.held a.words a.cards r.named;
-          idle = subst (λ L. (h : TheWindow) (b : Stepped) → Shows h answer b → IsIdle L h k r.view (next_of L r.view) b) (sym a.lock) r.idle;
-        }
+  -- what is true of shard s as far as rank k goes stays so
+  record OnShard (s : ℕ) (P : ShardRun V → Type 0) (shards : List (ShardRun V)) : Type 0 where
+    shard : ShardRun V
+    has : slice_get shards s ≡ Some shard
+    says : P shard
 
-    rests_set : (shards : List (ShardRun V)) (p : ℕ) (S T : ShardRun V) → slice_get shards p ≡ Some S → IsAlike k S T → RestsAt shards k s answer → RestsAt (slice_set shards p T) k s answer
-    rests_set shards p S T has a r =
+  module _ (s : ℕ) (P : ShardRun V → Type 0) (stable : (S T : ShardRun V) → IsAlike k S T → P S → P T) where
+    on_set : (shards : List (ShardRun V)) (p : ℕ) (S T : ShardRun V) → slice_get shards p ≡ Some S → IsAlike k S T → OnShard s P shards → OnShard s P (slice_set shards p T)
+    on_set shards p S T has a r =
         ⊎_elim
         (λ (same : s ≡ p).
         let is : r.shard ≡ S = one_at shards p r.shard S (ap (slice_get shards) (sym same) ∙ r.has) has in
-        rests_then shards (slice_set shards p T) r T (subst (λ z. IsAlike k z T) (sym is) a) (ap (slice_get (slice_set shards p T)) same ∙ get_set_same shards p S T has))
-        (λ (apart : s ≢ p). rests_then shards (slice_set shards p T) r r.shard (alike_self r.shard) (get_set_other shards p s T apart ∙ r.has))
+        record { shard = T; has = ap (slice_get (slice_set shards p T)) same ∙ get_set_same shards p S T has; says = stable S T a (subst P is r.says) })
+        (λ (apart : s ≢ p). record { shard = r.shard; has = get_set_other shards p s T apart ∙ r.has; says = r.says })
         (same_or_not s p)
 
-    rests_if : (shards : List (ShardRun V)) (p : ℕ) (f : ShardRun V → ShardRun V) (o : Option (ShardRun V)) → slice_get shards p ≡ o → ((S : ShardRun V) → IsAlike k S (f S)) → RestsAt shards k s answer → RestsAt (changed_if shards p f o) k s answer
-    rests_if shards p f None e alike r = r
-    rests_if shards p f (Some S) e alike r = rests_set shards p S (f S) e (alike S) r
+    on_if : (shards : List (ShardRun V)) (p : ℕ) (f : ShardRun V → ShardRun V) (o : Option (ShardRun V)) → slice_get shards p ≡ o → ((S : ShardRun V) → IsAlike k S (f S)) → OnShard s P shards → OnShard s P (changed_if shards p f o)
+    on_if shards p f None e alike r = r
+    on_if shards p f (Some S) e alike r = on_set shards p S (f S) e (alike S) r
 
-    rests_opened : (m : Running V) (b : Bool) → RestsAt m.shards k s answer → RestsAt (opened_if m j b).shards k s answer
-    rests_opened m false r = r
-    rests_opened m true r =
+    on_opened : (m : Running V) (b : Bool) → OnShard s P m.shards → OnShard s P (opened_if m j b).shards
+    on_opened m false r = r
+    on_opened m true r =
         let p : ℕ = block_shard m.geom (next_block m j) in
-        rests_if m.shards p (opened_on j (next_block m j) (slice_index m.opened j)) (slice_get m.shards p) refl (λ S. opened_alike S (next_block m j) (slice_index m.opened j) (slice_get S.views j)) r
+        on_if m.shards p (opened_on j (next_block m j) (slice_index m.opened j)) (slice_get m.shards p) refl (λ S. opened_alike S (next_block m j) (slice_index m.opened j) (slice_get S.views j)) r
 
-    rests_stepped : (m : Running V) → RestsAt m.shards k s answer → RestsAt (stepped m j).shards k s answer
-    rests_stepped m r =
+    on_stepped : (m : Running V) → OnShard s P m.shards → OnShard s P (stepped m j).shards
+    on_stepped m r =
         let n : Running V = block_opened m j in
-        rests_if n.shards (place_of n j) (atom_on j (steps_made n.steps)) (slice_get n.shards (place_of n j)) refl (λ S. atom_alike S (steps_made n.steps) (slice_get S.views j)) (rests_opened m (opens m j) r)
+        on_if n.shards (place_of n j) (atom_on j (steps_made n.steps)) (slice_get n.shards (place_of n j)) refl (λ S. atom_alike S (steps_made n.steps) (slice_get S.views j)) (on_opened m (opens m j) r)
+
+  -- that it rests
+  record RestsOn (answer : Stepped) (S : ShardRun V) : Type 0 where
+    view : WholeView V
+    seen : slice_get S.views k ≡ Some view
+    in_call : is_open S.lock view ≡ true
+    named : IsNamed S.held answer
+    idle : (h : TheWindow) (a : Stepped) → Shows h answer a → IsIdle S.lock h k view (next_of S.lock view) a
+
+  rests_alike : (answer : Stepped) (S T : ShardRun V) → IsAlike k S T → RestsOn answer S → RestsOn answer T
+  rests_alike answer S T a r =
+      record {
+        view = r.view;
+        seen = a.view ∙ r.seen;
+        in_call = subst (λ L. is_open L r.view ≡ true) (sym a.lock) r.in_call;
+        named = named_alike answer S.held T.held a.words a.cards r.named;
+        idle = subst (λ L. (h : TheWindow) (b : Stepped) → Shows h answer b → IsIdle L h k r.view (next_of L r.view) b) (sym a.lock) r.idle;
+      }
+
+  rests_stepped : (s : ℕ) (answer : Stepped) (m : Running V) → RestsAt m.shards k s answer → RestsAt (stepped m j).shards k s answer
+  rests_stepped s answer m r =
+      let q = on_stepped s (RestsOn answer) (rests_alike answer) m (record { shard = r.shard; has = r.has; says = record { view = r.view; seen = r.seen; in_call = r.in_call; named = r.named; idle = r.idle } }) in
+      record { shard = q.shard; view = q.says.view; has = q.has; seen = q.says.seen; in_call = q.says.in_call; named = q.says.named; idle = q.says.idle }
+
+  -- and that it goes in a round
+  record InRoundOn (round : Round V) (S : ShardRun V) : Type 0 where
+    view : WholeView V
+    seen : slice_get S.views k ≡ Some view
+    is_round : IsRound S.lock (length S.held.words) k view round
+
+  round_alike : (round : Round V) (S T : ShardRun V) → IsAlike k S T → InRoundOn round S → InRoundOn round T
+  round_alike round S T a r =
+      record {
+        view = r.view;
+        seen = a.view ∙ r.seen;
+        is_round = subst (λ n. IsRound T.lock n k r.view round) (sym a.words) (subst (λ L. IsRound L (length S.held.words) k r.view round) (sym a.lock) r.is_round);
+      }
+
+  round_stepped : (s : ℕ) (round : Round V) (m : Running V) → IsInRound m.shards k s round → IsInRound (stepped m j).shards k s round
+  round_stepped s round m r =
+      let q = on_stepped s (InRoundOn round) (round_alike round) m (record { shard = r.shard; has = r.has; says = record { view = r.view; seen = r.seen; is_round = r.is_round } }) in
+      record { shard = q.shard; view = q.says.view; has = q.has; seen = q.says.seen; is_round = q.says.is_round }
 
   -- a step leaves whether rank k has an open call, and what is left of its calls
   open_lock : (S T : ShardRun V) (o : Option (WholeView V)) → T.lock ≡ S.lock → open_at T o ≡ open_at S o
@@ -154,13 +192,14 @@ module _ {V : Type 0} (k j : ℕ) (other : k ≢ j) where
   finished_atom m f =
       (open_set m.shards (place_of m j) (place_of m k) (atom_on j (steps_made m.steps)) (slice_get m.shards (place_of m j)) refl (λ S. atom_alike S (steps_made m.steps) (slice_get S.views j)) ∙ f.0, f.1)
 
-  rested_stepped : (m : Running V) (r : LastRest) → Rested m k r → Rested (stepped m j) k r
+  rested_stepped : (m : Running V) (r : LastRest V) → Rested m k r → Rested (stepped m j) k r
   rested_stepped m last.Unknown r = r
   rested_stepped m (last.Still at) r = rests_stepped at.shard at.answer m r
+  rested_stepped m (last.Round s round) r = round_stepped s round m r
   rested_stepped m last.Finished r = finished_atom (block_opened m j) (finished_opened m (opens m j) r)
 
 -- the elements of a list of equal ones
-one_alike : (z : LastRest) (n k : ℕ) (r : LastRest) → slice_get (replicate n z) k ≡ Some r → r ≡ z
+one_alike : {V : Type 0} (z : LastRest V) (n k : ℕ) (r : LastRest V) → slice_get (replicate n z) k ≡ Some r → r ≡ z
 one_alike z zero k r get = cc
 one_alike z (suc n) zero r get = cc
 one_alike z (suc n) (suc k) r get = one_alike z n k r get
@@ -173,25 +212,26 @@ module _ {V : Type 0} where
   seen_rests shards k s S x h answer has seen same in_call named shows idle =
       (record { shard = S; view = x; has = has; seen = seen; in_call = in_call; named = subst (λ w. IsNamed w answer) same named; idle = idle k }, subst (λ w. Shows w answer answer) same shows)
 
-  rested_other : (m : Running V) (k j : ℕ) (r : LastRest) → k ≢ j → Rested m k r → Rested (stepped m j) k r
+  rested_other : (m : Running V) (k j : ℕ) (r : LastRest V) → k ≢ j → Rested m k r → Rested (stepped m j) k r
   rested_other m k j r other is = rested_stepped k j other m r is
 
   -- so many steps of another rank
-  run_others : (m : Running V) (k j : ℕ) (r : LastRest) → k ≢ j → (n : ℕ) → Rested m k r → Rested (run_of m (replicate n j)) k r
+  run_others : (m : Running V) (k j : ℕ) (r : LastRest V) → k ≢ j → (n : ℕ) → Rested m k r → Rested (run_of m (replicate n j)) k r
   run_others m k j r other zero is = is
   run_others m k j r other (suc n) is = run_others (stepped m j) k j r other n (rested_other m k j r other is)
 
   -- what is noted doesn't speak of the counts
-  pub rested_with : (m : Running V) (counts : Steps) (k : ℕ) (r : LastRest) → Rested m k r → Rested (with_steps m counts) k r
+  pub rested_with : (m : Running V) (counts : Steps) (k : ℕ) (r : LastRest V) → Rested m k r → Rested (with_steps m counts) k r
   rested_with m counts k last.Unknown is = is
   rested_with m counts k (last.Still at) is = is
+  rested_with m counts k (last.Round s round) is = is
   rested_with m counts k last.Finished is = is
 
   -- and so many steps of a rank that rests leave what is noted of it, and of all
-  pub rested_run : (m : Running V) (k : ℕ) (a : Stepped) (n : ℕ) (r : LastRest) → Rests m k a → Rested m k r → Rested (run_of m (replicate n k)) k r
+  pub rested_run : (m : Running V) (k : ℕ) (a : Stepped) (n : ℕ) (r : LastRest V) → Rests m k a → Rested m k r → Rested (run_of m (replicate n k)) k r
   rested_run m k a n r rests is = subst (λ (u : Running V). Rested u k r) (sym (rest_run m k a n rests)) (rested_with m (counted_more a n m.steps) k r is)
 
-  pub all_run : (m : Running V) (j : ℕ) (a : Stepped) (n : ℕ) (rests : List LastRest) → Rests m j a → AllRested m rests → AllRested (run_of m (replicate n j)) rests
+  pub all_run : (m : Running V) (j : ℕ) (a : Stepped) (n : ℕ) (rests : List (LastRest V)) → Rests m j a → AllRested m rests → AllRested (run_of m (replicate n j)) rests
   all_run m j a n rests r all = subst (λ (u : Running V). AllRested u rests) (sym (rest_run m j a n r)) (λ k q get. rested_with m (counted_more a n m.steps) k q (all k q get))
 
   -- of a rank of which nothing is known nothing is said
@@ -199,7 +239,7 @@ module _ {V : Type 0} where
   none_rested m n = λ k r get. subst (Rested m k) (sym (one_alike last.Unknown n k r get)) tt
 
   -- what is noted of a rank after its steps, and what was noted of the others
-  pub all_noted : (m : Running V) (rests : List LastRest) (j n : ℕ) (z : LastRest) → Rested (run_of m (replicate n j)) j z → AllRested m rests → AllRested (run_of m (replicate n j)) (slice_set rests j z)
+  pub all_noted : (m : Running V) (rests : List (LastRest V)) (j n : ℕ) (z : LastRest V) → Rested (run_of m (replicate n j)) j z → AllRested m rests → AllRested (run_of m (replicate n j)) (slice_set rests j z)
   all_noted m rests j n z now all = λ k r get.
       let after : Running V = run_of m (replicate n j) in
       ⊎_elim

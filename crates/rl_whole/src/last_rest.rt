@@ -5,6 +5,7 @@ ghost use Rattle.rl_whole.specs.Rested.{AllRested};
 ghost use Rattle.rl_whole.specs.Running.{running};
 
 use crate::machine::Machine;
+use crate::round::Round;
 use rl_step::{Algo, Stepped};
 use std::alloc::{AllocError as OutOfMemory, Global};
 
@@ -17,19 +18,24 @@ pub struct RestAt {
     pub answer: Stepped,
 }
 
-/// What is known of a rank since it was seen to rest last.
-#[derive(Clone, Copy, PartialEq, Eq, Debug)]
-pub enum LastRest {
+/// What is known of a rank since it was seen to rest last, or to go in a round.
+#[derive(Clone, Copy)]
+pub enum LastRest<V: Copy> {
     /// Nothing.
     Unknown,
     /// It rests while its shard shows it.
     Still(RestAt),
+    /// It goes in this round of two loads on the shard of this number while the shard shows it.
+    Round { place: u32, round: Round<V> },
     /// All its calls are done, so each further step is answered Finished.
     Finished,
 }
 
 /// A list of where the machine's ranks were seen to rest, of none of which anything is known. Refused only for want of memory.
-pub fn no_rests<A: Algo>(alloc: Global, machine: &Machine<A>) -> Result<Vec<LastRest>, OutOfMemory>
+pub fn no_rests<A: Algo>(
+    alloc: Global,
+    machine: &Machine<A>,
+) -> Result<Vec<LastRest<A::View>>, OutOfMemory>
     ensures many { IfOk result (λ rests. length rests.items ≡ length machine.now.calls) }
     ensures rested { IfOk result (λ rests. AllRested (running A.table machine.now) rests.items) }
 {

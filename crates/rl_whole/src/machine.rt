@@ -29,6 +29,7 @@ use rl_word::{Knobs, Shape};
 use std::alloc::{AllocError as OutOfMemory, Global};
 use std::marker::Model;
 
+mod rounds;
 mod whereabouts;
 
 /// All shards of a table, each behind a lock of its own, with the steps of the ranks one after the other.
@@ -116,9 +117,9 @@ impl<A: Algo> Machine<A> {
     }
 
     /// What is known of the rank after a step with this answer: whether it is seen that the card that it takes is held, that its load
-    /// leaves the lock's view as it was, or that all its calls are done.
+    /// leaves the lock's view as it was, that it goes in a round of two loads, or that all its calls are done.
     #[inline(always)]
-    pub(crate) fn rest_after(&self, rank: u32, answer: Stepped) -> LastRest
+    pub(crate) fn rest_after(&self, rank: u32, answer: Stepped) -> LastRest<A::View>
         requires { rank < length self.now.calls }
         ensures { Rested (running A.table self.now) rank result }
     {
@@ -128,7 +129,7 @@ impl<A: Algo> Machine<A> {
     /// The answer with which a rank rests of which this was noted: that of a card or a word where its shard shows it, and Finished once
     /// its calls are done. `None` says nothing of its next step.
     #[inline(always)]
-    pub(crate) fn still_resting(&self, rank: u32, last: LastRest) -> Option<Stepped>
+    fn still_resting(&self, rank: u32, last: LastRest<A::View>) -> Option<Stepped>
         requires there { rank < length self.now.calls }
         requires rested { Rested (running A.table self.now) rank last }
         ensures { IfSome result (Rests (running A.table self.now) rank) }
@@ -151,7 +152,7 @@ impl<A: Algo> Machine<A> {
     /// So many steps of a rank that rests: each is answered so and changes nothing else, so they are counted at once. The rank
     /// is named for the contract alone.
     #[inline(always)]
-    pub(crate) fn rest(&mut self, _rank: u32, answer: Stepped, count: u32)
+    fn rest(&mut self, _rank: u32, answer: Stepped, count: u32)
         requires rests { Rests (running A.table self.old) _rank answer }
         requires few { steps_made self.old.steps + count < 2 ^ 32 }
         ensures cores { cores_of self.new ≡ cores_of self.old }

@@ -23,14 +23,14 @@ use rl_step::Algo;
 use rl_word::{Knobs, Shape};
 use std::alloc::{AllocError as OutOfMemory, Global};
 
-/// Takes so many steps of one rank, and tells where it rests after them. Once it is seen to rest, all that are left are counted at
-/// once.
+/// Takes so many steps of one rank, and tells what is known of it after them. Once it is seen to rest, or to go in a round, all that
+/// are left are counted at once.
 #[inline(always)]
 fn until_rest<A: Algo>(
     machine: &mut Machine<A>,
     rank: u32,
     count: u32,
-) -> Result<LastRest, OutOfMemory>
+) -> Result<LastRest<A::View>, OutOfMemory>
     requires there { rank < length machine.old.calls }
     requires few { steps_made machine.old.steps + count < 2 ^ 32 }
     ensures cores { cores_of machine.new ≡ cores_of machine.old }
@@ -40,23 +40,23 @@ fn until_rest<A: Algo>(
     for made in 0..count {
         let answer = machine.move_on(rank)?;
         let last = machine.rest_after(rank, answer);
-        if let Some(answer) = machine.still_resting(rank, last) {
-            machine.rest(rank, answer, count - made - 1);
+        if let Some(last) = machine.rest_on(rank, last, count - made - 1) {
             return Ok(last);
         }
     }
     Ok(LastRest::Unknown)
 }
 
-/// Takes so many steps of one rank, as `Machine::step` would one by one. Where the rank rested last, by `rests`, it is looked for
-/// first: while the card that it takes is held, or the word that it waits for has the same value, or once all its calls are done, its
-/// steps are counted at once, and so are those after it is seen to rest. `rests` begins as `no_rests` and belongs to this machine, all of whose steps are taken so.
+/// Takes so many steps of one rank, as `Machine::step` would one by one. What was noted of it, in `rests`, is looked at first: while
+/// the card that it takes is held, the word that it waits for has the same value, or both words of a round in which it waits have,
+/// and once all its calls are done, its steps are counted at once, and so are those after it is seen to rest. `rests` begins as
+/// `no_rests` and belongs to this machine, all of whose steps are taken so.
 ///
 /// Fewer than 2^32 steps are made in all. Refused only for want of memory.
 #[inline(always)]
 pub fn take_steps<A: Algo>(
     machine: &mut Machine<A>,
-    rests: &mut Vec<LastRest>,
+    rests: &mut Vec<LastRest<A::View>>,
     rank: u32,
     count: u32,
 ) -> Result<(), OutOfMemory>
@@ -72,8 +72,8 @@ pub fn take_steps<A: Algo>(
     ensures rested { IfOk result (λ _. AllRested (running A.table machine.new) rests.new.items) }
 {
     let at = rank as usize;
-    if let Some(answer) = machine.still_resting(rank, rests[at]) {
-        machine.rest(rank, answer, count);
+    if let Some(last) = machine.rest_on(rank, rests[at], count) {
+        rests[at] = last;
         return Ok(());
     }
     rests[at] = until_rest(machine, rank, count)?;
@@ -83,7 +83,7 @@ pub fn take_steps<A: Algo>(
 /// Takes the steps of one turn. A stop has none.
 fn take_turn<A: Algo>(
     machine: &mut Machine<A>,
-    rests: &mut Vec<LastRest>,
+    rests: &mut Vec<LastRest<A::View>>,
     turn: Turn,
 ) -> Result<(), OutOfMemory>
     requires there { TurnFits (length machine.old.calls) turn }

@@ -145,7 +145,7 @@ impl<A: Algo> MachineState<A> {
 
     /// The shard where the rank opened its last block, as it is guessed, where there is one.
     #[inline(always)]
-    fn seen_place(&self, rank: u32) -> Option<u32>
+    pub fn seen_place(&self, rank: u32) -> Option<u32>
         ensures { IfSome result (λ place. place < length self.now.shards.items) }
     {
         let place = *self.seen.get(rank as usize)?;
@@ -302,9 +302,9 @@ impl<A: Algo> MachineState<A> {
     }
 
     /// What is known of the rank after a step with this answer: whether it is seen that the card that it takes is held, that its load
-    /// leaves the lock's view as it was, or that all its calls are done.
+    /// leaves the lock's view as it was, that it goes in a round of two loads, or that all its calls are done.
     #[inline(always)]
-    pub fn rest_after(&self, rank: u32, answer: Stepped) -> LastRest
+    pub fn rest_after(&self, rank: u32, answer: Stepped) -> LastRest<A::View>
         requires there { rank < length self.now.ops.by_rank }
         requires good { IsMachine A A.View A.table A.good A.layout (machine_view self.now) }
         ensures { Rested (running A.table (machine_view self.now)) rank result }
@@ -316,7 +316,7 @@ impl<A: Algo> MachineState<A> {
             },
             Stepped::Waiting { .. } => match self.waiting(rank) {
                 Some(at) => LastRest::Still(at),
-                None => LastRest::Unknown,
+                None => self.round_of(rank),
             },
             Stepped::Finished if self.is_finished(rank) => LastRest::Finished,
             Stepped::Finished | Stepped::Moved | Stepped::Lost { .. } => LastRest::Unknown,
@@ -339,14 +339,14 @@ impl<A: Algo> MachineState<A> {
     /// The answer with which a rank rests of which this was noted: that of a card or a word where its shard shows it, and Finished once
     /// its calls are done. `None` says nothing of its next step.
     #[inline(always)]
-    pub fn still_resting(&self, rank: u32, last: LastRest) -> Option<Stepped>
+    pub fn still_resting(&self, rank: u32, last: LastRest<A::View>) -> Option<Stepped>
         requires there { rank < length self.now.ops.by_rank }
         requires good { IsMachine A A.View A.table A.good A.layout (machine_view self.now) }
         requires rested { Rested (running A.table (machine_view self.now)) rank last }
         ensures { IfSome result (Rests (running A.table (machine_view self.now)) rank) }
     {
         match last {
-            LastRest::Unknown => None,
+            LastRest::Unknown | LastRest::Round { .. } => None,
             LastRest::Still(at) => self.rests_at(rank, at),
             LastRest::Finished => Some(Stepped::Finished),
         }

@@ -53,7 +53,7 @@ fn goes_on<A: Algo>(machine: &Machine<A>, ranks: u32, most: u32) -> bool
 /// A turn of each of the first ranks, while fewer steps than the most were made.
 fn take_turns<A: Algo>(
     machine: &mut Machine<A>,
-    rests: &mut Vec<LastRest>,
+    rests: &mut Vec<LastRest<A::View>>,
     ranks: u32,
     most: u32,
 ) -> Result<(), OutOfMemory>

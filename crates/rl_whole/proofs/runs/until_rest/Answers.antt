@@ -4,11 +4,9 @@ use Rattle.std.proofs.lemmas.List.{replicate-append-replicate}
 use Rattle.rl_step.specs.Answers.{steps_made}
 use Rattle.rl_whole.specs.Running.{Running, running}
 use Rattle.rl_whole.specs.Run.{stepped, run_of}
-use Rattle.rl_whole.specs.RestedLaws.{rested_run}
-use Rattle.rl_whole.specs.Rested.{Rested}
 use Rattle.rl_whole.specs.ReplayLaws.{turn_counts, run_append, replicate-end}
 use Rattle.rl_whole.proofs.runs.until_rest.Goals as goal
-use Rattle.rl_whole.proofs.runs.until_rest.Goals.{After-move_on, After-rest}
+use Rattle.rl_whole.proofs.runs.until_rest.Goals.{After-move_on}
 use Rattle.rl_whole.proofs.runs.until_rest.Given.{Over}
 
 pub move_on-requires-clause-there : goal.move_on-requires-clause-there
@@ -40,20 +38,23 @@ rest_after-last-requires g c =
     there g (goal.at.rest_after-last-requires g c).After-move_on
     (longer (running g.A.Algo.table c.args.machine.now) (running g.A.Algo.table c.loop-made.machine) (running g.A.Algo.table c.move_on.new.self) c.loop-made.made c.args.rank c.loop-made.invariant.1 c.in_ok-answer.ensures.stepped)
 
-pub still_resting-requires-clause-there : goal.still_resting-requires-clause-there
-still_resting-requires-clause-there g c =
-    there g (goal.at.still_resting-requires-clause-there g c).After-move_on
+pub rest_on-requires-clause-there : goal.rest_on-requires-clause-there
+rest_on-requires-clause-there g c =
+    there g (goal.at.rest_on-requires-clause-there g c).After-move_on
     (longer (running g.A.Algo.table c.args.machine.now) (running g.A.Algo.table c.loop-made.machine) (running g.A.Algo.table c.move_on.new.self) c.loop-made.made c.args.rank c.loop-made.invariant.1 c.in_ok-answer.ensures.stepped)
 
 pub loop-made-preserved : goal.loop-made-preserved
 loop-made-preserved g c =
-    let old = running g.A.Algo.table c.args.machine.now in (
-      c.in_ok-answer.ensures.cores ∙ c.loop-made.invariant.0,
-      longer old (running g.A.Algo.table c.loop-made.machine) (running g.A.Algo.table c.move_on.new.self) c.loop-made.made c.args.rank c.loop-made.invariant.1 c.in_ok-answer.ensures.stepped,
+    let old = running g.A.Algo.table c.args.machine.now in
+    let rank = c.args.rank in
+    let n = c.loop-made.made in (
+      c.rest_on.ensures.cores ∙ c.in_ok-answer.ensures.cores ∙ c.loop-made.invariant.0,
+      subst (λ z. running g.A.Algo.table z ≡ run_of old (replicate (n + 1) rank)) (sym (c.rest_on.ensures.kept c.in_default.is))
+          (longer old (running g.A.Algo.table c.loop-made.machine) (running g.A.Algo.table c.move_on.new.self) n rank c.loop-made.invariant.1 c.in_ok-answer.ensures.stepped),
     )
 
-pub rest-requires-clause-few : goal.rest-requires-clause-few
-rest-requires-clause-few g c =
+pub rest_on-requires-clause-few : goal.rest_on-requires-clause-few
+rest_on-requires-clause-few g c =
     let old = running g.A.Algo.table c.args.machine.now in
     let n = c.loop-made.made in
     let now = longer old (running g.A.Algo.table c.loop-made.machine) (running g.A.Algo.table c.move_on.new.self) n c.args.rank c.loop-made.invariant.1 c.in_ok-answer.ensures.stepped in
@@ -63,8 +64,8 @@ rest-requires-clause-few g c =
     omega arith
 
 -- the rest of the turn makes it whole
-whole : (g : Over) (c : After-rest g) → running g.A.Algo.table c.rest.new.self ≡ run_of (running g.A.Algo.table c.args.machine.now) (replicate c.args.count c.args.rank)
-whole g c =
+pub returns-in-Some-clause-run : goal.returns-in-Some-clause-run
+returns-in-Some-clause-run g c =
     let old = running g.A.Algo.table c.args.machine.now in
     let rank = c.args.rank in
     let n = c.loop-made.made in
@@ -72,17 +73,8 @@ whole g c =
     let more : n < c.args.count = c.loop-made-test.true in
     let parts : c.args.count ≡ n + 1 + left = omega arith in
     let now = longer old (running g.A.Algo.table c.loop-made.machine) (running g.A.Algo.table c.move_on.new.self) n rank c.loop-made.invariant.1 c.in_ok-answer.ensures.stepped in
-    c.rest.ensures.run ∙ ap (λ m. run_of m (replicate left rank)) now ∙ sym (run_append old (replicate (n + 1) rank) (replicate left rank)) ∙
+    c.in-Some.ensures.run ∙ ap (λ m. run_of m (replicate left rank)) now ∙ sym (run_append old (replicate (n + 1) rank) (replicate left rank)) ∙
     ap (run_of old) (replicate-append-replicate (n + 1) left rank ∙ ap (λ m. replicate m rank) (sym parts))
 
 pub returns-in-Some-clause-cores : goal.returns-in-Some-clause-cores
-returns-in-Some-clause-cores g c = c.rest.ensures.cores ∙ c.in_ok-answer.ensures.cores ∙ c.loop-made.invariant.0
-
-pub returns-in-Some-clause-run : goal.returns-in-Some-clause-run
-returns-in-Some-clause-run g c = whole g c
-
-pub returns-in-Some-clause-rested : goal.returns-in-Some-clause-rested
-returns-in-Some-clause-rested g c =
-    let m = running g.A.Algo.table c.move_on.new.self in
-    let last = c.rest_after-last.result in
-    subst (λ u. Rested u c.args.rank last) (sym c.rest.ensures.run) (rested_run m c.args.rank c.in-Some.answer (c.args.count - c.loop-made.made - 1) last c.in-Some.ensures c.rest_after-last.ensures)
+returns-in-Some-clause-cores g c = c.rest_on.ensures.cores ∙ c.in_ok-answer.ensures.cores ∙ c.loop-made.invariant.0

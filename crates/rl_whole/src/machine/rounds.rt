@@ -1,0 +1,119 @@
+//! Steps of a rank that rests, or goes in a round of two loads: they are counted at once while its shard shows it.
+
+ghost use Rattle.std.specs.Prelude.{◌≡◌, ◌+◌, ◌-◌, ◌<◌, ◌≤◌, ◌^◌, true, length, replicate, None, IfSome};
+ghost use Rattle.rl_step.specs.Answers.{steps_made};
+ghost use Rattle.rl_whole.specs.Rested.{Rested};
+ghost use Rattle.rl_whole.specs.Rounds.{turned_round, IsInRound, GoesRound};
+ghost use Rattle.rl_whole.specs.Run.{stepped, run_of};
+ghost use Rattle.rl_whole.specs.Running.{running};
+ghost use Rattle.rl_whole.specs.State.{cores_of};
+
+use crate::last_rest::LastRest;
+use crate::machine::Machine;
+use crate::rest::count_more;
+use crate::round::Round;
+use crate::round_steps::make_leg;
+use rl_step::Algo;
+
+impl<A: Algo> Machine<A> {
+    /// Whether the shard shows that so many steps of a rank in the round are its loads, made on the values that they had.
+    #[inline(always)]
+    fn shows_round(&self, rank: u32, place: u32, round: Round<A::View>, count: u32) -> bool
+        requires there { rank < length self.now.calls }
+        requires in_round { IsInRound (running A.table self.now).shards rank place round }
+        ensures { result ≡ true → GoesRound (running A.table self.now).shards rank place round count }
+    {
+        self.state.shows_round(rank, place, round, count)
+    }
+
+    /// So many rounds of a rank: both answers are counted as often, and nothing else changes. The rank, its shard and the number of
+    /// steps that the shard shows are named for the contract alone.
+    #[inline(always)]
+    fn count_rounds(
+        &mut self,
+        _rank: u32,
+        _place: u32,
+        round: Round<A::View>,
+        rounds: u32,
+        _count: u32,
+    )
+        requires there { _rank < length self.old.calls }
+        requires few { steps_made self.old.steps + _count < 2 ^ 32 }
+        requires within { rounds + rounds ≤ _count }
+        requires shows { GoesRound (running A.table self.old).shards _rank _place round _count }
+        ensures cores { cores_of self.new ≡ cores_of self.old }
+        ensures run { running A.table self.new ≡ run_of (running A.table self.old) (replicate (rounds + rounds) _rank) }
+        ensures shards { (running A.table self.new).shards ≡ (running A.table self.old).shards }
+    {
+        count_more(&mut self.state.steps, round.here.answer(), rounds);
+        count_more(&mut self.state.steps, round.there.answer(), rounds);
+    }
+
+    /// A step of a rank in a round, whose next word has the value that it had.
+    #[inline(always)]
+    fn make_leg(&mut self, rank: u32, place: u32, round: Round<A::View>)
+        requires there { rank < length self.old.calls }
+        requires few { steps_made self.old.steps < 2 ^ 32 - 1 }
+        requires shows { GoesRound (running A.table self.old).shards rank place round 1 }
+        ensures cores { cores_of self.new ≡ cores_of self.old }
+        ensures made { running A.table self.new ≡ stepped (running A.table self.old) rank }
+        ensures in_round { IsInRound (running A.table self.new).shards rank place (turned_round round) }
+    {
+        make_leg(&mut self.state, rank, place, round);
+    }
+
+    /// So many steps of a rank in a round, and the round as it goes on, where the shard shows that they are its loads. `None` where it
+    /// doesn't: then nothing has changed.
+    #[inline(always)]
+    fn go_round(
+        &mut self,
+        rank: u32,
+        place: u32,
+        round: Round<A::View>,
+        count: u32,
+    ) -> Option<Round<A::View>>
+        requires there { rank < length self.old.calls }
+        requires few { steps_made self.old.steps + count < 2 ^ 32 }
+        requires in_round { IsInRound (running A.table self.old).shards rank place round }
+        ensures cores { cores_of self.new ≡ cores_of self.old }
+        ensures run { IfSome result (λ _. running A.table self.new ≡ run_of (running A.table self.old) (replicate count rank)) }
+        ensures in_round { IfSome result (IsInRound (running A.table self.new).shards rank place) }
+        ensures kept { result ≡ None → self.new ≡ self.old }
+    {
+        if !self.shows_round(rank, place, round, count) {
+            return None;
+        }
+        self.count_rounds(rank, place, round, count / 2, count);
+        if count % 2 == 0 {
+            return Some(round);
+        }
+        self.make_leg(rank, place, round);
+        Some(round.turned())
+    }
+
+    /// So many steps of a rank of which this was noted, and what is noted of it then, where its shard shows that it rests or goes round
+    /// still, or all its calls are done. `None` where nothing shows it: then nothing has changed.
+    #[inline(always)]
+    pub(crate) fn rest_on(
+        &mut self,
+        rank: u32,
+        last: LastRest<A::View>,
+        count: u32,
+    ) -> Option<LastRest<A::View>>
+        requires there { rank < length self.old.calls }
+        requires few { steps_made self.old.steps + count < 2 ^ 32 }
+        requires rested { Rested (running A.table self.old) rank last }
+        ensures cores { cores_of self.new ≡ cores_of self.old }
+        ensures run { IfSome result (λ _. running A.table self.new ≡ run_of (running A.table self.old) (replicate count rank)) }
+        ensures rested { IfSome result (Rested (running A.table self.new) rank) }
+        ensures kept { result ≡ None → self.new ≡ self.old }
+    {
+        if let LastRest::Round { place, round } = last {
+            let round = self.go_round(rank, place, round, count)?;
+            return Some(LastRest::Round { place, round });
+        }
+        let answer = self.still_resting(rank, last)?;
+        self.rest(rank, answer, count);
+        Some(last)
+    }
+}
