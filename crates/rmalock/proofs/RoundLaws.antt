@@ -1,8 +1,11 @@
 -- Rounds: who has work, and what no turn changes.
-use Rattle.std.proofs.Common.{◌≡◌, ℕ, zero, suc, ◌+◌, ◌<◌, length, Bool, true, false, ◌||◌, ◌⊎◌, inl, inr, refl, sym, ap, ◌∙◌, add-one, arith}
+use Rattle.std.proofs.Common.{◌≡◌, ℕ, zero, suc, ◌+◌, ◌-◌, ◌<◌, ◌≤◌, min, length, Bool, true, false, ◌||◌, ◌⊎◌, inl, inr, refl, sym, ap, ◌∙◌, add-one, arith}
+use Rattle.std.proofs.lemmas.Bool.{lt-ltb, le-ltb}
 use Rattle.rl_word.specs.Places.{same_or_not}
+use Rattle.rl_step.specs.Answers.{steps_made}
 use Rattle.rl_whole.specs.Running.{Running}
 use Rattle.rl_whole.specs.Run.{stepped}
+use Rattle.rl_whole.specs.ReplayLaws.{stepped_one}
 use Rattle.rmalock.specs.Rounds.{has_work, any_has_work, may_step, stepped_if, turns, goes_on, next_round, rounds}
 use Rattle.rmalock.proofs.RunLaws.{IsAlike, alike_then, stepped_alike}
 
@@ -38,10 +41,43 @@ module _ {V : Type 0} where
       let may_then : may_step most (turns most m rank) ≡ true = ap (may_step most) (sym is) ∙ may in
       made ∙ ap (λ u. stepped u rank) is ∙ sym (rw (add-one, may_then) refl)
 
-  pub turn_none : (most : ℕ) (m now : Running V) (rank : ℕ) → now ≡ turns most m rank → may_step most now ≡ false → now ≡ turns most m (rank + 1)
-  turn_none most m now rank is may =
-      let may_then : may_step most (turns most m rank) ≡ false = ap (may_step most) (sym is) ∙ may in
-      is ∙ sym (rw (add-one, may_then) refl)
+  -- while steps are left, each turn is a step
+  pub turns_count : (most : ℕ) (m : Running V) (rank : ℕ) → rank ≤ most - steps_made m.steps → steps_made (turns most m rank).steps ≡ steps_made m.steps + rank
+  turns_count most m zero low = omega arith
+  turns_count most m (suc rank) low =
+      let now = turns most m rank in
+      let before : steps_made now.steps ≡ steps_made m.steps + rank = turns_count most m rank (omega (arith, low)) in
+      let may : may_step most now ≡ true = lt-ltb (steps_made now.steps) most (omega (arith, low, before)) in
+      let after : steps_made (stepped_if (may_step most now) now rank).steps ≡ steps_made now.steps + 1 = rw may (stepped_one now rank).0 in
+      omega (arith, before, after)
+
+  pub turn_may : (most : ℕ) (m : Running V) (rank : ℕ) → rank < most - steps_made m.steps → may_step most (turns most m rank) ≡ true
+  turn_may most m rank low =
+      let count : steps_made (turns most m rank).steps ≡ steps_made m.steps + rank = turns_count most m rank (omega (arith, low)) in
+      lt-ltb (steps_made (turns most m rank).steps) most (omega (arith, low, count))
+
+  -- where no step may be made after some turns, further turns change nothing
+  turns_end : (most : ℕ) (m : Running V) (rank more : ℕ) → may_step most (turns most m rank) ≡ false → turns most m (more + rank) ≡ turns most m rank
+  turns_end most m rank zero off =
+      let same : 0 + rank ≡ rank = omega arith in
+      ap (turns most m) same
+  turns_end most m rank (suc more) off =
+      let next : suc more + rank ≡ suc (more + rank) = omega arith in
+      let before : turns most m (more + rank) ≡ turns most m rank = turns_end most m rank more off in
+      ap (turns most m) next ∙ ap (λ now. stepped_if (may_step most now) now (more + rank)) before ∙ rw off refl
+
+  -- the turns of as many ranks as steps are left are the turns of all
+  pub turns_left : (most : ℕ) (m : Running V) (rank ranks : ℕ) → rank ≡ min ranks (most - steps_made m.steps) → turns most m rank ≡ turns most m ranks
+  turns_left most m rank ranks e = here (same_or_not rank ranks)
+    where
+      here : (rank ≡ ranks) ⊎ (rank ≡ ranks → ⊥) → turns most m rank ≡ turns most m ranks
+      here (inl same) = ap (turns most m) same
+      here (inr ne) =
+          let full : rank ≡ most - steps_made m.steps = omega (arith, e, ne) in
+          let count : steps_made (turns most m rank).steps ≡ steps_made m.steps + rank = turns_count most m rank (omega (arith, full)) in
+          let off : may_step most (turns most m rank) ≡ false = le-ltb (steps_made (turns most m rank).steps) most (omega (arith, full, count)) in
+          let all : (ranks - rank) + rank ≡ ranks = omega (arith, e) in
+          sym (turns_end most m rank (ranks - rank) off) ∙ ap (turns most m) all
 
   pub turns_alike : (most : ℕ) (m : Running V) (ranks : ℕ) → IsAlike (turns most m ranks) m
   turns_alike most m zero = alike_self m

@@ -1,5 +1,5 @@
 -- A run by threads, from what its two files came to.
-use Rattle.std.proofs.Common.{◌≡◌, ◌<◌, ◌^◌, ℕ, List, [], length, Option, Some, Result, Ok, Err, refl, sym, ap, subst, arith, unwrap_or, Vec, Global}
+use Rattle.std.proofs.Common.{◌≡◌, ◌<◌, ◌^◌, ℕ, List, [], length, Option, Some, Ok, Err, refl, sym, subst, arith, unwrap_or, Vec, Global}
 use Rattle.std.specs.FinMap as map
 use Rattle.std.proofs.lemmas.Option.{slice_get_within}
 use Rattle.std.specs.List.{slice_get}
@@ -12,13 +12,12 @@ use Rattle.rl_history.specs.Naming.{naming_of}
 use Rattle.rl_history.specs.Reports.{TheShard, TheReport}
 use Rattle.rl_history.specs.Spelling.{report_spelling}
 use Rattle.rl_history.specs.Lawful.{IsLawful, journal_in, transcripts_in}
-use Rattle.rl_replay.specs.declared.complaint.Complaint.{Complaint}
 use Rattle.rl_replay.specs.declared.complaint.Stop.{Stop}
 use Rattle.rl_replay.specs.declared.complaint.Stop.TheVariants as stop
 use Rattle.rmalock.specs.Command.{RunNames}
 use Rattle.rl_replay.specs.Files.{Texts}
 use Rattle.rmalock.specs.RunHeadline.{IsRun}
-use Rattle.rl_replay.specs.Reading.{◌>>=◌, EndsEarly, WasRead, placed, called}
+use Rattle.rl_replay.specs.Reading.{WasRead, placed, called}
 use Rattle.rmalock.specs.RunAnswer.{run_read, WasRun}
 use Rattle.rl_replay.proofs.ReadLemmas.{fits_told}
 use Rattle.rmalock.proofs.ReplayLemmas.{stops_at}

@@ -1,5 +1,5 @@
 //! Rounds: the ranks of a machine take turns, one step each.
-ghost use Rattle.std.specs.Prelude.{◌≡◌, true, ◌≤◌, ◌<◌, length, nat_lt, IfOk};
+ghost use Rattle.std.specs.Prelude.{◌≡◌, true, ◌≤◌, ◌<◌, length, IfOk};
 ghost use Rattle.rl_step.specs.Answers.{steps_made};
 ghost use Rattle.rl_whole.specs.Rested.{AllRested};
 ghost use Rattle.rl_whole.specs.Running.{running};
@@ -9,16 +9,15 @@ use rl_step::{Algo, Steps};
 use rl_whole::{LastRest, Machine, no_rests, take_steps};
 use std::alloc::{AllocError as OutOfMemory, Global};
 
-/// Whether fewer steps than the most were made.
-fn may_step(steps: Steps, most: u32) -> bool
-    ensures { result ≡ nat_lt (steps_made steps) most }
+/// How many steps were made.
+fn steps_made(steps: Steps) -> u64
+    ensures { result ≡ steps_made steps }
 {
-    let made = u64::from(steps.moved)
+    u64::from(steps.moved)
         + u64::from(steps.waiting)
         + u64::from(steps.lost)
         + u64::from(steps.busy)
-        + u64::from(steps.finished);
-    made < u64::from(most)
+        + u64::from(steps.finished)
 }
 
 /// Whether a rank has an open call, or one left.
@@ -47,10 +46,10 @@ fn goes_on<A: Algo>(machine: &Machine<A>, ranks: u32, most: u32) -> bool
     requires { ranks ≡ length machine.now.calls }
     ensures { result ≡ goes_on_at most (running A.table machine.now) }
 {
-    any_has_work(machine, ranks) && may_step(machine.steps(), most)
+    any_has_work(machine, ranks) && steps_made(machine.steps()) < u64::from(most)
 }
 
-/// A turn of each of the first ranks, while fewer steps than the most were made.
+/// A turn of each of the first ranks, while fewer steps than the most were made: of so many of them as steps may still be made.
 fn take_turns<A: Algo>(
     machine: &mut Machine<A>,
     rests: &mut Vec<LastRest<A::View>>,
@@ -64,10 +63,9 @@ fn take_turns<A: Algo>(
     ensures many { length rests.new.items ≡ length rests.old.items }
     ensures rested { IfOk result (λ _. AllRested (running A.table machine.new) rests.new.items) }
 {
-    for rank in 0..ranks {
-        if may_step(machine.steps(), most) {
-            take_steps(machine, rests, rank, 1)?;
-        }
+    let left = u64::from(most).saturating_sub(steps_made(machine.steps())) as u32;
+    for rank in 0..ranks.min(left) {
+        take_steps(machine, rests, rank, 1)?;
     }
     Ok(())
 }

@@ -3,7 +3,7 @@ use Rattle.std.proofs.lemmas.List.{length-map}
 use Rattle.rl_ops.specs.Schedule.{steps_of}
 use Rattle.rl_whole.specs.Running.{running, shard_run}
 use Rattle.rl_whole.specs.Promises.{IsSound}
-use Rattle.rmalock.specs.Replay.{run_with, report_in, queue_count}
+use Rattle.rmalock.specs.Replay.{report_in, queue_count}
 use Rattle.rmalock.proofs.RunLaws.{steps_are, where_ok}
 use Rattle.rmalock.proofs.KeptLaws.{ran, says_is, keeps_is, same_calls, each_shard, is_kept}
 use Rattle.rmalock.proofs.replaying.report_with.Goals as goal
