@@ -129,9 +129,9 @@ impl<A: Algo> Machine<A> {
     /// The answer with which a rank rests of which this was noted: that of a card or a word where its shard shows it, and Finished once
     /// its calls are done. `None` says nothing of its next step.
     #[inline(always)]
-    fn still_resting(&self, rank: u32, last: LastRest<A::View>) -> Option<Stepped>
+    pub(crate) fn still_resting(&self, rank: u32, last: &LastRest<A::View>) -> Option<Stepped>
         requires there { rank < length self.now.calls }
-        requires rested { Rested (running A.table self.now) rank last }
+        requires rested { Rested (running A.table self.now) rank last.now }
         ensures { IfSome result (Rests (running A.table self.now) rank) }
     {
         self.state.still_resting(rank, last)
@@ -152,7 +152,7 @@ impl<A: Algo> Machine<A> {
     /// So many steps of a rank that rests: each is answered so and changes nothing else, so they are counted at once. The rank
     /// is named for the contract alone.
     #[inline(always)]
-    fn rest(&mut self, _rank: u32, answer: Stepped, count: u32)
+    pub(crate) fn rest(&mut self, _rank: u32, answer: Stepped, count: u32)
         requires rests { Rests (running A.table self.old) _rank answer }
         requires few { steps_made self.old.steps + count < 2 ^ 32 }
         ensures cores { cores_of self.new ≡ cores_of self.old }

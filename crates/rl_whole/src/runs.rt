@@ -1,6 +1,6 @@
 //! A whole replay: a machine is made and takes the steps of a schedule.
 
-ghost use Rattle.std.specs.Prelude.{◌≡◌, true, ◌+◌, ◌<◌, ◌^◌, length, replicate, IfOk};
+ghost use Rattle.std.specs.Prelude.{◌≡◌, true, false, ◌+◌, ◌<◌, ◌^◌, length, replicate, IfOk};
 ghost use Rattle.std.specs.List.{AllByRecursion};
 ghost use Rattle.rl_model.specs.Geom.{GeomFits};
 ghost use Rattle.rl_word.specs.Shapes.{IsProper};
@@ -47,6 +47,40 @@ fn until_rest<A: Algo>(
     Ok(LastRest::Unknown)
 }
 
+/// Whether what was noted of the rank shows all of so many steps: then they are counted, or made by exchanging the lock's view. Else
+/// nothing has changed.
+#[inline(always)]
+fn take_noted<A: Algo>(
+    machine: &mut Machine<A>,
+    rests: &mut Vec<LastRest<A::View>>,
+    rank: u32,
+    count: u32,
+) -> bool
+    requires there { rank < length machine.old.calls }
+    requires few { steps_made machine.old.steps + count < 2 ^ 32 }
+    requires many { length rests.old.items ≡ length machine.old.calls }
+    requires rested { AllRested (running A.table machine.old) rests.old.items }
+    ensures cores { cores_of machine.new ≡ cores_of machine.old }
+    ensures run { result ≡ true → running A.table machine.new ≡ run_of (running A.table machine.old) (replicate count rank) }
+    ensures many { length rests.new.items ≡ length rests.old.items }
+    ensures rested { AllRested (running A.table machine.new) rests.new.items }
+    ensures kept { result ≡ false → machine.new ≡ machine.old }
+{
+    let at = rank as usize;
+    if let LastRest::Round { place, round } = rests[at] {
+        let Some(round) = machine.go_round(rank, place, round, count) else {
+            return false;
+        };
+        rests[at] = LastRest::Round { place, round };
+        return true;
+    }
+    let Some(answer) = machine.still_resting(rank, &rests[at]) else {
+        return false;
+    };
+    machine.rest(rank, answer, count);
+    true
+}
+
 /// Takes so many steps of one rank, as `Machine::step` would one by one. What was noted of it, in `rests`, is looked at first: while
 /// the card that it takes is held, the word that it waits for has the same value, or both words of a round in which it waits have,
 /// and once all its calls are done, its steps are counted at once, and so are those after it is seen to rest. `rests` begins as
@@ -71,12 +105,10 @@ pub fn take_steps<A: Algo>(
     ensures many { length rests.new.items ≡ length rests.old.items }
     ensures rested { IfOk result (λ _. AllRested (running A.table machine.new) rests.new.items) }
 {
-    let at = rank as usize;
-    if let Some(last) = machine.rest_on(rank, rests[at], count) {
-        rests[at] = last;
+    if take_noted(machine, rests, rank, count) {
         return Ok(());
     }
-    rests[at] = until_rest(machine, rank, count)?;
+    rests[rank as usize] = until_rest(machine, rank, count)?;
     Ok(())
 }
 

@@ -339,15 +339,15 @@ impl<A: Algo> MachineState<A> {
     /// The answer with which a rank rests of which this was noted: that of a card or a word where its shard shows it, and Finished once
     /// its calls are done. `None` says nothing of its next step.
     #[inline(always)]
-    pub fn still_resting(&self, rank: u32, last: LastRest<A::View>) -> Option<Stepped>
+    pub fn still_resting(&self, rank: u32, last: &LastRest<A::View>) -> Option<Stepped>
         requires there { rank < length self.now.ops.by_rank }
         requires good { IsMachine A A.View A.table A.good A.layout (machine_view self.now) }
-        requires rested { Rested (running A.table (machine_view self.now)) rank last }
+        requires rested { Rested (running A.table (machine_view self.now)) rank last.now }
         ensures { IfSome result (Rests (running A.table (machine_view self.now)) rank) }
     {
         match last {
             LastRest::Unknown | LastRest::Round { .. } => None,
-            LastRest::Still(at) => self.rests_at(rank, at),
+            LastRest::Still(at) => self.rests_at(rank, *at),
             LastRest::Finished => Some(Stepped::Finished),
         }
     }

@@ -65,7 +65,7 @@ impl<A: Algo> Machine<A> {
     /// So many steps of a rank in a round, and the round as it goes on, where the shard shows that they are its loads. `None` where it
     /// doesn't: then nothing has changed.
     #[inline(always)]
-    fn go_round(
+    pub(crate) fn go_round(
         &mut self,
         rank: u32,
         place: u32,
@@ -112,7 +112,7 @@ impl<A: Algo> Machine<A> {
             let round = self.go_round(rank, place, round, count)?;
             return Some(LastRest::Round { place, round });
         }
-        let answer = self.still_resting(rank, last)?;
+        let answer = self.still_resting(rank, &last)?;
         self.rest(rank, answer, count);
         Some(last)
     }

@@ -10,23 +10,17 @@ use Rattle.rl_whole.proofs.runs.take_steps.Goals as goal
 use Rattle.rl_whole.proofs.runs.take_steps.Goals.{In_ok-rests}
 use Rattle.rl_whole.proofs.runs.take_steps.Given.{Over}
 
-pub returns-in-Some-clause-steps : goal.returns-in-Some-clause-steps
-returns-in-Some-clause-steps g c = ap (λ m. steps_made m.steps) c.in-Some.ensures.run ∙ (turn_counts (running g.A.Algo.table c.args.machine.now) c.args.count c.args.rank).0
+pub returns-then-take_noted-clause-steps : goal.returns-then-take_noted-clause-steps
+returns-then-take_noted-clause-steps g c =
+    ap (λ m. steps_made m.steps) (c.take_noted.ensures.run c.if-take_noted.true) ∙ (turn_counts (running g.A.Algo.table c.args.machine.now) c.args.count c.args.rank).0
 
-pub returns-in-Some-clause-calls : goal.returns-in-Some-clause-calls
-returns-in-Some-clause-calls g c = ap (λ m. m.calls) c.in-Some.ensures.run ∙ (turn_counts (running g.A.Algo.table c.args.machine.now) c.args.count c.args.rank).1
-
-pub returns-in-Some-clause-rested : goal.returns-in-Some-clause-rested
-returns-in-Some-clause-rested g c =
-    let old = running g.A.Algo.table c.args.machine.now in
-    let rank = c.args.rank in
-    let last = c.in-Some.last in
-    subst (λ u. AllRested u (slice_set c.args.rests.now.items rank last)) (sym c.in-Some.ensures.run)
-    (all_noted old c.args.rests.now.items rank c.args.count last (subst (λ u. Rested u rank last) c.in-Some.ensures.run c.in-Some.ensures.rested) c.requires.rested)
+pub returns-then-take_noted-clause-calls : goal.returns-then-take_noted-clause-calls
+returns-then-take_noted-clause-calls g c =
+    ap (λ m. m.calls) (c.take_noted.ensures.run c.if-take_noted.true) ∙ (turn_counts (running g.A.Algo.table c.args.machine.now) c.args.count c.args.rank).1
 
 -- until it rests the rank's steps are those of the machine as it was
 run : (g : Over) (c : In_ok-rests g) → running g.A.Algo.table c.until_rest.new.machine ≡ run_of (running g.A.Algo.table c.args.machine.now) (replicate c.args.count c.args.rank)
-run g c = c.in_ok-rests.ensures.run ∙ ap (λ z. run_of (running g.A.Algo.table z) (replicate c.args.count c.args.rank)) (c.rest_on.ensures.kept c.in_default.is)
+run g c = c.in_ok-rests.ensures.run ∙ ap (λ z. run_of (running g.A.Algo.table z) (replicate c.args.count c.args.rank)) (c.take_noted.ensures.kept c.if-take_noted.false)
 
 pub returns-clause-run : goal.returns-clause-run
 returns-clause-run g c = run g (goal.at.returns-clause-run g c).In_ok-rests
@@ -42,6 +36,7 @@ returns-clause-rested g c =
     let old = running g.A.Algo.table c.args.machine.now in
     let rank = c.args.rank in
     let last = c.in_ok-rests.field-0 in
+    let rests = c.take_noted.new.rests.items in
     let whole = run g (goal.at.returns-clause-rested g c).In_ok-rests in
-    subst (λ u. AllRested u (slice_set c.args.rests.now.items rank last)) (sym whole)
-    (all_noted old c.args.rests.now.items rank c.args.count last (subst (λ u. Rested u rank last) whole c.in_ok-rests.ensures.rested) c.requires.rested)
+    let all : AllRested old rests = subst (λ z. AllRested (running g.A.Algo.table z) rests) (c.take_noted.ensures.kept c.if-take_noted.false) c.take_noted.ensures.rested in
+    subst (λ u. AllRested u (slice_set rests rank last)) (sym whole) (all_noted old rests rank c.args.count last (subst (λ u. Rested u rank last) whole c.in_ok-rests.ensures.rested) all)
