@@ -9,14 +9,18 @@ use Rattle.rl_whole.specs.ReplayLaws.{stepped_one}
 use Rattle.rmalock.specs.Rounds.{has_work, any_has_work, may_step, stepped_if, turns, goes_on, next_round, rounds}
 use Rattle.rmalock.proofs.RunLaws.{IsAlike, alike_then, stepped_alike}
 
+pub or_true : (b : Bool) → (b || true) ≡ true
+or_true true = refl
+or_true false = refl
+
+pub or_false : (b : Bool) → (b || false) ≡ b
+or_false true = refl
+or_false false = refl
+
 module _ {V : Type 0} (m : Running V) where
   -- none of the first ranks has work, and neither has the next
   pub none_more : (rank : ℕ) → any_has_work m rank ≡ false → has_work m rank ≡ false → any_has_work m (rank + 1) ≡ false
   none_more rank none next = rw (add-one, none) next
-
-  either : (b : Bool) → (b || true) ≡ true
-  either true = refl
-  either false = refl
 
   -- one of them has it
   pub one_has : (ranks rank : ℕ) → rank < ranks → has_work m rank ≡ true → any_has_work m ranks ≡ true
@@ -24,7 +28,7 @@ module _ {V : Type 0} (m : Running V) where
   one_has (suc ranks) rank low has = here (same_or_not rank ranks) (λ before. one_has ranks rank before has)
     where
       here : (rank ≡ ranks) ⊎ (rank ≡ ranks → ⊥) → (rank < ranks → any_has_work m ranks ≡ true) → (any_has_work m ranks || has_work m ranks) ≡ true
-      here (inl e) before = ap (λ r. any_has_work m ranks || has_work m r) (sym e) ∙ ap (λ b. any_has_work m ranks || b) has ∙ either (any_has_work m ranks)
+      here (inl e) before = ap (λ r. any_has_work m ranks || has_work m r) (sym e) ∙ ap (λ b. any_has_work m ranks || b) has ∙ or_true (any_has_work m ranks)
       here (inr ne) before = ap (λ b. b || has_work m ranks) (before (omega (arith, ne)))
 
 module _ {V : Type 0} where

@@ -21,11 +21,12 @@ fn steps_made(steps: Steps) -> u64
 }
 
 /// Whether a rank has an open call, or one left.
+#[tactic(auto, using(crate::proofs::RoundLaws::or_false, crate::proofs::RoundLaws::or_true))]
 fn has_work<A: Algo>(machine: &Machine<A>, rank: u32) -> bool
     requires { rank < length machine.now.calls }
     ensures { result ≡ has_work_at (running A.table machine.now) rank }
 {
-    machine.is_open(rank) || machine.opened(rank) < machine.given(rank)
+    machine.opened(rank) < machine.given(rank) || machine.is_open(rank)
 }
 
 /// Whether one of the first ranks has an open call, or one left.
