@@ -84,7 +84,10 @@ impl Turns {
         ensures ok { OnOk result (self.new ≡ self.old ++ turn ∷ []) }
         ensures err { OnErr result (self.new ≡ self.old) }
     {
-        self.list.push(turn)?;
+        if self.list.len() >= self.list.capacity() {
+            self.list.reserve(1)?;
+        }
+        self.list.push_reserved(turn);
         Ok(())
     }
 }
