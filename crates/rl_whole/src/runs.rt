@@ -1,6 +1,6 @@
 //! A whole replay: a machine is made and takes the steps of a schedule.
 
-ghost use Rattle.std.specs.Prelude.{◌≡◌, true, false, ◌+◌, ◌<◌, ◌^◌, length, replicate, IfOk};
+ghost use Rattle.std.specs.Prelude.{◌≡◌, true, false, ◌+◌, ◌<◌, ◌^◌, length, replicate, slice_set, IfOk};
 ghost use Rattle.std.specs.List.{AllByRecursion};
 ghost use Rattle.rl_model.specs.Geom.{GeomFits};
 ghost use Rattle.rl_word.specs.Shapes.{IsProper};
@@ -19,9 +19,18 @@ use crate::last_rest::{LastRest, no_rests};
 use crate::machine::{Machine, soundness};
 use rl_model::Geom;
 use rl_ops::{Ops, Turn};
-use rl_step::Algo;
+use rl_step::{Algo, Stepped};
 use rl_word::{Knobs, Shape};
 use std::alloc::{AllocError as OutOfMemory, Global};
+
+/// Whether a step got on: nothing shows then that the rank rests.
+#[inline(always)]
+fn got_on(answer: Stepped) -> bool {
+    match answer {
+        Stepped::Moved | Stepped::Lost { .. } => true,
+        Stepped::Waiting { .. } | Stepped::Busy { .. } | Stepped::Finished => false,
+    }
+}
 
 /// Takes so many steps of one rank, and tells what is known of it after them. Once it is seen to rest, or to go in a round, all that
 /// are left are counted at once.
@@ -39,12 +48,44 @@ fn until_rest<A: Algo>(
 {
     for made in 0..count {
         let answer = machine.move_on(rank)?;
+        if got_on(answer) {
+            continue;
+        }
         let last = machine.rest_after(rank, answer);
         if let Some(last) = machine.rest_on(rank, last, count - made - 1) {
             return Ok(last);
         }
     }
     Ok(LastRest::Unknown)
+}
+
+/// Takes so many steps of a rank that was noted to go in a round, where its shard shows that they are the round's loads, and notes how
+/// the round goes on. Else nothing has changed.
+fn take_rounds<A: Algo>(
+    machine: &mut Machine<A>,
+    rests: &mut Vec<LastRest<A::View>>,
+    rank: u32,
+    count: u32,
+) -> bool
+    requires there { rank < length machine.old.calls }
+    requires few { steps_made machine.old.steps + count < 2 ^ 32 }
+    requires many { length rests.old.items ≡ length machine.old.calls }
+    requires rested { AllRested (running A.table machine.old) rests.old.items }
+    ensures cores { cores_of machine.new ≡ cores_of machine.old }
+    ensures run { result ≡ true → running A.table machine.new ≡ run_of (running A.table machine.old) (replicate count rank) }
+    ensures many { length rests.new.items ≡ length rests.old.items }
+    ensures rested { AllRested (running A.table machine.new) rests.new.items }
+    ensures kept { result ≡ false → machine.new ≡ machine.old }
+{
+    let at = rank as usize;
+    let LastRest::Round { place, round } = rests[at] else {
+        return false;
+    };
+    let Some(round) = machine.go_round(rank, place, round, count) else {
+        return false;
+    };
+    rests[at] = LastRest::Round { place, round };
+    true
 }
 
 /// Whether what was noted of the rank shows all of so many steps: then they are counted, or made by exchanging the lock's view. Else
@@ -67,18 +108,26 @@ fn take_noted<A: Algo>(
     ensures kept { result ≡ false → machine.new ≡ machine.old }
 {
     let at = rank as usize;
-    if let LastRest::Round { place, round } = rests[at] {
-        let Some(round) = machine.go_round(rank, place, round, count) else {
-            return false;
-        };
-        rests[at] = LastRest::Round { place, round };
-        return true;
+    if let LastRest::Round { .. } = &rests[at] {
+        return take_rounds(machine, rests, rank, count);
     }
     let Some(answer) = machine.still_resting(rank, &rests[at]) else {
         return false;
     };
     machine.rest(rank, answer, count);
     true
+}
+
+/// Notes what is known of a rank. That nothing is known is noted by its case alone, since most steps get on and a round is large.
+#[inline(always)]
+fn note<V: Copy>(rests: &mut Vec<LastRest<V>>, rank: u32, last: LastRest<V>)
+    requires { rank < length rests.old.items }
+    ensures { rests.new.items ≡ slice_set rests.old.items rank last }
+{
+    match last {
+        LastRest::Unknown => rests[rank as usize] = LastRest::Unknown,
+        last => rests[rank as usize] = last,
+    }
 }
 
 /// Takes so many steps of one rank, as `Machine::step` would one by one. What was noted of it, in `rests`, is looked at first: while
@@ -108,7 +157,8 @@ pub fn take_steps<A: Algo>(
     if take_noted(machine, rests, rank, count) {
         return Ok(());
     }
-    rests[rank as usize] = until_rest(machine, rank, count)?;
+    let last = until_rest(machine, rank, count)?;
+    note(rests, rank, last);
     Ok(())
 }
 

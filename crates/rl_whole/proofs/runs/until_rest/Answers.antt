@@ -43,6 +43,12 @@ rest_on-requires-clause-there g c =
     there g (goal.at.rest_on-requires-clause-there g c).After-move_on
     (longer (running g.A.Algo.table c.args.machine.now) (running g.A.Algo.table c.loop-made.machine) (running g.A.Algo.table c.move_on.new.self) c.loop-made.made c.args.rank c.loop-made.invariant.1 c.in_ok-answer.ensures.stepped)
 
+pub loop-made-preserved-then-got_on : goal.loop-made-preserved-then-got_on
+loop-made-preserved-then-got_on g c = (
+  c.in_ok-answer.ensures.cores ∙ c.loop-made.invariant.0,
+  longer (running g.A.Algo.table c.args.machine.now) (running g.A.Algo.table c.loop-made.machine) (running g.A.Algo.table c.move_on.new.self) c.loop-made.made c.args.rank c.loop-made.invariant.1 c.in_ok-answer.ensures.stepped,
+)
+
 pub loop-made-preserved : goal.loop-made-preserved
 loop-made-preserved g c =
     let old = running g.A.Algo.table c.args.machine.now in
