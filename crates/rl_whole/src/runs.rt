@@ -61,6 +61,7 @@ fn until_rest<A: Algo>(
 
 /// Takes so many steps of a rank that was noted to go in a round, where its shard shows that they are the round's loads, and notes how
 /// the round goes on. Else nothing has changed.
+#[inline(never)]
 fn take_rounds<A: Algo>(
     machine: &mut Machine<A>,
     rests: &mut Vec<LastRest<A::View>>,
@@ -130,6 +131,30 @@ fn note<V: Copy>(rests: &mut Vec<LastRest<V>>, rank: u32, last: LastRest<V>)
     }
 }
 
+/// Takes so many steps of one rank, of which nothing shows that it rests, and notes what is known of it after them.
+#[inline(never)]
+fn step_and_note<A: Algo>(
+    machine: &mut Machine<A>,
+    rests: &mut Vec<LastRest<A::View>>,
+    rank: u32,
+    count: u32,
+) -> Result<(), OutOfMemory>
+    requires there { rank < length machine.old.calls }
+    requires few { steps_made machine.old.steps + count < 2 ^ 32 }
+    requires many { length rests.old.items ≡ length machine.old.calls }
+    requires rested { AllRested (running A.table machine.old) rests.old.items }
+    ensures cores { cores_of machine.new ≡ cores_of machine.old }
+    ensures run { IfOk result (λ _. running A.table machine.new ≡ run_of (running A.table machine.old) (replicate count rank)) }
+    ensures steps { IfOk result (λ _. steps_made machine.new.steps ≡ steps_made machine.old.steps + count) }
+    ensures calls { IfOk result (λ _. machine.new.calls ≡ machine.old.calls) }
+    ensures many { length rests.new.items ≡ length rests.old.items }
+    ensures rested { IfOk result (λ _. AllRested (running A.table machine.new) rests.new.items) }
+{
+    let last = until_rest(machine, rank, count)?;
+    note(rests, rank, last);
+    Ok(())
+}
+
 /// Takes so many steps of one rank, as `Machine::step` would one by one. What was noted of it, in `rests`, is looked at first: while
 /// the card that it takes is held, the word that it waits for has the same value, or both words of a round in which it waits have,
 /// and once all its calls are done, its steps are counted at once, and so are those after it is seen to rest. `rests` begins as
@@ -157,9 +182,7 @@ pub fn take_steps<A: Algo>(
     if take_noted(machine, rests, rank, count) {
         return Ok(());
     }
-    let last = until_rest(machine, rank, count)?;
-    note(rests, rank, last);
-    Ok(())
+    step_and_note(machine, rests, rank, count)
 }
 
 /// Takes the steps of one turn. A stop has none.

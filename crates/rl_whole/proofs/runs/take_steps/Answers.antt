@@ -1,14 +1,9 @@
--- Where the rank rests after its steps is noted, and the others rest where they did.
-use Rattle.std.proofs.Common.{ap, sym, ◌∙◌, ◌≡◌, replicate, slice_set, subst}
+-- What was noted of the rank says what its steps are, or they are taken of the machine as it was.
+use Rattle.std.proofs.Common.{ap, ◌∙◌}
 use Rattle.rl_step.specs.Answers.{steps_made}
 use Rattle.rl_whole.specs.Running.{running}
-use Rattle.rl_whole.specs.Run.{run_of}
 use Rattle.rl_whole.specs.ReplayLaws.{turn_counts}
-use Rattle.rl_whole.specs.Rested.{Rested, AllRested}
-use Rattle.rl_whole.specs.RestedLaws.{all_noted}
 use Rattle.rl_whole.proofs.runs.take_steps.Goals as goal
-use Rattle.rl_whole.proofs.runs.take_steps.Goals.{In_ok-last}
-use Rattle.rl_whole.proofs.runs.take_steps.Given.{Over}
 
 pub returns-then-take_noted-clause-steps : goal.returns-then-take_noted-clause-steps
 returns-then-take_noted-clause-steps g c =
@@ -18,26 +13,3 @@ pub returns-then-take_noted-clause-calls : goal.returns-then-take_noted-clause-c
 returns-then-take_noted-clause-calls g c =
     ap (λ m. m.calls) (c.take_noted.ensures.run c.if-take_noted.true) ∙ (turn_counts (running g.A.Algo.table c.args.machine.now) c.args.count c.args.rank).1
 
--- until it rests the rank's steps are those of the machine as it was
-run : (g : Over) (c : In_ok-last g) → running g.A.Algo.table c.until_rest.new.machine ≡ run_of (running g.A.Algo.table c.args.machine.now) (replicate c.args.count c.args.rank)
-run g c = c.in_ok-last.ensures.run ∙ ap (λ z. run_of (running g.A.Algo.table z) (replicate c.args.count c.args.rank)) (c.take_noted.ensures.kept c.if-take_noted.false)
-
-pub returns-clause-run : goal.returns-clause-run
-returns-clause-run g c = run g (goal.at.returns-clause-run g c).In_ok-last
-
-pub returns-clause-steps : goal.returns-clause-steps
-returns-clause-steps g c = ap (λ m. steps_made m.steps) (run g (goal.at.returns-clause-steps g c).In_ok-last) ∙ (turn_counts (running g.A.Algo.table c.args.machine.now) c.args.count c.args.rank).0
-
-pub returns-clause-calls : goal.returns-clause-calls
-returns-clause-calls g c = ap (λ m. m.calls) (run g (goal.at.returns-clause-calls g c).In_ok-last) ∙ (turn_counts (running g.A.Algo.table c.args.machine.now) c.args.count c.args.rank).1
-
-pub returns-clause-rested : goal.returns-clause-rested
-returns-clause-rested g c =
-    let old = running g.A.Algo.table c.args.machine.now in
-    let rank = c.args.rank in
-    let last = c.in_ok-last.last in
-    let rests = c.take_noted.new.rests.items in
-    let whole = run g (goal.at.returns-clause-rested g c).In_ok-last in
-    let all : AllRested old rests = subst (λ z. AllRested (running g.A.Algo.table z) rests) (c.take_noted.ensures.kept c.if-take_noted.false) c.take_noted.ensures.rested in
-    subst (AllRested (running g.A.Algo.table c.until_rest.new.machine)) (sym c.note.ensures)
-    (subst (λ u. AllRested u (slice_set rests rank last)) (sym whole) (all_noted old rests rank c.args.count last (subst (λ u. Rested u rank last) whole c.in_ok-last.ensures.rested) all))
