@@ -28,4 +28,3 @@ returns-clause-rested g c =
     let now = last.Round c.in-Round.place c.in-Some.round in
     subst (λ u. AllRested u (slice_set c.args.rests.now.items rank now)) (sym c.in-Some.ensures.run)
     (all_noted (running g.A.Algo.table c.args.machine.now) c.args.rests.now.items rank c.args.count now (subst (λ u. Rested u rank now) c.in-Some.ensures.run c.in-Some.ensures.in_round) c.requires.rested)
-

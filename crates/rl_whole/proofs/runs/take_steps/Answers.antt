@@ -12,4 +12,3 @@ returns-then-take_noted-clause-steps g c =
 pub returns-then-take_noted-clause-calls : goal.returns-then-take_noted-clause-calls
 returns-then-take_noted-clause-calls g c =
     ap (λ m. m.calls) (c.take_noted.ensures.run c.if-take_noted.true) ∙ (turn_counts (running g.A.Algo.table c.args.machine.now) c.args.count c.args.rank).1
-
