@@ -39,13 +39,19 @@ pub record RestsAt {V : Type 0} (shards : List (ShardRun V)) (k s : ℕ) (answer
   pub named : IsNamed shard.held answer
   pub idle : (h : TheWindow) (a : Stepped) → Shows h answer a → IsIdle shard.lock h k view (next_of shard.lock view) a
 
--- what is noted of rank k is true: it rests where it was seen to, or goes in a round, or it has no open call and none left
+-- what is noted of rank k is true: it rests where it was seen to, whoever is in the card, or goes in a round, or it has no open call
+-- and none left
 abbrev pub Rested : {V : Type 0} → Running V → ℕ → LastRest V → Type 0
 Rested m k last.Unknown = Unit {0}
-Rested m k (last.Still r) = RestsAt m.shards k r.shard r.answer
+Rested m k (last.HeldOff s n) = RestsAt m.shards k s (Busy n 0)
+Rested m k (last.Waits s w v) = RestsAt m.shards k s (Waiting w v)
 Rested m k (last.Round s round) = IsInRound m.shards k s round
 Rested m k last.Finished = IsFinished m k
 
 -- what is noted of each rank is true
 abbrev pub AllRested : {V : Type 0} → Running V → List (LastRest V) → Type 0
 AllRested m rests = (k : ℕ) (r : LastRest _) → slice_get rests k ≡ Some r → Rested m k r
+
+-- nothing is known of rank k
+abbrev pub IsForgotten : {V : Type 0} → List (LastRest V) → ℕ → Type 0
+IsForgotten rests k = slice_get rests k ≡ Some last.Unknown

@@ -1,7 +1,9 @@
 -- Another rank's step leaves what is known of a rank that rested.
-use Rattle.std.specs.Prelude.{◌≡◌, ◌≢◌, ℕ, zero, suc, ◌+◌, ◌<◌, ◌≤◌, ◌==◌, Bool, true, false, List, length, replicate, if◌then◌else◌, nat_lt, slice_get, slice_index, slice_set, Option, Some, None, refl}
+use Rattle.std.specs.Prelude.{◌≡◌, ◌≢◌, ℕ, zero, suc, ◌+◌, ◌<◌, ◌≤◌, ◌==◌, Bool, true, false, List, length, map, replicate, if◌then◌else◌, nat_lt, get_or, slice_get, slice_index, slice_set, Option, Some, None, refl}
 use Rattle.std.proofs.Common.{sym, ◌∙◌, ap, subst, ⊎_elim, length-set, get_or-set_other}
 use Rattle.std.proofs.lemmas.Bool.Decides.{eqb_tells}
+use Rattle.std.proofs.lemmas.List.{length-map}
+use Rattle.std.proofs.lemmas.Option.{slice_get-get_or, slice_get_within}
 use Rattle.rl_word.specs.Places.{get_set_cases, get_set_other, get_set_same, one_at, same_or_not}
 use Rattle.rl_word.specs.Acts.{Layout}
 use Rattle.rl_word.specs.declared.acts.Atom.{Atom}
@@ -32,7 +34,7 @@ use Rattle.rl_whole.specs.Causes.{IsFinished}
 use Rattle.rl_whole.specs.Rest.{counted_more, with_steps, Rests, IsIdle}
 use Rattle.rl_whole.specs.RestLaws.{open_shuts, idle_rests, rest_run}
 use Rattle.rl_whole.specs.Rounds.{IsRound, IsInRound}
-use Rattle.rl_whole.specs.Rested.{Shows, IsNamed, RestsAt, Rested, AllRested}
+use Rattle.rl_whole.specs.Rested.{Shows, IsNamed, RestsAt, Rested, AllRested, IsForgotten}
 
 -- an atom doesn't change the number of cards
 length_either : (cs ds : List ℕ) (b : Bool) → length ds ≡ length cs → length (if b then ds else cs) ≡ length cs
@@ -194,7 +196,8 @@ module _ {V : Type 0} (k j : ℕ) (other : k ≢ j) where
 
   rested_stepped : (m : Running V) (r : LastRest V) → Rested m k r → Rested (stepped m j) k r
   rested_stepped m last.Unknown r = r
-  rested_stepped m (last.Still at) r = rests_stepped at.shard at.answer m r
+  rested_stepped m (last.HeldOff s n) r = rests_stepped s (Busy n 0) m r
+  rested_stepped m (last.Waits s w v) r = rests_stepped s (Waiting w v) m r
   rested_stepped m (last.Round s round) r = round_stepped s round m r
   rested_stepped m last.Finished r = finished_atom (block_opened m j) (finished_opened m (opens m j) r)
 
@@ -223,7 +226,8 @@ module _ {V : Type 0} where
   -- what is noted doesn't speak of the counts
   pub rested_with : (m : Running V) (counts : Steps) (k : ℕ) (r : LastRest V) → Rested m k r → Rested (with_steps m counts) k r
   rested_with m counts k last.Unknown is = is
-  rested_with m counts k (last.Still at) is = is
+  rested_with m counts k (last.HeldOff s n) is = is
+  rested_with m counts k (last.Waits s w v) is = is
   rested_with m counts k (last.Round s round) is = is
   rested_with m counts k last.Finished is = is
 
@@ -246,6 +250,26 @@ module _ {V : Type 0} where
       (λ (q : (k ≡ j) × (r ≡ z)). subst (λ i. Rested after i r) (sym q.0) (subst (Rested after j) (sym q.1) now))
       (λ (q : (k ≢ j) × (slice_get rests k ≡ Some r)). run_others m k j r q.0 n (all k r q.1))
       (get_set_cases rests j k z r get)
+
+  -- of a rank
+  pub all_set : (m : Running V) (rests : List (LastRest V)) (j : ℕ) (z : LastRest V) → Rested m j z → AllRested m rests → AllRested m (slice_set rests j z)
+  all_set m rests j z now all = all_noted m rests j 0 z now all
+
+  -- what is noted of a rank is true
+  pub noted_at : (m : Running V) (rests : List (LastRest V)) (k : ℕ) (r : LastRest V) → k < length rests → r ≡ get_or rests k r → AllRested m rests → Rested m k r
+  noted_at m rests k r low is all = all k r (slice_get-get_or rests k r low ∙ ap Some (sym is))
+
+  -- a step of a rank of which nothing is known leaves what is known of the others
+  pub all_stepped : (m : Running V) (rests : List (LastRest V)) (j : ℕ) → IsForgotten rests j → AllRested m rests → AllRested (stepped m j) rests
+  all_stepped m rests j none all = λ k r get.
+      ⊎_elim
+      (λ (same : k ≡ j). subst (Rested (stepped m j) k) (sym (one_at rests j r last.Unknown (ap (slice_get rests) (sym same) ∙ get) none)) tt)
+      (λ (apart : k ≢ j). rested_other m k j r apart (all k r get))
+      (same_or_not k j)
+
+  -- whoever is in the card
+  pub held_by_another : (shards : List (ShardRun V)) (k s n holder other : ℕ) → RestsAt shards k s (Busy n holder) → RestsAt shards k s (Busy n other)
+  held_by_another shards k s n holder other r = record { shard = r.shard; view = r.view; has = r.has; seen = r.seen; in_call = r.in_call; named = r.named; idle = r.idle }
 
 module _ (A V : Type 0) (table : A → LockTable V) (good : A → LockState V → Type 0) (layout : A → Layout) (m : MachineState A V) (is : IsMachine A V table good layout (machine_view m)) (k s : ℕ) (low : k < length m.ops.by_rank) where
   abbrev run : Running V
@@ -274,6 +298,10 @@ module _ (A V : Type 0) (table : A → LockTable V) (good : A → LockState V �
   -- a rank that rested rests, where the window of its shard shows it
   pub still_rests : (answer a : Stepped) (r : RestsAt run.shards k s answer) → Shows r.shard.held answer a → Rests run k a
   still_rests answer a r shows = open_rests r.shard r.view r.has r.seen r.in_call a (r.idle r.shard.held a shows)
+
+  -- the shard is there
+  pub shard_within : (answer : Stepped) → RestsAt run.shards k s answer → s < length m.shards.items
+  shard_within answer r = subst (λ n. s < n) (length-map (map shard_view m.shards.items) (shard_run table) ∙ length-map m.shards.items shard_view) (slice_get_within run.shards s r.shard r.has)
 
   -- the shard of which it is known is the code's
   module _ (item : ShardState A V) (has : slice_get m.shards.items s ≡ Some item) where

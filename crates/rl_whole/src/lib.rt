@@ -39,7 +39,7 @@ mod whole;
 
 pub use card_state::CardState;
 pub use effect::Effect;
-pub use last_rest::{LastRest, RestAt, no_rests};
+pub use last_rest::{LastRest, no_rests};
 pub use machine::{Machine, soundness};
 pub use round::{Leg, Round};
 pub use runs::{replay, take_steps};

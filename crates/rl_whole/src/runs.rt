@@ -1,6 +1,6 @@
 //! A whole replay: a machine is made and takes the steps of a schedule.
 
-ghost use Rattle.std.specs.Prelude.{◌≡◌, true, false, ◌+◌, ◌<◌, ◌^◌, length, replicate, slice_set, IfOk};
+ghost use Rattle.std.specs.Prelude.{◌≡◌, true, false, ◌+◌, ◌<◌, ◌^◌, length, replicate, IfOk};
 ghost use Rattle.std.specs.List.{AllByRecursion};
 ghost use Rattle.rl_model.specs.Geom.{GeomFits};
 ghost use Rattle.rl_word.specs.Shapes.{IsProper};
@@ -10,8 +10,8 @@ ghost use Rattle.rl_ops.specs.Schedule.{TurnFits, steps_of};
 ghost use Rattle.rl_whole.specs.Promises.{IsSound, EachKeepsQueues};
 ghost use Rattle.rl_whole.specs.Run.{run_of, turn_ranks, ranks_of, steps_in};
 ghost use Rattle.rl_whole.specs.RunActs.{EachSays};
-ghost use Rattle.rl_whole.specs.Rested.{Rested, AllRested};
-ghost use Rattle.rl_whole.specs.Running.{running};
+ghost use Rattle.rl_whole.specs.Rested.{AllRested, IsForgotten};
+ghost use Rattle.rl_whole.specs.Running.{Running, running};
 ghost use Rattle.rl_whole.specs.Start.{start_of};
 ghost use Rattle.rl_whole.specs.State.{cores_of};
 
@@ -30,63 +30,6 @@ fn got_on(answer: Stepped) -> bool {
         Stepped::Moved | Stepped::Lost { .. } => true,
         Stepped::Waiting { .. } | Stepped::Busy { .. } | Stepped::Finished => false,
     }
-}
-
-/// Takes so many steps of one rank, and tells what is known of it after them. Once it is seen to rest, or to go in a round, all that
-/// are left are counted at once.
-#[inline(always)]
-fn until_rest<A: Algo>(
-    machine: &mut Machine<A>,
-    rank: u32,
-    count: u32,
-) -> Result<LastRest<A::View>, OutOfMemory>
-    requires there { rank < length machine.old.calls }
-    requires few { steps_made machine.old.steps + count < 2 ^ 32 }
-    ensures cores { cores_of machine.new ≡ cores_of machine.old }
-    ensures run { IfOk result (λ _. running A.table machine.new ≡ run_of (running A.table machine.old) (replicate count rank)) }
-    ensures rested { IfOk result (Rested (running A.table machine.new) rank) }
-{
-    for made in 0..count {
-        let answer = machine.move_on(rank)?;
-        if got_on(answer) {
-            continue;
-        }
-        let last = machine.rest_after(rank, answer);
-        if let Some(last) = machine.rest_on(rank, last, count - made - 1) {
-            return Ok(last);
-        }
-    }
-    Ok(LastRest::Unknown)
-}
-
-/// Takes so many steps of a rank that was noted to go in a round, where its shard shows that they are the round's loads, and notes how
-/// the round goes on. Else nothing has changed.
-#[inline(never)]
-fn take_rounds<A: Algo>(
-    machine: &mut Machine<A>,
-    rests: &mut Vec<LastRest<A::View>>,
-    rank: u32,
-    count: u32,
-) -> bool
-    requires there { rank < length machine.old.calls }
-    requires few { steps_made machine.old.steps + count < 2 ^ 32 }
-    requires many { length rests.old.items ≡ length machine.old.calls }
-    requires rested { AllRested (running A.table machine.old) rests.old.items }
-    ensures cores { cores_of machine.new ≡ cores_of machine.old }
-    ensures run { result ≡ true → running A.table machine.new ≡ run_of (running A.table machine.old) (replicate count rank) }
-    ensures many { length rests.new.items ≡ length rests.old.items }
-    ensures rested { AllRested (running A.table machine.new) rests.new.items }
-    ensures kept { result ≡ false → machine.new ≡ machine.old }
-{
-    let at = rank as usize;
-    let LastRest::Round { place, round } = rests[at] else {
-        return false;
-    };
-    let Some(round) = machine.go_round(rank, place, round, count) else {
-        return false;
-    };
-    rests[at] = LastRest::Round { place, round };
-    true
 }
 
 /// Whether what was noted of the rank shows all of so many steps: then they are counted, or made by exchanging the lock's view. Else
@@ -110,7 +53,7 @@ fn take_noted<A: Algo>(
 {
     let at = rank as usize;
     if let LastRest::Round { .. } = &rests[at] {
-        return take_rounds(machine, rests, rank, count);
+        return machine.go_round(rank, &mut rests[at], count);
     }
     let Some(answer) = machine.still_resting(rank, &rests[at]) else {
         return false;
@@ -119,40 +62,35 @@ fn take_noted<A: Algo>(
     true
 }
 
-/// Notes what is known of a rank. That nothing is known is noted by its case alone, since most steps get on and a round is large.
+/// Notes that nothing is known of a rank, where something was.
 #[inline(always)]
-fn note<V: Copy>(rests: &mut Vec<LastRest<V>>, rank: u32, last: LastRest<V>)
+fn forget<V: Copy>(rests: &mut Vec<LastRest<V>>, rank: u32)
     requires { rank < length rests.old.items }
-    ensures { rests.new.items ≡ slice_set rests.old.items rank last }
+    ensures many { length rests.new.items ≡ length rests.old.items }
+    ensures forgotten { IsForgotten rests.new.items rank }
+    ensures rested { (m : Running V) → AllRested m rests.old.items → AllRested m rests.new.items }
 {
-    match last {
-        LastRest::Unknown => rests[rank as usize] = LastRest::Unknown,
-        last => rests[rank as usize] = last,
+    match &rests[rank as usize] {
+        LastRest::Unknown => {}
+        _ => rests[rank as usize] = LastRest::Unknown,
     }
 }
 
-/// Takes so many steps of one rank, of which nothing shows that it rests, and notes what is known of it after them.
+/// Looks for what is known of a rank after a step with this answer, and notes it.
 #[inline(never)]
-fn step_and_note<A: Algo>(
-    machine: &mut Machine<A>,
+fn look<A: Algo>(
+    machine: &Machine<A>,
     rests: &mut Vec<LastRest<A::View>>,
     rank: u32,
-    count: u32,
-) -> Result<(), OutOfMemory>
-    requires there { rank < length machine.old.calls }
-    requires few { steps_made machine.old.steps + count < 2 ^ 32 }
-    requires many { length rests.old.items ≡ length machine.old.calls }
-    requires rested { AllRested (running A.table machine.old) rests.old.items }
-    ensures cores { cores_of machine.new ≡ cores_of machine.old }
-    ensures run { IfOk result (λ _. running A.table machine.new ≡ run_of (running A.table machine.old) (replicate count rank)) }
-    ensures steps { IfOk result (λ _. steps_made machine.new.steps ≡ steps_made machine.old.steps + count) }
-    ensures calls { IfOk result (λ _. machine.new.calls ≡ machine.old.calls) }
+    answer: Stepped,
+)
+    requires there { rank < length machine.now.calls }
+    requires many { length rests.old.items ≡ length machine.now.calls }
+    requires rested { AllRested (running A.table machine.now) rests.old.items }
     ensures many { length rests.new.items ≡ length rests.old.items }
-    ensures rested { IfOk result (λ _. AllRested (running A.table machine.new) rests.new.items) }
+    ensures rested { AllRested (running A.table machine.now) rests.new.items }
 {
-    let last = until_rest(machine, rank, count)?;
-    note(rests, rank, last);
-    Ok(())
+    rests[rank as usize] = machine.rest_after(rank, answer);
 }
 
 /// Takes so many steps of one rank, as `Machine::step` would one by one. What was noted of it, in `rests`, is looked at first: while
@@ -182,7 +120,19 @@ pub fn take_steps<A: Algo>(
     if take_noted(machine, rests, rank, count) {
         return Ok(());
     }
-    step_and_note(machine, rests, rank, count)
+    forget(rests, rank);
+    for made in 0..count {
+        let answer = machine.move_on(rank)?;
+        if got_on(answer) {
+            continue;
+        }
+        look(machine, rests, rank, answer);
+        if take_noted(machine, rests, rank, count - made - 1) {
+            return Ok(());
+        }
+        forget(rests, rank);
+    }
+    Ok(())
 }
 
 /// Takes the steps of one turn. A stop has none.

@@ -81,7 +81,9 @@ pub fn step_on<A: Algo>(
     ensures core { shard.new.core ≡ shard.old.core }
     ensures kept { OnErr result (shard_view shard.new ≡ shard_view shard.old) }
 {
-    shard.events.reserve(EVENTS)?;
+    if shard.events.capacity() - shard.events.len() < EVENTS {
+        shard.events.reserve(EVENTS)?;
+    }
     Ok(make_atom(shard, rank, step))
 }
 

@@ -311,11 +311,11 @@ impl<A: Algo> MachineState<A> {
     {
         match answer {
             Stepped::Busy { .. } => match self.held_off(rank) {
-                Some(at) => LastRest::Still(at),
+                Some(at) => at.noted(),
                 None => LastRest::Unknown,
             },
             Stepped::Waiting { .. } => match self.waiting(rank) {
-                Some(at) => LastRest::Still(at),
+                Some(at) => at.noted(),
                 None => self.round_of(rank),
             },
             Stepped::Finished if self.is_finished(rank) => LastRest::Finished,
@@ -326,14 +326,14 @@ impl<A: Algo> MachineState<A> {
     /// The answer of a rank that was seen to rest there, where the card or the word that it waits for shows that it rests still. `None`
     /// says nothing of its next step.
     #[inline(always)]
-    fn rests_at(&self, rank: u32, last: RestAt) -> Option<Stepped>
+    fn rests_at(&self, rank: u32, shard: u32, answer: Stepped) -> Option<Stepped>
         requires there { rank < length self.now.ops.by_rank }
         requires good { IsMachine A A.View A.table A.good A.layout (machine_view self.now) }
-        requires rested { RestsAt (running A.table (machine_view self.now)).shards rank last.shard last.answer }
+        requires rested { RestsAt (running A.table (machine_view self.now)).shards rank shard answer }
         ensures { IfSome result (Rests (running A.table (machine_view self.now)) rank) }
     {
-        let shard = self.shards.get(last.shard as usize)?;
-        shown(shard.flat.words(), last.answer)
+        let shard = &self.shards[shard as usize];
+        shown(shard.flat.words(), answer)
     }
 
     /// The answer with which a rank rests of which this was noted: that of a card or a word where its shard shows it, and Finished once
@@ -347,7 +347,20 @@ impl<A: Algo> MachineState<A> {
     {
         match last {
             LastRest::Unknown | LastRest::Round { .. } => None,
-            LastRest::Still(at) => self.rests_at(rank, *at),
+            LastRest::HeldOff { shard, node } => {
+                let answer = Stepped::Busy {
+                    node: *node,
+                    holder: 0,
+                };
+                self.rests_at(rank, *shard, answer)
+            }
+            LastRest::Waits { shard, word, value } => {
+                let answer = Stepped::Waiting {
+                    word: *word,
+                    value: *value,
+                };
+                self.rests_at(rank, *shard, answer)
+            }
             LastRest::Finished => Some(Stepped::Finished),
         }
     }

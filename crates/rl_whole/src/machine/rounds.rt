@@ -1,6 +1,6 @@
 //! Steps of a rank that rests, or goes in a round of two loads: they are counted at once while its shard shows it.
 
-ghost use Rattle.std.specs.Prelude.{◌≡◌, ◌+◌, ◌-◌, ◌<◌, ◌≤◌, ◌^◌, true, length, replicate, None, IfSome};
+ghost use Rattle.std.specs.Prelude.{◌≡◌, ◌+◌, ◌-◌, ◌<◌, ◌≤◌, ◌^◌, true, false, length, replicate};
 ghost use Rattle.rl_step.specs.Answers.{steps_made};
 ghost use Rattle.rl_whole.specs.Rested.{Rested};
 ghost use Rattle.rl_whole.specs.Rounds.{turned_round, IsInRound, GoesRound};
@@ -62,58 +62,33 @@ impl<A: Algo> Machine<A> {
         make_leg(&mut self.state, rank, place, round);
     }
 
-    /// So many steps of a rank in a round, and the round as it goes on, where the shard shows that they are its loads. `None` where it
-    /// doesn't: then nothing has changed.
-    #[inline(always)]
-    pub(crate) fn go_round(
-        &mut self,
-        rank: u32,
-        place: u32,
-        round: Round<A::View>,
-        count: u32,
-    ) -> Option<Round<A::View>>
+    /// So many steps of a rank that was noted to go in a round, where the shard shows that they are its loads; then it is noted how the
+    /// round goes on. Else nothing has changed.
+    #[inline(never)]
+    pub(crate) fn go_round(&mut self, rank: u32, last: &mut LastRest<A::View>, count: u32) -> bool
         requires there { rank < length self.old.calls }
         requires few { steps_made self.old.steps + count < 2 ^ 32 }
-        requires in_round { IsInRound (running A.table self.old).shards rank place round }
+        requires in_round { Rested (running A.table self.old) rank last.old }
         ensures cores { cores_of self.new ≡ cores_of self.old }
-        ensures run { IfSome result (λ _. running A.table self.new ≡ run_of (running A.table self.old) (replicate count rank)) }
-        ensures in_round { IfSome result (IsInRound (running A.table self.new).shards rank place) }
-        ensures kept { result ≡ None → self.new ≡ self.old }
+        ensures run { result ≡ true → running A.table self.new ≡ run_of (running A.table self.old) (replicate count rank) }
+        ensures in_round { Rested (running A.table self.new) rank last.new }
+        ensures kept { result ≡ false → self.new ≡ self.old }
     {
+        let LastRest::Round { place, round } = *last else {
+            return false;
+        };
         if !self.shows_round(rank, place, round, count) {
-            return None;
+            return false;
         }
         self.count_rounds(rank, place, round, count / 2, count);
         if count % 2 == 0 {
-            return Some(round);
+            return true;
         }
         self.make_leg(rank, place, round);
-        Some(round.turned())
-    }
-
-    /// So many steps of a rank of which this was noted, and what is noted of it then, where its shard shows that it rests or goes round
-    /// still, or all its calls are done. `None` where nothing shows it: then nothing has changed.
-    #[inline(always)]
-    pub(crate) fn rest_on(
-        &mut self,
-        rank: u32,
-        last: LastRest<A::View>,
-        count: u32,
-    ) -> Option<LastRest<A::View>>
-        requires there { rank < length self.old.calls }
-        requires few { steps_made self.old.steps + count < 2 ^ 32 }
-        requires rested { Rested (running A.table self.old) rank last }
-        ensures cores { cores_of self.new ≡ cores_of self.old }
-        ensures run { IfSome result (λ _. running A.table self.new ≡ run_of (running A.table self.old) (replicate count rank)) }
-        ensures rested { IfSome result (Rested (running A.table self.new) rank) }
-        ensures kept { result ≡ None → self.new ≡ self.old }
-    {
-        if let LastRest::Round { place, round } = last {
-            let round = self.go_round(rank, place, round, count)?;
-            return Some(LastRest::Round { place, round });
-        }
-        let answer = self.still_resting(rank, &last)?;
-        self.rest(rank, answer, count);
-        Some(last)
+        *last = LastRest::Round {
+            place,
+            round: round.turned(),
+        };
+        true
     }
 }

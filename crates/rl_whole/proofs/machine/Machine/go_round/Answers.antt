@@ -24,9 +24,9 @@ make_leg-requires-clause-few g c =
 
 pub make_leg-requires-clause-shows : goal.make_leg-requires-clause-shows
 make_leg-requires-clause-shows g c =
-    let round = c.args.round in
+    let round = c.in-Round.round in
     let shown = c.shows_round.ensures c.if-not-shows_round.false in
-    subst (λ (l : List (ShardRun _)). GoesRound l c.args.rank c.args.place round 1) (sym c.count_rounds.ensures.shards) (shown.0, (shown.1.0, λ one. absurd (omega (arith, one))))
+    subst (λ (l : List (ShardRun _)). GoesRound l c.args.rank c.in-Round.place round 1) (sym c.count_rounds.ensures.shards) (shown.0, (shown.1.0, λ one. absurd (omega (arith, one))))
 
 pub returns-clause-run : goal.returns-clause-run
 returns-clause-run g c =
@@ -35,4 +35,4 @@ returns-clause-run g c =
     let n = c.args.count / 2 in
     let odd = c.if-count-eq0.false in
     let whole : n + n + 1 ≡ c.args.count = omega arith in
-    c.make_leg.ensures.made ∙ ap (λ m. stepped m rank) c.count_rounds.ensures.run ∙ sym (run_end old (n + n) rank) ∙ ap (λ i. run_of old (replicate i rank)) whole
+    λ _. c.make_leg.ensures.made ∙ ap (λ m. stepped m rank) c.count_rounds.ensures.run ∙ sym (run_end old (n + n) rank) ∙ ap (λ i. run_of old (replicate i rank)) whole
