@@ -13,6 +13,7 @@
 #![tactic(auto)]
 
 mod counting;
+mod entry_printer;
 mod entry_reader;
 mod event_reader;
 mod line_reader;

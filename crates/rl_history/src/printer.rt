@@ -9,76 +9,13 @@ ghost use Rattle.rl_history.specs.Spelling.{reply_words, part_words, answer_word
 ghost use Rattle.rl_history.specs.Reading.{report_at};
 ghost use Rattle.rl_history.specs.Printing.{spaced};
 
+use crate::entry_printer::put_entries;
 use crate::naming::{Naming, QueueName};
 use crate::putting::{put_named, put_value, put_word};
 use crate::report::{Done, Report, ShardReport};
-use rl_model::{Entry, Reply};
-use rl_ops::put_call;
 use rl_place::Place;
 use rl_step::{Event, Steps, Tally};
-use rl_text::put_number;
 use std::alloc::{AllocError as OutOfMemory, Global};
-
-fn put_reply(out: &mut Vec<u8>, reply: Reply) -> Result<(), OutOfMemory>
-    ensures { OnOk result (out.new.items ≡ out.old.items ++ spaced (reply_words reply)) }
-{
-    match reply {
-        Reply::New => put_word(out, b"new"),
-        Reply::Was(value) => put_named(out, b"was", value),
-        Reply::Full => put_word(out, b"full"),
-        Reply::Val(value) => put_named(out, b"val", value),
-        Reply::Nothing => put_word(out, b"none"),
-        Reply::Sum(value) => put_named(out, b"sum", value),
-        Reply::Over(value) => put_named(out, b"over", value),
-        Reply::No(value) => put_named(out, b"no", value),
-        Reply::Held => put_word(out, b"held"),
-        Reply::Undone => put_word(out, b"undone"),
-    }
-}
-
-// `part I of N`, and nothing for a call alone.
-fn put_part(out: &mut Vec<u8>, batch: u32, part: u32) -> Result<(), OutOfMemory>
-    ensures { OnOk result (out.new.items ≡ out.old.items ++ spaced (part_words batch part)) }
-{
-    if batch == 0 {
-        return Ok(());
-    }
-    put_named(out, b"part", u64::from(part))?;
-    put_named(out, b"of", u64::from(batch))
-}
-
-// `CALL = REPLY`, and the part of a batch.
-fn put_answer(out: &mut Vec<u8>, entry: &Entry) -> Result<(), OutOfMemory>
-    ensures { OnOk result (out.new.items ≡ out.old.items ++ spaced (answer_words entry.now)) }
-{
-    out.push(b' ')?;
-    put_call(out, entry.call)?;
-    put_word(out, b"=")?;
-    put_reply(out, entry.reply)?;
-    put_part(out, entry.batch, entry.part)
-}
-
-// `entry AT RANK SEQ CALL = REPLY`, and the part of a batch.
-fn put_entry(out: &mut Vec<u8>, entry: &Entry) -> Result<(), OutOfMemory>
-    ensures { OnOk result (out.new.items ≡ out.old.items ++ line_text (entry_words entry.now)) }
-{
-    out.extend_from_slice(b"entry")?;
-    put_value(out, u64::from(entry.at))?;
-    put_value(out, u64::from(entry.rank))?;
-    put_value(out, u64::from(entry.seq))?;
-    put_answer(out, entry)?;
-    out.push(b'\n')?;
-    Ok(())
-}
-
-fn put_entries(out: &mut Vec<u8>, entries: &[Entry]) -> Result<(), OutOfMemory>
-    ensures { OnOk result (out.new.items ≡ out.old.items ++ text_of (map entry_words entries.now)) }
-{
-    for entry in entries {
-        put_entry(out, entry)?;
-    }
-    Ok(())
-}
 
 // `queue NAME settled X passed Y`.
 fn put_queue(out: &mut Vec<u8>, queue: &QueueName, tally: Tally) -> Result<(), OutOfMemory>

@@ -1,52 +1,51 @@
 //! Printing one call.
-ghost use Rattle.std.specs.Prelude.{◌≡◌, ◌∷◌, ◌++◌, decimal, OnOk, OnErr};
+ghost use Rattle.std.specs.Prelude.{◌≡◌, ◌+◌, ◌≤◌, ◌++◌, length, OnOk, OnErr};
 ghost use Rattle.std.specs.List.{join_with_byte};
+ghost use Rattle.rl_text.specs.Printing.{Writes};
 ghost use Rattle.rl_ops.specs.CallSpelling.{call_words};
 
 use rl_model::Call;
-use rl_text::put_number;
+use rl_text::{write_bytes, write_spaced};
 use std::alloc::AllocError as OutOfMemory;
 
-// A space and a number.
-fn put_argument(out: &mut Vec<u8>, n: u64) -> Result<(), OutOfMemory>
-    ensures { OnOk result (out.new.items ≡ out.old.items ++ 32 ∷ decimal n) }
-{
-    out.push(b' ')?;
-    put_number(out, n)
-}
+/// The words of a call have at most so many bytes.
+pub const LONGEST_CALL: usize = 66;
 
-/// Appends the words of a call. After want of memory nothing is said of the text.
-pub fn put_call(out: &mut Vec<u8>, call: Call) -> Result<(), OutOfMemory>
-    ensures { OnOk result (out.new.items ≡ out.old.items ++ join_with_byte 32 (call_words call)) }
+/// Writes the words of a call at a place of a line, and gives the place after them.
+#[inline(always)]
+pub fn write_call(line: &mut [u8], at: usize, call: Call) -> usize
+    requires { at + LONGEST_CALL ≤ length line.old }
+    ensures writes { Writes line.old line.new at result (join_with_byte 32 (call_words call)) }
+    ensures next { result ≤ at + LONGEST_CALL }
 {
     match call {
         Call::Put { key, value } => {
-            out.extend_from_slice(b"put")?;
-            put_argument(out, key)?;
-            put_argument(out, value)
+            let at = write_bytes(line, at, b"put");
+            let at = write_spaced(line, at, key);
+            write_spaced(line, at, value)
         }
         Call::Get { key } => {
-            out.extend_from_slice(b"get")?;
-            put_argument(out, key)
+            let at = write_bytes(line, at, b"get");
+            write_spaced(line, at, key)
         }
         Call::Del { key } => {
-            out.extend_from_slice(b"del")?;
-            put_argument(out, key)
+            let at = write_bytes(line, at, b"del");
+            write_spaced(line, at, key)
         }
         Call::Add { key, by } => {
-            out.extend_from_slice(b"add")?;
-            put_argument(out, key)?;
-            put_argument(out, by)
+            let at = write_bytes(line, at, b"add");
+            let at = write_spaced(line, at, key);
+            write_spaced(line, at, by)
         }
         Call::Cas { key, old, new } => {
-            out.extend_from_slice(b"cas")?;
-            put_argument(out, key)?;
-            put_argument(out, old)?;
-            put_argument(out, new)
+            let at = write_bytes(line, at, b"cas");
+            let at = write_spaced(line, at, key);
+            let at = write_spaced(line, at, old);
+            write_spaced(line, at, new)
         }
         Call::Hold { shard } => {
-            out.extend_from_slice(b"hold")?;
-            put_argument(out, u64::from(shard))
+            let at = write_bytes(line, at, b"hold");
+            write_spaced(line, at, u64::from(shard))
         }
     }
 }
@@ -56,8 +55,7 @@ pub fn call_text(call: Call, text: &mut Vec<u8>) -> Result<(), OutOfMemory>
     ensures ok { OnOk result (text.new.items ≡ text.old.items ++ join_with_byte 32 (call_words call)) }
     ensures err { OnErr result (text.new.items ≡ text.old.items) }
 {
-    let mut words = Vec::new(*text.allocator());
-    put_call(&mut words, call)?;
-    text.extend_from_slice(&words)?;
-    Ok(())
+    let mut words = [0; LONGEST_CALL];
+    let end = write_call(&mut words, 0, call);
+    text.extend_from_slice(&words[..end])
 }

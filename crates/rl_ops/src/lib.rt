@@ -30,7 +30,7 @@ mod schedule_printer;
 mod schedule_reader;
 
 pub use by_rank::ByRank;
-pub use call_printer::{call_text, put_call};
+pub use call_printer::{LONGEST_CALL, call_text, write_call};
 pub use call_reader::{next_call, read_call};
 pub use laws::{calls_are_blocks, no_ops_fault, no_schedule_fault};
 pub use ops::{MOST_CALLS, MOST_IN_BATCH, Ops};

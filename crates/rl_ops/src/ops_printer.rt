@@ -5,7 +5,7 @@ ghost use Rattle.rl_text.specs.Spelling.{line_text, text_of};
 ghost use Rattle.rl_ops.specs.Ops.{OpsFit, SpellsOps, batch_words, line_words, sized_lines, rank_after_rank, begins_batch, version_word, printed_version, ops_spelling};
 ghost use Rattle.rl_ops.specs.OpsReading.{IsReadAsOps};
 
-use crate::call_printer::put_call;
+use crate::call_printer::call_text;
 use crate::ops::Ops;
 use rl_model::Call;
 use rl_text::put_number;
@@ -16,7 +16,7 @@ fn put_line(out: &mut Vec<u8>, rank: u64, call: Call) -> Result<(), OutOfMemory>
 {
     put_number(out, rank)?;
     out.push(b' ')?;
-    put_call(out, call)?;
+    call_text(call, out)?;
     out.push(b'\n')?;
     Ok(())
 }

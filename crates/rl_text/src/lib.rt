@@ -7,7 +7,8 @@
 //! - `number` reads a word as a number, exactly where the word is the number's one decimal spelling.
 //! - A reader takes a line word by word by `LineWords`, and its first fault is a `Refusal`: a line, a word and a cause
 //!   (`Why`).
-//! - The printers append to a text what the readers read.
+//! - The printers append to a text what the readers read. The writers, as `write_number`, write it in place, into a line
+//!   that has room for it.
 //!
 //! The promise: each reader equals a definition of `specs/Reading.antt`, which says what is read from the lines and which
 //! fault comes first. What a file format means is said by the crates above; they put their lines together from these.
@@ -23,6 +24,7 @@ mod lines;
 mod numbers;
 mod printing;
 mod short;
+mod writing;
 
 pub use causes::{Refusal, Why};
 pub use cutting::cut;
@@ -32,6 +34,7 @@ pub use line_words::LineWords;
 pub use lines::{Lines, TEXT_LIMIT};
 pub use numbers::number;
 pub use printing::{put_number, put_refusal};
+pub use writing::{write_byte, write_bytes, write_number, write_spaced};
 
 #[cfg(test)]
 mod tests;
