@@ -3,6 +3,7 @@ pub mod BodyLaws
 pub mod RankLemmas
 pub mod CallLaws
 pub mod LineLaws
+pub mod ShortAsk
 pub mod BlockLaws
 pub mod OpsLaws
 pub mod ScheduleLaws

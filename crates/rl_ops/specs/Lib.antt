@@ -10,4 +10,5 @@ pub mod OpsReading
 pub mod Schedule
 pub mod ScheduleReading
 pub mod NextTurn
+pub mod NextLine
 pub mod Room

@@ -2,6 +2,7 @@
 ghost use Rattle.std.specs.Prelude.{◌≡◌, ◌<◌, [], replicate, length, map, IfOk, OnOk, OnErr};
 ghost use Rattle.rl_ops.specs.ByRank.{with_item};
 
+use crate::appending::append;
 use std::alloc::{AllocError as OutOfMemory, Global};
 use std::marker::Model;
 
@@ -53,13 +54,14 @@ impl<T: Drop> ByRank<T> {
     }
 
     /// One item more of a rank, after those that it has.
+    #[inline(always)]
     pub fn push(&mut self, rank: u32, item: T) -> Result<(), OutOfMemory>
         requires { rank < length self.old }
         ensures ok { OnOk result (self.new ≡ with_item self.old rank item) }
         ensures err { OnErr result (self.new ≡ self.old) }
     {
         let list = &mut self.lists[rank as usize];
-        list.push(item)?;
+        append(list, item)?;
         Ok(())
     }
 }

@@ -14,6 +14,7 @@
 //! Not said here: what the calls do, and that a batch is done whole.
 #![tactic(auto)]
 
+mod appending;
 mod by_rank;
 mod call_printer;
 mod call_reader;
@@ -28,6 +29,7 @@ mod room;
 mod schedule;
 mod schedule_printer;
 mod schedule_reader;
+mod short_reader;
 
 pub use by_rank::ByRank;
 pub use call_printer::{LONGEST_CALL, call_text, write_call};

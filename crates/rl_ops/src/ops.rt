@@ -39,6 +39,7 @@ impl Ops {
     }
 
     // What a line asks for, after all that came before it. After want of memory nothing is said of the calls.
+    #[inline(always)]
     pub(crate) fn take(&mut self, line: CallsLine) -> Result<(), OutOfMemory>
         requires there { IsLineOf (length self.old.by_rank) line }
         requires sized { length self.old.sizes ≡ length self.old.by_rank }

@@ -8,6 +8,7 @@ use crate::calls_line::CallsVersion;
 use crate::line_reader::{is_end, line_of, version_of};
 use crate::ops::Ops;
 use crate::progress::Progress;
+use crate::short_reader::short_ask;
 use rl_text::{Lines, TEXT_LIMIT, TextErr};
 use std::alloc::Global;
 
@@ -24,6 +25,11 @@ fn calls_of(
     let mut ops = Ops::new(alloc, ranks)?;
     let mut progress = Progress::new();
     loop {
+        if let Some(read) = short_ask(lines, version, ranks, shards, progress) {
+            ops.take(read)?;
+            progress = progress.after(shards, read);
+            continue;
+        }
         let line = lines.next_whole()?;
         if is_end(&line, progress.expected) {
             lines.end(&line)?;

@@ -94,6 +94,7 @@ impl Progress {
     }
 
     /// After one line more, on a table of so many shards. The line of a batch isn't counted.
+    #[inline(always)]
     pub fn after(&self, shards: u32, line: CallsLine) -> Progress
         requires { self.now.count < u32.MAX }
         ensures { result ≡ after_line shards self.now line }

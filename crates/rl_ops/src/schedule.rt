@@ -2,6 +2,7 @@
 ghost use Rattle.std.specs.Prelude.{◌≡◌, [], ◌∷◌, ◌++◌, OnOk, OnErr};
 ghost use Rattle.rl_ops.specs.Schedule.{steps_of};
 
+use crate::appending::append;
 use std::alloc::{AllocError as OutOfMemory, Global};
 use std::marker::Model;
 
@@ -84,11 +85,7 @@ impl Turns {
         ensures ok { OnOk result (self.new ≡ self.old ++ turn ∷ []) }
         ensures err { OnErr result (self.new ≡ self.old) }
     {
-        if self.list.len() >= self.list.capacity() {
-            self.list.reserve(1)?;
-        }
-        self.list.push_reserved(turn);
-        Ok(())
+        append(&mut self.list, turn)
     }
 }
 

@@ -7,6 +7,8 @@
 //! - `number` reads a word as a number, exactly where the word is the number's one decimal spelling.
 //! - A reader takes a line word by word by `LineWords`, and its first fault is a `Refusal`: a line, a word and a cause
 //!   (`Why`).
+//! - `front_number` and its neighbours read what a text begins with, for a reader that takes the most common lines without
+//!   looking for words.
 //! - The printers append to a text what the readers read. The writers, as `write_number`, write it in place, into a line
 //!   that has room for it.
 //!
@@ -18,6 +20,7 @@
 mod causes;
 mod cutting;
 mod failing;
+mod front;
 mod line;
 mod line_words;
 mod lines;
@@ -29,6 +32,7 @@ mod writing;
 pub use causes::{Refusal, Why};
 pub use cutting::cut;
 pub use failing::TextErr;
+pub use front::{after_byte, front_number, front_spaced};
 pub use line::Line;
 pub use line_words::LineWords;
 pub use lines::{Lines, TEXT_LIMIT};

@@ -1,5 +1,5 @@
 //! The lines of a text one after the other.
-ghost use Rattle.std.specs.Prelude.{◌≡◌, ◌<◌, ◌+◌, [], ◌∷◌, length, MatchResult, OnOk, Ok, Err, IfSome};
+ghost use Rattle.std.specs.Prelude.{◌≡◌, ◌<◌, ◌+◌, [], ◌∷◌, length, drop, MatchResult, OnOk, Ok, Err, IfSome};
 ghost use Rattle.std.specs.Option.{MatchOption};
 ghost use Rattle.rl_text.specs.Rows.{Left, row_of, rows_from};
 ghost use Rattle.rl_text.specs.Short.{pair_row};
@@ -74,6 +74,27 @@ impl<'a> Lines<'a> {
                 })
             }
         }
+    }
+
+    /// The bytes that are still to be read.
+    #[inline(always)]
+    pub fn front(&self) -> &'a [u8]
+        ensures rows { self.now.rows ≡ rows_from (self.now.read + 1) result.now }
+        ensures few { self.now.read + length result.now < TEXT_LIMIT }
+    {
+        self.rest
+    }
+
+    /// Passes the next line, after which these bytes are still to be read.
+    #[inline(always)]
+    pub fn pass(&mut self, rest: &'a [u8])
+        requires few { self.old.read + 1 + length rest.now < TEXT_LIMIT }
+        requires there { drop 1 self.old.rows ≡ rows_from (self.old.read + 2) rest.now }
+        ensures rows { self.new.rows ≡ drop 1 self.old.rows }
+        ensures read { self.new.read ≡ self.old.read + 1 }
+    {
+        self.read += 1;
+        self.rest = rest;
     }
 
     /// Takes the next line where it is two numbers of at most two digits each, the first below `first` and the second below

@@ -2,28 +2,7 @@
 ghost use Rattle.std.specs.Prelude.{◌≡◌, ◌+◌, ◌<◌, ◌∷◌, ◌++◌, decimal, IfSome};
 ghost use Rattle.rl_text.specs.Short.{pair_text};
 
-/// What follows the first byte, where this is it.
-#[inline(always)]
-fn after(bytes: &[u8], byte: u8) -> Option<&[u8]>
-    ensures { IfSome result (λ rest. bytes.now ≡ byte ∷ rest.now) }
-{
-    match bytes {
-        [first, rest @ ..] if *first == byte => Some(rest),
-        _ => None,
-    }
-}
-
-/// The value of a digit.
-#[inline(always)]
-fn digit(byte: u8) -> Option<u32>
-    ensures { IfSome result (λ value. (value < 10) × (byte ≡ 48 + value)) }
-{
-    if byte.is_ascii_digit() {
-        Some(u32::from(byte - b'0'))
-    } else {
-        None
-    }
-}
+use crate::front::{after_byte, digit};
 
 /// A number of one or two digits, and what follows it: of two where the next byte is a digit, and the first isn't 0.
 #[inline(always)]
@@ -51,8 +30,8 @@ pub fn short_line(bytes: &[u8]) -> Option<(u32, u32, &[u8])>
     ensures { IfSome result (λ p. (p.0 < 100) × (p.1 < 100) × (bytes.now ≡ pair_text p.0 p.1 ++ 10 ∷ p.2.now)) }
 {
     let (first, rest) = short_number(bytes)?;
-    let rest = after(rest, b' ')?;
+    let rest = after_byte(rest, b' ')?;
     let (second, rest) = short_number(rest)?;
-    let rest = after(rest, b'\n')?;
+    let rest = after_byte(rest, b'\n')?;
     Some((first, second, rest))
 }

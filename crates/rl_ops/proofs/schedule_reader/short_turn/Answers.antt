@@ -1,4 +1,4 @@
-use Rattle.std.proofs.Common.{◌≡◌, ◌+◌, ◌-◌, ◌<◌, ◌≤◌, true, [], arith}
+use Rattle.std.proofs.Common.{◌≡◌, ◌+◌, ◌-◌, ◌<◌, ◌≤◌, [], arith}
 use Rattle.rl_ops.specs.declared.schedule.TheConstants.{MOST_STEPS}
 use Rattle.rl_ops.proofs.ScheduleLaws.{short-turn}
 use Rattle.rl_ops.proofs.schedule_reader.short_turn.Goals as goal
