@@ -62,6 +62,7 @@ impl SoFar {
         MOST_STEPS - self.steps
     }
 
+    #[inline(always)]
     fn add(&mut self, turn: Turn) -> Result<(), OutOfMemory>
         requires { self.old.steps + steps_of turn ≤ MOST_STEPS }
         ensures { OnOk result (self.new ≡ after_turn self.old turn) }

@@ -26,17 +26,16 @@ digit_text n small = decimal_digit n small
 pub digits_text : (n : ℕ) → 10 ≤ n → n < 100 → decimal n ≡ (48 + n / 10) ∷ (48 + n % 10) ∷ []
 digits_text n least small = decimal_step n least (omega arith) ∙ rw (decimal_digit (n / 10) (omega arith)) refl
 
--- a number of one digit, and of two
+-- a text that begins with a digit, and a number of two digits
 pub one-digit : (value byte : ℕ) (text more : List ℕ) → value < 10 → byte ≡ 48 + value → text ≡ byte ∷ more → text ≡ decimal value ++ more
 one-digit value byte text more small is e = rw (e, is, decimal_digit value small) refl
 
-pub two-digits : (tens units first second : ℕ) (text more : List ℕ) → 0 < tens → tens < 10 → units < 10 → first ≡ 48 + tens → second ≡ 48 + units → text ≡ first ∷ second ∷ more →
-    text ≡ decimal (tens * 10 + units) ++ more
-two-digits tens units first second text more some small few is also e =
+pub two-digits : (tens units first second : ℕ) → 0 < tens → tens < 10 → units < 10 → first ≡ 48 + tens → second ≡ 48 + units → decimal (tens * 10 + units) ≡ first ∷ second ∷ []
+two-digits tens units first second some small few is also =
     let n = tens * 10 + units in
     let front : n / 10 ≡ tens = omega arith in
     let last : n % 10 ≡ units = omega arith in
-    rw (e, is, also, decimal_step n (omega arith) (omega arith), front, last, decimal_digit tens small) refl
+    rw (is, also, decimal_step n (omega arith) (omega arith), front, last, decimal_digit tens small) refl
 
 -- the spelling of a number of three digits or more ends in the two digits of its rest by 100
 pub hundreds_text : (n : ℕ) → 100 ≤ n → n < 2 ^ 64 → decimal n ≡ decimal (n / 100) ++ two_digits (n % 100)

@@ -1,4 +1,4 @@
-use Rattle.std.proofs.Common.{◌≡◌, ◌+◌, ◌-◌, ◌<◌, ◌∷◌, ◌∙◌, length, get_or, take, drop, ap, sym, arith}
+use Rattle.std.proofs.Common.{◌≡◌, ◌+◌, ◌-◌, ◌<◌, ◌∙◌, length, get_or, take, drop, ap, sym, arith}
 use Rattle.rl_text.proofs.ShortLaws.{front-rest, one-digit, more-digits}
 use Rattle.rl_text.proofs.front.front_number.Goals as goal
 
