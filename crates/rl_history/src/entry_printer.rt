@@ -5,6 +5,7 @@ ghost use Rattle.rl_text.specs.Spelling.{line_text, text_of};
 ghost use Rattle.rl_history.specs.Spelling.{reply_words, part_words, answer_words, entry_words};
 ghost use Rattle.rl_history.specs.Printing.{spaced};
 
+use crate::putting::write_named;
 use rl_model::{Entry, Reply};
 use rl_ops::{LONGEST_CALL, write_call};
 use rl_text::{write_byte, write_bytes, write_spaced};
@@ -12,17 +13,6 @@ use std::alloc::AllocError as OutOfMemory;
 
 // The line of an entry has at most so many bytes.
 const LONGEST_LINE: usize = 256;
-
-// Writes a name and a number after it.
-#[inline(always)]
-fn write_named(line: &mut [u8], at: usize, name: &[u8], n: u64) -> usize
-    requires { at + length name.now + 21 ≤ length line.old }
-    ensures writes { Writes line.old line.new at result (name.now ++ 32 ∷ decimal n) }
-    ensures next { result ≤ at + length name.now + 21 }
-{
-    let at = write_bytes(line, at, name);
-    write_spaced(line, at, n)
-}
 
 // Writes the words of a reply, each after a space.
 #[inline(always)]

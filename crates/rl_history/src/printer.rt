@@ -11,7 +11,7 @@ ghost use Rattle.rl_history.specs.Printing.{spaced};
 
 use crate::entry_printer::put_entries;
 use crate::naming::{Naming, QueueName};
-use crate::putting::{put_named, put_value, put_word};
+use crate::putting::{put_first, put_named, put_value, put_word};
 use crate::report::{Done, Report, ShardReport};
 use rl_place::Place;
 use rl_step::{Event, Steps, Tally};
@@ -57,8 +57,7 @@ fn put_queues(out: &mut Vec<u8>, queues: &[QueueName], tallies: &[Tally]) -> Res
 fn put_pair(out: &mut Vec<u8>, key: u64, value: u64) -> Result<(), OutOfMemory>
     ensures { OnOk result (out.new.items ≡ out.old.items ++ line_text (pair_words (key, value))) }
 {
-    out.extend_from_slice(b"pair")?;
-    put_value(out, key)?;
+    put_first(out, b"pair", key)?;
     put_value(out, value)?;
     out.push(b'\n')?;
     Ok(())
@@ -162,8 +161,7 @@ fn put_event_line(
 ) -> Result<(), OutOfMemory>
     ensures { OnOk result (out.new.items ≡ out.old.items ++ line_text (event_line naming.now (step, event))) }
 {
-    out.extend_from_slice(b"event")?;
-    put_value(out, u64::from(step))?;
+    put_first(out, b"event", u64::from(step))?;
     put_event(out, naming, event)?;
     out.push(b'\n')?;
     Ok(())
@@ -189,8 +187,7 @@ fn put_events(
 fn put_shard_line(out: &mut Vec<u8>, number: u64, shard: &ShardReport) -> Result<(), OutOfMemory>
     ensures { OnOk result (out.new.items ≡ out.old.items ++ line_text (shard_words number shard.now)) }
 {
-    out.extend_from_slice(b"shard")?;
-    put_value(out, number)?;
+    put_first(out, b"shard", number)?;
     put_named(out, b"updates", u64::from(shard.updates))?;
     put_named(out, b"entries", shard.entries.len() as u64)?;
     out.push(b'\n')?;
@@ -225,8 +222,7 @@ fn put_shards(out: &mut Vec<u8>, naming: &Naming, shards: &[ShardReport]) -> Res
 fn put_rank(out: &mut Vec<u8>, rank: u64, done: Done) -> Result<(), OutOfMemory>
     ensures { OnOk result (out.new.items ≡ out.old.items ++ line_text (rank_words rank done)) }
 {
-    out.extend_from_slice(b"rank")?;
-    put_value(out, rank)?;
+    put_first(out, b"rank", rank)?;
     put_named(out, b"done", u64::from(done.done))?;
     put_named(out, b"of", u64::from(done.given))?;
     out.push(b'\n')?;
@@ -266,8 +262,7 @@ fn put_last_steps(out: &mut Vec<u8>, steps: Steps) -> Result<(), OutOfMemory>
 fn put_steps(out: &mut Vec<u8>, steps: Steps) -> Result<(), OutOfMemory>
     ensures { OnOk result (out.new.items ≡ out.old.items ++ line_text (steps_words steps)) }
 {
-    out.extend_from_slice(b"steps")?;
-    put_value(out, all_steps(steps))?;
+    put_first(out, b"steps", all_steps(steps))?;
     put_named(out, b"moved", u64::from(steps.moved))?;
     put_named(out, b"waiting", u64::from(steps.waiting))?;
     put_last_steps(out, steps)?;
@@ -302,8 +297,7 @@ fn put_mode(out: &mut Vec<u8>, naming: &Naming, steps: Option<Steps>) -> Result<
 fn put_sizes(out: &mut Vec<u8>, naming: &Naming) -> Result<(), OutOfMemory>
     ensures { OnOk result (out.new.items ≡ out.old.items ++ line_text (sizes_words naming.now)) }
 {
-    out.extend_from_slice(b"ranks")?;
-    put_value(out, u64::from(naming.ranks))?;
+    put_first(out, b"ranks", u64::from(naming.ranks))?;
     put_named(out, b"shards", u64::from(naming.shards))?;
     out.push(b'\n')?;
     Ok(())
