@@ -1,5 +1,5 @@
 //! Reading the lines that most calls files have, by what they begin with: calls alone, with no word to be looked for.
-ghost use Rattle.std.specs.Prelude.{◌≡◌, ◌++◌, codes, IfSome};
+ghost use Rattle.std.specs.Prelude.{◌≡◌, ◌<◌, ◌^◌, ◌∷◌, ◌++◌, codes, decimal, IfSome};
 ghost use Rattle.std.specs.Option.{MatchOption};
 ghost use Rattle.std.specs.List.{join_with_byte};
 ghost use Rattle.rl_ops.specs.CallSpelling.{call_words, CallFits};
@@ -29,6 +29,16 @@ fn front_hold(bytes: &[u8], shards: u32) -> Option<(Call, &[u8])>
     }
 }
 
+// Two numbers, each after a space, and what follows them.
+#[inline(always)]
+fn front_pair(bytes: &[u8]) -> Option<(u64, u64, &[u8])>
+    ensures { IfSome result (λ p. (p.0 < 2 ^ 64) × (p.1 < 2 ^ 64) × (bytes.now ≡ 32 ∷ decimal p.0 ++ 32 ∷ decimal p.1 ++ p.2.now)) }
+{
+    let (first, rest) = front_spaced(bytes)?;
+    let (second, rest) = front_spaced(rest)?;
+    Some((first, second, rest))
+}
+
 /// The call with which a text begins, and what follows it. `None` says nothing of the text.
 #[inline(always)]
 fn front_call(bytes: &[u8], shards: u32) -> Option<(Call, &[u8])>
@@ -36,8 +46,7 @@ fn front_call(bytes: &[u8], shards: u32) -> Option<(Call, &[u8])>
 {
     match bytes {
         [b'p', b'u', b't', rest @ ..] => {
-            let (key, rest) = front_spaced(rest)?;
-            let (value, rest) = front_spaced(rest)?;
+            let (key, value, rest) = front_pair(rest)?;
             Some((Call::Put { key, value }, rest))
         }
         [b'g', b'e', b't', rest @ ..] => {
@@ -49,8 +58,7 @@ fn front_call(bytes: &[u8], shards: u32) -> Option<(Call, &[u8])>
             Some((Call::Del { key }, rest))
         }
         [b'a', b'd', b'd', rest @ ..] => {
-            let (key, rest) = front_spaced(rest)?;
-            let (by, rest) = front_spaced(rest)?;
+            let (key, by, rest) = front_pair(rest)?;
             Some((Call::Add { key, by }, rest))
         }
         [b'c', b'a', b's', rest @ ..] => {

@@ -44,8 +44,7 @@ fn write_two_digits(line: &mut [u8], at: usize, n: u8) -> usize
 #[inline(always)]
 #[tactic(auto, using(crate::proofs::ShortLaws::digit_text, crate::proofs::ShortLaws::digits_text))]
 fn write_short(line: &mut [u8], at: usize, n: u8) -> usize
-    requires small { n < 100 }
-    requires room { at + 2 ≤ length line.old }
+    requires { (n < 100) × (at + 2 ≤ length line.old) }
     ensures writes { Writes line.old line.new at result (decimal n) }
     ensures next { result ≤ at + 2 }
 {
