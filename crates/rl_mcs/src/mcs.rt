@@ -3,7 +3,7 @@
 ghost use Rattle.std.specs.Prelude.{◌≡◌, ◌≤◌, None, refl, length, true};
 ghost use Rattle.rl_word.specs.declared.locks.LockName.TheVariants as TheName;
 ghost use Rattle.rl_word.specs.Shapes.{layout_of};
-ghost use Rattle.rl_step.specs.Lock.{no_more, told_with};
+ghost use Rattle.rl_step.specs.Lock.{no_more};
 ghost use Rattle.rl_tree.specs.SameViews.{same_tree};
 ghost use Rattle.rl_tree.specs.Tree.{at_hook};
 ghost use Rattle.rl_tree.specs.Elements.{tree_of};
@@ -30,23 +30,18 @@ pub struct Mcs {
     ghost unlimited: { tree.rooted.root ≡ None },
 }
 
-/// Goes on from the hook in the same act: nothing is above the root.
-fn past_hook(
-    tree: &Tree,
-    turn: Learnt<TreeView>,
-    events: &mut ArrayVec<Event, 8>,
-) -> Learnt<TreeView>
-    requires placed { at_hook turn.view ≡ true → IsPlaced tree.now.rooted turn.view }
-    requires room { at_hook turn.view ≡ true → length events.old.items ≤ 3 }
-    ensures { told_with result events.new.items ≡ past_the_hook (tree_of tree.now.rooted) (at_hook turn.view) (told_with turn events.old.items) }
+/// Goes on from the hook in the same act: nothing is above the root. Whether the load that led to the view has to be made again.
+#[inline(always)]
+fn past_hook(tree: &Tree, view: &mut TreeView, waits: bool, events: &mut ArrayVec<Event, 8>) -> bool
+    requires placed { at_hook view.old ≡ true → IsPlaced tree.now.rooted view.old }
+    requires room { at_hook view.old ≡ true → length events.old.items ≤ 3 }
+    ensures { record { view = view.new; events = events.new.items; waits = result } ≡ past_the_hook (tree_of tree.now.rooted) (at_hook view.old) (record { view = view.old; events = events.old.items; waits = waits }) }
 {
-    if turn.view.is_at_hook() {
-        Learnt {
-            view: tree.resume(turn.view, events),
-            waits: false,
-        }
+    if view.is_at_hook() {
+        tree.resume(view, events);
+        false
     } else {
-        turn
+        waits
     }
 }
 
@@ -101,10 +96,11 @@ impl Algo for Mcs {
 
     #[inline(always)]
     fn learn(&self, view: TreeView, got: u64, events: &mut ArrayVec<Event, 8>) -> Learnt<TreeView> {
-        let turn = self.tree.learn(view, got, events);
-        let past = past_hook(&self.tree, turn, events);
-        tree_enter(past.view, events);
-        past
+        let mut next = view;
+        let turn = self.tree.learn(&mut next, got, events);
+        let waits = past_hook(&self.tree, &mut next, turn, events);
+        tree_enter(&next, events);
+        Learnt { view: next, waits }
     }
 
     fn leave(&self, view: TreeView) -> TreeView {

@@ -1,11 +1,10 @@
 //! RMA-RW: what a rank does in the tree and at the counters.
 
-ghost use Rattle.std.specs.Prelude.{◌≡◌, ◌+◌, ◌-◌, ◌/◌, ◌<◌, ◌≤◌, ◌∷◌, [], List, length, refl, true, false, IfOk};
+ghost use Rattle.std.specs.Prelude.{◌≡◌, ◌++◌, Bool, ◌+◌, ◌-◌, ◌/◌, ◌<◌, ◌≤◌, ◌∷◌, [], List, length, refl, true, false, IfOk};
 ghost use Rattle.rl_step.specs.declared.events.Event.{Event as TheEvent};
-ghost use Rattle.rl_step.specs.Lock.{told_with};
 ghost use Rattle.rl_word.specs.declared.locks.LockName.TheVariants as TheName;
 ghost use Rattle.rl_word.specs.Shapes.{layout_of};
-ghost use Rattle.rl_tree.specs.Tree.{has_above, with_entry};
+ghost use Rattle.rl_tree.specs.Tree.{has_above, entry_if};
 ghost use Rattle.rl_tree.specs.TreeShape.{levels_of};
 ghost use Rattle.rl_rw.specs.Rw.{shared_of, shared_in, SuitsRw, counters_of, from_tree, after_hook, from_counter, rw_table, BoundsBatches};
 ghost use Rattle.rl_rw.specs.Fits.{MayLeaveHook, Ends};
@@ -21,7 +20,7 @@ use rl_counter::{
 };
 use rl_queue::{Phase, rank_words};
 use rl_step::{Algo, Event, Learnt, Standing};
-use rl_tree::{Tree, TreeView, tree_enter};
+use rl_tree::{Tree, tree_enter};
 use rl_word::{Act, Class, Knobs, Mode, Shape, Spot};
 use std::alloc::{AllocError as OutOfMemory, Global};
 
@@ -64,98 +63,76 @@ fn groups_of(ranks: u32, group: u32) -> u32
     (ranks + group - 1) / group
 }
 
-/// What a rank learnt in the tree, with its entry where it came in.
+/// What a rank learnt in the tree, where it now stands so: its entry, where it came in.
 #[inline(always)]
-fn within_tree(
-    view: RwView,
-    turn: Learnt<TreeView>,
-    events: &mut ArrayVec<Event, 8>,
-) -> Learnt<RwView>
-    requires { length (with_entry (told_with turn events.old.items)).events ≤ 8 }
-    ensures { told_with result events.new.items ≡ from_tree view false (told_with turn events.old.items) }
+fn within_tree(view: &mut RwView, events: &mut ArrayVec<Event, 8>)
+    requires { length (events.old.items ++ entry_if view.old.tree.query view.old.tree.phase view.old.tree.rank) ≤ 8 }
+    ensures { (waits : Bool) → record { view = view.new; events = events.new.items; waits = waits } ≡ from_tree view.old false (record { view = view.old.tree; events = events.old.items; waits = waits }) }
 {
-    tree_enter(turn.view, events);
-    Learnt {
-        view: RwView {
-            tree: turn.view,
-            counter: counter_idle(view.counter.counter),
-        },
-        waits: turn.waits,
-    }
+    tree_enter(&view.tree, events);
+    view.counter = counter_idle(view.counter.counter);
 }
 
 /// A rank has come to the hook: it begins to put the marks up, or to take them down.
 #[inline(always)]
-fn comes_to_hook(view: RwView, turn: Learnt<TreeView>) -> Learnt<RwView>
-    ensures { (told : List TheEvent) → told_with result told ≡ from_tree view true (told_with turn told) }
+fn comes_to_hook(view: &mut RwView)
+    ensures { (told : List TheEvent) (waits : Bool) → record { view = view.new; events = told; waits = waits } ≡ from_tree view.old true (record { view = view.old.tree; events = told; waits = waits }) }
 {
-    let task = match turn.view.phase {
+    let task = match view.tree.phase {
         Phase::Settle => Task::Up,
         _ => Task::Down,
     };
-    Learnt {
-        view: RwView {
-            tree: turn.view,
-            counter: counter_begin(counter_idle(view.counter.counter), task),
-        },
-        waits: turn.waits,
-    }
-}
-
-/// A rank goes on at the counters.
-#[inline(always)]
-fn goes_on(view: RwView, counter: CounterView, waits: bool) -> Learnt<RwView>
-    ensures { result ≡ record { view = record { tree = view.tree; counter = counter }; waits = waits } }
-{
-    Learnt {
-        view: RwView {
-            tree: view.tree,
-            counter,
-        },
-        waits,
-    }
+    view.counter = counter_begin(counter_idle(view.counter.counter), task);
 }
 
 impl Rw {
     /// A task at the marks has ended: the tree goes on from the hook.
-    fn leaves_hook(&self, view: RwView, events: &mut ArrayVec<Event, 8>) -> Learnt<RwView>
-        requires may { MayLeaveHook self.now.tree.rooted view.tree }
+    #[inline(never)]
+    fn leaves_hook(&self, view: &mut RwView, events: &mut ArrayVec<Event, 8>)
+        requires may { MayLeaveHook self.now.tree.rooted view.old.tree }
         requires none { events.old.items ≡ [] }
-        ensures { told_with result events.new.items ≡ after_hook (shared_of self.now.tree.rooted self.now.counters.readers self.now.group) view }
+        ensures { record { view = view.new; events = events.new.items; waits = false } ≡ after_hook (shared_of self.now.tree.rooted self.now.counters.readers self.now.group) view.old }
     {
-        let turn = Learnt {
-            view: self.tree.resume(view.tree, events),
-            waits: false,
-        };
-        within_tree(view, turn, events)
+        self.tree.resume(&mut view.tree, events);
+        within_tree(view, events);
     }
 
-    /// What a rank has learnt at the counters, where it does this next.
+    /// What a rank has learnt at the counters, where it does this next: whether a waiting load has to be made again.
     #[inline(always)]
     fn at_counters(
         &self,
-        view: RwView,
+        view: &mut RwView,
         counter: CounterView,
         waits: bool,
         events: &mut ArrayVec<Event, 8>,
-    ) -> Learnt<RwView>
-        requires same { counter.counter ≡ view.counter.counter }
-        requires ends { Ends self.now.tree.rooted view.tree view.counter.doing counter.doing }
+    ) -> bool
+        requires same { counter.counter ≡ view.old.counter.counter }
+        requires ends { Ends self.now.tree.rooted view.old.tree view.old.counter.doing counter.doing }
         requires none { events.old.items ≡ [] }
-        ensures { told_with result events.new.items ≡ from_counter (shared_of self.now.tree.rooted self.now.counters.readers self.now.group) view view.counter.doing counter.doing waits }
+        ensures { record { view = view.new; events = events.new.items; waits = result } ≡ from_counter (shared_of self.now.tree.rooted self.now.counters.readers self.now.group) view.old view.old.counter.doing counter.doing waits }
     {
         match counter.doing {
             Doing::Inside => {
                 events.push(Event::EnterR {
                     rank: view.tree.rank,
                 });
-                goes_on(view, counter, waits)
+                view.counter = counter;
+                waits
             }
             Doing::Nothing => match view.counter.doing {
-                Doing::Depart => goes_on(view, counter, waits),
-                _ => self.leaves_hook(view, events),
+                Doing::Depart => {
+                    view.counter = counter;
+                    waits
+                }
+                _ => {
+                    self.leaves_hook(view, events);
+                    false
+                }
             },
-            _ => goes_on(view, counter, waits),
+            _ => {
+                view.counter = counter;
+                waits
+            }
         }
     }
 }
@@ -254,16 +231,19 @@ impl Algo for Rw {
 
     #[inline(always)]
     fn learn(&self, view: RwView, got: u64, events: &mut ArrayVec<Event, 8>) -> Learnt<RwView> {
+        let mut next = view;
         if counter_busy(view.counter) {
             let turn = counter_learn(view.counter, &self.counters, got);
-            self.at_counters(view, turn.view, turn.waits, events)
+            let waits = self.at_counters(&mut next, turn.view, turn.waits, events);
+            Learnt { view: next, waits }
         } else {
-            let turn = self.tree.learn(view.tree, got, events);
-            if turn.view.is_at_hook() {
-                comes_to_hook(view, turn)
+            let waits = self.tree.learn(&mut next.tree, got, events);
+            if next.tree.is_at_hook() {
+                comes_to_hook(&mut next);
             } else {
-                within_tree(view, turn, events)
+                within_tree(&mut next, events);
             }
+            Learnt { view: next, waits }
         }
     }
 

@@ -60,7 +60,8 @@ fn comes_in_over_three_levels(rt: HostRuntime) -> Result<(), OutOfMemory> {
     assert_eq!(rt; asks.standing(), Standing::Asking);
     assert_eq!(rt; tree.plan(asks), Some(Act::Store { word: 7, value: 0 }));
     let mut events = ArrayVec::new();
-    let joins = tree.learn(asks.at_level(0, Phase::Swing { guess: 0 }), 0, &mut events);
+    let mut joins = asks.at_level(0, Phase::Swing { guess: 0 });
+    assert!(rt; !tree.learn(&mut joins, 0, &mut events));
     assert_eq!(rt;
         events[0],
         Event::Join {
@@ -68,12 +69,12 @@ fn comes_in_over_three_levels(rt: HostRuntime) -> Result<(), OutOfMemory> {
             member: 0
         }
     );
-    assert_eq!(rt; joins.view, asks.at_level(1, Phase::Clear));
-    let head = asks.at_level(2, Phase::Settle);
+    assert_eq!(rt; joins, asks.at_level(1, Phase::Clear));
+    let mut head = asks.at_level(2, Phase::Settle);
     assert!(rt; head.is_at_hook());
     let mut events = ArrayVec::new();
-    let inside = tree.resume(head, &mut events);
-    tree_enter(inside, &mut events);
+    tree.resume(&mut head, &mut events);
+    tree_enter(&head, &mut events);
     let told = [
         Event::Settle {
             queue: 0,
@@ -90,7 +91,7 @@ fn comes_in_over_three_levels(rt: HostRuntime) -> Result<(), OutOfMemory> {
         Event::EnterW { rank: 0 },
     ];
     assert_eq!(rt; events.as_slice(), &told[..]);
-    assert_eq!(rt; inside, out.at_level(0, Phase::Granted { left: 1 }));
+    assert_eq!(rt; head, out.at_level(0, Phase::Granted { left: 1 }));
     Ok(())
 }
 
@@ -99,16 +100,16 @@ fn gives_up_what_is_above_before_it_leaves(rt: HostRuntime) -> Result<(), OutOfM
     let tree = tower(rt.alloc())?;
     let inside = tree.first(0).at_level(0, Phase::Granted { left: 1 });
     assert_eq!(rt; inside.standing(), Standing::Writer);
-    let leaves = inside.leave();
-    assert_eq!(rt; leaves.standing(), Standing::Leaving);
-    assert_eq!(rt; tree.plan(leaves), Some(Act::Load { word: 7 }));
-    let alone = tree.learn(leaves, 0, &mut ArrayVec::new());
-    assert!(rt; alone.view.query);
-    assert_eq!(rt; alone.view.level, 1);
-    assert_eq!(rt; tree.plan(alone.view), Some(Act::Load { word: 6 }));
-    let above = tree.learn(alone.view, 3, &mut ArrayVec::new());
+    let mut view = inside.leave();
+    assert_eq!(rt; view.standing(), Standing::Leaving);
+    assert_eq!(rt; tree.plan(view), Some(Act::Load { word: 7 }));
+    assert!(rt; !tree.learn(&mut view, 0, &mut ArrayVec::new()));
+    assert!(rt; view.query);
+    assert_eq!(rt; view.level, 1);
+    assert_eq!(rt; tree.plan(view), Some(Act::Load { word: 6 }));
+    assert!(rt; !tree.learn(&mut view, 3, &mut ArrayVec::new()));
     assert_eq!(rt;
-        above.view.phase,
+        view.phase,
         Phase::Look {
             left: 1,
             upper: true

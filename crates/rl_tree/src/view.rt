@@ -47,15 +47,19 @@ impl TreeView {
     pub fn at_level(self, level: u32, phase: Phase) -> TreeView
         ensures { result ≡ level_view self level phase }
     {
-        let behind = self.behind;
-        TreeView {
-            rank: self.rank,
-            leaf: self.leaf,
-            level,
-            phase,
-            query: false,
-            behind,
-        }
+        let mut view = self;
+        view.go_to(level, phase);
+        view
+    }
+
+    /// Goes to a level, in a phase.
+    #[inline(always)]
+    pub fn go_to(&mut self, level: u32, phase: Phase)
+        ensures { self.new ≡ level_view self.old level phase }
+    {
+        self.level = level;
+        self.phase = phase;
+        self.query = false;
     }
 
     /// A rank that is out asks: it begins to join its node's queue.

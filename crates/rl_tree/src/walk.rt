@@ -2,10 +2,9 @@
 
 ghost use Rattle.std.specs.Prelude.{◌≡◌, ℕ, true, false, ◌+◌, ◌<◌, ◌≤◌, ◌++◌, [], List, length};
 ghost use Rattle.rl_step.specs.declared.events.Event.{Event as TheEvent};
-ghost use Rattle.rl_step.specs.Lock.{told_with};
 ghost use Rattle.rl_queue.specs.Queue.{full_budget, resume_at};
 ghost use Rattle.rl_queue.specs.Lane.{told_left};
-ghost use Rattle.rl_tree.specs.Tree.{path, is_none, behind_at, member_at as the_member, inside_from, settles_below, comes_in as the_entry, goes_up as the_rise, gives_up as the_release, goes_down as the_descent, walk as the_walk, tree_plan, tree_learn, at_hook, resume_by, entry_if};
+ghost use Rattle.rl_tree.specs.Tree.{path, is_none, behind_at, leaves_behind, member_at as the_member, inside_from, settles_below, comes_in as the_entry, goes_up as the_rise, gives_up as the_release, goes_down as the_descent, walk as the_walk, tree_plan, tree_learn, at_hook, resume_by, entry_if};
 ghost use Rattle.rl_tree.specs.Elements.{how_many, tree_of};
 ghost use Rattle.rl_tree.specs.Fits.{IsPlaced, MayPlan, MayLearn, StatusFits};
 
@@ -13,7 +12,7 @@ use crate::tree::Tree;
 use crate::view::TreeView;
 use arrayvec::ArrayVec;
 use rl_queue::{Phase, QueueView, queue_learn, queue_plan, queue_resume};
-use rl_step::{Event, Learnt};
+use rl_step::Event;
 use rl_word::Act;
 
 /// The passes that a member has that has settled.
@@ -53,67 +52,67 @@ fn resumed(successor: Option<u32>) -> Phase
 }
 
 /// The successor that a rank has found at a level below.
-fn behind(view: TreeView, level: u32) -> Option<u32>
+fn behind(view: &TreeView, level: u32) -> Option<u32>
     requires { level < 3 }
-    ensures { result ≡ behind_at view.behind level }
+    ensures { result ≡ behind_at view.now.behind level }
 {
-    let behind = view.behind;
-    behind[level as usize]
+    view.behind[level as usize]
 }
 
 /// One that has left the queue at a level goes on in the queue below.
-fn goes_down(view: TreeView, level: u32) -> TreeView
+fn goes_down(view: &mut TreeView, level: u32)
     requires { level ≤ 3 }
-    ensures { (told : List TheEvent) → the_descent view level told ≡ record { view = result; events = told; waits = false } }
+    ensures { (told : List TheEvent) → the_descent view.old level told ≡ record { view = view.new; events = told; waits = false } }
 {
     if level == 0 {
-        view.at_level(0, Phase::Idle)
+        view.go_to(0, Phase::Idle);
     } else {
         let below = level - 1;
-        view.at_level(below, resumed(behind(view, below)))
+        let phase = resumed(behind(view, below));
+        view.go_to(below, phase);
     }
 }
 
 /// One that must settle works for its element one level up, but at the root it stands at the hook.
-fn goes_up(top: bool, view: TreeView, level: u32) -> TreeView
+fn goes_up(top: bool, view: &mut TreeView, level: u32)
     requires { level ≤ 3 }
-    ensures { (told : List TheEvent) → the_rise top view level told ≡ record { view = result; events = told; waits = false } }
+    ensures { (told : List TheEvent) → the_rise top view.old level told ≡ record { view = view.new; events = told; waits = false } }
 {
     if top {
-        view.at_level(level, Phase::Settle)
+        view.go_to(level, Phase::Settle);
     } else {
-        view.at_level(level + 1, Phase::Clear)
+        view.go_to(level + 1, Phase::Clear);
+    }
+}
+
+/// Notes the successor that a rank has found at a level.
+fn leave_behind(view: &mut TreeView, level: u32, successor: Option<u32>)
+    ensures { view.new ≡ leaves_behind view.old level successor }
+{
+    if level < 3 {
+        view.behind[level as usize] = successor;
     }
 }
 
 /// One that gives up what is above loads the status of its element one level up, but at the root it stands at the hook.
-fn gives_up(top: bool, view: TreeView, level: u32, successor: Option<u32>) -> TreeView
+fn gives_up(top: bool, view: &mut TreeView, level: u32, successor: Option<u32>)
     requires { level ≤ 3 }
-    ensures { (told : List TheEvent) → the_release top view level successor told ≡ record { view = result; events = told; waits = false } }
+    ensures { (told : List TheEvent) → the_release top view.old level successor told ≡ record { view = view.new; events = told; waits = false } }
 {
-    let mut behind = view.behind;
-    if level < 3 {
-        behind[level as usize] = successor;
-    }
-    TreeView {
-        rank: view.rank,
-        leaf: view.leaf,
-        level: if top { level } else { level + 1 },
-        phase: if top {
-            Phase::Above { successor }
-        } else {
-            Phase::Idle
-        },
-        query: !top,
-        behind,
+    leave_behind(view, level, successor);
+    if top {
+        view.go_to(level, Phase::Above { successor });
+    } else {
+        view.go_to(level + 1, Phase::Idle);
+        view.query = true;
     }
 }
 
 /// Who is inside enters: this stands behind what was told before.
 #[inline(always)]
-pub fn tree_enter(view: TreeView, events: &mut ArrayVec<Event, 8>)
-    requires { length (events.old.items ++ entry_if view.query view.phase view.rank) ≤ 8 }
-    ensures { events.new.items ≡ events.old.items ++ entry_if view.query view.phase view.rank }
+pub fn tree_enter(view: &TreeView, events: &mut ArrayVec<Event, 8>)
+    requires { length (events.old.items ++ entry_if view.now.query view.now.phase view.now.rank) ≤ 8 }
+    ensures { events.new.items ≡ events.old.items ++ entry_if view.now.query view.now.phase view.now.rank }
 {
     if !view.query && matches!(view.phase, Phase::Granted { .. }) {
         events.push(Event::EnterW { rank: view.rank });
@@ -149,11 +148,11 @@ impl Tree {
     }
 
     /// The rank settles in all queues below a level, from the upper one down.
-    fn settle_below(&self, view: TreeView, level: u32, events: &mut ArrayVec<Event, 8>)
+    fn settle_below(&self, view: &TreeView, level: u32, events: &mut ArrayVec<Event, 8>)
         requires low { level ≤ 3 }
         requires room { length events.old.items ≤ 4 }
-        requires there { (j : ℕ) → j < level → path (tree_of self.now.rooted) view.leaf j < how_many self.now.rooted }
-        ensures { events.new.items ≡ events.old.items ++ settles_below (tree_of self.now.rooted) view level }
+        requires there { (j : ℕ) → j < level → path (tree_of self.now.rooted) view.now.leaf j < how_many self.now.rooted }
+        ensures { events.new.items ≡ events.old.items ++ settles_below (tree_of self.now.rooted) view.now level }
     {
         for step in 0..level {
             let below = level - 1 - step;
@@ -167,9 +166,9 @@ impl Tree {
     }
 
     /// The phase in its node's queue of a rank that has come in from a level.
-    fn inside(&self, view: TreeView, level: u32, left: u32) -> Phase
-        requires { view.leaf < how_many self.now.rooted }
-        ensures { result ≡ inside_from (tree_of self.now.rooted) view level left }
+    fn inside(&self, view: &TreeView, level: u32, left: u32) -> Phase
+        requires { view.now.leaf < how_many self.now.rooted }
+        ensures { result ≡ inside_from (tree_of self.now.rooted) view.now level left }
     {
         if level == 0 {
             Phase::Granted { left }
@@ -181,62 +180,54 @@ impl Tree {
     }
 
     /// A rank that has been given the queue at a level settles in all queues below, and is inside.
-    fn comes_in(
-        &self,
-        view: TreeView,
-        level: u32,
-        left: u32,
-        told: &mut ArrayVec<Event, 8>,
-    ) -> TreeView
+    #[inline(never)]
+    fn comes_in(&self, view: &mut TreeView, level: u32, left: u32, told: &mut ArrayVec<Event, 8>)
         requires low { level ≤ 3 }
         requires room { length told.old.items ≤ 4 }
-        requires there { (j : ℕ) → j ≤ level → path (tree_of self.now.rooted) view.leaf j < how_many self.now.rooted }
-        ensures { the_entry (tree_of self.now.rooted) view level left told.old.items ≡ record { view = result; events = told.new.items; waits = false } }
+        requires there { (j : ℕ) → j ≤ level → path (tree_of self.now.rooted) view.old.leaf j < how_many self.now.rooted }
+        ensures { the_entry (tree_of self.now.rooted) view.old level left told.old.items ≡ record { view = view.new; events = told.new.items; waits = false } }
     {
         self.settle_below(view, level, told);
-        view.at_level(0, self.inside(view, level, left))
+        let phase = self.inside(view, level, left);
+        view.go_to(0, phase);
     }
 
-    /// Whether the element at a level of a rank's path is the root.
-    fn is_top(&self, view: TreeView, level: u32) -> bool
-        ensures { result ≡ is_none ((tree_of self.now.rooted).parent (path (tree_of self.now.rooted) view.leaf level)) }
+    /// Whether the element at a level of the path up from a leaf is the root.
+    #[inline(always)]
+    fn is_top(&self, leaf: u32, level: u32) -> bool
+        ensures { result ≡ is_none ((tree_of self.now.rooted).parent (path (tree_of self.now.rooted) leaf level)) }
     {
-        self.parent(self.element_at(view.leaf, level)).is_none()
+        self.parent(self.element_at(leaf, level)).is_none()
     }
 
-    /// Goes on from what a rank's turn at a level led to.
+    /// Goes on from what a rank's turn at a level led to: the phase there, and whether the load has to be made again.
     #[inline(always)]
     fn walk(
         &self,
-        view: TreeView,
+        view: &mut TreeView,
         level: u32,
-        turn: Learnt<QueueView>,
+        phase: Phase,
+        waits: bool,
         told: &mut ArrayVec<Event, 8>,
-    ) -> Learnt<TreeView>
+    ) -> bool
         requires low { level ≤ 3 }
         requires room { length told.old.items ≤ 4 }
-        requires there { (j : ℕ) → j ≤ level → path (tree_of self.now.rooted) view.leaf j < how_many self.now.rooted }
-        ensures { told_with result told.new.items ≡ the_walk (tree_of self.now.rooted) view level turn.view.phase told.old.items turn.waits }
+        requires there { (j : ℕ) → j ≤ level → path (tree_of self.now.rooted) view.old.leaf j < how_many self.now.rooted }
+        ensures { record { view = view.new; events = told.new.items; waits = result } ≡ the_walk (tree_of self.now.rooted) view.old level phase told.old.items waits }
     {
-        let phase = turn.view.phase;
-        let next = match phase {
-            Phase::Settle => goes_up(self.is_top(view, level), view, level),
+        match phase {
+            Phase::Settle => goes_up(self.is_top(view.leaf, level), view, level),
             Phase::Granted { left } => self.comes_in(view, level, left, told),
             Phase::Above { successor } => {
-                gives_up(self.is_top(view, level), view, level, successor)
+                gives_up(self.is_top(view.leaf, level), view, level, successor);
             }
             Phase::Idle => goes_down(view, level),
             _ => {
-                return Learnt {
-                    view: view.at_level(level, phase),
-                    waits: turn.waits,
-                };
+                view.go_to(level, phase);
+                return waits;
             }
-        };
-        Learnt {
-            view: next,
-            waits: false,
         }
+        false
     }
 
     /// The act that a rank makes next; none where it is out, inside, or at the hook.
@@ -262,57 +253,52 @@ impl Tree {
         }
     }
 
-    /// What a rank learns where its planned act told `got`: its view, and whether a waiting load has to be made again. The joins, passes
-    /// and settlements in all its queues are put into `events`, which is empty. The rank may come to the hook.
+    /// What a rank learns where its planned act told `got`: its view changes, and a waiting load may have to be made again. The joins,
+    /// passes and settlements in all its queues are put into `events`, which is empty. The rank may come to the hook.
     #[inline(always)]
-    pub fn learn(
-        &self,
-        view: TreeView,
-        got: u64,
-        events: &mut ArrayVec<Event, 8>,
-    ) -> Learnt<TreeView>
-        requires fits { MayPlan self.now.rooted view }
-        requires got { MayLearn self.now.rooted view got }
+    pub fn learn(&self, view: &mut TreeView, got: u64, events: &mut ArrayVec<Event, 8>) -> bool
+        requires fits { MayPlan self.now.rooted view.old }
+        requires got { MayLearn self.now.rooted view.old got }
         requires none { events.old.items ≡ [] }
-        ensures { told_with result events.new.items ≡ tree_learn (tree_of self.now.rooted) view got }
+        ensures { record { view = view.new; events = events.new.items; waits = result } ≡ tree_learn (tree_of self.now.rooted) view.old got }
     {
-        let member = self.member_at(view.rank, view.leaf, view.level);
-        let names = self.names(self.element_at(view.leaf, view.level));
+        let level = view.level;
+        let member = self.member_at(view.rank, view.leaf, level);
+        let names = self.names(self.element_at(view.leaf, level));
         if view.query {
             let left = passes_told(names.budget, got);
             let upper = names.budget.is_some();
-            Learnt {
-                view: view.at_level(view.level, Phase::Look { left, upper }),
-                waits: false,
-            }
+            view.go_to(level, Phase::Look { left, upper });
+            false
         } else {
             let queue = QueueView {
                 member,
                 phase: view.phase,
             };
             let turn = queue_learn(queue, names, got, events);
-            self.walk(view, view.level, turn, events)
+            self.walk(view, level, turn.view.phase, turn.waits, events)
         }
     }
 
     /// Goes on from the hook: a head of the root settles, and with it all queues below; a leaver hands the root over. What was told
     /// before stands first among the events, for a lock that goes on in the same act. The rank's round is over with it.
-    #[inline(always)]
-    pub fn resume(&self, view: TreeView, told: &mut ArrayVec<Event, 8>) -> TreeView
-        requires hooked { at_hook view ≡ true }
-        requires placed { IsPlaced self.now.rooted view }
+    #[inline(never)]
+    pub fn resume(&self, view: &mut TreeView, told: &mut ArrayVec<Event, 8>)
+        requires hooked { at_hook view.old ≡ true }
+        requires placed { IsPlaced self.now.rooted view.old }
         requires room { length told.old.items ≤ 3 }
-        ensures { resume_by (tree_of self.now.rooted) view view.phase told.old.items ≡ record { view = result; events = told.new.items; waits = false } }
+        ensures { resume_by (tree_of self.now.rooted) view.old view.old.phase told.old.items ≡ record { view = view.new; events = told.new.items; waits = false } }
     {
+        let level = view.level;
         match view.phase {
-            Phase::Above { successor } => view.at_level(view.level, resumed(successor)),
+            Phase::Above { successor } => view.go_to(level, resumed(successor)),
             _ => {
-                let names = self.names(self.element_at(view.leaf, view.level));
+                let names = self.names(self.element_at(view.leaf, level));
                 told.push(Event::Settle {
                     queue: names.queue,
-                    member: self.member_at(view.rank, view.leaf, view.level),
+                    member: self.member_at(view.rank, view.leaf, level),
                 });
-                self.comes_in(view, view.level, full(names.budget), told)
+                self.comes_in(view, level, full(names.budget), told)
             }
         }
     }

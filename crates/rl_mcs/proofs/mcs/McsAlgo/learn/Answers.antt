@@ -24,15 +24,15 @@ learn-turn-requires-clause-got c =
 abbrev the_view : Told TreeView → TreeView
 the_view u = u.view
 
-pub past_hook-past-requires-clause-placed : goal.past_hook-past-requires-clause-placed
-past_hook-past-requires-clause-placed c on =
+pub past_hook-waits-requires-clause-placed : goal.past_hook-waits-requires-clause-placed
+past_hook-waits-requires-clause-placed c on =
     let t = c.args.self.now.tree in
     let same = ap the_view c.learn-turn.ensures in
     subst (IsPlaced t.rooted) (sym same)
     (placed_after t.rooted (levels_of t.rooted.shape) (laid_shaped t.rooted (levels_of t.rooted.shape) t.laid) c.args.self.now.unlimited c.args.view c.args.got c.requires.may (subst (λ z. at_hook z ≡ true) same on))
 
-pub past_hook-past-requires-clause-room : goal.past_hook-past-requires-clause-room
-past_hook-past-requires-clause-room c on =
+pub past_hook-waits-requires-clause-room : goal.past_hook-waits-requires-clause-room
+past_hook-waits-requires-clause-room c on =
     let t = c.args.self.now.tree in
     subst (λ z. length z ≤ 3) (sym (ap (λ u. u.events) c.learn-turn.ensures))
     (few_after t.rooted (levels_of t.rooted.shape) (laid_shaped t.rooted (levels_of t.rooted.shape) t.laid) c.args.self.now.unlimited c.args.view c.args.got c.requires.may (subst (λ z. at_hook z ≡ true) (ap the_view c.learn-turn.ensures) on))
@@ -40,5 +40,5 @@ past_hook-past-requires-clause-room c on =
 pub tree_enter-requires : goal.tree_enter-requires
 tree_enter-requires c =
     let t = c.args.self.now.tree in
-    subst (λ z. length (with_entry z).events ≤ 8) (sym (c.past_hook-past.ensures ∙ ap (past (tree_of t.rooted)) c.learn-turn.ensures))
+    subst (λ z. length (with_entry z).events ≤ 8) (sym (c.past_hook-waits.ensures ∙ ap (past (tree_of t.rooted)) c.learn-turn.ensures))
     (few_told t.rooted (levels_of t.rooted.shape) (laid_shaped t.rooted (levels_of t.rooted.shape) t.laid) c.args.self.now.unlimited c.args.view c.args.got c.requires.may)

@@ -2,5 +2,5 @@
 use Rattle.std.proofs.Common.{rules}
 use Rattle.rl_tree.proofs.tree.Tree.comes_in.Goals as goal
 
-pub inside-requires : goal.inside-requires
-inside-requires c = c.requires.there 0 (search rules)
+pub inside-phase-requires : goal.inside-phase-requires
+inside-phase-requires c = c.requires.there 0 (search rules)
