@@ -14,7 +14,7 @@ use crate::shard::Shard;
 use crate::stepping::step;
 use arrayvec::ArrayVec;
 use rl_model::{Call, Entry};
-use rl_step::{Algo, Stepped, Tally};
+use rl_step::{Algo, Event, Stepped, Tally};
 use rl_window::WinSeat;
 
 /// The seat of a rank at a shard: the one right to act as the rank there.
@@ -126,6 +126,26 @@ impl<A: Algo> Seat<A> {
         ensures alone { length (A.layout (core_at shard.now).algo).node_of ≡ 1 → IsUnhindered result }
         ensures turned { TurnsAt A.table shard.now self.old self.new }
     {
-        step(&shard.window, &mut self.seat, &mut ArrayVec::new())
+        self.step_with(shard, &mut ArrayVec::new())
+    }
+
+    /// The same step with a list for its events, which is empty before and after: who makes many steps makes the list but once.
+    #[inline(always)]
+    pub fn step_with(&mut self, shard: &Shard<A>, events: &mut ArrayVec<Event, 8>) -> Stepped
+        requires seat { IsOf A.table A.good A.layout shard.now self.old }
+        requires none { events.old.items ≡ [] }
+        ensures seat { IsOf A.table A.good A.layout shard.now self.new }
+        ensures none { events.new.items ≡ [] }
+        ensures rank { rank_at self.new ≡ rank_at self.old }
+        ensures finished { (result ≡ Finished) ↔ IsClosed A.table shard.now self.old }
+        ensures nothing { IsClosed A.table shard.now self.old → self.new ≡ self.old }
+        ensures makes { (at : _) → next_at A.table shard.now self.old ≡ Some at → Makes A.table A.good A.layout shard.now self.old self.new at result }
+        ensures cause { CauseAt A.table A.good A.layout shard.now self.old result }
+        ensures alone { length (A.layout (core_at shard.now).algo).node_of ≡ 1 → IsUnhindered result }
+        ensures turned { TurnsAt A.table shard.now self.old self.new }
+    {
+        let stepped = step(&shard.window, &mut self.seat, events);
+        events.clear();
+        stepped
     }
 }

@@ -52,6 +52,7 @@ impl Tallies {
     }
 
     /// Counts what happened with one atom.
+    #[inline(always)]
     pub fn count(&mut self, events: &[Event])
         ensures { self.new ≡ all_noted events.now self.old }
     {

@@ -18,6 +18,7 @@ impl<C: Core> Window<C> {
     ///
     /// Card n is the word n behind the window's words. A take is one compare-and-swap of the card from 0 to the rank and
     /// one; a leave writes 0.
+    #[inline(always)]
     fn make_told<W: Tell<C::View>>(
         &self,
         seat: &mut Seat<u8, Knows<C, C::View>>,
@@ -61,6 +62,7 @@ impl<C: Core> Window<C> {
     }
 
     /// Makes the next atom of `view` in one table step, and gives what it found, or 0 where it only writes.
+    #[inline(always)]
     pub(crate) fn make(
         &self,
         seat: &mut Seat<u8, Knows<C, C::View>>,

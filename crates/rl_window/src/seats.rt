@@ -47,6 +47,7 @@ impl<C: Core> Window<C> {
 
     /// Makes the atom that the seat's view has next, in one table step, with the view's plan. The view becomes what the core makes of it,
     /// and what happened is put into `events`, which is empty.
+    #[inline(always)]
     pub(crate) fn perform(
         &self,
         seat: &mut WinSeat<C>,

@@ -58,6 +58,7 @@ impl<'a, C: Core> Port<C> for TablePort<'a, C> {
         self.seat.view()
     }
 
+    #[inline(always)]
     fn perform(
         &mut self,
         core: &C,
