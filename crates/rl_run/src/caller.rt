@@ -1,16 +1,17 @@
 //! A rank's caller.
 
-ghost use Rattle.std.specs.Prelude.{◌≡◌, ◌↔◌, ◌<◌, ◌≤◌, ◌+◌, false, length, slice_index};
+ghost use Rattle.std.specs.Prelude.{◌≡◌, [], ◌↔◌, ◌<◌, ◌≤◌, ◌+◌, false, length, slice_index};
 ghost use Rattle.rl_model.specs.Geom.{GeomFits};
 ghost use Rattle.rl_step.specs.declared.events.Stepped.TheVariants.{Finished};
 ghost use Rattle.rl_whole.specs.Asks.{block_from, block_shard};
-ghost use Rattle.rl_run.specs.Callers.{IsCaller, IsReady, IsAtEnd, AllClosed, Opens, OpensDue, StepsSeat, IsStep, who, seats_of};
+ghost use Rattle.rl_run.specs.Callers.{IsCaller, IsReady, IsAtEnd, AllClosed, HasNone, Opens, OpensDue, StepsSeat, IsStep, who, seats_of};
 
 use crate::waiting::Patience;
+use arrayvec::ArrayVec;
 use rl_io::{Gate, OpenGate};
 use rl_model::{Call, Geom};
 use rl_shard::{Seat, Shard};
-use rl_step::{Algo, Stepped};
+use rl_step::{Algo, Event, Stepped};
 use std::sync::Wait;
 
 /// Makes the calls of a rank, in their order, each on its shard.
@@ -136,27 +137,33 @@ impl<A: Algo> Caller<A> {
         self.at = at;
     }
 
-    // Opens the next block, of which the gate is told, where none is open and one is left.
-    fn open_due<G: Gate>(&mut self, shards: &[Shard<A>], gate: &G)
+    // Opens the next block, of which the gate is told, where none is open and one is left. Whether it did.
+    #[inline(never)]
+    fn open_due<G: Gate>(&mut self, shards: &[Shard<A>], gate: &G) -> bool
         requires caller { IsCaller A.table A.good A.layout shards.now self.old }
         ensures caller { IsCaller A.table A.good A.layout shards.now self.new }
         ensures same { who self.new ≡ who self.old }
         ensures due { OpensDue A.table shards.now self.old self.new }
+        ensures none { result ≡ false → HasNone A.table shards.now self.old self.new }
         ensures all { AllClosed A.table shards.now self.new.seats.items → self.new.opened ≡ length self.new.calls.items }
     {
         if self.opened as usize >= self.calls.len() {
-            return;
+            return false;
         }
         if self.is_open(shards) {
-            return;
+            return false;
         }
         gate.before(self.rank, self.opened);
         self.open_next(shards);
+        true
     }
 
-    // A step at the shard of the last call that was opened.
-    fn step_last(&mut self, shards: &[Shard<A>]) -> Stepped
+    // A step at the shard of the last call that was opened, with a list for its events, which is empty before and after.
+    #[inline(always)]
+    fn step_last(&mut self, shards: &[Shard<A>], events: &mut ArrayVec<Event, 8>) -> Stepped
         requires caller { IsCaller A.table A.good A.layout shards.now self.old }
+        requires none { events.old.items ≡ [] }
+        ensures none { events.new.items ≡ [] }
         ensures caller { IsCaller A.table A.good A.layout shards.now self.new }
         ensures same { who self.new ≡ who self.old }
         ensures steps { StepsSeat A.table A.good A.layout shards.now self.old self.new result }
@@ -166,22 +173,7 @@ impl<A: Algo> Caller<A> {
     {
         let at = self.at as usize;
         let seat = &mut self.seats[at];
-        seat.step(&shards[at])
-    }
-
-    // A step, of which the gate is told, as of the block that it opens.
-    fn step_told<G: Gate>(&mut self, shards: &[Shard<A>], gate: &G) -> Stepped
-        requires caller { IsCaller A.table A.good A.layout shards.now self.old }
-        ensures caller { IsCaller A.table A.good A.layout shards.now self.new }
-        ensures same { who self.new ≡ who self.old }
-        ensures step { IsStep A.table A.good A.layout shards.now self.old self.new result }
-        ensures finished { (result ≡ Finished) ↔ (AllClosed A.table shards.now self.old.seats.items × (self.old.opened ≡ length self.old.calls.items)) }
-        ensures all_done { result ≡ Finished → IsAtEnd A.table shards.now self.new }
-    {
-        self.open_due(shards, gate);
-        let stepped = self.step_last(shards);
-        gate.after(self.rank, answer_number(&stepped));
-        stepped
+        seat.step_with(&shards[at], events)
     }
 
     /// Opens the next block, where none is open and one is left, and makes one step of the rank's seat at the shard of its calls. It
@@ -197,7 +189,8 @@ impl<A: Algo> Caller<A> {
         ensures finished { (result ≡ Finished) ↔ (AllClosed A.table shards.now self.old.seats.items × (self.old.opened ≡ length self.old.calls.items)) }
         ensures all_done { result ≡ Finished → IsAtEnd A.table shards.now self.new }
     {
-        self.step_told(shards, &OpenGate)
+        self.open_due(shards, &OpenGate);
+        self.step_last(shards, &mut ArrayVec::new())
     }
 
     /// Steps until all calls of the rank are done. The gate is told of each block before it is opened, and of each step after it was
@@ -209,11 +202,20 @@ impl<A: Algo> Caller<A> {
         ensures all_done { IsAtEnd A.table shards.now self.new }
     {
         let mut patience = Patience::new();
+        let mut events = ArrayVec::new();
         for _ in rt.forever() {
-            match self.step_told(shards, gate) {
-                Stepped::Finished => break,
-                stepped => patience.after(&stepped),
+            match self.step_last(shards, &mut events) {
+                Stepped::Finished => {
+                    if !self.open_due(shards, gate) {
+                        break;
+                    }
+                }
+                stepped => {
+                    gate.after(self.rank, answer_number(&stepped));
+                    patience.after(&stepped);
+                }
             }
         }
+        gate.after(self.rank, answer_number(&Stepped::Finished));
     }
 }

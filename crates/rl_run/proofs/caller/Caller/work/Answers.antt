@@ -1,11 +1,29 @@
-use Rattle.std.proofs.Common.{sym, subst}
+-- The loop ends where no block is open and none is left.
+use Rattle.std.proofs.Common.{sym, subst, ap, ◌∙◌}
 use Rattle.std.specs.Option.{IsSome}
-use Rattle.rl_run.specs.Callers.{IsAtEnd}
+use Rattle.rl_run.specs.Callers.{IsCaller, IsAtEnd, who}
+use Rattle.rl_run.specs.CallerLaws.{ended}
 use Rattle.rl_run.proofs.caller.Caller.work.Goals as goal
-use Rattle.rl_run.proofs.caller.Caller.work.Goals.{in-None, in-Some+in-Finished}
+use Rattle.rl_run.proofs.caller.Caller.work.Goals.{in-None, in-Some+in-Finished+then-not-open_due}
+
+pub returns-clause-caller : goal.returns-clause-caller
+returns-clause-caller g c = elim c.match-next.branch [
+  | in-None w ↦ let bad = subst IsSome w.in-None.is c.next.ensures.steps in absurd (cc)
+  | in-Some+in-Finished+then-not-open_due w ↦ subst (IsCaller g.A.Algo.table g.A.Algo.good g.A.Algo.layout c.args.shards.now) (sym w.self-is) w.open_due.ensures.caller
+]
+
+pub returns-clause-same : goal.returns-clause-same
+returns-clause-same g c = elim c.match-next.branch [
+  | in-None w ↦ let bad = subst IsSome w.in-None.is c.next.ensures.steps in absurd (cc)
+  | in-Some+in-Finished+then-not-open_due w ↦ ap who w.self-is ∙ w.open_due.ensures.same ∙ w.step_last.ensures.same ∙ c.loop.invariant.3
+]
 
 pub returns-clause-all_done : goal.returns-clause-all_done
 returns-clause-all_done g c = elim c.match-next.branch [
   | in-None w ↦ let bad = subst IsSome w.in-None.is c.next.ensures.steps in absurd (cc)
-  | in-Some+in-Finished w ↦ subst (IsAtEnd g.A.Algo.table c.args.shards.now) (sym w.self-is) (w.step_told.ensures.all_done w.in-Finished.is)
+  | in-Some+in-Finished+then-not-open_due w ↦
+      let rests = w.step_last.ensures.still (w.step_last.ensures.finished w.in-Finished.is) in
+      let none = w.open_due.ensures.none w.if-not-open_due.true in
+      subst (IsAtEnd g.A.Algo.table c.args.shards.now) (sym none.stays ∙ sym w.self-is)
+      (ended g.A.Algo.table g.A.Algo.good g.A.Algo.further g.A.Algo.layout g.met.A.Algo.laws c.args.shards.now w.step_last.new.self w.step_last.ensures.caller rests (none.none_left rests))
 ]

@@ -1,12 +1,12 @@
 use Rattle.std.proofs.Common.{length, ap, sym, subst, ◌∙◌, ⊎_elim, arith}
 use Rattle.rl_run.specs.Callers.{AllClosed, Opens, HasNone}
 use Rattle.rl_run.specs.CallerLaws.{ended}
-use Rattle.rl_run.proofs.caller.Caller.step_told.Goals as goal
+use Rattle.rl_run.proofs.caller.Caller.step.Goals as goal
 
 pub returns-clause-finished : goal.returns-clause-finished
 returns-clause-finished g c = (
   λ f.
-      let rests = c.step_last-stepped.ensures.finished f in
+      let rests = c.step_last.ensures.finished f in
       ⊎_elim
       (λ (o : Opens g.A.Algo.table c.args.shards.now c.args.self.now c.open_due.new.self). absurd (o.is_open rests))
       (λ (h : HasNone g.A.Algo.table c.args.shards.now c.args.self.now c.open_due.new.self).
@@ -14,12 +14,12 @@ returns-clause-finished g c = (
       c.open_due.ensures.due,
   λ p. ⊎_elim
       (λ (o : Opens g.A.Algo.table c.args.shards.now c.args.self.now c.open_due.new.self). absurd (let l = o.left in let e = p.1 in omega arith))
-      (λ (h : HasNone g.A.Algo.table c.args.shards.now c.args.self.now c.open_due.new.self). c.step_last-stepped.ensures.closed (subst (λ d. AllClosed g.A.Algo.table c.args.shards.now d.seats.items) (sym h.stays) p.0))
+      (λ (h : HasNone g.A.Algo.table c.args.shards.now c.args.self.now c.open_due.new.self). c.step_last.ensures.closed (subst (λ d. AllClosed g.A.Algo.table c.args.shards.now d.seats.items) (sym h.stays) p.0))
       c.open_due.ensures.due,
 )
 
 pub returns-clause-all_done : goal.returns-clause-all_done
 returns-clause-all_done g c = λ f.
-    let rests = c.step_last-stepped.ensures.finished f in
-    ended g.A.Algo.table g.A.Algo.good g.A.Algo.further g.A.Algo.layout g.met.A.Algo.laws c.args.shards.now c.step_last-stepped.new.self c.step_last-stepped.ensures.caller (c.step_last-stepped.ensures.still rests)
-    (c.step_last-stepped.ensures.steps.opened_is ∙ c.open_due.ensures.all rests ∙ ap (λ w. length w.1) (sym c.step_last-stepped.ensures.same))
+    let rests = c.step_last.ensures.finished f in
+    ended g.A.Algo.table g.A.Algo.good g.A.Algo.further g.A.Algo.layout g.met.A.Algo.laws c.args.shards.now c.step_last.new.self c.step_last.ensures.caller (c.step_last.ensures.still rests)
+    (c.step_last.ensures.steps.opened_is ∙ c.open_due.ensures.all rests ∙ ap (λ w. length w.1) (sym c.step_last.ensures.same))
