@@ -1,6 +1,10 @@
 //! A shape as a lock's tree stands on it.
 
-use rl_word::Shape;
+ghost use Rattle.std.specs.Prelude.{◌≡◌, ◌<◌};
+ghost use Rattle.rl_tree.specs.Elements.{of_tree, tree_spot};
+ghost use Rattle.rl_tree.specs.TreeShape.{IsLaid, levels_of};
+
+use rl_word::{Class, Shape, Spot};
 
 /// A shape, with the home of the shard and the budget of the root's queue.
 #[derive(Drop)]
@@ -10,4 +14,46 @@ pub struct Rooted {
     pub shape: Shape,
     /// 1000 at most, or none.
     pub root: Option<u32>,
+}
+
+impl Rooted {
+    /// How many words the tree has.
+    pub(crate) fn words(&self) -> u32
+        requires { IsLaid self.now (levels_of self.now.shape) }
+        ensures { result ≡ of_tree self.now }
+    {
+        let elements = self.shape.elements.len() as u32;
+        elements + 2 * (elements - 1) + 2 * self.shape.node_of.len() as u32
+    }
+
+    /// The class of a word, and where it lives.
+    pub(crate) fn spot(&self, word: u32) -> Spot
+        requires laid { IsLaid self.now (levels_of self.now.shape) }
+        requires there { word < of_tree self.now }
+        ensures { result ≡ tree_spot self.now word }
+    {
+        let elements = self.shape.elements.len() as u32;
+        let of_ranks = elements + 2 * (elements - 1);
+        if word == 0 {
+            Spot {
+                class: Class::Card,
+                home: self.home,
+            }
+        } else if word < elements {
+            Spot {
+                class: Class::Card,
+                home: self.shape.elements[word as usize].first_node,
+            }
+        } else if word < of_ranks {
+            Spot {
+                class: Class::Plain,
+                home: self.shape.elements[((word - elements) / 2 + 1) as usize].first_node,
+            }
+        } else {
+            Spot {
+                class: Class::Plain,
+                home: self.shape.node_of[((word - of_ranks) / 2) as usize],
+            }
+        }
+    }
 }

@@ -4,7 +4,7 @@ ghost use Rattle.std.specs.Prelude.{◌≡◌, ℕ, ◌+◌, ◌*◌, ◌<◌, �
 ghost use Rattle.rl_word.specs.Shapes.{IsProper};
 ghost use Rattle.rl_step.specs.LockQueues.{stands};
 ghost use Rattle.rl_queue.specs.RankWords.{every_second};
-ghost use Rattle.rl_tree.specs.Elements.{how_many, ranks_in, leaf_of, of_tree, names_by, names_in, all_names, tree_of, tree_spot, out_at};
+ghost use Rattle.rl_tree.specs.Elements.{how_many, ranks_in, leaf_of, of_tree, names_by, names_in, all_names, upto, tree_of, tree_spot, out_at};
 ghost use Rattle.rl_tree.specs.TreeShape.{IsBudgeted, IsLaid, levels_of};
 
 use crate::rooted::Rooted;
@@ -23,8 +23,11 @@ use std::alloc::{AllocError as OutOfMemory, Global};
 pub struct Tree {
     rooted: Rooted,
     queues: Vec<QueueNames>,
+    /// The spot of each word.
+    spots: Vec<Spot>,
     ghost laid: { IsLaid rooted (levels_of rooted.shape) },
     ghost named: { queues.items ≡ all_names rooted.shape rooted.root },
+    ghost placed: { spots.items ≡ upto (tree_spot rooted) (of_tree rooted) },
 }
 
 /// The next words of all elements, or their status words, with 0 for the root, which has none.
@@ -105,6 +108,18 @@ fn names_for_all(
     Ok(queues)
 }
 
+/// The spots of all words.
+fn spots_of(alloc: Global, rooted: &Rooted) -> Result<Vec<Spot>, OutOfMemory>
+    requires { IsLaid rooted.now (levels_of rooted.now.shape) }
+    ensures { IfOk result (λ spots. spots.items ≡ upto (tree_spot rooted.now) (of_tree rooted.now)) }
+{
+    let mut spots = Vec::new(alloc);
+    for word in 0..rooted.words() {
+        spots.push(rooted.spot(word))?;
+    }
+    Ok(spots)
+}
+
 /// A copy of a shape.
 fn copy_of(shape: &Shape) -> Result<Shape, OutOfMemory>
     ensures { IfOk result (λ copy. copy ≡ shape.now) }
@@ -137,13 +152,16 @@ impl Tree {
     {
         let queues = names_for_all(alloc, shape, root)?;
         let copy = copy_of(shape)?;
+        let rooted = Rooted {
+            home,
+            shape: copy,
+            root,
+        };
+        let spots = spots_of(alloc, &rooted)?;
         Ok(Tree {
-            rooted: Rooted {
-                home,
-                shape: copy,
-                root,
-            },
+            rooted,
             queues,
+            spots,
         })
     }
 
@@ -151,38 +169,16 @@ impl Tree {
     pub fn words(&self) -> u32
         ensures { result ≡ of_tree self.now.rooted }
     {
-        let elements = self.rooted.shape.elements.len() as u32;
-        elements + 2 * (elements - 1) + 2 * self.rooted.shape.node_of.len() as u32
+        self.rooted.words()
     }
 
     /// The class of a word, and where it lives.
+    #[inline(always)]
     pub fn spot(&self, word: u32) -> Spot
         requires { word < of_tree self.now.rooted }
         ensures { result ≡ tree_spot self.now.rooted word }
     {
-        let elements = self.rooted.shape.elements.len() as u32;
-        let of_ranks = elements + 2 * (elements - 1);
-        if word == 0 {
-            Spot {
-                class: Class::Card,
-                home: self.rooted.home,
-            }
-        } else if word < elements {
-            Spot {
-                class: Class::Card,
-                home: self.rooted.shape.elements[word as usize].first_node,
-            }
-        } else if word < of_ranks {
-            Spot {
-                class: Class::Plain,
-                home: self.rooted.shape.elements[((word - elements) / 2 + 1) as usize].first_node,
-            }
-        } else {
-            Spot {
-                class: Class::Plain,
-                home: self.rooted.shape.node_of[((word - of_ranks) / 2) as usize],
-            }
-        }
+        self.spots[word as usize]
     }
 
     /// The view of a rank that is out.

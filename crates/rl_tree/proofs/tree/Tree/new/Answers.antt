@@ -12,10 +12,16 @@ names_for_all-requires-clause-elements c =
     let ranks : length c.args.shape.now.node_of ≤ 32 = d.ranks in
     omega arith
 
+pub spots_of-requires : goal.spots_of-requires
+spots_of-requires c =
+    subst (λ z. IsLaid (record { home = c.args.home; shape = z; root = c.args.root }) (levels_of z)) (sym c.in_ok-copy.ensures)
+    (proper_laid (record { home = c.args.home; shape = c.args.shape.now; root = c.args.root }) c.requires.proper c.requires.homed c.requires.budgeted c.requires.modest)
+
 pub invariant_of-result : goal.invariant_of-result
 invariant_of-result c =
     record {
       laid = subst (λ z. IsLaid (record { home = c.args.home; shape = z; root = c.args.root }) (levels_of z)) (sym c.in_ok-copy.ensures)
           (proper_laid (record { home = c.args.home; shape = c.args.shape.now; root = c.args.root }) c.requires.proper c.requires.homed c.requires.budgeted c.requires.modest);
       named = c.in_ok-queues.ensures ∙ ap (λ z. all_names z c.args.root) (sym c.in_ok-copy.ensures);
+      placed = c.in_ok-spots.ensures;
     }
