@@ -6,12 +6,18 @@ use rl_step::Stepped;
 /// So many steps in a row that moved tell that the waiting is over.
 const CALM_STEPS: u32 = 4;
 
+/// So many times more the processor is given away after a Lost, once spinning hasn't helped.
+const LOST_WAITS: u32 = 20;
+
 /// Backs off after steps that didn't get on: it spins, longer each time, and then gives the processor to other threads.
 ///
 /// After a Lost the next step is made first, since that leaves the card, which the holder of the lock may need to give it up. One
 /// step that moved is no sign that the waiting is over, as a waiting round may have two loads; so spinning begins anew only after
 /// four of them in a row. Both matter where there are more threads than processors: without them a run takes a hundred times as
 /// long.
+///
+/// A Lost tells that several ranks want one word, and each rank that looks again takes the card that its holder needs. So once spinning
+/// hasn't helped, the wait after a Lost is much longer than another: a spin lock under four ranks is half as fast without that.
 #[derive(Drop)]
 pub struct Patience {
     backoff: Backoff,
@@ -37,7 +43,7 @@ impl Patience {
         match stepped {
             Stepped::Lost { .. } => {
                 if self.lost {
-                    self.wait();
+                    self.wait_after_lost();
                 }
                 self.lost = true;
                 self.calm = 0;
@@ -50,11 +56,21 @@ impl Patience {
     // The rank got on; where that was the step after a Lost, it waits now.
     fn go_on(&mut self) {
         if self.lost {
-            self.wait();
+            self.wait_after_lost();
         } else if self.calm < CALM_STEPS {
             self.calm += 1;
             if self.calm == CALM_STEPS {
                 self.backoff.reset();
+            }
+        }
+    }
+
+    // Waits for those who want the word too.
+    fn wait_after_lost(&mut self) {
+        self.wait();
+        if self.backoff.is_completed() {
+            for _ in 0..LOST_WAITS {
+                self.backoff.snooze();
             }
         }
     }

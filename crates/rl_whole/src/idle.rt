@@ -1,6 +1,6 @@
 //! Atoms of which it is seen beforehand that they change nothing.
 
-ghost use Rattle.std.specs.Prelude.{◌≡◌, ◌==◌, ◌-◌, ℕ, true, false, Some, IfSome};
+ghost use Rattle.std.specs.Prelude.{◌≡◌, ◌↔◌, ◌==◌, ◌<◌, ℕ, true, false, length, slice_index, Some, IfSome};
 ghost use Rattle.rl_step.specs.Core.{MayBe};
 ghost use Rattle.rl_whole.specs.Running.{lock_at};
 ghost use Rattle.rl_step.specs.declared.events.Stepped.{Stepped as TheStepped};
@@ -77,36 +77,20 @@ pub fn waits<A: Algo>(core: &Whole<A>, view: &WholeView<A::View>, words: &Words)
     }
 }
 
-/// Busy at the card of a node where this is in it: one more than a rank's number. `None` where nothing is.
+/// Whether another rank is in the card that a rank was seen to be about to take: it rests still.
 #[inline(always)]
-fn held_by(node: u32, held: u64) -> Option<Stepped>
-    ensures { IfSome result (λ answer. ((held == 0) ≡ false) × (answer ≡ Stepped.Busy node (held - 1))) }
+pub fn is_held(words: &Words, node: u32) -> bool
+    requires { node < length words.now.cards }
+    ensures { (result ≡ true) ↔ ((slice_index words.now.cards node == 0) ≡ false) }
 {
-    if held == 0 || held - 1 > u64::from(u32::MAX) {
-        return None;
-    }
-    Some(Stepped::Busy {
-        node,
-        holder: (held - 1) as u32,
-    })
+    words.card(node) != 0
 }
 
-/// The answer of a rank that rested with this one, where words and cards show that it rests still: another rank is in the card that it
-/// takes, or the word that it waits for has the same value. `None` says nothing of its next step.
+/// Whether a word has the value with which a rank was seen to wait for it: it rests still.
 #[inline(always)]
-pub fn shown(words: &Words, answer: Stepped) -> Option<Stepped>
-    requires { IsNamed words.now answer }
-    ensures { IfSome result (Shows words.now answer) }
+pub fn has_still(words: &Words, word: u32, value: u64) -> bool
+    requires { word < length words.now.words }
+    ensures { (result ≡ true) ↔ (slice_index words.now.words word ≡ value) }
 {
-    match answer {
-        Stepped::Busy { node, .. } => held_by(node, words.card(node)),
-        Stepped::Waiting { word, value } => {
-            if words.value(word) == value {
-                Some(answer)
-            } else {
-                None
-            }
-        }
-        Stepped::Moved | Stepped::Lost { .. } | Stepped::Finished => None,
-    }
+    words.value(word) == value
 }

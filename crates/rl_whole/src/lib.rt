@@ -42,6 +42,6 @@ pub use effect::Effect;
 pub use last_rest::{LastRest, no_rests};
 pub use machine::{Machine, soundness};
 pub use round::{Leg, Round};
-pub use runs::{replay, take_steps};
+pub use runs::{replay, take_step, take_steps};
 pub use side::Side;
 pub use whole::{Whole, WholeView, domains};

@@ -19,7 +19,6 @@ ghost use Rattle.rl_whole.specs.State.{cores_of};
 
 use crate::last_rest::LastRest;
 use crate::records;
-use crate::rest::count_more;
 use crate::start::{first_shards, none_opened};
 use crate::state::{MachineState, make_step, move_on};
 use rl_model::{Entry, Geom};
@@ -126,17 +125,6 @@ impl<A: Algo> Machine<A> {
         self.state.rest_after(rank, answer)
     }
 
-    /// The answer with which a rank rests of which this was noted: that of a card or a word where its shard shows it, and Finished once
-    /// its calls are done. `None` says nothing of its next step.
-    #[inline(always)]
-    pub(crate) fn still_resting(&self, rank: u32, last: &LastRest<A::View>) -> Option<Stepped>
-        requires there { rank < length self.now.calls }
-        requires rested { Rested (running A.table self.now) rank last.now }
-        ensures { IfSome result (Rests (running A.table self.now) rank) }
-    {
-        self.state.still_resting(rank, last)
-    }
-
     /// One step of a rank, made in full.
     #[inline(always)]
     pub(crate) fn move_on(&mut self, rank: u32) -> Result<Stepped, OutOfMemory>
@@ -147,18 +135,6 @@ impl<A: Algo> Machine<A> {
     {
         let answer = move_on(&mut self.state, rank)?;
         Ok(answer)
-    }
-
-    /// So many steps of a rank that rests: each is answered so and changes nothing else, so they are counted at once. The rank
-    /// is named for the contract alone.
-    #[inline(always)]
-    pub(crate) fn rest(&mut self, _rank: u32, answer: Stepped, count: u32)
-        requires rests { Rests (running A.table self.old) _rank answer }
-        requires few { steps_made self.old.steps + count < 2 ^ 32 }
-        ensures cores { cores_of self.new ≡ cores_of self.old }
-        ensures run { running A.table self.new ≡ run_of (running A.table self.old) (replicate count _rank) }
-    {
-        count_more(&mut self.state.steps, answer, count);
     }
 
     /// Whether the rank has an open call: it has until the call's last atom was made, a card's Leave among them.

@@ -1,6 +1,6 @@
 //! A whole replay: a machine is made and takes the steps of a schedule.
 
-ghost use Rattle.std.specs.Prelude.{◌≡◌, true, false, ◌+◌, ◌<◌, ◌^◌, length, replicate, IfOk};
+ghost use Rattle.std.specs.Prelude.{◌≡◌, true, false, ◌+◌, ◌-◌, ◌<◌, ◌^◌, length, replicate, IfOk};
 ghost use Rattle.std.specs.List.{AllByRecursion};
 ghost use Rattle.rl_model.specs.Geom.{GeomFits};
 ghost use Rattle.rl_word.specs.Shapes.{IsProper};
@@ -8,7 +8,7 @@ ghost use Rattle.rl_step.specs.Answers.{steps_made};
 ghost use Rattle.rl_ops.specs.Ops.{OpsFit};
 ghost use Rattle.rl_ops.specs.Schedule.{TurnFits, steps_of};
 ghost use Rattle.rl_whole.specs.Promises.{IsSound, EachKeepsQueues};
-ghost use Rattle.rl_whole.specs.Run.{run_of, turn_ranks, ranks_of, steps_in};
+ghost use Rattle.rl_whole.specs.Run.{run_of, stepped, turn_ranks, ranks_of, steps_in};
 ghost use Rattle.rl_whole.specs.RunActs.{EachSays};
 ghost use Rattle.rl_whole.specs.Rested.{AllRested, IsForgotten};
 ghost use Rattle.rl_whole.specs.Running.{Running, running};
@@ -52,14 +52,13 @@ fn take_noted<A: Algo>(
     ensures kept { result ≡ false → machine.new ≡ machine.old }
 {
     let at = rank as usize;
+    if let LastRest::HeldOff { shard, node } = &rests[at] {
+        return machine.rest_held_off(rank, *shard, *node, count);
+    }
     if let LastRest::Round { .. } = &rests[at] {
         return machine.go_round(rank, &mut rests[at], count);
     }
-    let Some(answer) = machine.still_resting(rank, &rests[at]) else {
-        return false;
-    };
-    machine.rest(rank, answer, count);
-    true
+    machine.rest(rank, &rests[at], count)
 }
 
 /// Notes that nothing is known of a rank, where something was.
@@ -93,6 +92,31 @@ fn look<A: Algo>(
     rests[rank as usize] = machine.rest_after(rank, answer);
 }
 
+/// A step of a rank made in full. Where it didn't get on, what is known of the rank then is noted, and else nothing. Whether it got on.
+#[inline(always)]
+fn step_in_full<A: Algo>(
+    machine: &mut Machine<A>,
+    rests: &mut Vec<LastRest<A::View>>,
+    rank: u32,
+) -> Result<bool, OutOfMemory>
+    requires there { rank < length machine.old.calls }
+    requires few { steps_made machine.old.steps < 2 ^ 32 - 1 }
+    requires many { length rests.old.items ≡ length machine.old.calls }
+    requires rested { AllRested (running A.table machine.old) rests.old.items }
+    ensures cores { cores_of machine.new ≡ cores_of machine.old }
+    ensures stepped { IfOk result (λ _. running A.table machine.new ≡ stepped (running A.table machine.old) rank) }
+    ensures many { length rests.new.items ≡ length rests.old.items }
+    ensures rested { IfOk result (λ _. AllRested (running A.table machine.new) rests.new.items) }
+{
+    forget(rests, rank);
+    let answer = machine.move_on(rank)?;
+    if got_on(answer) {
+        return Ok(true);
+    }
+    look(machine, rests, rank, answer);
+    Ok(false)
+}
+
 /// Takes so many steps of one rank, as `Machine::step` would one by one. What was noted of it, in `rests`, is looked at first: while
 /// the card that it takes is held, the word that it waits for has the same value, or both words of a round in which it waits have,
 /// and once all its calls are done, its steps are counted at once, and so are those after it is seen to rest. `rests` begins as
@@ -120,19 +144,57 @@ pub fn take_steps<A: Algo>(
     if take_noted(machine, rests, rank, count) {
         return Ok(());
     }
-    forget(rests, rank);
     for made in 0..count {
-        let answer = machine.move_on(rank)?;
-        if got_on(answer) {
+        if step_in_full(machine, rests, rank)? {
             continue;
         }
-        look(machine, rests, rank, answer);
         if take_noted(machine, rests, rank, count - made - 1) {
             return Ok(());
         }
-        forget(rests, rank);
     }
     Ok(())
+}
+
+/// A step made in full, apart from the loop over the ranks of a round, most of which rest.
+#[inline(never)]
+fn step_apart<A: Algo>(
+    machine: &mut Machine<A>,
+    rests: &mut Vec<LastRest<A::View>>,
+    rank: u32,
+) -> Result<(), OutOfMemory>
+    requires there { rank < length machine.old.calls }
+    requires few { steps_made machine.old.steps < 2 ^ 32 - 1 }
+    requires many { length rests.old.items ≡ length machine.old.calls }
+    requires rested { AllRested (running A.table machine.old) rests.old.items }
+    ensures stepped { IfOk result (λ _. running A.table machine.new ≡ stepped (running A.table machine.old) rank) }
+    ensures many { length rests.new.items ≡ length rests.old.items }
+    ensures rested { IfOk result (λ _. AllRested (running A.table machine.new) rests.new.items) }
+{
+    let _got_on = step_in_full(machine, rests, rank)?;
+    Ok(())
+}
+
+/// Takes one step of a rank, as `take_steps` takes so many: for rounds, in which each rank takes one.
+///
+/// Fewer than 2^32 steps are made in all. Refused only for want of memory.
+#[inline(always)]
+pub fn take_step<A: Algo>(
+    machine: &mut Machine<A>,
+    rests: &mut Vec<LastRest<A::View>>,
+    rank: u32,
+) -> Result<(), OutOfMemory>
+    requires there { rank < length machine.old.calls }
+    requires few { steps_made machine.old.steps < 2 ^ 32 - 1 }
+    requires many { length rests.old.items ≡ length machine.old.calls }
+    requires rested { AllRested (running A.table machine.old) rests.old.items }
+    ensures stepped { IfOk result (λ _. running A.table machine.new ≡ stepped (running A.table machine.old) rank) }
+    ensures many { length rests.new.items ≡ length rests.old.items }
+    ensures rested { IfOk result (λ _. AllRested (running A.table machine.new) rests.new.items) }
+{
+    if take_noted(machine, rests, rank, 1) {
+        return Ok(());
+    }
+    step_apart(machine, rests, rank)
 }
 
 /// Takes the steps of one turn. A stop has none.

@@ -54,6 +54,7 @@ fn note(events: &mut Vec<(u32, Event)>, step: u32, noted: &[Event])
 }
 
 /// Makes the next atom of the rank, if it has one, in the step with this number.
+#[inline(always)]
 fn make_atom<A: Algo>(shard: &mut ShardState<A>, rank: u32, step: u32) -> Stepped
     requires there { rank < length shard.old.flat.views.items }
     requires ruled { IsRuled A.table A.good A.layout shard.old }
@@ -69,6 +70,7 @@ fn make_atom<A: Algo>(shard: &mut ShardState<A>, rank: u32, step: u32) -> Steppe
 }
 
 /// Makes room for events, and then the rank's next atom. After want of memory nothing has changed.
+#[inline(always)]
 pub fn step_on<A: Algo>(
     shard: &mut ShardState<A>,
     rank: u32,

@@ -2,6 +2,7 @@
 
 ghost use Rattle.std.specs.Prelude.{ℕ, ◌≡◌, ◌+◌, ◌<◌, ◌≤◌, ◌-◌, ◌^◌, [], true, false, length, get_or, nat_lt, slice_get, slice_index, Some, IfOk, IfSome, OnErr};
 ghost use Rattle.rl_model.specs.Geom.{GeomFits};
+ghost use Rattle.rl_step.specs.declared.events.Stepped.TheVariants.{Busy, Waiting};
 ghost use Rattle.rl_step.specs.Answers.{steps_made};
 ghost use Rattle.rl_whole.specs.Asks.{place_after, block_from, block_shard};
 ghost use Rattle.rl_whole.specs.Rest.{Rests};
@@ -11,7 +12,7 @@ ghost use Rattle.rl_whole.specs.Run.{done_of, place_of, has_open_call, opens, at
 ghost use Rattle.rl_whole.specs.Running.{running};
 ghost use Rattle.rl_whole.specs.State.{running_shard, machine_view, cores_of, IsRuled, IsMachine};
 
-use crate::idle::{idle, shown, waits};
+use crate::idle::{has_still, idle, is_held, waits};
 use crate::last_rest::{LastRest, RestAt};
 use crate::shard::{ShardState, open_and_step, step_on};
 use rl_model::{Call, Geom};
@@ -323,46 +324,28 @@ impl<A: Algo> MachineState<A> {
         }
     }
 
-    /// The answer of a rank that was seen to rest there, where the card or the word that it waits for shows that it rests still. `None`
-    /// says nothing of its next step.
+    /// Whether a rank that was seen to be about to take the card of a node, on a shard, is held off still: another rank is in the card.
     #[inline(always)]
-    fn rests_at(&self, rank: u32, shard: u32, answer: Stepped) -> Option<Stepped>
+    pub fn is_held_off(&self, rank: u32, shard: u32, node: u32) -> bool
         requires there { rank < length self.now.ops.by_rank }
         requires good { IsMachine A A.View A.table A.good A.layout (machine_view self.now) }
-        requires rested { RestsAt (running A.table (machine_view self.now)).shards rank shard answer }
-        ensures { IfSome result (Rests (running A.table (machine_view self.now)) rank) }
+        requires rested { RestsAt (running A.table (machine_view self.now)).shards rank shard (Busy node 0) }
+        ensures { result ≡ true → (holder : ℕ) × Rests (running A.table (machine_view self.now)) rank (Busy node holder) }
     {
         let shard = &self.shards[shard as usize];
-        shown(shard.flat.words(), answer)
+        is_held(shard.flat.words(), node)
     }
 
-    /// The answer with which a rank rests of which this was noted: that of a card or a word where its shard shows it, and Finished once
-    /// its calls are done. `None` says nothing of its next step.
+    /// Whether a rank that was seen to wait for a word, on a shard, waits still: the word has the same value.
     #[inline(always)]
-    pub fn still_resting(&self, rank: u32, last: &LastRest<A::View>) -> Option<Stepped>
+    pub fn waits_still(&self, rank: u32, shard: u32, word: u32, value: u64) -> bool
         requires there { rank < length self.now.ops.by_rank }
         requires good { IsMachine A A.View A.table A.good A.layout (machine_view self.now) }
-        requires rested { Rested (running A.table (machine_view self.now)) rank last.now }
-        ensures { IfSome result (Rests (running A.table (machine_view self.now)) rank) }
+        requires rested { RestsAt (running A.table (machine_view self.now)).shards rank shard (Waiting word value) }
+        ensures { result ≡ true → Rests (running A.table (machine_view self.now)) rank (Waiting word value) }
     {
-        match last {
-            LastRest::Unknown | LastRest::Round { .. } => None,
-            LastRest::HeldOff { shard, node } => {
-                let answer = Stepped::Busy {
-                    node: *node,
-                    holder: 0,
-                };
-                self.rests_at(rank, *shard, answer)
-            }
-            LastRest::Waits { shard, word, value } => {
-                let answer = Stepped::Waiting {
-                    word: *word,
-                    value: *value,
-                };
-                self.rests_at(rank, *shard, answer)
-            }
-            LastRest::Finished => Some(Stepped::Finished),
-        }
+        let shard = &self.shards[shard as usize];
+        has_still(shard.flat.words(), word, value)
     }
 }
 
@@ -405,6 +388,7 @@ pub fn go_on<A: Algo>(state: &mut MachineState<A>, rank: u32) -> Result<Stepped,
 }
 
 /// Opens the rank's next block, on the shard of its calls, makes the next atom there, and counts the answer.
+#[inline(never)]
 pub fn open_next<A: Algo>(state: &mut MachineState<A>, rank: u32) -> Result<Stepped, OutOfMemory>
     requires there { rank < length state.old.ops.by_rank }
     requires good { IsMachine A A.View A.table A.good A.layout (machine_view state.old) }
@@ -430,6 +414,7 @@ pub fn open_next<A: Algo>(state: &mut MachineState<A>, rank: u32) -> Result<Step
 
 /// One step of a rank, made in full: its next block is opened where none is open and one is left; then, where a call is open, one
 /// atom is made.
+#[inline(always)]
 pub fn move_on<A: Algo>(state: &mut MachineState<A>, rank: u32) -> Result<Stepped, OutOfMemory>
     requires there { rank < length state.old.ops.by_rank }
     requires good { IsMachine A A.View A.table A.good A.layout (machine_view state.old) }

@@ -6,7 +6,7 @@ ghost use Rattle.rl_whole.specs.Running.{running};
 ghost use Rattle.rmalock.specs.Rounds.{has_work as has_work_at, any_has_work as any_has_work_at, goes_on as goes_on_at, turns, all_rounds};
 
 use rl_step::{Algo, Steps};
-use rl_whole::{LastRest, Machine, no_rests, take_steps};
+use rl_whole::{LastRest, Machine, no_rests, take_step};
 use std::alloc::{AllocError as OutOfMemory, Global};
 
 /// How many steps were made.
@@ -66,7 +66,7 @@ fn take_turns<A: Algo>(
 {
     let left = u64::from(most).saturating_sub(steps_made(machine.steps())) as u32;
     for rank in 0..ranks.min(left) {
-        take_steps(machine, rests, rank, 1)?;
+        take_step(machine, rests, rank)?;
     }
     Ok(())
 }

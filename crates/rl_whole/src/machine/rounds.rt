@@ -1,8 +1,10 @@
 //! Steps of a rank that rests, or goes in a round of two loads: they are counted at once while its shard shows it.
 
-ghost use Rattle.std.specs.Prelude.{◌≡◌, ◌+◌, ◌-◌, ◌<◌, ◌≤◌, ◌^◌, true, false, length, replicate};
+ghost use Rattle.std.specs.Prelude.{◌≡◌, ◌+◌, ◌-◌, ◌<◌, ◌≤◌, ◌^◌, true, false, List, length, replicate};
 ghost use Rattle.rl_step.specs.Answers.{steps_made};
-ghost use Rattle.rl_whole.specs.Rested.{Rested};
+ghost use Rattle.rl_step.specs.declared.events.Stepped.TheVariants.{Busy, Waiting};
+ghost use Rattle.rl_whole.specs.declared.last_rest.LastRest.{LastRest};
+ghost use Rattle.rl_whole.specs.Rested.{RestsAt, Rested, AllRested};
 ghost use Rattle.rl_whole.specs.Rounds.{turned_round, IsInRound, GoesRound};
 ghost use Rattle.rl_whole.specs.Run.{stepped, run_of};
 ghost use Rattle.rl_whole.specs.Running.{running};
@@ -13,9 +15,75 @@ use crate::machine::Machine;
 use crate::rest::count_more;
 use crate::round::Round;
 use crate::round_steps::make_leg;
-use rl_step::Algo;
+use rl_step::{Algo, Stepped};
 
 impl<A: Algo> Machine<A> {
+    /// So many steps of a rank that was seen to be about to take the card of a node, on a shard: where another rank is in it still, each
+    /// is answered so and changes nothing else, so they are counted at once. Else nothing has changed.
+    #[inline(always)]
+    pub(crate) fn rest_held_off(&mut self, rank: u32, shard: u32, node: u32, count: u32) -> bool
+        requires there { rank < length self.old.calls }
+        requires few { steps_made self.old.steps + count < 2 ^ 32 }
+        requires rested { RestsAt (running A.table self.old).shards rank shard (Busy node 0) }
+        ensures cores { cores_of self.new ≡ cores_of self.old }
+        ensures run { result ≡ true → running A.table self.new ≡ run_of (running A.table self.old) (replicate count rank) }
+        ensures noted { (rests : List (LastRest A.View)) → AllRested (running A.table self.old) rests → AllRested (running A.table self.new) rests }
+        ensures kept { result ≡ false → self.new ≡ self.old }
+    {
+        if !self.state.is_held_off(rank, shard, node) {
+            return false;
+        }
+        let busy = Stepped::Busy { node, holder: 0 };
+        count_more(&mut self.state.steps, busy, count);
+        true
+    }
+
+    /// The same of a rank that was seen to wait for a word, while the word has the same value.
+    #[inline(always)]
+    fn rest_waiting(&mut self, rank: u32, shard: u32, word: u32, value: u64, count: u32) -> bool
+        requires there { rank < length self.old.calls }
+        requires few { steps_made self.old.steps + count < 2 ^ 32 }
+        requires rested { RestsAt (running A.table self.old).shards rank shard (Waiting word value) }
+        ensures cores { cores_of self.new ≡ cores_of self.old }
+        ensures run { result ≡ true → running A.table self.new ≡ run_of (running A.table self.old) (replicate count rank) }
+        ensures noted { (rests : List (LastRest A.View)) → AllRested (running A.table self.old) rests → AllRested (running A.table self.new) rests }
+        ensures kept { result ≡ false → self.new ≡ self.old }
+    {
+        if !self.state.waits_still(rank, shard, word, value) {
+            return false;
+        }
+        count_more(
+            &mut self.state.steps,
+            Stepped::Waiting { word, value },
+            count,
+        );
+        true
+    }
+
+    /// The same of a rank of which anything was noted but that it is held off or goes in a round: where all its calls are done, its steps
+    /// are counted too.
+    #[inline(never)]
+    pub(crate) fn rest(&mut self, rank: u32, last: &LastRest<A::View>, count: u32) -> bool
+        requires there { rank < length self.old.calls }
+        requires few { steps_made self.old.steps + count < 2 ^ 32 }
+        requires rested { Rested (running A.table self.old) rank last.now }
+        ensures cores { cores_of self.new ≡ cores_of self.old }
+        ensures run { result ≡ true → running A.table self.new ≡ run_of (running A.table self.old) (replicate count rank) }
+        ensures noted { (rests : List (LastRest A.View)) → AllRested (running A.table self.old) rests → AllRested (running A.table self.new) rests }
+        ensures kept { result ≡ false → self.new ≡ self.old }
+    {
+        match last {
+            LastRest::Waits { shard, word, value } => {
+                self.rest_waiting(rank, *shard, *word, *value, count)
+            }
+            LastRest::Finished => {
+                count_more(&mut self.state.steps, Stepped::Finished, count);
+                true
+            }
+            LastRest::Unknown | LastRest::HeldOff { .. } | LastRest::Round { .. } => false,
+        }
+    }
+
     /// Whether the shard shows that so many steps of a rank in the round are its loads, made on the values that they had.
     #[inline(always)]
     fn shows_round(&self, rank: u32, place: u32, round: Round<A::View>, count: u32) -> bool

@@ -1,28 +1,33 @@
 -- What was noted of the rank says what its steps are, and the others rest where they did.
 use Rattle.std.proofs.Common.{◌≡◌, ◌<◌, Bool, true, false, length, slice_set, ap, sym, refl, subst, arith}
 use Rattle.rl_whole.specs.Rested.{Rested, AllRested}
-use Rattle.rl_whole.specs.RestedLaws.{all_noted, all_run, all_set, noted_at}
+use Rattle.rl_whole.specs.RestedLaws.{all_noted, all_set, noted_at}
 use Rattle.rl_whole.specs.Running.{running}
 use Rattle.rl_whole.proofs.runs.take_noted.Goals as goal
 
-pub still_resting-requires : goal.still_resting-requires
-still_resting-requires g c =
+pub rest_held_off-requires-clause-rested : goal.rest_held_off-requires-clause-rested
+rest_held_off-requires-clause-rested g c =
+    let m = running g.A.Algo.table c.args.machine.now in
     let there = c.requires.there in
     let many = c.requires.many in
     let low : c.args.rank < length c.args.rests.now.items = omega arith in
-    record { there = there; rested = noted_at (running g.A.Algo.table c.args.machine.now) c.args.rests.now.items c.args.rank c.index-2.result.now low c.index-2.ensures c.requires.rested }
+    subst (Rested m c.args.rank) c.in-HeldOff.is (noted_at m c.args.rests.now.items c.args.rank c.index.result.now low c.index.ensures c.requires.rested)
 
-pub returns : goal.returns
-returns g c =
-    record {
-      cores = c.rest.ensures.cores;
-      run = λ _. c.rest.ensures.run;
-      many = refl;
-      rested =
-          subst (λ u. AllRested u c.args.rests.now.items) (sym c.rest.ensures.run)
-          (all_run (running g.A.Algo.table c.args.machine.now) c.args.rank c.in-Some.answer c.args.count c.args.rests.now.items c.in-Some.ensures c.requires.rested);
-      kept = λ e. cc;
-    }
+pub go_round-requires : goal.go_round-requires
+go_round-requires g c =
+    let m = running g.A.Algo.table c.args.machine.now in
+    let there = c.requires.there in
+    let many = c.requires.many in
+    let low : c.args.rank < length c.args.rests.now.items = omega arith in
+    record { there = there; few = c.requires.few; in_round = noted_at m c.args.rests.now.items c.args.rank c.index_mut.result.now low c.index_mut.ensures.value c.requires.rested }
+
+pub rest-requires : goal.rest-requires
+rest-requires g c =
+    let m = running g.A.Algo.table c.args.machine.now in
+    let there = c.requires.there in
+    let many = c.requires.many in
+    let low : c.args.rank < length c.args.rests.now.items = omega arith in
+    record { there = there; few = c.requires.few; rested = noted_at m c.args.rests.now.items c.args.rank c.index-3.result.now low c.index-3.ensures c.requires.rested }
 
 -- so it is either way
 both : {P : Type 0} (b : Bool) → (b ≡ true → P) → (b ≡ false → P) → P

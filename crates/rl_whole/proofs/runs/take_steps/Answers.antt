@@ -2,14 +2,12 @@
 use Rattle.std.proofs.Common.{◌≡◌, ℕ, ◌<◌, ◌+◌, ◌-◌, length, ap, sym, ◌∙◌, subst, arith, replicate}
 use Rattle.std.proofs.lemmas.List.{replicate-append-replicate}
 use Rattle.rl_step.specs.Answers.{steps_made}
-use Rattle.rl_whole.specs.Rested.{AllRested}
-use Rattle.rl_whole.specs.RestedLaws.{all_stepped}
 use Rattle.rl_whole.specs.RoundLaws.{run_end}
 use Rattle.rl_whole.specs.Run.{stepped, run_of}
 use Rattle.rl_whole.specs.Running.{Running, running}
 use Rattle.rl_whole.specs.ReplayLaws.{turn_counts, run_append}
 use Rattle.rl_whole.proofs.runs.take_steps.Goals as goal
-use Rattle.rl_whole.proofs.runs.take_steps.Goals.{In_ok-answer, Then-take_noted-2}
+use Rattle.rl_whole.proofs.runs.take_steps.Goals.{In_ok-step_in_full, Then-take_noted-2}
 use Rattle.rl_whole.proofs.runs.take_steps.Given.{Over}
 
 -- so many steps of a rank are counted, and the calls are as they were
@@ -30,67 +28,56 @@ pub returns-then-take_noted-clause-calls : goal.returns-then-take_noted-clause-c
 returns-then-take_noted-clause-calls g c =
     calls_after (running g.A.Algo.table c.args.machine.now) (running g.A.Algo.table c.take_noted.new.machine) c.args.count c.args.rank (c.take_noted.ensures.run c.if-take_noted.true)
 
-pub move_on-requires-clause-there : goal.move_on-requires-clause-there
-move_on-requires-clause-there g c =
+pub step_in_full-requires-clause-there : goal.step_in_full-requires-clause-there
+step_in_full-requires-clause-there g c =
     there_after (running g.A.Algo.table c.args.machine.now) (running g.A.Algo.table c.loop-made.machine) c.loop-made.made c.args.rank c.loop-made.invariant.1 c.requires.there
 
-pub move_on-requires-clause-few : goal.move_on-requires-clause-few
-move_on-requires-clause-few g c =
+pub step_in_full-requires-clause-many : goal.step_in_full-requires-clause-many
+step_in_full-requires-clause-many g c =
+    c.loop-made.invariant.2 ∙ c.requires.many ∙
+    sym (ap length (calls_after (running g.A.Algo.table c.args.machine.now) (running g.A.Algo.table c.loop-made.machine) c.loop-made.made c.args.rank c.loop-made.invariant.1))
+
+pub step_in_full-requires-clause-few : goal.step_in_full-requires-clause-few
+step_in_full-requires-clause-few g c =
     let made = made_after (running g.A.Algo.table c.args.machine.now) (running g.A.Algo.table c.loop-made.machine) c.loop-made.made c.args.rank c.loop-made.invariant.1 in
     let more : c.loop-made.made < c.args.count = c.loop-made-test.true in
     let few = c.requires.few in
     omega arith
 
 -- after a step more the run is one step longer
-next : (g : Over) (c : In_ok-answer g) → running g.A.Algo.table c.move_on.new.self ≡ run_of (running g.A.Algo.table c.args.machine.now) (replicate (c.loop-made.made + 1) c.args.rank)
+next : (g : Over) (c : In_ok-step_in_full g) → running g.A.Algo.table c.step_in_full.new.machine ≡ run_of (running g.A.Algo.table c.args.machine.now) (replicate (c.loop-made.made + 1) c.args.rank)
 next g c =
-    c.in_ok-answer.ensures.stepped ∙ ap (λ m. stepped m c.args.rank) c.loop-made.invariant.1 ∙ sym (run_end (running g.A.Algo.table c.args.machine.now) c.loop-made.made c.args.rank)
+    c.in_ok-step_in_full.ensures.stepped ∙ ap (λ m. stepped m c.args.rank) c.loop-made.invariant.1 ∙ sym (run_end (running g.A.Algo.table c.args.machine.now) c.loop-made.made c.args.rank)
 
 -- and the rank is there still
-there : (g : Over) (c : In_ok-answer g) → c.args.rank < length c.move_on.new.self.calls
-there g c = there_after (running g.A.Algo.table c.args.machine.now) (running g.A.Algo.table c.move_on.new.self) (c.loop-made.made + 1) c.args.rank (next g c) c.requires.there
+there : (g : Over) (c : In_ok-step_in_full g) → c.args.rank < length c.step_in_full.new.machine.calls
+there g c = there_after (running g.A.Algo.table c.args.machine.now) (running g.A.Algo.table c.step_in_full.new.machine) (c.loop-made.made + 1) c.args.rank (next g c) c.requires.there
 
 -- as are the notes of all ranks
-many : (g : Over) (c : In_ok-answer g) → length c.loop-made.rests.items ≡ length c.move_on.new.self.calls
+many : (g : Over) (c : In_ok-step_in_full g) → length c.step_in_full.new.rests.items ≡ length c.step_in_full.new.machine.calls
 many g c =
-    c.loop-made.invariant.2 ∙ c.requires.many ∙
-    sym (ap length (calls_after (running g.A.Algo.table c.args.machine.now) (running g.A.Algo.table c.move_on.new.self) (c.loop-made.made + 1) c.args.rank (next g c)))
+    c.step_in_full.ensures.many ∙ c.loop-made.invariant.2 ∙ c.requires.many ∙
+    sym (ap length (calls_after (running g.A.Algo.table c.args.machine.now) (running g.A.Algo.table c.step_in_full.new.machine) (c.loop-made.made + 1) c.args.rank (next g c)))
 
--- which are true of it
-noted : (g : Over) (c : In_ok-answer g) → AllRested (running g.A.Algo.table c.move_on.new.self) c.loop-made.rests.items
-noted g c =
-    subst (λ m. AllRested m c.loop-made.rests.items) (sym c.in_ok-answer.ensures.stepped)
-    (all_stepped (running g.A.Algo.table c.loop-made.machine) c.loop-made.rests.items c.args.rank c.loop-made.invariant.4 c.loop-made.invariant.3)
-
-pub loop-made-preserved-then-got_on : goal.loop-made-preserved-then-got_on
-loop-made-preserved-then-got_on g c =
-    let now = (goal.at.loop-made-preserved-then-got_on g c).In_ok-answer in (
-      c.in_ok-answer.ensures.cores ∙ c.loop-made.invariant.0,
+pub loop-made-preserved-then-branch : goal.loop-made-preserved-then-branch
+loop-made-preserved-then-branch g c =
+    let now = (goal.at.loop-made-preserved-then-branch g c).In_ok-step_in_full in (
+      c.step_in_full.ensures.cores ∙ c.loop-made.invariant.0,
       next g now,
-      c.loop-made.invariant.2,
-      noted g now,
-      c.loop-made.invariant.4,
+      c.step_in_full.ensures.many ∙ c.loop-made.invariant.2,
+      c.in_ok-step_in_full.ensures.rested,
     )
 
-pub look-requires-clause-there : goal.look-requires-clause-there
-look-requires-clause-there g c = there g (goal.at.look-requires-clause-there g c).In_ok-answer
-
-pub look-requires-clause-many : goal.look-requires-clause-many
-look-requires-clause-many g c = many g (goal.at.look-requires-clause-many g c).In_ok-answer
-
-pub look-requires-clause-rested : goal.look-requires-clause-rested
-look-requires-clause-rested g c = noted g (goal.at.look-requires-clause-rested g c).In_ok-answer
-
 pub take_noted-requires-in-loop-made-clause-there : goal.take_noted-requires-in-loop-made-clause-there
-take_noted-requires-in-loop-made-clause-there g c = there g (goal.at.take_noted-requires-in-loop-made-clause-there g c).In_ok-answer
+take_noted-requires-in-loop-made-clause-there g c = there g (goal.at.take_noted-requires-in-loop-made-clause-there g c).In_ok-step_in_full
 
 pub take_noted-requires-in-loop-made-clause-many : goal.take_noted-requires-in-loop-made-clause-many
-take_noted-requires-in-loop-made-clause-many g c = c.look.ensures.many ∙ many g (goal.at.take_noted-requires-in-loop-made-clause-many g c).In_ok-answer
+take_noted-requires-in-loop-made-clause-many g c = many g (goal.at.take_noted-requires-in-loop-made-clause-many g c).In_ok-step_in_full
 
 pub take_noted-requires-in-loop-made-clause-few : goal.take_noted-requires-in-loop-made-clause-few
 take_noted-requires-in-loop-made-clause-few g c =
-    let run = next g (goal.at.take_noted-requires-in-loop-made-clause-few g c).In_ok-answer in
-    let made = made_after (running g.A.Algo.table c.args.machine.now) (running g.A.Algo.table c.move_on.new.self) (c.loop-made.made + 1) c.args.rank run in
+    let run = next g (goal.at.take_noted-requires-in-loop-made-clause-few g c).In_ok-step_in_full in
+    let made = made_after (running g.A.Algo.table c.args.machine.now) (running g.A.Algo.table c.step_in_full.new.machine) (c.loop-made.made + 1) c.args.rank run in
     let more : c.loop-made.made < c.args.count = c.loop-made-test.true in
     let few = c.requires.few in
     omega arith
@@ -105,8 +92,8 @@ whole old now last n count rank more is rest =
 
 rest : (g : Over) (c : Then-take_noted-2 g) → running g.A.Algo.table c.take_noted-in-loop-made.new.machine ≡ run_of (running g.A.Algo.table c.args.machine.now) (replicate c.args.count c.args.rank)
 rest g c =
-    whole (running g.A.Algo.table c.args.machine.now) (running g.A.Algo.table c.move_on.new.self) (running g.A.Algo.table c.take_noted-in-loop-made.new.machine)
-    c.loop-made.made c.args.count c.args.rank c.loop-made-test.true (next g (goal.at.Then-take_noted-2 g c).In_ok-answer) (c.take_noted-in-loop-made.ensures.run c.if-take_noted-2.true)
+    whole (running g.A.Algo.table c.args.machine.now) (running g.A.Algo.table c.step_in_full.new.machine) (running g.A.Algo.table c.take_noted-in-loop-made.new.machine)
+    c.loop-made.made c.args.count c.args.rank c.loop-made-test.true (next g (goal.at.Then-take_noted-2 g c).In_ok-step_in_full) (c.take_noted-in-loop-made.ensures.run c.if-take_noted-2.true)
 
 pub returns-then-take_noted-2-clause-run : goal.returns-then-take_noted-2-clause-run
 returns-then-take_noted-2-clause-run g c = rest g (goal.at.returns-then-take_noted-2-clause-run g c).Then-take_noted-2
@@ -125,11 +112,10 @@ pub loop-made-preserved : goal.loop-made-preserved
 loop-made-preserved g c =
     let tried = c.take_noted-in-loop-made.ensures in
     let kept = tried.kept c.if-take_noted-2.false in (
-      tried.cores ∙ c.in_ok-answer.ensures.cores ∙ c.loop-made.invariant.0,
-      ap (running g.A.Algo.table) kept ∙ next g (goal.at.loop-made-preserved g c).In_ok-answer,
-      c.forget-in-loop-made.ensures.many ∙ tried.many ∙ c.look.ensures.many ∙ c.loop-made.invariant.2,
-      c.forget-in-loop-made.ensures.rested (running g.A.Algo.table c.take_noted-in-loop-made.new.machine) tried.rested,
-      c.forget-in-loop-made.ensures.forgotten,
+      tried.cores ∙ c.step_in_full.ensures.cores ∙ c.loop-made.invariant.0,
+      ap (running g.A.Algo.table) kept ∙ next g (goal.at.loop-made-preserved g c).In_ok-step_in_full,
+      tried.many ∙ c.step_in_full.ensures.many ∙ c.loop-made.invariant.2,
+      tried.rested,
     )
 
 pub returns-clause-steps : goal.returns-clause-steps
