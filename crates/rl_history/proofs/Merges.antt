@@ -1,9 +1,12 @@
 -- The gets and holds, sorted by the counts that they looked at and put between the updates, are the history.
-use Rattle.std.proofs.Common.{◌≡◌, ℕ, suc, ◌+◌, ◌<◌, ◌≤◌, ◌&&◌, Bool, true, false, not, cond, leb, ltb, eqb, List, [], ◌∷◌, ◌++◌, length, take, drop, filter, get_or, Result, Ok, Err, IfOk, refl, sym, ap, subst, ◌∙◌, arith}
+use Rattle.std.proofs.Common.{◌≡◌, ℕ, suc, ◌+◌, ◌-◌, ◌<◌, ◌≤◌, ◌&&◌, Bool, true, false, not, cond, leb, ltb, eqb, List, [], ◌∷◌, ◌++◌, length, take, drop, filter, get_or, Result, Ok, Err, IfOk, refl, sym, ap, subst, ◌∙◌, add-one, append_assoc, arith, drop-cons}
+use denote.Ref.{Bor}
 use Rattle.std.specs.List.Sorted.{IsNonDecreasingBy, IsStableByKey, ties}
 use Rattle.std.specs.Ordering.{nat_cmp, is_lt}
 use Rattle.std.specs.declared.cmp.Ordering.TheVariants.{Less, Equal, Greater}
+use Rattle.std.proofs.Math.ListN.{get_or-map}
 use Rattle.std.proofs.lemmas.Bool.Decides.{nat_tests}
+use Rattle.std.proofs.lemmas.List.{drop-drop, drop-map, length-drop, length-map, take-map, take_all}
 use Rattle.std.proofs.lemmas.List.Sums.{prefix_len-le-length}
 use Rattle.std.proofs.lemmas.List.Elements.{filter-append, filter_agree}
 use Rattle.rl_model.specs.declared.call.Call.TheVariants.{Hold}
@@ -11,10 +14,93 @@ use Rattle.rl_model.specs.declared.entry.Entry.{Entry}
 use Rattle.rl_model.specs.declared.entry.Reply.TheVariants.{Held}
 use Rattle.rl_journal.specs.History.{looked_at, reads_at, history_from, history}
 use Rattle.rl_journal.specs.Legal.{updates}
-use Rattle.rl_history.specs.Merging.{is_read, all_reads, up_to, merged}
+use Rattle.rl_history.specs.Merging.{is_read, all_reads, seen, up_to, merged}
 
 pub up_to_inside : (count : ℕ) (entries : List Entry) → up_to count entries ≤ length entries
 up_to_inside count entries = prefix_len-le-length (λ e. leb e.at count) entries
+
+-- a reference to an entry, wherever it may point
+abbrev to : Entry → Bor Entry
+to e = record { ref_ptr = (0, 0); now = e }
+
+-- a test of the entries that references show
+filter_seen : (p : Entry → Bool) (rs : List (Bor Entry)) → filter p (seen rs) ≡ seen (filter (λ r. p r.now) rs)
+filter_seen p [] = refl
+filter_seen p (r ∷ rs) =
+    elim (p r.now) as (λ b. cond b (r.now ∷ filter p (seen rs)) (filter p (seen rs)) ≡ seen (cond b (r ∷ filter (λ r. p r.now) rs) (filter (λ r. p r.now) rs))) [
+      | true ↦ ap (λ z. r.now ∷ z) (filter_seen p rs)
+      | false ↦ filter_seen p rs
+    ]
+
+pub up_to_within : (count : ℕ) (rs : List (Bor Entry)) → up_to count (seen rs) ≤ length rs
+up_to_within count rs = rw length-map at (up_to_inside count (seen rs))
+
+-- one more that looked at the count or an earlier one, and the first that didn't
+pub up_to_more : (count i : ℕ) (rs : List (Bor Entry)) (d : Bor Entry) → i < length rs → (get_or rs i d).now.at ≤ count → up_to count (seen (drop i rs)) ≡ 1 + up_to count (seen (drop (i + 1) rs))
+up_to_more count i rs d lt low =
+    let hit : leb (get_or rs i d).now.at count ≡ true = grind (arith, nat_tests) in
+    rw (drop-cons rs i d, add-one) (ap (λ b. cond {A = ℕ} b (1 + up_to count (seen (drop (suc i) rs))) 0) hit)
+
+pub up_to_stops : (count i : ℕ) (rs : List (Bor Entry)) (d : Bor Entry) → i < length rs → count < (get_or rs i d).now.at → up_to count (seen (drop i rs)) ≡ 0
+up_to_stops count i rs d lt high =
+    let miss : leb (get_or rs i d).now.at count ≡ false = grind (arith, nat_tests) in
+    rw (drop-cons rs i d) (ap (λ b. cond {A = ℕ} b (1 + up_to count (seen (drop (suc i) rs))) 0) miss)
+
+-- those so far are all of the first ones
+pub first_ones : (count i : ℕ) (rs : List (Bor Entry)) (d : Bor Entry) → i < length rs → count < (get_or rs i d).now.at → up_to count (seen rs) ≡ i + up_to count (seen (drop i rs)) → seen (take i rs) ≡ take (up_to count (seen rs)) (seen rs)
+first_ones count i rs d lt high counted =
+    let none = up_to_stops count i rs d lt high in
+    let here : up_to count (seen rs) ≡ i = omega arith in
+    sym (take-map (λ (r : Bor Entry). r.now) i rs) ∙ ap (λ n. take n (seen rs)) (sym here)
+
+-- at one place of the journal: the gets and holds up to its count, the update, and the rest
+pub merged_more : (rs : List (Bor Entry)) (start place : ℕ) (es : List Entry) (d : Entry) → place < length es
+    → merged (seen (drop start rs)) place (drop place es) ≡ take (up_to place (seen (drop start rs))) (seen (drop start rs)) ++ get_or es place d ∷ merged (seen (drop (start + up_to place (seen (drop start rs))) rs)) (place + 1) (drop (place + 1) es)
+merged_more rs start place es d lt =
+    let n = up_to place (seen (drop start rs)) in
+    let later : drop n (seen (drop start rs)) ≡ seen (drop (start + n) rs) = drop-map (λ (r : Bor Entry). r.now) n (drop start rs) ∙ ap seen (drop-drop n start rs) in
+    let opened : drop place es ≡ get_or es place d ∷ drop (place + 1) es = rw (drop-cons es place d, add-one) refl in
+    ap (λ z. merged (seen (drop start rs)) place z) opened
+    ∙ ap (λ z. take n (seen (drop start rs)) ++ get_or es place d ∷ merged z (place + 1) (drop (place + 1) es)) later
+
+-- an iteration: those up to the count and the update come to what stands
+pub one_more : (rs : List (Bor Entry)) (start n place : ℕ) (es : List Entry) (d : Entry) (before among after whole : List Entry) → place < length es
+    → before ++ merged (seen (drop start rs)) place (drop place es) ≡ whole
+    → among ≡ before ++ take (up_to place (seen (drop start rs))) (seen (drop start rs)) → n ≡ up_to place (seen (drop start rs))
+    → after ≡ among ++ get_or es place d ∷ []
+    → after ++ merged (seen (drop (start + n) rs)) (place + 1) (drop (place + 1) es) ≡ whole
+one_more rs start n place es d before among after whole lt stands pushed counted updated =
+    let here = take (up_to place (seen (drop start rs))) (seen (drop start rs)) in
+    let rest = merged (seen (drop (start + n) rs)) (place + 1) (drop (place + 1) es) in
+    let step : merged (seen (drop start rs)) place (drop place es) ≡ here ++ get_or es place d ∷ rest =
+    subst (λ k. merged (seen (drop start rs)) place (drop place es) ≡ here ++ get_or es place d ∷ merged (seen (drop (start + k) rs)) (place + 1) (drop (place + 1) es)) (sym counted) (merged_more rs start place es d lt) in
+    ap (λ z. z ++ rest) updated
+    ∙ ap (λ z. (z ++ get_or es place d ∷ []) ++ rest) pushed
+    ∙ append_assoc (before ++ here) (get_or es place d ∷ []) rest
+    ∙ append_assoc before here (get_or es place d ∷ rest)
+    ∙ ap (λ z. before ++ z) (sym step)
+    ∙ stands
+
+-- all from a place on
+pub from_there : (start : ℕ) (rs : List (Bor Entry)) → take (length rs - start) (drop start rs) ≡ drop start rs
+from_there start rs = take_all (length rs - start) (drop start rs) (omega (arith, length-drop start rs))
+
+pub start_within : (place start : ℕ) (rs : List (Bor Entry)) → start ≤ length rs → start + up_to place (seen (drop start rs)) ≤ length rs
+start_within place start rs low = let h = up_to_within place (drop start rs) in omega (arith, length-drop start rs)
+
+-- sorted references show sorted entries
+pub sorted_seen : (rs : List (Bor Entry)) → IsNonDecreasingBy (λ r. r.now.at) rs → IsNonDecreasingBy (λ e. e.at) (seen rs)
+sorted_seen rs up i j d le lt =
+    let lower = get_or-map (λ (r : Bor Entry). r.now) rs i (to d) in
+    let higher = get_or-map (λ (r : Bor Entry). r.now) rs j (to d) in
+    let within : j < length rs = rw length-map at lt in
+    let rises = up i j (to d) le within in
+    rw (lower, higher) rises
+
+pub stable_seen : (before after : List (Bor Entry)) → IsStableByKey (λ r. r.now.at) nat_cmp before after → IsStableByKey (λ e. e.at) nat_cmp (seen before) (seen after)
+stable_seen before after stable e =
+    let tied = ties (λ (x y : Entry). is_lt (nat_cmp x.at y.at)) e in
+    filter_seen tied after ∙ ap seen (stable (to e)) ∙ sym (filter_seen tied before)
 
 -- the entry looked at this count
 abbrev pub is_at : ℕ → Entry → Bool

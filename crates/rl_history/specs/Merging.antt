@@ -1,6 +1,7 @@
 -- The gets and holds of all transcripts, and how the journal is put between them.
-use Rattle.std.specs.Prelude.{ℕ, ◌+◌, nat_le, Bool, not, List, [], ◌∷◌, ◌++◌, drop, filter, flat_map, take}
+use Rattle.std.specs.Prelude.{ℕ, ◌+◌, nat_le, Bool, not, List, [], ◌∷◌, ◌++◌, drop, filter, flat_map, map, take}
 use Rattle.std.specs.List.{prefix_len}
+use denote.Ref.{Bor}
 use Rattle.rl_model.specs.declared.entry.Entry.{Entry}
 use Rattle.rl_journal.specs.Legal.{updates}
 
@@ -10,6 +11,10 @@ is_read e = not (updates e)
 -- the gets and holds, rank after rank
 abbrev pub all_reads : List (List Entry) → List Entry
 all_reads transcripts = flat_map (filter is_read) transcripts
+
+-- the entries that references show
+abbrev pub seen : List (Bor Entry) → List Entry
+seen = map (λ r. r.now)
 
 -- how many of the first entries looked at this count or an earlier one
 abbrev pub up_to : ℕ → List Entry → ℕ

@@ -1,77 +1,79 @@
 //! The history of a shard, from its journal and its ranks' transcripts.
-ghost use Rattle.std.specs.Prelude.{◌≡◌, ◌++◌, drop, filter, map, take, IfOk, OnOk};
+ghost use Rattle.std.specs.Prelude.{◌≡◌, ◌++◌, filter, map, take, IfOk, OnOk};
 ghost use Rattle.std.specs.List.Sorted.{IsNonDecreasingBy, IsStableByKey};
 ghost use Rattle.std.specs.Ordering.{nat_cmp};
 ghost use Rattle.rl_journal.specs.History.{history};
-ghost use Rattle.rl_history.specs.Merging.{is_read, all_reads, up_to, merged};
+ghost use Rattle.rl_history.specs.Merging.{is_read, all_reads, seen, up_to, merged};
 
 use rl_model::Entry;
 use std::alloc::{AllocError as OutOfMemory, Global};
 
-// Appends the gets and holds of a transcript.
-fn push_reads(reads: &mut Vec<Entry>, transcript: &[Entry]) -> Result<(), OutOfMemory>
-    ensures { OnOk result (reads.new.items ≡ reads.old.items ++ filter is_read transcript.now) }
+// Lists the gets and holds of a transcript.
+fn push_reads<'a>(reads: &mut Vec<&'a Entry>, transcript: &'a [Entry]) -> Result<(), OutOfMemory>
+    ensures { OnOk result (seen reads.new.items ≡ seen reads.old.items ++ filter is_read transcript.now) }
 {
     for entry in transcript {
         if !entry.call.is_update() {
-            reads.push(*entry)?;
+            reads.push(entry)?;
         }
     }
     Ok(())
 }
 
-// The gets and holds, rank after rank.
-fn reads_of(alloc: Global, transcripts: &[Vec<Entry>]) -> Result<Vec<Entry>, OutOfMemory>
-    ensures { IfOk result (λ reads. reads.items ≡ all_reads (map (λ t. t.items) transcripts.now)) }
+// The gets and holds, rank after rank, where they stand.
+fn reads_of<'a>(alloc: Global, transcripts: &'a [Vec<Entry>]) -> Result<Vec<&'a Entry>, OutOfMemory>
+    ensures { IfOk result (λ reads. seen reads.items ≡ all_reads (map (λ t. t.items) transcripts.now)) }
 {
-    let mut reads = Vec::new(alloc);
+    let room = transcripts.iter().fold(
+        0,
+        |room: usize, transcript| room.saturating_add(transcript.len()),
+    );
+    let mut reads = Vec::with_capacity(alloc, room)?;
     for transcript in transcripts {
         push_reads(&mut reads, transcript.as_slice())?;
     }
     Ok(reads)
 }
 
-// How many of the first entries looked at this count or an earlier one.
-fn up_to(entries: &[Entry], count: usize) -> usize
-    ensures { result ≡ up_to count entries.now }
+// Appends the first entries, those that looked at this count or an earlier one, and says how many they are.
+fn push_up_to(
+    history: &mut Vec<Entry>,
+    reads: &[&Entry],
+    count: usize,
+) -> Result<usize, OutOfMemory>
+    ensures pushed { IfOk result (λ _. history.new.items ≡ history.old.items ++ take (up_to count (seen reads.now)) (seen reads.now)) }
+    ensures pushed_count { IfOk result (λ n. n ≡ up_to count (seen reads.now)) }
 {
-    entries
-        .iter()
-        .take_while(|entry| entry.at as usize <= count)
-        .count()
-}
-
-// The first entries that looked at this count or an earlier one, and the others.
-#[tactic(auto, using(crate::proofs::Merges::up_to_inside))]
-fn split_at_count(entries: &[Entry], count: usize) -> (&[Entry], &[Entry])
-    ensures front { result.0.now ≡ take (up_to count entries.now) entries.now }
-    ensures rest { result.1.now ≡ drop (up_to count entries.now) entries.now }
-{
-    let here = up_to(entries, count);
-    (&entries[..here], &entries[here..])
+    for (place, entry) in reads.iter().enumerate() {
+        if entry.at as usize > count {
+            return Ok(place);
+        }
+        history.push(**entry)?;
+    }
+    Ok(reads.len())
 }
 
 // The journal, with the gets and holds before the updates at the counts that they looked at.
-fn between(alloc: Global, journal: &[Entry], reads: &[Entry]) -> Result<Vec<Entry>, OutOfMemory>
-    ensures { IfOk result (λ entries. entries.items ≡ merged reads.now 0 journal.now) }
+fn between(alloc: Global, journal: &[Entry], reads: &[&Entry]) -> Result<Vec<Entry>, OutOfMemory>
+    ensures { IfOk result (λ entries. entries.items ≡ merged (seen reads.now) 0 journal.now) }
 {
-    let mut history = Vec::new(alloc);
-    let mut rest = reads;
+    let mut history = Vec::with_capacity(alloc, journal.len() + reads.len())?;
+    let mut start = 0;
     for (place, update) in journal.iter().enumerate() {
-        let (here, later) = split_at_count(rest, place);
-        history.extend_from_slice(here)?;
+        start += push_up_to(&mut history, &reads[start..], place)?;
         history.push(*update)?;
-        rest = later;
     }
-    let (last, _) = split_at_count(rest, journal.len());
-    history.extend_from_slice(last)?;
+    push_up_to(&mut history, &reads[start..], journal.len())?;
     Ok(history)
 }
 
 // The gets and holds in the order of the counts that they looked at, and at one count rank after rank.
-fn sorted_reads(alloc: Global, transcripts: &[Vec<Entry>]) -> Result<Vec<Entry>, OutOfMemory>
-    ensures sorted { IfOk result (λ reads. IsNonDecreasingBy (λ e. e.at) reads.items) }
-    ensures stable { IfOk result (λ reads. IsStableByKey (λ e. e.at) nat_cmp (all_reads (map (λ t. t.items) transcripts.now)) reads.items) }
+fn sorted_reads<'a>(
+    alloc: Global,
+    transcripts: &'a [Vec<Entry>],
+) -> Result<Vec<&'a Entry>, OutOfMemory>
+    ensures sorted { IfOk result (λ reads. IsNonDecreasingBy (λ e. e.at) (seen reads.items)) }
+    ensures stable { IfOk result (λ reads. IsStableByKey (λ e. e.at) nat_cmp (all_reads (map (λ t. t.items) transcripts.now)) (seen reads.items)) }
 {
     let mut reads = reads_of(alloc, transcripts)?;
     reads.sort_by_key(|entry| entry.at)?;
