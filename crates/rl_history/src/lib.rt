@@ -2,7 +2,8 @@
 //!
 //! - A **report** ([`Report`]) has a part for each shard ([`ShardReport`]), what each rank did ([`Done`]), and, for a
 //!   replay, how often each answer came.
-//! - The **history** of a shard is its journal and its ranks' transcripts in one order ([`merge`]).
+//! - The **history** of a shard is its journal and its ranks' transcripts in one order ([`merge`], or
+//!   [`merge_lent`] of lent ones).
 //! - A queue's **tally** counts its settlements and passes ([`tallies`]); a **budget** bounds it ([`within`]).
 //! - [`report_text`] prints a report, [`read_report`] reads one.
 //!
@@ -29,7 +30,7 @@ mod tests;
 mod version;
 
 pub use counting::{tallies, within};
-pub use merging::merge;
+pub use merging::{merge, merge_lent};
 pub use naming::{Naming, QueueName};
 pub use printer::{put_end, report_text};
 pub use reader::{no_report_fault, read_report};

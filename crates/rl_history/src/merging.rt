@@ -21,8 +21,8 @@ fn push_reads<'a>(reads: &mut Vec<&'a Entry>, transcript: &'a [Entry]) -> Result
 }
 
 // The gets and holds, rank after rank, where they stand.
-fn reads_of<'a>(alloc: Global, transcripts: &'a [Vec<Entry>]) -> Result<Vec<&'a Entry>, OutOfMemory>
-    ensures { IfOk result (λ reads. seen reads.items ≡ all_reads (map (λ t. t.items) transcripts.now)) }
+fn reads_of<'a>(alloc: Global, transcripts: &[&'a [Entry]]) -> Result<Vec<&'a Entry>, OutOfMemory>
+    ensures { IfOk result (λ reads. seen reads.items ≡ all_reads (map (λ t. t.now) transcripts.now)) }
 {
     let room = transcripts.iter().fold(
         0,
@@ -30,7 +30,7 @@ fn reads_of<'a>(alloc: Global, transcripts: &'a [Vec<Entry>]) -> Result<Vec<&'a 
     );
     let mut reads = Vec::with_capacity(alloc, room)?;
     for transcript in transcripts {
-        push_reads(&mut reads, transcript.as_slice())?;
+        push_reads(&mut reads, transcript)?;
     }
     Ok(reads)
 }
@@ -70,27 +70,50 @@ fn between(alloc: Global, journal: &[Entry], reads: &[&Entry]) -> Result<Vec<Ent
 // The gets and holds in the order of the counts that they looked at, and at one count rank after rank.
 fn sorted_reads<'a>(
     alloc: Global,
-    transcripts: &'a [Vec<Entry>],
+    transcripts: &[&'a [Entry]],
 ) -> Result<Vec<&'a Entry>, OutOfMemory>
     ensures sorted { IfOk result (λ reads. IsNonDecreasingBy (λ e. e.at) (seen reads.items)) }
-    ensures stable { IfOk result (λ reads. IsStableByKey (λ e. e.at) nat_cmp (all_reads (map (λ t. t.items) transcripts.now)) (seen reads.items)) }
+    ensures stable { IfOk result (λ reads. IsStableByKey (λ e. e.at) nat_cmp (all_reads (map (λ t. t.now) transcripts.now)) (seen reads.items)) }
 {
     let mut reads = reads_of(alloc, transcripts)?;
     reads.sort_by_key(|entry| entry.at)?;
     Ok(reads)
 }
 
+// The transcripts, each where it stands.
+fn lent_slices(alloc: Global, transcripts: &[Vec<Entry>]) -> Result<Vec<&[Entry]>, OutOfMemory>
+    ensures { IfOk result (λ lent. map (λ t. t.now) lent.items ≡ map (λ t. t.items) transcripts.now) }
+{
+    let mut lent = Vec::with_capacity(alloc, transcripts.len())?;
+    for transcript in transcripts {
+        lent.push(transcript.as_slice())?;
+    }
+    Ok(lent)
+}
+
 /// The history of a shard: its journal and the gets and holds of its ranks' transcripts in one order. They are ordered by
 /// the count of updates that each found, gets and holds before the update at that count, by rank, and each rank's as its
 /// transcript has them. A get or hold that found more updates than the journal has isn't in it.
 ///
-/// It takes time in proportion to n log n, for n entries in all.
+/// It takes time in proportion to n log n, for n entries in all, and copies each entry once.
 pub fn merge(
     alloc: Global,
     journal: &[Entry],
     transcripts: &[Vec<Entry>],
 ) -> Result<Vec<Entry>, OutOfMemory>
     ensures { IfOk result (λ entries. entries.items ≡ history journal.now (map (λ t. t.items) transcripts.now)) }
+{
+    let lent = lent_slices(alloc, transcripts)?;
+    merge_lent(alloc, journal, lent.as_slice())
+}
+
+/// The same history, of transcripts that are lent: for one who has no lists of them of its own.
+pub fn merge_lent(
+    alloc: Global,
+    journal: &[Entry],
+    transcripts: &[&[Entry]],
+) -> Result<Vec<Entry>, OutOfMemory>
+    ensures { IfOk result (λ entries. entries.items ≡ history journal.now (map (λ t. t.now) transcripts.now)) }
 {
     let reads = sorted_reads(alloc, transcripts)?;
     between(alloc, journal, reads.as_slice())

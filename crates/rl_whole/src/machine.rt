@@ -189,6 +189,16 @@ impl<A: Algo> Machine<A> {
         records::transcripts(alloc, kept, ranks)
     }
 
+    /// Every rank's entries on a shard, rank by rank, each where it stands: nothing is copied. Refused only for want of memory.
+    pub fn lent_transcripts(&self, alloc: Global, shard: u32) -> Result<Vec<&[Entry]>, OutOfMemory>
+        requires { shard < length self.now.shards }
+        ensures { IfOk result (λ lent. map (λ t. t.now) lent.items ≡ transcripts_at (running A.table self.now) shard) }
+    {
+        let kept = self.state.shard(shard);
+        let ranks = self.state.ops.by_rank.as_slice().len() as u32;
+        records::lent_transcripts(alloc, kept, ranks)
+    }
+
     /// How many of its calls the rank has done: its entries on all shards.
     pub fn done(&self, rank: u32) -> u32
         requires { rank < length self.now.calls }

@@ -55,8 +55,9 @@ pub fn journal<A: Algo>(alloc: Global, shard: &ShardState<A>) -> Result<Vec<Entr
     requires { IsRuled A.table A.good A.layout shard.now }
     ensures { IfOk result (λ entries. entries.items ≡ journal_on (running_shard A.table shard.now)) }
 {
-    let mut entries = Vec::new(alloc);
-    for at in 0..updates(shard) {
+    let count = updates(shard);
+    let mut entries = Vec::with_capacity(alloc, count as usize)?;
+    for at in 0..count {
         entries.push(update_at(shard, at))?;
     }
     Ok(entries)
@@ -77,4 +78,20 @@ pub fn transcripts<A: Algo>(
         transcripts.push(Vec::from_slice(alloc, entries)?)?;
     }
     Ok(transcripts)
+}
+
+/// The transcripts of so many ranks, which are all, rank by rank, each where it stands.
+pub fn lent_transcripts<A: Algo>(
+    alloc: Global,
+    shard: &ShardState<A>,
+    ranks: u32,
+) -> Result<Vec<&[Entry]>, OutOfMemory>
+    requires { length shard.now.flat.views.items ≡ ranks }
+    ensures { IfOk result (λ lent. map (λ t. t.now) lent.items ≡ kept_of shard.now.flat.views.items) }
+{
+    let mut lent = Vec::with_capacity(alloc, ranks as usize)?;
+    for rank in 0..ranks {
+        lent.push(shard.flat.view(rank).transcript())?;
+    }
+    Ok(lent)
 }
