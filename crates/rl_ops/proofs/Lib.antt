@@ -1,6 +1,7 @@
 pub mod BodyLoop
 pub mod BodyLaws
 pub mod RankLemmas
+pub mod RoomLemmas
 pub mod CallLaws
 pub mod LineLaws
 pub mod ShortAsk

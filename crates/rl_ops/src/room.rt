@@ -1,8 +1,8 @@
-//! How many calls and updates each rank makes on one shard.
-ghost use Rattle.std.specs.Prelude.{◌≡◌, ◌≤◌, ◌<◌, length, map, IfOk};
+//! How many calls and updates each rank makes on each shard.
+ghost use Rattle.std.specs.Prelude.{◌≡◌, ◌≤◌, ◌<◌, ◌+◌, ◌-◌, ◌^◌, ◌==◌, ◌&&◌, ℕ, length, map, slice_index, if◌then◌else◌, IfOk};
 ghost use Rattle.rl_model.specs.Geom.{GeomFits};
 ghost use Rattle.rl_ops.specs.Ops.{total_calls};
-ghost use Rattle.rl_ops.specs.Room.{calls_on, updates_on};
+ghost use Rattle.rl_ops.specs.Room.{calls_on, updates_on, AreRooms};
 
 use crate::ops::{MOST_CALLS, Ops};
 use rl_model::{Call, Geom};
@@ -15,44 +15,93 @@ pub struct Room {
     pub updates: Vec<u32>,
 }
 
-fn count_calls(calls: &[Call], geom: Geom, shard: u32) -> u32
-    requires fits { GeomFits geom }
-    requires few { length calls.now ≤ MOST_CALLS }
-    ensures { result ≡ calls_on geom shard calls.now }
-{
-    calls
-        .iter()
-        .filter(|call| call.shard(geom) == shard)
-        .count() as u32
+/// The most shards that a table has.
+const MOST_SHARDS: usize = 16;
+
+/// How many calls one rank makes on each shard, and how many of them are updates.
+#[derive(Clone, Copy)]
+struct Tally {
+    calls: [u32; MOST_SHARDS],
+    updates: [u32; MOST_SHARDS],
 }
 
-fn count_updates(calls: &[Call], geom: Geom, shard: u32) -> u32
+/// Counts one more for a shard that is there, if it is counted.
+#[inline(always)]
+fn count_one(counts: &mut [u32], shard: usize, counted: bool)
+    requires few { shard < length counts.old → slice_index counts.old shard < MOST_CALLS }
+    ensures { (place : ℕ) → place < length counts.old → slice_index counts.new place ≡ slice_index counts.old place + (if (shard == place) && counted then 1 else 0) }
+{
+    if counted && shard < counts.len() {
+        counts[shard] += 1;
+    }
+}
+
+/// Goes over the calls of a rank once. A hold of a shard that isn't there is on none.
+fn tally_of(calls: &[Call], geom: Geom) -> Tally
     requires fits { GeomFits geom }
     requires few { length calls.now ≤ MOST_CALLS }
-    ensures { result ≡ updates_on geom shard calls.now }
+    ensures calls { (shard : ℕ) → shard < MOST_SHARDS → slice_index result.calls shard ≡ calls_on geom shard calls.now }
+    ensures updates { (shard : ℕ) → shard < MOST_SHARDS → slice_index result.updates shard ≡ updates_on geom shard calls.now }
 {
-    calls
+    let mut made = [0; MOST_SHARDS];
+    let mut updates = [0; MOST_SHARDS];
+    for call in calls {
+        let shard = call.shard(geom) as usize;
+        count_one(&mut made, shard, true);
+        count_one(&mut updates, shard, call.is_update());
+    }
+    Tally {
+        calls: made,
+        updates,
+    }
+}
+
+/// The room on a shard, from what the ranks were counted to make.
+fn room_on(alloc: Global, tallies: &[Tally], shard: usize) -> Result<Room, OutOfMemory>
+    requires { shard < MOST_SHARDS }
+    ensures calls { IfOk result (λ room. room.calls.items ≡ map (λ tally. slice_index tally.calls shard) tallies.now) }
+    ensures updates { IfOk result (λ room. room.updates.items ≡ map (λ tally. slice_index tally.updates shard) tallies.now) }
+{
+    let calls = tallies
         .iter()
-        .filter(|call| call.shard(geom) == shard && call.is_update())
-        .count() as u32
+        .map(|tally| tally.calls[shard])
+        .collect(alloc)?;
+    let updates = tallies
+        .iter()
+        .map(|tally| tally.updates[shard])
+        .collect(alloc)?;
+    Ok(Room { calls, updates })
 }
 
 impl Ops {
-    /// The room that each rank needs on a shard: the number of its calls there, and of its updates among them. There
-    /// are at most 20,000 calls in all, and the shard is one of the table's.
-    pub fn room(&self, alloc: Global, geom: Geom, shard: u32) -> Result<Room, OutOfMemory>
+    /// How many calls each rank makes on each shard, rank by rank.
+    fn tallies(&self, alloc: Global, geom: Geom) -> Result<Vec<Tally>, OutOfMemory>
         requires fits { GeomFits geom }
-        requires there { shard < geom.shards }
         requires few { total_calls self.now.by_rank ≤ MOST_CALLS }
-        ensures calls { IfOk result (λ room. room.calls.items ≡ map (calls_on geom shard) self.now.by_rank) }
-        ensures updates { IfOk result (λ room. room.updates.items ≡ map (updates_on geom shard) self.now.by_rank) }
+        ensures calls { IfOk result (λ tallies. (shard : ℕ) → shard < MOST_SHARDS → map (λ tally. slice_index tally.calls shard) tallies.items ≡ map (calls_on geom shard) self.now.by_rank) }
+        ensures updates { IfOk result (λ tallies. (shard : ℕ) → shard < MOST_SHARDS → map (λ tally. slice_index tally.updates shard) tallies.items ≡ map (updates_on geom shard) self.now.by_rank) }
     {
-        let mut calls = Vec::new(alloc);
-        let mut updates = Vec::new(alloc);
-        for list in self.by_rank.as_slice() {
-            calls.push(count_calls(list, geom, shard))?;
-            updates.push(count_updates(list, geom, shard))?;
+        let mut tallies = Vec::new(alloc);
+        for calls in self.by_rank.as_slice() {
+            tallies.push(tally_of(calls, geom))?;
         }
-        Ok(Room { calls, updates })
+        Ok(tallies)
+    }
+
+    /// The room on each shard of the table, by the shard's number: how many calls each rank makes there, and how many
+    /// of them are updates. There are at most 20,000 calls in all. Refused only for want of memory.
+    pub fn rooms(&self, alloc: Global, geom: Geom) -> Result<Vec<Room>, OutOfMemory>
+        requires fits { GeomFits geom }
+        requires few { total_calls self.now.by_rank ≤ MOST_CALLS }
+        ensures all { IfOk result (λ rooms. length rooms.items ≡ geom.shards) }
+        ensures each { IfOk result (λ rooms. AreRooms geom self.now.by_rank 0 rooms.items) }
+    {
+        let tallies = self.tallies(alloc, geom)?;
+        let mut rooms = Vec::new(alloc);
+        for shard in 0..geom.shards {
+            let room = room_on(alloc, tallies.as_slice(), shard as usize)?;
+            rooms.push(room)?;
+        }
+        Ok(rooms)
     }
 }

@@ -303,7 +303,7 @@ fn spellings_of_calls(rt: HostRuntime) -> Result<(), Fail> {
 }
 
 #[test]
-fn room_on_a_shard(rt: HostRuntime) -> Result<(), Fail> {
+fn rooms_on_the_shards(rt: HostRuntime) -> Result<(), Fail> {
     let text = joined(
         &rt,
         CALLS,
@@ -315,11 +315,11 @@ fn room_on_a_shard(rt: HostRuntime) -> Result<(), Fail> {
         buckets: 1,
         overflow: 0,
     };
-    let room = ops.room(rt.alloc(), geom, 0)?;
-    assert_eq!(rt; room.calls.as_slice(), [2, 2].as_slice());
-    assert_eq!(rt; room.updates.as_slice(), [1, 1].as_slice());
-    let room = ops.room(rt.alloc(), geom, 1)?;
-    assert_eq!(rt; room.calls.as_slice(), [1, 2].as_slice());
-    assert_eq!(rt; room.updates.as_slice(), [1, 1].as_slice());
+    let rooms = ops.rooms(rt.alloc(), geom)?;
+    assert_eq!(rt; rooms.len(), 2);
+    for (room, (calls, updates)) in rooms.iter().zip([([2, 2], [1, 1]), ([1, 2], [1, 1])]) {
+        assert_eq!(rt; room.calls.as_slice(), calls.as_slice());
+        assert_eq!(rt; room.updates.as_slice(), updates.as_slice());
+    }
     Ok(())
 }

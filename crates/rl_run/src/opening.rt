@@ -50,11 +50,12 @@ pub fn open_all<A: Algo>(
     ensures all { IfOk result (λ p. length p.0.items ≡ geom.shards) }
     ensures made { IfOk result (λ p. AreNew A.defined A.table A.good A.layout shape.now knobs geom homes.now ops.now.by_rank p.0.items (map vec_items p.1.items)) }
 {
+    let mut rooms = ops.rooms(alloc, geom)?;
     let mut shards = Vec::new(alloc);
     let mut rows = empty_rows(alloc, ops.by_rank.as_slice().len())?;
     for number in 0..geom.shards {
         let home = homes[number as usize];
-        let room = ops.room(alloc, geom, number)?;
+        let room = rooms.remove(0);
         let (shard, seats) = Shard::new(alloc, shape, knobs, home, geom, number, room, queues)?;
         rows = deal_seats(alloc, rows, seats)?;
         shards.push(shard)?;

@@ -1,6 +1,6 @@
 //! The shards of a machine before its first step.
 
-ghost use Rattle.std.specs.Prelude.{◌≡◌, ◌<◌, ◌≤◌, length, map, replicate, IfOk};
+ghost use Rattle.std.specs.Prelude.{◌≡◌, ◌<◌, ◌≤◌, length, map, replicate, sum, IfOk};
 ghost use Rattle.std.specs.List.{AllByRecursion};
 ghost use Rattle.rl_model.specs.Geom.{GeomFits};
 ghost use Rattle.rl_word.specs.Shapes.{IsProper, layout_of};
@@ -8,7 +8,7 @@ ghost use Rattle.rl_step.specs.Lock.{HandsOn};
 ghost use Rattle.rl_ops.specs.Ops.{total_calls};
 ghost use Rattle.rl_whole.specs.Cores.{EachCore, EachHandsOn};
 ghost use Rattle.rl_whole.specs.Running.{shard_run};
-ghost use Rattle.rl_whole.specs.Start.{first_shard_of, start_of};
+ghost use Rattle.rl_whole.specs.Start.{first_shard, lock_with, site_with, start_of};
 ghost use Rattle.rl_whole.specs.State.{shard_view, running_shard, shard_cores};
 
 use crate::opening::opening;
@@ -27,7 +27,7 @@ pub fn none_opened(alloc: Global, ops: &Ops) -> Result<Vec<u32>, OutOfMemory>
     Ok(vec![in alloc; 0; ops.by_rank.as_slice().len()]?)
 }
 
-/// The shard with this number, whose words live on this home.
+/// The shard with this number, whose words live on this home, with the room that each rank needs there.
 fn first_shard<A: Algo>(
     alloc: Global,
     shape: &Shape,
@@ -35,20 +35,19 @@ fn first_shard<A: Algo>(
     home: u32,
     geom: Geom,
     shard: u32,
-    ops: &Ops,
+    room: Room,
 ) -> Result<ShardState<A>, OutOfMemory>
     requires proper { IsProper shape.now }
     requires knobs { A.suits_knobs shape.now knobs }
     requires home { home < shape.now.nodes }
     requires fits { GeomFits geom }
-    requires there { shard < geom.shards }
-    requires ranks { length ops.now.by_rank ≡ length shape.now.node_of }
-    requires few { total_calls ops.now.by_rank ≤ 20000 }
-    ensures made { IfOk result (λ s. running_shard A.table s ≡ first_shard_of (A.defined shape.now home knobs) shape.now.nodes geom ops.now.by_rank shard) }
+    requires ranks { length room.calls.items ≡ length shape.now.node_of }
+    requires few { sum room.updates.items ≤ 20000 }
+    ensures made { IfOk result (λ s. running_shard A.table s ≡ first_shard (lock_with (A.defined shape.now home knobs) (site_with geom shard room.updates.items)) shape.now.nodes room.calls.items) }
     ensures promised { IfOk result (λ s. HandsOn (A.further s.core.algo) (A.promised shape.now home knobs)) }
     ensures layout { IfOk result (λ s. A.layout s.core.algo ≡ layout_of shape.now) }
 {
-    let Room { calls, updates } = ops.room(alloc, geom, shard)?;
+    let Room { calls, updates } = room;
     let core = Whole::new(alloc, shape, knobs, home, geom, shard, updates)?;
     let state = opening(alloc, core, shape.nodes, calls.as_slice())?;
     Ok(state)
@@ -74,10 +73,12 @@ pub fn first_shards<A: Algo>(
     ensures promised { IfOk result (λ shards. EachHandsOn A.further A.promised shape.now knobs homes.now (shard_cores (map shard_view shards.items))) }
     ensures layout { IfOk result (λ shards. EachCore (λ home core. A.layout core.algo ≡ layout_of shape.now) homes.now (shard_cores (map shard_view shards.items))) }
 {
+    let mut rooms = ops.rooms(alloc, geom)?;
     let mut shards = Vec::new(alloc);
     for shard in 0..geom.shards {
         let home = homes[shard as usize];
-        let first = first_shard(alloc, shape, knobs, home, geom, shard, ops)?;
+        let room = rooms.remove(0);
+        let first = first_shard(alloc, shape, knobs, home, geom, shard, room)?;
         shards.push(first)?;
     }
     Ok(shards)

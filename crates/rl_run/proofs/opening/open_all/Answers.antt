@@ -1,7 +1,8 @@
 -- One shard more.
 use Rattle.std.proofs.Common.{◌≡◌, ◌≤◌, ◌<◌, ◌+◌, ◌++◌, ◌∷◌, [], length, map, slice_index, sum, vec_items, ap, sym, subst, ◌∙◌, arith}
 use Rattle.std.proofs.lemmas.List.{length-map}
-use Rattle.rl_ops.specs.Room.{calls_on, updates_on}
+use Rattle.rl_ops.specs.Room.{calls_on, updates_on, AreRooms}
+use Rattle.rl_ops.specs.RoomLaws.{first_room}
 use Rattle.rl_shard.specs.Counting.{first_counted}
 use Rattle.rl_shard.specs.Shards.{core_at, IsShardOf}
 use Rattle.rl_whole.specs.CoreLaws.{length_more}
@@ -19,19 +20,34 @@ loop-number-init g c =
       subst (λ l. AreNew g.A.Algo.defined g.A.Algo.table g.A.Algo.good g.A.Algo.layout c.args.shape.now c.args.knobs c.args.geom c.args.homes.now c.args.ops.now.by_rank l (map vec_items c.in_ok-rows.rows.items)) (sym c.new-shards.ensures.items)
           (new_none g.A.Algo.defined g.A.Algo.table g.A.Algo.good g.A.Algo.layout c.args.shape.now c.args.knobs c.args.geom c.args.homes.now c.args.ops.now.by_rank (map vec_items c.in_ok-rows.rows.items) (length c.as_slice.result.now) c.in_ok-rows.ensures
           (sym (length-map c.as_slice.result.now _) ∙ ap length c.as_slice.ensures)),
+      omega (arith, c.in_ok-rooms.ensures.all),
+      c.in_ok-rooms.ensures.each,
     )
+
+pub new-requires-clause-calls : goal.new-requires-clause-calls
+new-requires-clause-calls g c =
+    let inv = c.loop-number.invariant in
+    let taken = first_room c.args.geom c.args.ops.now.by_rank c.loop-number.number c.loop-number.rooms.items c.remove-room.result inv.3 inv.2 c.loop-number-test.true c.remove-room.ensures.value in
+    let long : length c.remove-room.result.calls.items ≡ length c.args.ops.now.by_rank = ap length taken.0.calls ∙ length-map c.args.ops.now.by_rank (calls_on c.args.geom c.loop-number.number) in
+    let ok = c.remove-room.result.calls.ok.0 in
+    let ranks = c.requires.ranks in
+    omega arith
 
 pub new-requires-clause-updates : goal.new-requires-clause-updates
 new-requires-clause-updates g c =
-    let long : length c.in_ok-room.room.updates.items ≡ length c.args.ops.now.by_rank = ap length c.in_ok-room.ensures.updates ∙ length-map c.args.ops.now.by_rank (updates_on c.args.geom c.loop-number.number) in
-    let ok = c.in_ok-room.room.updates.ok.0 in
+    let inv = c.loop-number.invariant in
+    let taken = first_room c.args.geom c.args.ops.now.by_rank c.loop-number.number c.loop-number.rooms.items c.remove-room.result inv.3 inv.2 c.loop-number-test.true c.remove-room.ensures.value in
+    let long : length c.remove-room.result.updates.items ≡ length c.args.ops.now.by_rank = ap length taken.0.updates ∙ length-map c.args.ops.now.by_rank (updates_on c.args.geom c.loop-number.number) in
+    let ok = c.remove-room.result.updates.ok.0 in
     let ranks = c.requires.ranks in
-    (omega arith, subst (λ l. sum l ≤ 20000) (sym c.in_ok-room.ensures.updates) (few_updates c.args.geom c.loop-number.number 20000 c.args.ops.now.by_rank c.requires.few))
+    (omega arith, subst (λ l. sum l ≤ 20000) (sym taken.0.updates) (few_updates c.args.geom c.loop-number.number 20000 c.args.ops.now.by_rank c.requires.few))
 
 pub deal_seats-requires : goal.deal_seats-requires
 deal_seats-requires g c =
-    let column = column_long (lock_at g.A.Algo.table (core_at c.in_ok-shard.shard)) c.args.queues c.in_ok-room.room.calls.items c.in_ok-shard.seats.items c.in_ok-shard.ensures.views in
-    let calls : length c.in_ok-room.room.calls.items ≡ length c.args.ops.now.by_rank = ap length c.in_ok-room.ensures.calls ∙ length-map c.args.ops.now.by_rank (calls_on c.args.geom c.loop-number.number) in
+    let inv = c.loop-number.invariant in
+    let taken = first_room c.args.geom c.args.ops.now.by_rank c.loop-number.number c.loop-number.rooms.items c.remove-room.result inv.3 inv.2 c.loop-number-test.true c.remove-room.ensures.value in
+    let column = column_long (lock_at g.A.Algo.table (core_at c.in_ok-shard.shard)) c.args.queues c.remove-room.result.calls.items c.in_ok-shard.seats.items c.in_ok-shard.ensures.views in
+    let calls : length c.remove-room.result.calls.items ≡ length c.args.ops.now.by_rank = ap length taken.0.calls ∙ length-map c.args.ops.now.by_rank (calls_on c.args.geom c.loop-number.number) in
     let rows = sym (length-map c.loop-number.rows.items vec_items) ∙ c.loop-number.invariant.1.ranks in
     let ok = c.in_ok-shard.seats.ok.0 in
     let all = c.loop-number.rows.ok.0 in
@@ -39,16 +55,20 @@ deal_seats-requires g c =
 
 pub loop-number-preserved : goal.loop-number-preserved
 loop-number-preserved g c =
+    let inv = c.loop-number.invariant in
+    let taken = first_room c.args.geom c.args.ops.now.by_rank c.loop-number.number c.loop-number.rooms.items c.remove-room.result inv.3 inv.2 c.loop-number-test.true c.remove-room.ensures.value in
     let homes = c.args.homes.now in
     let i = c.loop-number.number in
     let low : i < length homes = (let many = c.requires.many in let h = c.loop-number-test.true in omega arith) in
     let made = c.in_ok-shard.ensures in
     let ranks : length c.args.shape.now.node_of ≡ length c.args.ops.now.by_rank = sym c.requires.ranks in
-    let lock = made.lock ∙ ap (λ l. lock_with (g.A.Algo.defined c.args.shape.now (slice_index homes i) c.args.knobs) (site_with c.args.geom i l)) c.in_ok-room.ensures.updates in
-    let views = made.views ∙ ap (first_counted (lock_at g.A.Algo.table (core_at c.in_ok-shard.shard)) c.args.queues) c.in_ok-room.ensures.calls in
+    let lock = made.lock ∙ ap (λ l. lock_with (g.A.Algo.defined c.args.shape.now (slice_index homes i) c.args.knobs) (site_with c.args.geom i l)) taken.0.updates in
+    let views = made.views ∙ ap (first_counted (lock_at g.A.Algo.table (core_at c.in_ok-shard.shard)) c.args.queues) taken.0.calls in
     let more = new_more g.A.Algo.defined g.A.Algo.table g.A.Algo.good g.A.Algo.layout c.args.shape.now c.args.knobs c.args.geom homes c.args.ops.now.by_rank c.loop-number.shards.items (map vec_items c.loop-number.rows.items) c.in_ok-shard.shard c.in_ok-shard.seats.items i c.args.queues c.loop-number.invariant.1 c.loop-number.invariant.0
     lock (subst (λ n. IsShardOf n c.in_ok-shard.shard) ranks made.shard) made.seats views made.closed in (
       ap length c.in_ok-push.ensures.items ∙ length_more c.loop-number.shards.items c.in_ok-shard.shard ∙ ap (λ n. n + 1) c.loop-number.invariant.0,
       subst (λ l. AreNew g.A.Algo.defined g.A.Algo.table g.A.Algo.good g.A.Algo.layout c.args.shape.now c.args.knobs c.args.geom homes c.args.ops.now.by_rank l (map vec_items c.in_ok-rows-2.rows.items)) (sym c.in_ok-push.ensures.items)
           (subst (λ l. AreNew g.A.Algo.defined g.A.Algo.table g.A.Algo.good g.A.Algo.layout c.args.shape.now c.args.knobs c.args.geom homes c.args.ops.now.by_rank (c.loop-number.shards.items ++ c.in_ok-shard.shard ∷ []) l) (sym c.in_ok-rows-2.ensures) more),
+      ap (λ l. length l + (i + 1)) c.remove-room.ensures.items ∙ taken.2,
+      subst (AreRooms c.args.geom c.args.ops.now.by_rank (i + 1)) (sym c.remove-room.ensures.items) taken.1,
     )

@@ -4,11 +4,7 @@ use Rattle.std.specs.List.{sum}
 use Rattle.rl_work.specs.Site.{lock_base}
 use Rattle.rl_whole.specs.Running.{lock_at}
 use Rattle.rl_whole.specs.StartLaws.{few_words}
-use Rattle.rl_whole.specs.OpsBridge.{few_updates}
 use Rattle.rl_whole.proofs.start.first_shard.Goals as goal
-
-pub new-requires-clause-few : goal.new-requires-clause-few
-new-requires-clause-few g c = subst (λ l. sum l ≤ 20000) (sym c.in_ok-calls.ensures.updates) (few_updates c.args.geom c.args.shard 20000 c.args.ops.now.by_rank c.requires.few)
 
 pub opening-requires-clause-few : goal.opening-requires-clause-few
 opening-requires-clause-few g c =
@@ -17,8 +13,7 @@ opening-requires-clause-few g c =
     let L = lock_at g.A.Algo.table core in
     let size = (g.A.Algo.table core.algo).size in
     let base : core.base ≡ lock_base L.site = ap (λ l. l.base) lock ∙ sym (ap (λ l. lock_base l.site) lock) in
-    let room : sum L.site.rooms ≤ 20000 =
-    subst (λ l. sum l ≤ 20000) (sym (ap (λ l. l.site.rooms) lock ∙ c.in_ok-calls.ensures.updates)) (few_updates c.args.geom c.args.shard 20000 c.args.ops.now.by_rank c.requires.few) in
+    let room : sum L.site.rooms ≤ 20000 = subst (λ l. sum l ≤ 20000) (sym (ap (λ l. l.site.rooms) lock)) c.requires.few in
     subst (λ b. b + size < 2 ^ 32) (sym base) (few_words c.args.geom size L.site c.requires.fits (ap (λ l. l.site.geom) lock) (g.met.A.Algo.laws core.algo).few_words room)
 
 pub returns-clause-promised : goal.returns-clause-promised

@@ -1,14 +1,18 @@
 -- One shard more.
-use Rattle.std.proofs.Common.{◌≡◌, ℕ, refl, ◌<◌, length, map, slice_get, slice_index, take, Some, ap, sym, ◌∙◌, subst, arith}
+use Rattle.std.proofs.Common.{◌≡◌, ℕ, refl, ◌+◌, ◌<◌, ◌≤◌, length, map, sum, slice_get, slice_index, take, Some, ap, sym, ◌∙◌, subst, arith}
+use Rattle.std.proofs.lemmas.List.{length-map}
 use Rattle.std.proofs.lemmas.Option.{slice_get-get_or}
 use Rattle.rl_word.specs.Shapes.{layout_of}
 use Rattle.rl_step.specs.Lock.{HandsOn}
+use Rattle.rl_ops.specs.Room.{calls_on, AreRooms}
+use Rattle.rl_ops.specs.RoomLaws.{first_room}
 use Rattle.rl_whole.specs.declared.whole.Whole.{Whole}
 use Rattle.rl_whole.specs.Cores.{EachCore}
 use Rattle.rl_whole.specs.CoreLaws.{core_more, home_there, shards_more, cores_more, length_cores, length_more}
 use Rattle.rl_whole.specs.Filling.{take_whole}
+use Rattle.rl_whole.specs.OpsBridge.{few_updates}
 use Rattle.rl_whole.specs.Running.{shard_run}
-use Rattle.rl_whole.specs.Start.{first_shards}
+use Rattle.rl_whole.specs.Start.{first_shard, first_shards, lock_with, site_of, site_with}
 use Rattle.rl_whole.specs.State.{shard_view, shard_cores}
 use Rattle.rl_whole.proofs.start.first_shards.Goals as goal
 
@@ -17,6 +21,19 @@ first_shard-requires-clause-home g c =
     let homes = c.args.homes.now in
     let low : c.loop-shard.shard < length homes = (let many = c.requires.many in let h = c.loop-shard-test.true in omega arith) in
     home_there (λ h. h < c.args.shape.now.nodes) homes c.loop-shard.shard 0 c.requires.homes low
+
+-- the room that is taken is that of the shard
+pub first_shard-requires-clause-ranks : goal.first_shard-requires-clause-ranks
+first_shard-requires-clause-ranks g c =
+    let inv = c.loop-shard.invariant in
+    let taken = first_room c.args.geom c.args.ops.now.by_rank c.loop-shard.shard c.loop-shard.rooms.items c.remove-room.result inv.5 inv.4 c.loop-shard-test.true c.remove-room.ensures.value in
+    ap length taken.0.calls ∙ length-map c.args.ops.now.by_rank (calls_on c.args.geom c.loop-shard.shard) ∙ c.requires.ranks
+
+pub first_shard-requires-clause-few : goal.first_shard-requires-clause-few
+first_shard-requires-clause-few g c =
+    let inv = c.loop-shard.invariant in
+    let taken = first_room c.args.geom c.args.ops.now.by_rank c.loop-shard.shard c.loop-shard.rooms.items c.remove-room.result inv.5 inv.4 c.loop-shard-test.true c.remove-room.ensures.value in
+    subst (λ l. sum l ≤ 20000) (sym taken.0.updates) (few_updates c.args.geom c.loop-shard.shard 20000 c.args.ops.now.by_rank c.requires.few)
 
 pub loop-shard-preserved : goal.loop-shard-preserved
 loop-shard-preserved g c =
@@ -33,14 +50,19 @@ loop-shard-preserved g c =
     let cores = shard_cores (map shard_view items) in
     let here : slice_get homes (length cores) ≡ Some home = ap (slice_get homes) (length_cores items ∙ inv.1) ∙ at in
     let pushed = c.in_ok-push.ensures.items in
-    let grown = ap (λ t. shard_cores (map shard_view t)) pushed ∙ cores_more items first in (
+    let grown = ap (λ t. shard_cores (map shard_view t)) pushed ∙ cores_more items first in
+    let taken = first_room c.args.geom c.args.ops.now.by_rank i c.loop-shard.rooms.items c.remove-room.result inv.5 inv.4 c.loop-shard-test.true c.remove-room.ensures.value in
+    let run = made.made ∙ ap (λ l. first_shard (lock_with (g.A.Algo.defined shape home c.args.knobs) (site_with c.args.geom i l)) shape.nodes c.remove-room.result.calls.items) taken.0.updates
+    ∙ ap (first_shard (lock_with (g.A.Algo.defined shape home c.args.knobs) (site_of c.args.geom c.args.ops.now.by_rank i)) shape.nodes) taken.0.calls in (
       ap (λ t. map (shard_run g.A.Algo.table) (map shard_view t)) pushed
-          ∙ shards_more g.A.Algo.table (λ h. g.A.Algo.defined shape h c.args.knobs) shape.nodes c.args.geom c.args.ops.now.by_rank homes items i home first inv.0 low refl made.made,
+          ∙ shards_more g.A.Algo.table (λ h. g.A.Algo.defined shape h c.args.knobs) shape.nodes c.args.geom c.args.ops.now.by_rank homes items i home first inv.0 low refl run,
       (let e = ap length pushed in let n = length_more items first in let o = inv.1 in omega arith),
       subst (EachCore (λ (h : ℕ) (core : Whole g.row.A.Denot g.row.A-View.Denot). HandsOn (g.A.Algo.further core.algo) (g.A.Algo.promised shape h c.args.knobs)) homes) (sym grown)
           (core_more (λ (h : ℕ) (core : Whole g.row.A.Denot g.row.A-View.Denot). HandsOn (g.A.Algo.further core.algo) (g.A.Algo.promised shape h c.args.knobs)) homes cores home first.core inv.2 here made.promised),
       subst (EachCore (λ (h : ℕ) (core : Whole g.row.A.Denot g.row.A-View.Denot). g.A.Algo.layout core.algo ≡ layout_of shape) homes) (sym grown)
           (core_more (λ (h : ℕ) (core : Whole g.row.A.Denot g.row.A-View.Denot). g.A.Algo.layout core.algo ≡ layout_of shape) homes cores home first.core inv.3 here made.layout),
+      ap (λ l. length l + (i + 1)) c.remove-room.ensures.items ∙ taken.2,
+      subst (AreRooms c.args.geom c.args.ops.now.by_rank (i + 1)) (sym c.remove-room.ensures.items) taken.1,
     )
 
 pub returns-clause-made : goal.returns-clause-made
