@@ -1,5 +1,5 @@
 //! How many calls and updates each rank makes on each shard.
-ghost use Rattle.std.specs.Prelude.{◌≡◌, ◌≤◌, ◌<◌, ◌+◌, ◌-◌, ◌^◌, ◌==◌, ◌&&◌, ℕ, length, map, slice_index, if◌then◌else◌, IfOk};
+ghost use Rattle.std.specs.Prelude.{◌≡◌, ◌≤◌, ◌<◌, ◌+◌, ◌==◌, ◌&&◌, ℕ, length, map, slice_index, if◌then◌else◌, IfOk};
 ghost use Rattle.rl_model.specs.Geom.{GeomFits};
 ghost use Rattle.rl_ops.specs.Ops.{total_calls};
 ghost use Rattle.rl_ops.specs.Room.{calls_on, updates_on, AreRooms};

@@ -1,7 +1,7 @@
 -- One room more.
-use Rattle.std.proofs.Common.{◌≡◌, ◌+◌, ◌<◌, length, map, slice_index, ap, ◌∙◌, arith}
+use Rattle.std.proofs.Common.{◌+◌, ◌<◌, map, slice_index, ap, ◌∙◌, arith}
 use Rattle.std.proofs.lemmas.List.{length_push}
-use Rattle.rl_ops.specs.Room.{IsRoom, AreRooms}
+use Rattle.rl_ops.specs.Room.{IsRoom}
 use Rattle.rl_ops.proofs.RoomLemmas.{rooms-push}
 use Rattle.rl_ops.proofs.ops.Ops.rooms.Goals as goal
 
