@@ -5,7 +5,7 @@ ghost use Rattle.rl_history.specs.Spelling.{is_printed};
 ghost use Rattle.rl_whole.specs.Running.{running};
 ghost use Rattle.rmalock.specs.Replay.{queue_count, part_of, dones_from, report_in};
 
-use rl_history::{Done, Report, ShardReport, merge, tallies};
+use rl_history::{Done, Report, ShardReport, merge_lent, tallies};
 use rl_place::{Lock, Place};
 use rl_step::{Algo, Event};
 use rl_whole::Machine;
@@ -35,7 +35,7 @@ fn is_touch(event: Event) -> bool
 fn without_touches(alloc: Global, events: &[(u32, Event)]) -> Result<Vec<(u32, Event)>, OutOfMemory>
     ensures { IfOk result (λ kept. kept.items ≡ filter (λ e. is_printed e.1) events.now) }
 {
-    let mut kept = Vec::new(alloc);
+    let mut kept = Vec::with_capacity(alloc, events.len())?;
     for (step, event) in events {
         if !is_touch(*event) {
             kept.push((*step, *event))?;
@@ -55,11 +55,11 @@ fn part_of<A: Algo>(
     ensures { IfOk result (λ part. slice_get (map (part_of queues) (running A.table machine.now).shards) shard ≡ Some part) }
 {
     let journal = machine.journal(alloc, shard)?;
-    let transcripts = machine.transcripts(alloc, shard)?;
+    let transcripts = machine.lent_transcripts(alloc, shard)?;
     let events = machine.events(shard);
     Ok(ShardReport {
         updates: machine.updates(shard),
-        entries: merge(alloc, journal.as_slice(), transcripts.as_slice())?,
+        entries: merge_lent(alloc, journal.as_slice(), transcripts.as_slice())?,
         queues: tallies(alloc, queues, events)?,
         pairs: Vec::new(alloc),
         events: without_touches(alloc, events)?,
