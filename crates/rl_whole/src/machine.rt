@@ -1,6 +1,6 @@
 //! All shards in plain vectors, stepped one rank at a time.
 
-ghost use Rattle.std.specs.Prelude.{◌≡◌, ◌↔◌, ◌+◌, ◌-◌, ◌<◌, ◌^◌, ℕ, [], true, length, map, replicate, get_or, slice_index, IfOk, IfSome, OnErr};
+ghost use Rattle.std.specs.Prelude.{◌≡◌, ◌↔◌, ◌-◌, ◌<◌, ◌^◌, [], length, map, get_or, slice_index, IfOk, OnErr};
 ghost use Rattle.std.specs.List.{AllByRecursion};
 ghost use Rattle.rl_model.specs.Geom.{GeomFits};
 ghost use Rattle.rl_word.specs.Shapes.{IsProper, layout_of};
@@ -10,9 +10,8 @@ ghost use Rattle.rl_whole.specs.Causes.{StepCause, IsFinished, OnlyCountsBusy};
 ghost use Rattle.rl_whole.specs.Cores.{EachCore, EachHandsOn};
 ghost use Rattle.rl_whole.specs.Promises.{IsSound, StaysSound};
 ghost use Rattle.rl_whole.specs.Records.{journal_at, transcripts_at};
-ghost use Rattle.rl_whole.specs.Rest.{Rests};
 ghost use Rattle.rl_whole.specs.Rested.{Rested};
-ghost use Rattle.rl_whole.specs.Run.{done_of, stepped, answer_of_step, run_of, has_open_call, trace_of, kept_by};
+ghost use Rattle.rl_whole.specs.Run.{done_of, stepped, answer_of_step, has_open_call, trace_of, kept_by};
 ghost use Rattle.rl_whole.specs.Running.{running};
 ghost use Rattle.rl_whole.specs.Start.{start_of};
 ghost use Rattle.rl_whole.specs.State.{cores_of};

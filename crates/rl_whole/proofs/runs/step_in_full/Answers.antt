@@ -1,5 +1,5 @@
 -- What was noted of the other ranks is true after the step as before.
-use Rattle.std.proofs.Common.{◌≡◌, ap, sym, subst}
+use Rattle.std.proofs.Common.{sym, subst}
 use Rattle.rl_whole.specs.Rested.{AllRested}
 use Rattle.rl_whole.specs.RestedLaws.{all_stepped}
 use Rattle.rl_whole.specs.Running.{running}

@@ -1,5 +1,5 @@
 -- So many steps of a rank that is held off are so many answers counted.
-use Rattle.std.proofs.Common.{◌≡◌, ◌∙◌, ℕ, ap, sym, subst, replicate}
+use Rattle.std.proofs.Common.{◌≡◌, ◌∙◌, ap, sym, subst, replicate}
 use Rattle.rl_step.specs.declared.events.Stepped.TheVariants.{Busy}
 use Rattle.rl_whole.specs.Run.{run_of}
 use Rattle.rl_whole.specs.Running.{running}

@@ -1,5 +1,5 @@
 -- A card with a rank in it shows that the rank which takes it is held off.
-use Rattle.std.proofs.Common.{rules, ◌≡◌, ◌==◌, ◌-◌, ◌<◌, ℕ, true, false, length, slice_get, slice_index, Some, ap, sym, ◌∙◌, subst, refl}
+use Rattle.std.proofs.Common.{rules, ◌≡◌, ◌==◌, ◌-◌, ℕ, false, slice_get, slice_index, Some, ap, sym, ◌∙◌, subst, refl}
 use Rattle.std.proofs.lemmas.Option.{slice_get-get_or}
 use Rattle.rl_step.specs.declared.events.Stepped.TheVariants.{Busy}
 use Rattle.rl_whole.specs.Rested.{IsNamed}

@@ -1,5 +1,5 @@
 -- A word with the value for which a rank waits shows that it waits still.
-use Rattle.std.proofs.Common.{rules, ◌≡◌, ◌<◌, true, length, slice_get, slice_index, Some, ap, sym, ◌∙◌, subst, refl}
+use Rattle.std.proofs.Common.{rules, ◌≡◌, slice_get, slice_index, Some, ap, sym, ◌∙◌, subst, refl}
 use Rattle.std.proofs.lemmas.Option.{slice_get-get_or}
 use Rattle.rl_step.specs.declared.events.Stepped.TheVariants.{Waiting}
 use Rattle.rl_whole.specs.Rested.{IsNamed}
