@@ -6,7 +6,7 @@ use rl_step::Stepped;
 /// So many steps in a row that moved tell that the waiting is over.
 const CALM_STEPS: u32 = 4;
 
-/// So many times more the processor is given away after a Lost, once spinning hasn't helped.
+/// So many times more the processor is given away after the same guess was lost again, once spinning hasn't helped.
 const LOST_WAITS: u32 = 20;
 
 /// Backs off after steps that didn't get on: it spins, longer each time, and then gives the processor to other threads.
@@ -16,8 +16,9 @@ const LOST_WAITS: u32 = 20;
 /// four of them in a row. Both matter where there are more threads than processors: without them a run takes a hundred times as
 /// long.
 ///
-/// A Lost tells that several ranks want one word, and each rank that looks again takes the card that its holder needs. So once spinning
-/// hasn't helped, the wait after a Lost is much longer than another: a spin lock under four ranks is half as fast without that.
+/// A rank that loses with the same guess again wants the word to have that value, as at a spin lock, and each time that it looks it takes
+/// the card that the word's holder needs. So once spinning hasn't helped it waits much longer than after another answer: a spin lock under
+/// four ranks is half as fast without that. A rank that joins a queue guesses what it saw last, and does better at once.
 #[derive(Drop)]
 pub struct Patience {
     backoff: Backoff,
@@ -25,6 +26,10 @@ pub struct Patience {
     calm: u32,
     /// The last step was Lost, and it wasn't waited for yet.
     lost: bool,
+    /// The guess that was lost last.
+    guess: Option<u64>,
+    /// It was the one that was lost before, too.
+    again: bool,
 }
 
 impl Patience {
@@ -34,6 +39,8 @@ impl Patience {
             backoff: Backoff::new(),
             calm: 0,
             lost: false,
+            guess: None,
+            again: false,
         }
     }
 
@@ -41,12 +48,14 @@ impl Patience {
     #[inline(always)]
     pub fn after(&mut self, stepped: &Stepped) {
         match stepped {
-            Stepped::Lost { .. } => {
+            Stepped::Lost { guess, .. } => {
                 if self.lost {
                     self.wait_after_lost();
                 }
                 self.lost = true;
                 self.calm = 0;
+                self.again = self.guess == Some(*guess);
+                self.guess = Some(*guess);
             }
             Stepped::Waiting { .. } | Stepped::Busy { .. } => self.wait(),
             Stepped::Moved | Stepped::Finished => self.go_on(),
@@ -65,10 +74,10 @@ impl Patience {
         }
     }
 
-    // Waits for those who want the word too.
+    // Waits after a Lost, for the word to change where the rank wants the value that it guessed.
     fn wait_after_lost(&mut self) {
         self.wait();
-        if self.backoff.is_completed() {
+        if self.again && self.backoff.is_completed() {
             for _ in 0..LOST_WAITS {
                 self.backoff.snooze();
             }
