@@ -17,8 +17,8 @@ const LOST_WAITS: u32 = 20;
 /// long.
 ///
 /// A rank that loses with the same guess again wants the word to have that value, as at a spin lock, and each time that it looks it takes
-/// the card that the word's holder needs. So once spinning hasn't helped it waits much longer than after another answer: a spin lock under
-/// four ranks is half as fast without that. A rank that joins a queue guesses what it saw last, and does better at once.
+/// the card that the word's holder needs. So once spinning hasn't helped it waits much longer than after another answer: without that a run
+/// of four ranks at a spin lock takes a third more time. A rank that joins a queue guesses what it saw last, and does better at once.
 #[derive(Drop)]
 pub struct Patience {
     backoff: Backoff,
