@@ -97,83 +97,72 @@ fn entry_act(cohort: Cohort, entry: Entry) -> Act
 }
 
 /// A head has settled, and enters.
-fn settle(head: QueueView, names: &QueueNames, events: &mut ArrayVec<Event, 8>) -> Learnt<AlockView>
-    requires head { head.phase ≡ Phase.Settle }
+fn settle(view: &mut AlockView, names: &QueueNames, events: &mut ArrayVec<Event, 8>)
+    requires head { view.old.queue.phase ≡ Phase.Settle }
     requires none { events.old.items ≡ [] }
-    ensures { told_with result events.new.items ≡ settles_now names.now head.member }
+    ensures { record { view = view.new; events = events.new.items; waits = false } ≡ settles_now names.now view.old.queue.member }
 {
+    let head = view.queue;
     events.push(Event::Settle {
         queue: names.queue,
         member: head.member,
     });
     events.push(Event::EnterW { rank: head.member });
-    Learnt {
-        view: AlockView {
-            queue: queue_settled(head, names),
-            entry: Entry::Announce,
-        },
-        waits: false,
-    }
-}
-
-/// A head goes on in the entry.
-fn look_on(head: QueueView, entry: Entry, waits: bool) -> Learnt<AlockView>
-    ensures { result ≡ record { view = record { queue = head; entry = entry }; waits = waits } }
-{
-    Learnt {
-        view: AlockView { queue: head, entry },
-        waits,
-    }
+    *view = AlockView {
+        queue: queue_settled(head, names),
+        entry: Entry::Announce,
+    };
 }
 
 /// A head has named its cohort the victim, and looks at the other's tail next.
-fn announce(head: QueueView, cohort: Cohort, events: &mut ArrayVec<Event, 8>) -> Learnt<AlockView>
+fn announce(view: &mut AlockView, cohort: Cohort, events: &mut ArrayVec<Event, 8>)
     requires { events.old.items ≡ [] }
-    ensures view { result ≡ record { view = record { queue = head; entry = Entry.Tail }; waits = false } }
+    ensures view { view.new ≡ record { queue = view.old.queue; entry = Entry.Tail } }
     ensures events { events.new.items ≡ Event.Announce (cohort_no cohort) ∷ [] }
 {
     events.push(Event::Announce {
         cohort: cohort.number(),
     });
-    look_on(head, Entry::Tail, false)
+    view.entry = Entry::Tail;
 }
 
-/// What a head learns in the entry, where its act told `got`.
+/// What a head learns in the entry, where its act told `got`. Whether it has to make its round again.
 fn entry_turn(
-    view: AlockView,
+    view: &mut AlockView,
     cohort: Cohort,
     names: &QueueNames,
     got: u64,
     events: &mut ArrayVec<Event, 8>,
-) -> Learnt<AlockView>
-    requires head { view.queue.phase ≡ Phase.Settle }
+) -> bool
+    requires head { view.old.queue.phase ≡ Phase.Settle }
     requires none { events.old.items ≡ [] }
-    ensures { told_with result events.new.items ≡ entry_told names.now cohort view.queue.member view.entry got }
+    ensures { record { view = view.new; events = events.new.items; waits = result } ≡ entry_told names.now cohort view.old.queue.member view.old.entry got }
 {
-    let head = view.queue;
     match view.entry {
-        Entry::Announce => announce(head, cohort, events),
+        Entry::Announce => announce(view, cohort, events),
         Entry::Tail => {
             if got == 0 {
-                settle(head, names, events)
+                settle(view, names, events);
             } else {
-                look_on(head, Entry::Victim, false)
+                view.entry = Entry::Victim;
             }
         }
         Entry::Victim => {
             if got == cohort.number() as u64 {
-                look_on(head, Entry::Tail, true)
-            } else {
-                settle(head, names, events)
+                view.entry = Entry::Tail;
+                return true;
             }
+            settle(view, names, events);
         }
     }
+    false
 }
 
-/// Who has been given its queue enters.
-fn enter(turn: Learnt<QueueView>, events: &mut ArrayVec<Event, 8>) -> Learnt<AlockView>
+/// Who has been given its queue enters. Whether it has to make a load again.
+fn enter(view: &mut AlockView, turn: Learnt<QueueView>, events: &mut ArrayVec<Event, 8>) -> bool
     requires { length events.old.items ≤ 1 }
-    ensures view { result ≡ record { view = record { queue = turn.view; entry = Entry.Announce }; waits = turn.waits } }
+    ensures view { view.new ≡ record { queue = turn.view; entry = Entry.Announce } }
+    ensures waits { result ≡ turn.waits }
     ensures events { events.new.items ≡ events.old.items ++ entry_of turn.view.member turn.view.phase }
 {
     if matches!(turn.view.phase, Phase::Granted { .. }) {
@@ -181,13 +170,11 @@ fn enter(turn: Learnt<QueueView>, events: &mut ArrayVec<Event, 8>) -> Learnt<Alo
             rank: turn.view.member,
         });
     }
-    Learnt {
-        view: AlockView {
-            queue: turn.view,
-            entry: Entry::Announce,
-        },
-        waits: turn.waits,
-    }
+    *view = AlockView {
+        queue: turn.view,
+        entry: Entry::Announce,
+    };
+    turn.waits
 }
 
 impl Alock {
@@ -302,18 +289,14 @@ impl Algo for Alock {
     }
 
     #[inline(always)]
-    fn learn(
-        &self,
-        view: AlockView,
-        got: u64,
-        events: &mut ArrayVec<Event, 8>,
-    ) -> Learnt<AlockView> {
+    fn learn(&self, view: &mut AlockView, got: u64, events: &mut ArrayVec<Event, 8>) -> bool {
         let cohort = self.cohort_of(view.queue.member);
+        let names = self.names_of(cohort);
         match view.queue.phase {
-            Phase::Settle => entry_turn(view, cohort, self.names_of(cohort), got, events),
+            Phase::Settle => entry_turn(view, cohort, names, got, events),
             _ => {
-                let turn = queue_learn(view.queue, self.names_of(cohort), got, events);
-                enter(turn, events)
+                let turn = queue_learn(view.queue, names, got, events);
+                enter(view, turn, events)
             }
         }
     }

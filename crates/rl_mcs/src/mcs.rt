@@ -14,7 +14,7 @@ ghost use Rattle.rl_mcs.specs.Mcs.{mcs_tree, past_hook as past_the_hook, mcs_tab
 ghost use Rattle.rl_mcs.specs.McsLaws.{mcs_laws};
 
 use arrayvec::ArrayVec;
-use rl_step::{Algo, Event, Learnt, Standing};
+use rl_step::{Algo, Event, Standing};
 use rl_tree::{Tree, TreeView, tree_enter};
 use rl_word::{Act, Knobs, Mode, Shape, Spot};
 use std::alloc::{AllocError as OutOfMemory, Global};
@@ -95,12 +95,11 @@ impl Algo for Mcs {
     }
 
     #[inline(always)]
-    fn learn(&self, view: TreeView, got: u64, events: &mut ArrayVec<Event, 8>) -> Learnt<TreeView> {
-        let mut next = view;
-        let turn = self.tree.learn(&mut next, got, events);
-        let waits = past_hook(&self.tree, &mut next, turn, events);
-        tree_enter(&next, events);
-        Learnt { view: next, waits }
+    fn learn(&self, view: &mut TreeView, got: u64, events: &mut ArrayVec<Event, 8>) -> bool {
+        let turn = self.tree.learn(view, got, events);
+        let waits = past_hook(&self.tree, view, turn, events);
+        tree_enter(view, events);
+        waits
     }
 
     fn leave(&self, view: TreeView) -> TreeView {

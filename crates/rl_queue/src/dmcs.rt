@@ -15,7 +15,7 @@ use crate::queue::{
 use crate::ranks::rank_words;
 use crate::view::{QueueView, Stage};
 use arrayvec::ArrayVec;
-use rl_step::{Algo, Event, Learnt, Standing};
+use rl_step::{Algo, Event, Standing};
 use rl_word::{Act, Class, Knobs, Mode, Shape, Spot};
 use std::alloc::{AllocError as OutOfMemory, Global};
 
@@ -119,14 +119,9 @@ impl Algo for Dmcs {
     }
 
     #[inline(always)]
-    fn learn(
-        &self,
-        view: QueueView,
-        got: u64,
-        events: &mut ArrayVec<Event, 8>,
-    ) -> Learnt<QueueView> {
-        let turn = queue_learn(view, &self.names, got, events);
-        let mut next = turn.view;
+    fn learn(&self, view: &mut QueueView, got: u64, events: &mut ArrayVec<Event, 8>) -> bool {
+        let turn = queue_learn(*view, &self.names, got, events);
+        *view = turn.view;
         match queue_stage(turn.view) {
             Stage::Settle => {
                 events.push(Event::Settle {
@@ -134,15 +129,12 @@ impl Algo for Dmcs {
                     member: view.member,
                 });
                 events.push(Event::EnterW { rank: view.member });
-                next = queue_settled(turn.view, &self.names);
+                *view = queue_settled(turn.view, &self.names);
             }
             Stage::Granted { .. } => events.push(Event::EnterW { rank: view.member }),
             Stage::Idle | Stage::Joining | Stage::Leaving | Stage::Above => {}
         }
-        Learnt {
-            view: next,
-            waits: turn.waits,
-        }
+        turn.waits
     }
 
     fn leave(&self, view: QueueView) -> QueueView {

@@ -19,7 +19,7 @@ use rl_counter::{
     counter_learn, counter_plan,
 };
 use rl_queue::{Phase, rank_words};
-use rl_step::{Algo, Event, Learnt, Standing};
+use rl_step::{Algo, Event, Standing};
 use rl_tree::{Tree, tree_enter};
 use rl_word::{Act, Class, Knobs, Mode, Shape, Spot};
 use std::alloc::{AllocError as OutOfMemory, Global};
@@ -230,21 +230,18 @@ impl Algo for Rw {
     }
 
     #[inline(always)]
-    fn learn(&self, view: RwView, got: u64, events: &mut ArrayVec<Event, 8>) -> Learnt<RwView> {
-        let mut next = view;
+    fn learn(&self, view: &mut RwView, got: u64, events: &mut ArrayVec<Event, 8>) -> bool {
         if counter_busy(view.counter) {
             let turn = counter_learn(view.counter, &self.counters, got);
-            let waits = self.at_counters(&mut next, turn.view, turn.waits, events);
-            Learnt { view: next, waits }
-        } else {
-            let waits = self.tree.learn(&mut next.tree, got, events);
-            if next.tree.is_at_hook() {
-                comes_to_hook(&mut next);
-            } else {
-                within_tree(&mut next, events);
-            }
-            Learnt { view: next, waits }
+            return self.at_counters(view, turn.view, turn.waits, events);
         }
+        let waits = self.tree.learn(&mut view.tree, got, events);
+        if view.tree.is_at_hook() {
+            comes_to_hook(view);
+        } else {
+            within_tree(view, events);
+        }
+        waits
     }
 
     fn leave(&self, view: RwView) -> RwView {

@@ -9,7 +9,7 @@ ghost use Rattle.rl_spin.specs.SpinLaws.{spin_laws};
 
 use crate::view::{Phase, SpinView};
 use arrayvec::ArrayVec;
-use rl_step::{Algo, Event, Learnt, Standing};
+use rl_step::{Algo, Event, Standing};
 use rl_word::{Act, Class, Knobs, Mode, Shape, Spot};
 use std::alloc::{AllocError as OutOfMemory, Global};
 
@@ -92,22 +92,18 @@ impl Algo for Spin {
         }
     }
 
-    fn learn(&self, view: SpinView, got: u64, events: &mut ArrayVec<Event, 8>) -> Learnt<SpinView> {
-        let mut phase = view.phase;
+    fn learn(&self, view: &mut SpinView, got: u64, events: &mut ArrayVec<Event, 8>) -> bool {
         match view.phase {
             Phase::Trying => {
                 if got == 0 {
                     events.push(Event::EnterW { rank: view.rank });
-                    phase = Phase::Inside;
+                    view.phase = Phase::Inside;
                 }
             }
-            Phase::Releasing => phase = Phase::Out,
+            Phase::Releasing => view.phase = Phase::Out,
             Phase::Out | Phase::Inside => {}
         }
-        Learnt {
-            view: at(view.rank, phase),
-            waits: false,
-        }
+        false
     }
 
     fn leave(&self, view: SpinView) -> SpinView {

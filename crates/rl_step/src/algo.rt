@@ -7,9 +7,9 @@ ghost use Rattle.rl_word.specs.declared.shapes.Knobs.{Knobs as TheKnobs};
 ghost use Rattle.rl_word.specs.Acts.{Layout};
 ghost use Rattle.rl_word.specs.Shapes.{TheShape, IsProper, layout_of};
 ghost use Rattle.rl_step.specs.LockQueues.{queues_of, readers_share};
-ghost use Rattle.rl_step.specs.Lock.{LockTable, LockState, LockLaws, told_with, HandsOn, Deed, MayStep, MayLearn, IsHolder};
+ghost use Rattle.rl_step.specs.Lock.{LockTable, LockState, LockLaws, HandsOn, Deed, MayStep, MayLearn, IsHolder};
 
-use crate::events::{Event, Learnt, Standing};
+use crate::events::{Event, Standing};
 use arrayvec::ArrayVec;
 use rl_word::{Act, Knobs, Mode, Shape, Spot};
 use std::alloc::{AllocError as OutOfMemory, Global};
@@ -86,17 +86,13 @@ pub trait Algo: Sized + Drop {
         requires { MayStep (good self.now) view }
         ensures { result ≡ (table self.now).plan view };
 
-    /// What the rank learns: `got` is what its planned act found before it wrote, and 0 for a store. What happened with the act is put
-    /// into `events`, which is empty.
-    fn learn(
-        &self,
-        view: Self::View,
-        got: u64,
-        events: &mut ArrayVec<Event, 8>,
-    ) -> Learnt<Self::View>
-        requires may { MayLearn (table self.now) (good self.now) view got }
+    /// What the rank learns, by which its view changes: `got` is what its planned act found before it wrote, and 0 for a store. What
+    /// happened with the act is put into `events`, which is empty. Whether it waits: the act was the last of a round that has to be made
+    /// again.
+    fn learn(&self, view: &mut Self::View, got: u64, events: &mut ArrayVec<Event, 8>) -> bool
+        requires may { MayLearn (table self.now) (good self.now) view.old got }
         requires none { events.old.items ≡ [] }
-        ensures { told_with result events.new.items ≡ (table self.now).learn view got };
+        ensures { record { view = view.new; events = events.new.items; waits = result } ≡ (table self.now).learn view.old got };
 
     /// The view once a holder's work is done.
     fn leave(&self, view: Self::View) -> Self::View

@@ -169,7 +169,7 @@ impl Tree {
     pub fn words(&self) -> u32
         ensures { result ≡ of_tree self.now.rooted }
     {
-        self.rooted.words()
+        self.spots.len() as u32
     }
 
     /// The class of a word, and where it lives.

@@ -69,8 +69,9 @@ pub fn waits<A: Algo>(core: &Whole<A>, view: &WholeView<A::View>, words: &Words)
     let at = core.base + word;
     let value = words.value(at);
     let mut events = ArrayVec::new();
-    let learnt = core.algo.learn(view.side.view, value, &mut events);
-    if learnt.waits && events.is_empty() && learnt.view == view.side.view {
+    let mut lock = view.side.view;
+    let waits = core.algo.learn(&mut lock, value, &mut events);
+    if waits && events.is_empty() && lock == view.side.view {
         Some(Stepped::Waiting { word: at, value })
     } else {
         None

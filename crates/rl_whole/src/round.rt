@@ -75,13 +75,14 @@ fn seen_leg<A: Algo>(core: &Whole<A>, view: A::View, words: &Words) -> Option<Le
     let at = core.base + word;
     let value = words.value(at);
     let mut events = ArrayVec::new();
-    let learnt = core.algo.learn(view, value, &mut events);
+    let mut next = view;
+    let waits = core.algo.learn(&mut next, value, &mut events);
     if events.is_empty() {
         Some(Leg {
             word: at,
             value,
-            waits: learnt.waits,
-            view: learnt.view,
+            waits,
+            view: next,
         })
     } else {
         None

@@ -184,10 +184,9 @@ impl<A: Algo> Core for Whole<A> {
                 stepped
             }
             Effect::Learn { card, told, lost } => {
-                let learnt = self.algo.learn(view.side.view, told, events);
-                view.side.view = learnt.view;
+                let waits = self.algo.learn(&mut view.side.view, told, events);
                 view.side.card = card;
-                shift_answer(self.base, answer(plan.act, told, lost, learnt.waits))
+                shift_answer(self.base, answer(plan.act, told, lost, waits))
             }
         }
     }

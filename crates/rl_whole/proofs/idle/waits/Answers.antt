@@ -29,12 +29,12 @@ there g c =
 pub value-value-requires : goal.value-value-requires
 value-value-requires g c = there g (goal.at.value-value-requires g c).In-Load
 
-pub learn-learnt-requires-clause-may : goal.learn-learnt-requires-clause-may
-learn-learnt-requires-clause-may g c =
+pub learn-waits-requires-clause-may : goal.learn-waits-requires-clause-may
+learn-waits-requires-clause-may g c =
     let T = g.A.Algo.table c.args.core.now.algo in
     let at = c.args.core.now.base + c.in-Load.word in
     subst (MayLearn T (g.A.Algo.good c.args.core.now.algo) c.args.view.now.side.view) (ap (λ h. slice_index h.words at) c.requires.1 ∙ sym c.value-value.ensures)
-    (load_learns (lock_at g.A.Algo.table c.args.core.now) c.args.view.now c.in-Load.word (planned g (goal.at.learn-learnt-requires-clause-may g c).In-Load) c.in_ok-word.ensures.0
+    (load_learns (lock_at g.A.Algo.table c.args.core.now) c.args.view.now c.in-Load.word (planned g (goal.at.learn-waits-requires-clause-may g c).In-Load) c.in_ok-word.ensures.0
     (g.A.Algo.good c.args.core.now.algo) (g.A.Algo.further c.args.core.now.algo) (g.A.Algo.layout c.args.core.now.algo) (g.met.A.Algo.laws c.args.core.now.algo) c.args.core.now.home c.requires.0)
 
 pub returns-then-eq-clause-in_call : goal.returns-then-eq-clause-in_call

@@ -42,19 +42,19 @@ there g c =
 pub value-value-requires : goal.value-value-requires
 value-value-requires g c = there g (goal.at.value-value-requires g c).In-Load
 
-pub learn-learnt-requires-clause-may : goal.learn-learnt-requires-clause-may
-learn-learnt-requires-clause-may g c =
+pub learn-waits-requires-clause-may : goal.learn-waits-requires-clause-may
+learn-waits-requires-clause-may g c =
     let core = c.args.core.now in
     let T = g.A.Algo.table core.algo in
     let at = core.base + c.in-Load.word in
     subst (λ v. MayLearn T (g.A.Algo.good core.algo) v c.value-value.result) c.requires.is
     (subst (MayLearn T (g.A.Algo.good core.algo) c.requires.view.side.view) (ap (λ h. slice_index h.words at) c.requires.held ∙ sym c.value-value.ensures)
-    (load_learns (lock_at g.A.Algo.table core) c.requires.view c.in-Load.word (planned_there g (goal.at.learn-learnt-requires-clause-may g c).In-Load) c.requires.free
+    (load_learns (lock_at g.A.Algo.table core) c.requires.view c.in-Load.word (planned_there g (goal.at.learn-waits-requires-clause-may g c).In-Load) c.requires.free
     (g.A.Algo.good core.algo) (g.A.Algo.further core.algo) (g.A.Algo.layout core.algo) (g.met.A.Algo.laws core.algo) core.home c.requires.may))
 
 pub returns-then-is_empty : goal.returns-then-is_empty
 returns-then-is_empty g c =
-    let learnt = c.learn-learnt.ensures in
+    let learnt = c.learn-waits.ensures in
     let d = (goal.at.returns-then-is_empty g c).In-Load in
     record {
       load = c.in-Load.word;
@@ -64,6 +64,6 @@ returns-then-is_empty g c =
       shows = sym c.value-value.ensures;
       fits = search rules;
       view = sym (ap (λ t. t.view) learnt);
-      quiet = sym (ap (λ t. t.events) learnt) ∙ none_there c.learn-learnt.new.events.items (sym c.is_empty.ensures ∙ c.if-is_empty.true);
+      quiet = sym (ap (λ t. t.events) learnt) ∙ none_there c.learn-waits.new.events.items (sym c.is_empty.ensures ∙ c.if-is_empty.true);
       waits = sym (ap (λ t. t.waits) learnt);
     }

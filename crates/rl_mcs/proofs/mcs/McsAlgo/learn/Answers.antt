@@ -13,12 +13,12 @@ use Rattle.rl_mcs.proofs.mcs.McsAlgo.learn.Goals as goal
 pub learn-turn-requires-clause-fits : goal.learn-turn-requires-clause-fits
 learn-turn-requires-clause-fits c =
     let t = c.args.self.now.tree in
-    plans_it t.rooted (levels_of t.rooted.shape) (laid_shaped t.rooted (levels_of t.rooted.shape) t.laid) c.args.self.now.unlimited c.args.view c.args.got c.requires.may
+    plans_it t.rooted (levels_of t.rooted.shape) (laid_shaped t.rooted (levels_of t.rooted.shape) t.laid) c.args.self.now.unlimited c.args.view.now c.args.got c.requires.may
 
 pub learn-turn-requires-clause-got : goal.learn-turn-requires-clause-got
 learn-turn-requires-clause-got c =
     let t = c.args.self.now.tree in
-    learns_it t.rooted (levels_of t.rooted.shape) (laid_shaped t.rooted (levels_of t.rooted.shape) t.laid) c.args.self.now.unlimited c.args.view c.args.got c.requires.may
+    learns_it t.rooted (levels_of t.rooted.shape) (laid_shaped t.rooted (levels_of t.rooted.shape) t.laid) c.args.self.now.unlimited c.args.view.now c.args.got c.requires.may
 
 -- what was learnt in the tree, by its parts
 abbrev the_view : Told TreeView → TreeView
@@ -29,16 +29,16 @@ past_hook-waits-requires-clause-placed c on =
     let t = c.args.self.now.tree in
     let same = ap the_view c.learn-turn.ensures in
     subst (IsPlaced t.rooted) (sym same)
-    (placed_after t.rooted (levels_of t.rooted.shape) (laid_shaped t.rooted (levels_of t.rooted.shape) t.laid) c.args.self.now.unlimited c.args.view c.args.got c.requires.may (subst (λ z. at_hook z ≡ true) same on))
+    (placed_after t.rooted (levels_of t.rooted.shape) (laid_shaped t.rooted (levels_of t.rooted.shape) t.laid) c.args.self.now.unlimited c.args.view.now c.args.got c.requires.may (subst (λ z. at_hook z ≡ true) same on))
 
 pub past_hook-waits-requires-clause-room : goal.past_hook-waits-requires-clause-room
 past_hook-waits-requires-clause-room c on =
     let t = c.args.self.now.tree in
     subst (λ z. length z ≤ 3) (sym (ap (λ u. u.events) c.learn-turn.ensures))
-    (few_after t.rooted (levels_of t.rooted.shape) (laid_shaped t.rooted (levels_of t.rooted.shape) t.laid) c.args.self.now.unlimited c.args.view c.args.got c.requires.may (subst (λ z. at_hook z ≡ true) (ap the_view c.learn-turn.ensures) on))
+    (few_after t.rooted (levels_of t.rooted.shape) (laid_shaped t.rooted (levels_of t.rooted.shape) t.laid) c.args.self.now.unlimited c.args.view.now c.args.got c.requires.may (subst (λ z. at_hook z ≡ true) (ap the_view c.learn-turn.ensures) on))
 
 pub tree_enter-requires : goal.tree_enter-requires
 tree_enter-requires c =
     let t = c.args.self.now.tree in
     subst (λ z. length (with_entry z).events ≤ 8) (sym (c.past_hook-waits.ensures ∙ ap (past (tree_of t.rooted)) c.learn-turn.ensures))
-    (few_told t.rooted (levels_of t.rooted.shape) (laid_shaped t.rooted (levels_of t.rooted.shape) t.laid) c.args.self.now.unlimited c.args.view c.args.got c.requires.may)
+    (few_told t.rooted (levels_of t.rooted.shape) (laid_shaped t.rooted (levels_of t.rooted.shape) t.laid) c.args.self.now.unlimited c.args.view.now c.args.got c.requires.may)

@@ -35,11 +35,11 @@ effect-requires g c =
     (holder_fits _ (lock_at g.A.Algo.table c.args.self.now) (g.A.Algo.good c.args.self.now.algo) (g.A.Algo.further c.args.self.now.algo) (g.A.Algo.layout c.args.self.now.algo) (g.met.A.Algo.laws c.args.self.now.algo)
     c.args.self.now.home c.args.view.now c.args.got c.requires.may))
 
-pub learn-learnt-requires-clause-may : goal.learn-learnt-requires-clause-may
-learn-learnt-requires-clause-may g c =
+pub learn-waits-requires-clause-may : goal.learn-waits-requires-clause-may
+learn-waits-requires-clause-may g c =
     may_learn _ (lock_at g.A.Algo.table c.args.self.now) (g.A.Algo.good c.args.self.now.algo) (g.A.Algo.further c.args.self.now.algo) (g.A.Algo.layout c.args.self.now.algo) (g.met.A.Algo.laws c.args.self.now.algo)
     c.args.self.now.home c.args.view.now c.args.got c.in-Learn.card c.in-Learn.told c.in-Learn.lost c.requires.may
-    (the_effect g (goal.at.learn-learnt-requires-clause-may g c).After-effect ∙ c.in-Learn.is)
+    (the_effect g (goal.at.learn-waits-requires-clause-may g c).After-effect ∙ c.in-Learn.is)
 
 -- where something is learnt the plan's act is the view's
 learnt_plan : (g : Over) (c : After-effect g) (hand : CardState) (t : ℕ) (lost : Bool) → c.effect.result ≡ Learn hand t lost → c.args.plan.act ≡ (g.A.Algo.table c.args.self.now.algo).plan c.args.view.now.side.view
@@ -69,11 +69,10 @@ returns-in-Learn g c =
     let card = c.in-Learn.card in
     let told = c.in-Learn.told in
     let lost = c.in-Learn.lost in
-    let learnt = c.learn-learnt.result in
     let with : g.row.A-View.Denot → WholeView g.row.A-View.Denot = λ v. record { side = record { view = v; card = card }; rank = x.rank; work = x.work } in
-    ap (turned_with (with learnt.view) c.learn-learnt.new.events.items)
-    (c.shift_answer.ensures ∙ ap (shifted_answer base) (c.answer.ensures ∙ ap (λ p. answer_of p told lost learnt.waits) (learnt_plan g d card told lost c.in-Learn.is)))
-    ∙ ap (λ z. turned_with (with z.view) z.events (shifted_answer base (answer_of (T.plan x.side.view) told lost z.waits))) c.learn-learnt.ensures
+    ap (turned_with (with c.learn-waits.new.view) c.learn-waits.new.events.items)
+    (c.shift_answer.ensures ∙ ap (shifted_answer base) (c.answer.ensures ∙ ap (λ p. answer_of p told lost c.learn-waits.result) (learnt_plan g d card told lost c.in-Learn.is)))
+    ∙ ap (λ z. turned_with (with z.view) z.events (shifted_answer base (answer_of (T.plan x.side.view) told lost z.waits))) c.learn-waits.ensures
     ∙ the_after g d (Learn card told lost) c.in-Learn.is
 
 -- an atom of the work: its touch, and the leave where the work is over
@@ -117,7 +116,7 @@ shift_answer-requires g c =
     let laws = g.met.A.Algo.laws c.args.self.now.algo in
     let told = c.in-Learn.told in
     let lost = c.in-Learn.lost in
-    let waits = c.learn-learnt.result.waits in
+    let waits = c.learn-waits.result in
     subst (IsAnswerShiftable c.args.self.now.base) (sym (c.answer.ensures ∙ ap (λ p. answer_of p told lost waits) (learnt_plan g (goal.at.shift_answer-requires g c).After-effect c.in-Learn.card told lost c.in-Learn.is)))
     (answer_fits _ (lock_at g.A.Algo.table c.args.self.now) good (g.A.Algo.further c.args.self.now.algo) layout laws c.args.self.now.home c.args.view.now told lost waits
     (may_be _ (lock_at g.A.Algo.table c.args.self.now) good (g.A.Algo.further c.args.self.now.algo) layout laws c.args.self.now.home c.args.view.now c.args.got c.requires.may))
