@@ -12,7 +12,7 @@ use Rattle.rl_window.specs.declared.knows.RootKnows.{RootKnows}
 use Rattle.rl_window.specs.declared.knows.RankKnows.{RankKnows}
 use Rattle.rl_window.specs.declared.knows.Knows.{Knows}
 use Rattle.rl_window.specs.declared.knows.Knows.TheVariants.{Root, Rank, Spent}
-use Rattle.rl_window.specs.Rule.{Keeps, Fits, IsRuled}
+use Rattle.rl_window.specs.Rule.{apart, Keeps, Fits, IsRuled}
 use Rattle.rl_window.specs.Plays.{with_ended, CanEnd}
 
 module _ {C V : Type 0} (rule : C → TheWindow → List V → Type 0) where
@@ -20,15 +20,15 @@ module _ {C V : Type 0} (rule : C → TheWindow → List V → Type 0) where
   left_fit : (core : C) (size nodes : ℕ) (views : List V) (given joined j : ℕ) (v : V) → j ≢ 0 → j ≢ joined + 1 → (k : Knows C V) → Fits core size nodes views given joined j k → Fits core size nodes (set views joined v) given (joined + 1) j k
   left_fit core size nodes views given joined j v root other (Root r) f = absurd (root f.0)
   left_fit core size nodes views given joined j v root other (Rank r) f =
-      let apart : r.rank ≢ joined = λ e. other (f.0 ∙ ap (λ (n : ℕ). n + 1) e) in
-      (f.0, f.1, f.2, f.3, (let h = f.4 in omega arith), f.5, get_set_other views joined r.rank v apart ∙ f.6)
+      let differs : r.rank ≢ joined = λ e. other (f.0 ∙ ap (λ (n : ℕ). n + 1) e) in
+      (f.0, f.1, f.2, f.3, (let h = f.4 in omega arith), f.5, get_set_other views joined r.rank v differs ∙ f.6)
   left_fit core size nodes views given joined j v root other Spent f = tt
 
   joins_at : (key : Setup C V) (id other : ℕ) (q : RootKnows C V) (r : RankKnows C V) (v : V) → r.rank ≡ length q.ended → Keeps (rule r.core) r.rank r.view v
       → Joins (IsRuled rule key) id (Root q) other (Rank r) (Root (record q { ended = q.ended ++ v ∷ [] })) Spent
-  joins_at key id other q r v next same s R at apart there =
+  joins_at key id other q r v next same s R at differ there =
       let both : Knows C V = Root (record q { ended = q.ended ++ v ∷ [] }) in
-      let there' : get_elem? s.views other ≡ some (Rank r) = sym (set_else s.views id other both apart) ∙ there in
+      let there' : get_elem? s.views other ≡ some (Rank r) = sym (set_else s.views id other both differ) ∙ there in
       let F = R.each id (Root q) at in
       let G = R.each other (Rank r) there' in
       let e = R.enough in
@@ -76,5 +76,5 @@ module _ {C V : Type 0} (rule : C → TheWindow → List V → Type 0) where
       let taken : length q.ended ≡ R.joined = ap length T.6 ∙ length-take-le R.joined R.views (omega arith) in
       let given : q.given ≡ R.given = T.4 in
       let whole : q.ended ≡ R.views = T.6 ∙ take_all R.joined R.views (omega arith) in
-      let words : take key.size ws ≡ R.held.words = ap (take key.size) (sym F.2 ∙ R.laid) ∙ take_at R.held.words R.held.cards key.size R.kept.1 in
+      let words : take key.size ws ≡ R.held.words = ap (take key.size) (sym F.2 ∙ R.laid) ∙ take_at R.held.words (apart R.held.cards) key.size R.kept.1 in
       (R.held.cards, subst (λ (l : List ℕ). rule key.core (record { words = l; cards = R.held.cards }) q.ended) (sym words) (subst (rule key.core R.held) (sym whole) R.kept.0))

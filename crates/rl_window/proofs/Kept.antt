@@ -1,5 +1,5 @@
 -- Each step keeps the rule of the table.
-use Rattle.std.proofs.Common.{◌≡◌, ℕ, ◌+◌, ◌<◌, ◌≤◌, ◌^◌, ◌≢◌, eqb, List, [], length, get_or, set, slice_get, Option, Some, sym, refl, ap, ◌∙◌, subst, ⊎_elim, arith, length-set, set-set}
+use Rattle.std.proofs.Common.{◌≡◌, ℕ, ◌+◌, ◌*◌, ◌<◌, ◌≤◌, ◌^◌, ◌≢◌, eqb, List, [], length, get_or, set, slice_get, Option, Some, sym, refl, ap, ◌∙◌, subst, ⊎_elim, arith, length-set, set-set}
 use Rattle.std.proofs.lemmas.List.{take-set-le, drop-set-lt}
 use Rattle.std.proofs.lemmas.Option.{slice_get_within}
 use mathlib.Core.Option.{some}
@@ -127,7 +127,7 @@ module _ {C V : Type 0} where
     module _ (key : Setup C V) (slots id : ℕ) (core : C) (size nodes rank : ℕ) (v : V) (a : Atom) (told : Option V) (me : Me ℕ (Knows C V)) (says : told ≡ Some v) (at : IsRankAt core size nodes rank v me)
         (may_be : MayBeAt (sized (rule core) size nodes) rank v) (same : Keeps (rule core) rank (last_of v me.0) v) (plan : (table core).next v ≡ Some a) where
       abbrev pub May : ℕ → (ℕ → ℕ) → (ℕ → ℕ) → Type 0
-      May i f g = (i < size + nodes) × Allows (IsRuled rule key) slots id me i f (λ n w. (w.1 ≡ me.1) × Told rule table told (g n) me.0 w.0)
+      May i f g = (i < size + 8 * nodes) × Allows (IsRuled rule key) slots id me i f (λ n w. (w.1 ≡ me.1) × Told rule table told (g n) me.0 w.0)
 
       there : (b : Atom) → a ≡ b → (ws : List ℕ) × (cs : List ℕ) × (length ws ≡ size) × (length cs ≡ nodes) × CanDo (home_at (table core).home b) rank b ws cs
       there b e =
@@ -139,7 +139,7 @@ module _ {C V : Type 0} where
             (laws core).can m.held m.views rank v b (record { is_ruled = m.is_ruled.0; has = subst (λ (n : ℕ). slice_get m.views n ≡ Some v) may_be.1 m.has; planned = plan ∙ ap (λ (x : Atom). Some x) e }),
           )
 
-      may : (b : Atom) → a ≡ b → (i : ℕ) (f g : ℕ → ℕ) → ((ws cs : List ℕ) → length ws ≡ size → length cs ≡ nodes → CanDo (home_at (table core).home b) rank b ws cs → (i < size + nodes) × IsAtom rank b i f g ws cs) → ((n : ℕ) → n < 2 ^ 64 → g n < 2 ^ 64) → May i f g
+      may : (b : Atom) → a ≡ b → (i : ℕ) (f g : ℕ → ℕ) → ((ws cs : List ℕ) → length ws ≡ size → length cs ≡ nodes → CanDo (home_at (table core).home b) rank b ws cs → (i < size + 8 * nodes) × IsAtom rank b i f g ws cs) → ((n : ℕ) → n < 2 ^ 64 → g n < 2 ^ 64) → May i f g
       may b e i f g acts fits = let t = there b e in (
         (acts t.0 t.1 t.2 t.3 t.4).0,
         allowed key slots id core size nodes rank v b i f g told me says at same (plan ∙ ap (λ (x : Atom). Some x) e)
@@ -155,8 +155,8 @@ module _ {C V : Type 0} where
       pub may_exchange : (w old new : ℕ) → a ≡ LocalCas w old new → May w (λ n. either (eqb n old) new n) (λ n. n)
       may_exchange w old new e = may (LocalCas w old new) e w (λ n. either (eqb n old) new n) (λ n. n) (λ ws cs wide deep can. (omega arith, exchanges ws cs rank w old new can)) (λ n h. h)
 
-      pub may_take : (n : ℕ) → a ≡ Take n → May (size + n) (λ x. either (eqb x 0) (rank + 1) x) (λ x. x)
-      may_take n e = may (Take n) e (size + n) (λ x. either (eqb x 0) (rank + 1) x) (λ x. x) (λ ws cs wide deep can. (omega arith, takes ws cs size rank n wide)) (λ x h. h)
+      pub may_take : (n : ℕ) → a ≡ Take n → May (size + (8 * n + 7)) (λ x. either (eqb x 0) (rank + 1) x) (λ x. x)
+      may_take n e = may (Take n) e (size + (8 * n + 7)) (λ x. either (eqb x 0) (rank + 1) x) (λ x. x) (λ ws cs wide deep can. (omega arith, takes ws cs size rank n wide)) (λ x h. h)
 
       pub may_card_load : (w : ℕ) → a ≡ CardLoad w → May w (λ n. n) (λ n. n)
       may_card_load w e = may (CardLoad w) e w (λ n. n) (λ n. n) (λ ws cs wide deep can. let h = can.0 in (omega arith, card_loads ws cs rank w h)) (λ n h. h)
@@ -164,5 +164,5 @@ module _ {C V : Type 0} where
       pub may_card_store : (w x : ℕ) → a ≡ CardStore w x → May w (λ _. x) (λ _. 0)
       may_card_store w x e = may (CardStore w x) e w (λ _. x) (λ _. 0) (λ ws cs wide deep can. let h = can.0 in (omega arith, card_stores ws cs rank w x h)) (λ n h. omega arith)
 
-      pub may_leave : (n : ℕ) → a ≡ Leave n → May (size + n) (λ _. 0) (λ _. 0)
-      may_leave n e = may (Leave n) e (size + n) (λ _. 0) (λ _. 0) (λ ws cs wide deep can. let h = can.0 in (omega arith, leaves ws cs size rank n wide)) (λ x h. omega arith)
+      pub may_leave : (n : ℕ) → a ≡ Leave n → May (size + (8 * n + 7)) (λ _. 0) (λ _. 0)
+      may_leave n e = may (Leave n) e (size + (8 * n + 7)) (λ _. 0) (λ _. 0) (λ ws cs wide deep can. let h = can.0 in (omega arith, leaves ws cs size rank n wide)) (λ x h. omega arith)

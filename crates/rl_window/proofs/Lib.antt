@@ -1,3 +1,4 @@
+pub mod Apart
 pub mod Effects
 pub mod Joins
 pub mod Kept

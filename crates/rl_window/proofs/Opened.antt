@@ -12,7 +12,7 @@ use Rattle.rl_window.specs.declared.knows.Knows.{Knows}
 use Rattle.rl_window.specs.declared.knows.Knows.TheVariants.{Root, Rank}
 use Rattle.rl_window.specs.declared.window.Window.{Window}
 use Rattle.rl_window.specs.declared.window.WinSeat.{WinSeat}
-use Rattle.rl_window.specs.Rule.{Fits, IsRuled, opening_root}
+use Rattle.rl_window.specs.Rule.{apart, Fits, IsRuled, opening_root}
 use Rattle.rl_window.specs.Plays.{rank_knows, last_of, steps_of}
 use Rattle.rl_window.specs.SeatLemmas.{kept_still}
 use Rattle.rl_window.specs.Seats.{IsOpening, IsAll, AreNew, AreKept, view_of, last_view}
@@ -22,7 +22,7 @@ module _ {C V : Type 0} (rule : C → TheWindow → List V → Type 0) where
   root_fits key zero k e = subst (Fits key.core key.size key.nodes key.views.items 0 0 0) (some-injective (opening_root key) k e) (refl, refl, refl, refl, refl, refl, refl)
   root_fits key (suc id) k e = absurd (some-ne-none k (sym e))
 
-  pub opens : (key : Setup C V) (all : List ℕ) (h : TheWindow) → all ≡ h.words ++ h.cards → length h.words ≡ key.size → length h.cards ≡ key.nodes → rule key.core h key.views.items → IsRuled rule key (opening all [] (opening_root key))
+  pub opens : (key : Setup C V) (all : List ℕ) (h : TheWindow) → all ≡ h.words ++ apart h.cards → length h.words ≡ key.size → length h.cards ≡ key.nodes → rule key.core h key.views.items → IsRuled rule key (opening all [] (opening_root key))
   opens key all h laid wide deep kept = record {
     held = h;
     views = key.views.items;

@@ -1,5 +1,5 @@
 -- The rule of the table: the core's rule over the words, the cards and one view for each rank, and which seat knows which view.
-use Rattle.std.specs.Prelude.{◌≡◌, ℕ, ◌+◌, ◌<◌, ◌≤◌, List, [], ◌++◌, length, take, drop, slice_get, slice_set, Some}
+use Rattle.std.specs.Prelude.{◌≡◌, ℕ, ◌+◌, ◌<◌, ◌≤◌, List, [], ◌∷◌, ◌++◌, length, take, drop, slice_get, slice_set, Some}
 use mathlib.Core.Option.{some}
 use lib.ListN.{get_elem?}
 use Rattle.atomic_table.specs.Table.{State}
@@ -8,6 +8,12 @@ use Rattle.rl_step.specs.Core.{CoreTable, MayBe, MayGet}
 use Rattle.rl_window.specs.declared.knows.Setup.{Setup}
 use Rattle.rl_window.specs.declared.knows.Knows.{Knows}
 use Rattle.rl_window.specs.declared.knows.Knows.TheVariants.{Root, Rank, Spent}
+
+-- How cards lie in the table: each is the last of eight words, and the seven before it are 0 and unused. So from a card to the next, and from
+-- the window's last word to the first card, it is as far as a line of a processor's cache is long.
+abbrev pub apart : List ℕ → List ℕ
+apart [] = []
+apart (c ∷ cs) = 0 ∷ 0 ∷ 0 ∷ 0 ∷ 0 ∷ 0 ∷ 0 ∷ c ∷ apart cs
 
 module _ {V : Type 0} where
   -- the core's rule, with so many words and cards
@@ -28,15 +34,15 @@ module _ {C V : Type 0} where
     Fits (Rank r) = (id ≡ r.rank + 1) × (r.core ≡ core) × (r.size ≡ size) × (r.nodes ≡ nodes) × (joined ≤ r.rank) × (r.rank < given) × (slice_get views r.rank ≡ Some r.view)
     Fits Spent = Unit {0}
 
-  -- The table's words are words and cards of some window, and there is one view for each rank, with which they meet the core's rule;
-  -- each seat knows the part of the views that is its own.
+  -- The table's words are words and cards of some window, the cards apart, and there is one view for each rank, with which they meet the
+  -- core's rule; each seat knows the part of the views that is its own.
   pub record IsRuled (rule : C → TheWindow → List V → Type 0) (key : Setup C V) (s : State ℕ (Knows C V)) : Type 0 where
     pub held : TheWindow
     pub views : List V
     -- so many seats were split off, and of these so many joined again
     pub given : ℕ
     pub joined : ℕ
-    pub laid : s.words ≡ held.words ++ held.cards
+    pub laid : s.words ≡ held.words ++ apart held.cards
     pub kept : sized (rule key.core) key.size key.nodes held views
     pub seats : length s.views ≡ given + 1
     pub enough : given ≤ length views

@@ -1,23 +1,30 @@
 //! The atoms of a rank, each one table step.
 
-ghost use Rattle.std.specs.Prelude.{◌≡◌, ℕ, [], Some};
+ghost use Rattle.std.specs.Prelude.{◌≡◌, ◌+◌, ◌*◌, ℕ, [], Some};
 ghost use Rattle.rl_window.specs.Rule.{sized, MayBeAt, Keeps};
 ghost use Rattle.rl_window.specs.Plays.{Moves, IsRankAt, last_of};
 
 use crate::knows::Knows;
 use crate::plays::{Finds, Tell, Writes};
-use crate::window::Window;
+use crate::window::{LINE, Window};
 use atomic_table::Seat;
 use rl_step::Core;
 use rl_word::Atom;
 use std::marker::Brand;
 
 impl<C: Core> Window<C> {
+    /// Which word of the table the card of a node is: the last of the node's line.
+    #[inline(always)]
+    fn card(&self, node: u32) -> usize
+        ensures { result ≡ self.now.size + (8 * node + 7) }
+    {
+        self.size + (LINE * node as usize + (LINE - 1))
+    }
+
     /// Makes the next atom of `view`, which the call tells the proof by `W`, and gives what it found, or 0 where it only
     /// writes.
     ///
-    /// Card n is the word n behind the window's words. A take is one compare-and-swap of the card from 0 to the rank and
-    /// one; a leave writes 0.
+    /// A take is one compare-and-swap of the node's card from 0 to the rank and one; a leave writes 0.
     #[inline(always)]
     fn make_told<W: Tell<C::View>>(
         &self,
@@ -45,7 +52,7 @@ impl<C: Core> Window<C> {
                 shared.compare_exchange::<Finds<C, W>>(seat, word as usize, old, new)
             }
             Atom::Take { node } => {
-                let card = self.size + node as usize;
+                let card = self.card(node);
                 shared.compare_exchange::<Finds<C, W>>(seat, card, 0, rank as u64 + 1)
             }
             Atom::CardLoad { word } => shared.load::<Finds<C, W>>(seat, word as usize),
@@ -54,7 +61,7 @@ impl<C: Core> Window<C> {
                 0
             }
             Atom::Leave { node } => {
-                let card = self.size + node as usize;
+                let card = self.card(node);
                 shared.store::<Writes<C, W>>(seat, card, 0);
                 0
             }

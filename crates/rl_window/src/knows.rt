@@ -10,7 +10,7 @@ use std::marker::PhantomData;
 pub struct Setup<C, V> {
     /// The machine of a rank.
     pub core: C,
-    /// How many of the table's words are words of the window; the cards come behind them.
+    /// How many of the table's words are words of the window; the cards come behind them, each with a line's length to itself.
     pub size: usize,
     /// How many cards there are: one for each node.
     pub nodes: usize,

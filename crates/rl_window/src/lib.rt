@@ -5,8 +5,9 @@
 //! - A *seat* (`WinSeat`) is the one right to act as a rank. It holds the rank's view. Whoever has a seat and a `&Window`
 //!   makes atoms, in a thread of its own too.
 //! - A *table step* is one atomic step on one word of the table underneath (`atomic_table`), whose words are the window's
-//!   words and then one card for each node. There are nine kinds: one for each of the seven atoms, the split of a rank's
-//!   seat off the root seat (`new`), and the join of an ended seat to it (`close`).
+//!   words and then one card for each node, each with the length of a line of a processor's cache to itself. There are nine
+//!   kinds: one for each of the seven atoms, the split of a rank's seat off the root seat (`new`), and the join of an ended
+//!   seat to it (`close`).
 //! - The *root seat* is the table's first. It stays in the window and makes no atom.
 //!
 //! Promise: between any two table steps words, cards and views meet the core's rule, whatever the order in which the

@@ -1,15 +1,16 @@
 //! How a window is opened: the table is made, and each rank's seat is split off the root seat.
 
-ghost use Rattle.std.specs.Prelude.{◌≡◌, ◌+◌, ◌<◌, ◌≤◌, ◌^◌, ℕ, List, [], ◌∷◌, ◌++◌, length, replicate, map, IfOk, vec_len, vec_capacity};
+ghost use Rattle.std.specs.Prelude.{◌≡◌, ◌+◌, ◌*◌, ◌<◌, ◌≤◌, ◌^◌, ℕ, List, [], ◌∷◌, ◌++◌, length, replicate, map, IfOk, vec_len, vec_capacity};
 ghost use Rattle.rl_window.specs.declared.knows.RootKnows.{RootKnows};
 ghost use Rattle.rl_window.specs.declared.knows.Knows.TheVariants.{Root};
+ghost use Rattle.rl_window.specs.Rule.{apart};
 ghost use Rattle.rl_window.specs.Plays.{without_next, next_seat};
 ghost use Rattle.rl_window.specs.Seats.{view_of, IsAll, AreNew, AreKept, IsOpening};
 
 use crate::knows::{Knows, Setup, WindowRule};
 use crate::plays::SplitsNext;
 use crate::root_seat::RootSeat;
-use crate::window::{WinSeat, Window};
+use crate::window::{LINE, WinSeat, Window};
 use atomic_table::{Seat, Shared, Table};
 use rl_step::Core;
 use std::alloc::{AllocError as OutOfMemory, Global};
@@ -70,14 +71,15 @@ fn split_all<C: Core>(
     }
 }
 
-/// The table's words: the window's, and a free card for each node behind them.
+/// The table's words: the window's, and behind them a line for each node, whose last word is a free card.
 fn words_and_cards(alloc: Global, words: &[u64], nodes: usize) -> Result<Vec<u64>, OutOfMemory>
     requires { nodes < 2 ^ 32 }
-    ensures { IfOk result (λ v. v.items ≡ words.now ++ replicate nodes 0) }
+    ensures words { IfOk result (λ v. v.items ≡ words.now ++ apart (replicate nodes 0)) }
+    ensures count { IfOk result (λ v. vec_len v ≡ length words.now + 8 * nodes) }
 {
     let mut all = Vec::new(alloc);
     all.extend_from_slice(words)?;
-    all.resize(words.len() + nodes, 0)?;
+    all.resize(words.len() + LINE * nodes, 0)?;
     Ok(all)
 }
 

@@ -1,6 +1,6 @@
 //! The window, and the seat of a rank.
 
-ghost use Rattle.std.specs.Prelude.{◌≡◌, ◌+◌, ◌^◌, ◌<◌, ◌≤◌, []};
+ghost use Rattle.std.specs.Prelude.{◌≡◌, ◌+◌, ◌*◌, ◌^◌, ◌<◌, ◌≤◌, []};
 ghost use Rattle.std.specs.Coded.{Coded-set};
 
 use crate::knows::{Knows, Setup, WindowRule};
@@ -8,6 +8,12 @@ use crate::root_seat::RootSeat;
 use atomic_table::{Seat, Table};
 use rl_step::Core;
 use std::alloc::Global;
+
+/// How many words of 8 bytes a line of a processor's cache has.
+///
+/// Each card has a line's length to itself, so that threads at different cards, or at words and at cards, don't take a line
+/// from each other.
+pub(crate) const LINE: usize = 8;
 
 /// A window of words and cards under the rule of its core, shared by all its seats.
 ///
@@ -22,7 +28,7 @@ pub struct Window<C: Core> {
     pub(crate) alloc: Global,
     ghost about: { table.shared.key.core ≡ core } by { Coded-set C.code _ _ },
     ghost counts: { (table.shared.key.size ≡ size) × (table.shared.key.nodes ≡ nodes) },
-    ghost sized: { (table.shared.table_id.words ≡ size + nodes) × (size + nodes < 2 ^ 63) × (0 < size) × (table.shared.table_id.slots ≡ 0) },
+    ghost sized: { (table.shared.table_id.words ≡ size + 8 * nodes) × (size + 8 * nodes < 2 ^ 63) × (0 < size) × (table.shared.table_id.slots ≡ 0) },
 }
 
 /// The seat of a rank at a window, with the rank's view.
