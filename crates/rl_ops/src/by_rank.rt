@@ -25,9 +25,16 @@ impl<T: Drop> ByRank<T> {
     pub fn new(alloc: Global, ranks: u32) -> Result<ByRank<T>, OutOfMemory>
         ensures { IfOk result (λ lists. lists ≡ replicate ranks []) }
     {
+        ByRank::with_capacity(alloc, ranks, 0)
+    }
+
+    /// Empty lists of so many ranks, each with room for so many items: for who knows how many will come. Refused only for want of memory.
+    pub fn with_capacity(alloc: Global, ranks: u32, each: usize) -> Result<ByRank<T>, OutOfMemory>
+        ensures { IfOk result (λ lists. lists ≡ replicate ranks []) }
+    {
         let mut lists = Vec::new(alloc);
         for _ in 0..ranks {
-            lists.push(Vec::new(alloc))?;
+            lists.push(Vec::with_capacity(alloc, each)?)?;
         }
         Ok(ByRank { lists })
     }

@@ -137,8 +137,9 @@ fn ops_of(alloc: Global, number: u64, ranks: u32, calls: u32) -> Result<Ops, Out
     ensures { IfOk result (λ ops. ops ≡ made_ops number ranks calls) }
 {
     let mut generator = Generator::new(number);
-    let mut by_rank = ByRank::new(alloc, ranks)?;
-    let mut sizes = ByRank::new(alloc, ranks)?;
+    let each = calls.div_ceil(ranks) as usize;
+    let mut by_rank = ByRank::with_capacity(alloc, ranks, each)?;
+    let mut sizes = ByRank::with_capacity(alloc, ranks, each)?;
     for index in 0..calls {
         let rank = index % ranks;
         by_rank.push(rank, generator.call())?;

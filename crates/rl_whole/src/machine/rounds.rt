@@ -62,7 +62,7 @@ impl<A: Algo> Machine<A> {
 
     /// The same of a rank of which anything was noted but that it is held off or goes in a round: where all its calls are done, its steps
     /// are counted too.
-    #[inline(never)]
+    #[inline(always)]
     pub(crate) fn rest(&mut self, rank: u32, last: &LastRest<A::View>, count: u32) -> bool
         requires there { rank < length self.old.calls }
         requires few { steps_made self.old.steps + count < 2 ^ 32 }

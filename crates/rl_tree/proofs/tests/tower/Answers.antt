@@ -1,5 +1,5 @@
 -- The lists are those of the tower, which is proper and has its budgets.
-use Rattle.std.proofs.Common.{◌∙◌, sym, subst, ap}
+use Rattle.std.proofs.Common.{sym, subst}
 use Rattle.rl_word.specs.Shapes.{IsProper}
 use Rattle.rl_tree.specs.TreeShape.{IsBudgeted}
 use Rattle.rl_tree.specs.Tower.{tower_proper, tower_budgeted, is_tower}

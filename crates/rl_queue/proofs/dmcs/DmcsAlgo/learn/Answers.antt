@@ -1,8 +1,6 @@
 -- What a good state gives fits the act, by what is true of the queue.
-use Rattle.std.proofs.Common.{◌∙◌, ap, sym, subst, length}
-use Rattle.rl_queue.specs.Queue.{PlanFits, GotFits, turn_at}
-use Rattle.rl_queue.specs.Dmcs.{dmcs_names}
-use Rattle.rl_queue.specs.DmcsTurns.{enter_waits}
+use Rattle.std.proofs.Common.{sym, subst, length}
+use Rattle.rl_queue.specs.Queue.{PlanFits, GotFits}
 use Rattle.rl_queue.specs.DmcsLaws.{fits_at, got_fits_at}
 use Rattle.rl_queue.proofs.dmcs.DmcsAlgo.learn.Goals as goal
 
