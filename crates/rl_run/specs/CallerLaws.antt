@@ -1,5 +1,7 @@
 -- What is known of the caller of a rank, for the seats and shards of a run.
 use Rattle.std.specs.Prelude.{◌≡◌, ℕ, ◌<◌, List, length, slice_get, slice_set, Some}
+use Rattle.std.proofs.Common.{sym, subst, set-set}
+use Rattle.rl_word.specs.Places.{get_set_same, set_same_get}
 use Rattle.rl_word.specs.Acts.{Layout}
 use Rattle.rl_model.specs.declared.call.Call.{Call}
 use Rattle.rl_model.specs.declared.geom.Geom.{Geom}
@@ -16,7 +18,7 @@ use Rattle.rl_shard.specs.Steps.{TurnsAt}
 use Rattle.rl_run.specs.declared.caller.Caller.{Caller}
 use Rattle.rl_run.specs.Calling.{IsCallerAt}
 use Rattle.rl_run.specs.CallingLaws as calling
-use Rattle.rl_run.specs.Callers.{lock_of, AllClosed, IsAtEnd, IsCaller, IsReady}
+use Rattle.rl_run.specs.Callers.{lock_of, AllClosed, IsAtEnd, IsCaller, IsCallerWith, IsReady}
 
 module _ {A V : Type 0} (table : A → LockTable V) (good : A → LockState V → Type 0) (further : A → List Event → List Deed → Type 0) (layout : A → Layout) (laws : (a : A) → LockLaws (table a) (good a) (further a) (layout a)) where
   abbrev goods : Shard A V → LockState V → Type 0
@@ -58,6 +60,23 @@ module _ {A V : Type 0} (table : A → LockTable V) (good : A → LockState V �
     pub steps_on : (w : Shard A V) (t u : Seat A V) → slice_get shards c.at ≡ Some w → slice_get c.seats.items c.at ≡ Some t → IsOf table good layout w u → rank_at u ≡ rank_at t → TurnsAt table w t u →
         IsCallerAt (lock_of table) view_at rank_at (IsOf table good layout) c.geom c.rank c.calls.items c.sizes.items c.opened c.at shards (slice_set c.seats.items c.at u)
     steps_on w t u gw gt ok same turns = calling.caller_steps (lock_of table) view_at rank_at (IsOf table good layout) goods furthers layouts homes all_laws may c.geom c.rank c.calls.items c.sizes.items c.opened c.at shards c.seats.items is w t u gw gt ok same turns
+
+    -- the caller with the seat that it has; and with one that was reached by steps: it steps on, and no block is open once none is open there
+    module _ (w : Shard A V) (s : Seat A V) (gw : slice_get shards c.at ≡ Some w) (gs : slice_get c.seats.items c.at ≡ Some s) where
+      pub first_with : IsCallerWith table good layout shards c s
+      first_with = subst (IsCallerAt (lock_of table) view_at rank_at (IsOf table good layout) c.geom c.rank c.calls.items c.sizes.items c.opened c.at shards) (sym (set_same_get c.seats.items c.at s gs)) is
+
+      pub seat_with : (t : Seat A V) → IsCallerWith table good layout shards c t → IsOf table good layout w t
+      seat_with t with = (with.row.each c.at w t gw (get_set_same c.seats.items c.at s t gs)).1
+
+      pub steps_with : (t u : Seat A V) → IsCallerWith table good layout shards c t → IsOf table good layout w u → rank_at u ≡ rank_at t → TurnsAt table w t u → IsCallerWith table good layout shards c u
+      steps_with t u with ok same turns =
+          subst (IsCallerAt (lock_of table) view_at rank_at (IsOf table good layout) c.geom c.rank c.calls.items c.sizes.items c.opened c.at shards) (set-set c.seats.items c.at t u)
+          (calling.caller_steps (lock_of table) view_at rank_at (IsOf table good layout) goods furthers layouts homes all_laws may c.geom c.rank c.calls.items c.sizes.items c.opened c.at shards (slice_set c.seats.items c.at t) with w t u gw (get_set_same c.seats.items c.at s t gs) ok same turns)
+
+      pub closed_with : (t : Seat A V) → IsCallerWith table good layout shards c t → IsClosed table w t → AllClosed table shards (slice_set c.seats.items c.at t)
+      closed_with t with closed =
+          calling.all_closed (lock_of table) view_at rank_at (IsOf table good layout) goods furthers layouts homes all_laws may c.geom c.rank c.calls.items c.sizes.items c.opened c.at shards (slice_set c.seats.items c.at t) with w t gw (get_set_same c.seats.items c.at s t gs) closed
 
     pub still_closed : (t u : Seat A V) → slice_get c.seats.items c.at ≡ Some t → u ≡ t → AllClosed table shards c.seats.items → AllClosed table shards (slice_set c.seats.items c.at u)
     still_closed t u gt same closed = calling.still_closed (lock_of table) view_at rank_at (IsOf table good layout) goods furthers layouts homes all_laws may c.geom c.rank c.calls.items c.sizes.items c.opened c.at shards c.seats.items is t u gt same closed

@@ -71,6 +71,10 @@ module _ {A V : Type 0} where
       abbrev pub IsCaller : List (Shard A V) → Caller A V → Type 0
       IsCaller shards c = IsCallerAt lock_of view_at rank_at (IsOf table good layout) c.geom c.rank c.calls.items c.sizes.items c.opened c.at shards c.seats.items
 
+      -- what a caller is once its seat at the shard of its last block has become this one
+      abbrev pub IsCallerWith : List (Shard A V) → Caller A V → Seat A V → Type 0
+      IsCallerWith shards c t = IsCallerAt lock_of view_at rank_at (IsOf table good layout) c.geom c.rank c.calls.items c.sizes.items c.opened c.at shards (slice_set c.seats.items c.at t)
+
       -- what a caller is made of
       abbrev pub IsReady : List (Shard A V) → Geom → ℕ → List Call → List ℕ → List (Seat A V) → Type 0
       IsReady shards geom rank calls sizes seats = IsReadyAt lock_of view_at rank_at (IsOf table good layout) geom rank calls sizes shards seats

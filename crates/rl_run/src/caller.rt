@@ -1,6 +1,6 @@
 //! A rank's caller.
 
-ghost use Rattle.std.specs.Prelude.{◌≡◌, [], ◌↔◌, ◌<◌, ◌≤◌, ◌+◌, false, length, slice_index};
+ghost use Rattle.std.specs.Prelude.{◌≡◌, ◌↔◌, ◌<◌, ◌≤◌, ◌+◌, false, length, slice_index};
 ghost use Rattle.rl_model.specs.Geom.{GeomFits};
 ghost use Rattle.rl_step.specs.declared.events.Stepped.TheVariants.{Finished};
 ghost use Rattle.rl_whole.specs.Asks.{block_from, block_shard};
@@ -11,7 +11,7 @@ use arrayvec::ArrayVec;
 use rl_io::{Gate, OpenGate};
 use rl_model::{Call, Geom};
 use rl_shard::{Seat, Shard};
-use rl_step::{Algo, Event, Stepped};
+use rl_step::{Algo, Stepped};
 use std::sync::Wait;
 
 /// Makes the calls of a rank, in their order, each on its shard.
@@ -158,12 +158,9 @@ impl<A: Algo> Caller<A> {
         true
     }
 
-    // A step at the shard of the last call that was opened, with a list for its events, which is empty before and after.
-    #[inline(always)]
-    fn step_last(&mut self, shards: &[Shard<A>], events: &mut ArrayVec<Event, 8>) -> Stepped
+    // A step at the shard of the last call that was opened.
+    fn step_last(&mut self, shards: &[Shard<A>]) -> Stepped
         requires caller { IsCaller A.table A.good A.layout shards.now self.old }
-        requires none { events.old.items ≡ [] }
-        ensures none { events.new.items ≡ [] }
         ensures caller { IsCaller A.table A.good A.layout shards.now self.new }
         ensures same { who self.new ≡ who self.old }
         ensures steps { StepsSeat A.table A.good A.layout shards.now self.old self.new result }
@@ -173,7 +170,37 @@ impl<A: Algo> Caller<A> {
     {
         let at = self.at as usize;
         let seat = &mut self.seats[at];
-        seat.step_with(&shards[at], events)
+        seat.step(&shards[at])
+    }
+
+    // Steps at the shard of the last call that was opened, until no block is open there. The gate is told of each step after it was made.
+    #[inline(always)]
+    fn finish_block<G: Gate, R: Wait>(
+        &mut self,
+        rt: &R,
+        shards: &[Shard<A>],
+        gate: &G,
+        patience: &mut Patience,
+    )
+        requires caller { IsCaller A.table A.good A.layout shards.now self.old }
+        ensures caller { IsCaller A.table A.good A.layout shards.now self.new }
+        ensures same { who self.new ≡ who self.old }
+        ensures closed { AllClosed A.table shards.now self.new.seats.items }
+    {
+        let rank = self.rank;
+        let at = self.at as usize;
+        let seat = &mut self.seats[at];
+        let shard = &shards[at];
+        let mut events = ArrayVec::new();
+        for _ in rt.forever() {
+            match seat.step_with(shard, &mut events) {
+                Stepped::Finished => break,
+                stepped => {
+                    gate.after(rank, answer_number(&stepped));
+                    patience.after(&stepped);
+                }
+            }
+        }
     }
 
     /// Opens the next block, where none is open and one is left, and makes one step of the rank's seat at the shard of its calls. It
@@ -190,7 +217,7 @@ impl<A: Algo> Caller<A> {
         ensures all_done { result ≡ Finished → IsAtEnd A.table shards.now self.new }
     {
         self.open_due(shards, &OpenGate);
-        self.step_last(shards, &mut ArrayVec::new())
+        self.step_last(shards)
     }
 
     /// Steps until all calls of the rank are done. The gate is told of each block before it is opened, and of each step after it was
@@ -202,18 +229,10 @@ impl<A: Algo> Caller<A> {
         ensures all_done { IsAtEnd A.table shards.now self.new }
     {
         let mut patience = Patience::new();
-        let mut events = ArrayVec::new();
         for _ in rt.forever() {
-            match self.step_last(shards, &mut events) {
-                Stepped::Finished => {
-                    if !self.open_due(shards, gate) {
-                        break;
-                    }
-                }
-                stepped => {
-                    gate.after(self.rank, answer_number(&stepped));
-                    patience.after(&stepped);
-                }
+            self.finish_block(rt, shards, gate, &mut patience);
+            if !self.open_due(shards, gate) {
+                break;
             }
         }
         gate.after(self.rank, answer_number(&Stepped::Finished));

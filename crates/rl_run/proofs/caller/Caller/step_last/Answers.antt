@@ -12,15 +12,17 @@ has_shard g c = slice_get-get_or c.args.shards.now c.args.self.now.at c.index-sh
 has_seat : (g : Over) (c : After-index-shards-at g) → slice_get c.args.self.now.seats.items c.args.self.now.at ≡ Some c.index_mut-seat.result.now
 has_seat g c = slice_get-get_or c.args.self.now.seats.items c.args.self.now.at c.index_mut-seat.result.now (at_seat g.A.Algo.table g.A.Algo.good g.A.Algo.further g.A.Algo.layout g.met.A.Algo.laws c.args.shards.now c.args.self.now c.requires.caller) ∙ ap Some (sym c.index_mut-seat.ensures.value)
 
-pub step_with-requires-clause-seat : goal.step_with-requires-clause-seat
-step_with-requires-clause-seat g c =
-    let d = (goal.at.step_with-requires-clause-seat g c).After-index-shards-at in
-    seat_is g.A.Algo.table g.A.Algo.good g.A.Algo.further g.A.Algo.layout g.met.A.Algo.laws c.args.shards.now c.args.self.now c.requires.caller c.args.self.now.at c.index-shards-at.result c.index_mut-seat.result.now (has_shard g d) (has_seat g d)
+pub step-requires : goal.step-requires
+step-requires g c =
+    let d = (goal.at.step-requires g c).After-index-shards-at in
+    record {
+      seat = seat_is g.A.Algo.table g.A.Algo.good g.A.Algo.further g.A.Algo.layout g.met.A.Algo.laws c.args.shards.now c.args.self.now c.requires.caller c.args.self.now.at c.index-shards-at.result c.index_mut-seat.result.now (has_shard g d) (has_seat g d);
+    }
 
 pub returns-clause-caller : goal.returns-clause-caller
 returns-clause-caller g c =
     let d = (goal.at.returns-clause-caller g c).After-index-shards-at in
-    steps_on g.A.Algo.table g.A.Algo.good g.A.Algo.further g.A.Algo.layout g.met.A.Algo.laws c.args.shards.now c.args.self.now c.requires.caller c.index-shards-at.result c.index_mut-seat.result.now c.step_with.new.self (has_shard g d) (has_seat g d) c.step_with.ensures.seat c.step_with.ensures.rank c.step_with.ensures.turned
+    steps_on g.A.Algo.table g.A.Algo.good g.A.Algo.further g.A.Algo.layout g.met.A.Algo.laws c.args.shards.now c.args.self.now c.requires.caller c.index-shards-at.result c.index_mut-seat.result.now c.step.new.self (has_shard g d) (has_seat g d) c.step.ensures.seat c.step.ensures.rank c.step.ensures.turned
 
 pub returns-clause-steps : goal.returns-clause-steps
 returns-clause-steps g c =
@@ -30,24 +32,24 @@ returns-clause-steps g c =
       at_is = refl;
       shard = c.index-shards-at.result;
       old = c.index_mut-seat.result.now;
-      new = c.step_with.new.self;
+      new = c.step.new.self;
       has_shard = has_shard g d;
       has_old = has_seat g d;
       seats_are = refl;
-      step = record { finished = c.step_with.ensures.finished; nothing = c.step_with.ensures.nothing; makes = c.step_with.ensures.makes; cause = c.step_with.ensures.cause };
+      step = record { finished = c.step.ensures.finished; nothing = c.step.ensures.nothing; makes = c.step.ensures.makes; cause = c.step.ensures.cause };
     }
 
 pub returns-clause-finished : goal.returns-clause-finished
 returns-clause-finished g c =
     let d = (goal.at.returns-clause-finished g c).After-index-shards-at in
-    λ f. all_closed g.A.Algo.table g.A.Algo.good g.A.Algo.further g.A.Algo.layout g.met.A.Algo.laws c.args.shards.now c.args.self.now c.requires.caller c.index-shards-at.result c.index_mut-seat.result.now (has_shard g d) (has_seat g d) (c.step_with.ensures.finished.0 f)
+    λ f. all_closed g.A.Algo.table g.A.Algo.good g.A.Algo.further g.A.Algo.layout g.met.A.Algo.laws c.args.shards.now c.args.self.now c.requires.caller c.index-shards-at.result c.index_mut-seat.result.now (has_shard g d) (has_seat g d) (c.step.ensures.finished.0 f)
 
 pub returns-clause-still : goal.returns-clause-still
 returns-clause-still g c =
     let d = (goal.at.returns-clause-still g c).After-index-shards-at in
-    λ closed. still_closed g.A.Algo.table g.A.Algo.good g.A.Algo.further g.A.Algo.layout g.met.A.Algo.laws c.args.shards.now c.args.self.now c.requires.caller c.index_mut-seat.result.now c.step_with.new.self (has_seat g d) (c.step_with.ensures.nothing (closed c.args.self.now.at c.index-shards-at.result c.index_mut-seat.result.now (has_shard g d) (has_seat g d))) closed
+    λ closed. still_closed g.A.Algo.table g.A.Algo.good g.A.Algo.further g.A.Algo.layout g.met.A.Algo.laws c.args.shards.now c.args.self.now c.requires.caller c.index_mut-seat.result.now c.step.new.self (has_seat g d) (c.step.ensures.nothing (closed c.args.self.now.at c.index-shards-at.result c.index_mut-seat.result.now (has_shard g d) (has_seat g d))) closed
 
 pub returns-clause-closed : goal.returns-clause-closed
 returns-clause-closed g c =
     let d = (goal.at.returns-clause-closed g c).After-index-shards-at in
-    λ closed. c.step_with.ensures.finished.1 (closed c.args.self.now.at c.index-shards-at.result c.index_mut-seat.result.now (has_shard g d) (has_seat g d))
+    λ closed. c.step.ensures.finished.1 (closed c.args.self.now.at c.index-shards-at.result c.index_mut-seat.result.now (has_shard g d) (has_seat g d))
