@@ -10,6 +10,7 @@ mod DrawLaws
 mod DealtLaws
 mod MadePlaceLaws
 mod RoundLaws
+mod CountLaws
 mod SummaryLaws
 mod MakeLaws
 mod SeatLists

@@ -1,7 +1,8 @@
 -- The run over a placement and calls: its start, its shards and its ranks; and the summary of a run that was made from a number.
-use Rattle.std.proofs.Common.{◌≡◌, ℕ, suc, ◌+◌, ◌/◌, List, [], ◌∷◌, length, Result, Ok, Err, IfOk, refl, ap, sym, ◌∙◌}
+use Rattle.std.proofs.Common.{◌≡◌, ◌≤◌, ℕ, ◌+◌, ◌/◌, List, [], ◌∷◌, length, map, slice_get, Some, ap, sym, subst, ◌∙◌}
 use Rattle.std.proofs.lemmas.List.{length-map}
 use Rattle.std.proofs.lemmas.List.FromFn.{length-map-range_with_len}
+use Rattle.rl_word.specs.Places.{get_map, get_map_back}
 use Rattle.rl_word.specs.Shapes.{TheShape}
 use Rattle.rl_word.specs.declared.shapes.Knobs.{Knobs}
 use Rattle.rl_step.specs.Lock.{LockTable}
@@ -11,16 +12,19 @@ use Rattle.rl_place.specs.Paths.{path_of}
 use Rattle.rl_place.specs.Places.{ThePlace}
 use Rattle.rl_place.specs.Shapes.{shape_of, knobs_of}
 use Rattle.rl_ops.specs.declared.ops.Ops.{Ops}
-use Rattle.rl_history.specs.Reports.{TheReport}
-use Rattle.rl_whole.specs.Running.{LockAt, ShardRun, Running}
-use Rattle.rl_whole.specs.Start.{start_of}
-use Rattle.rl_whole.specs.StartLaws.{shards_length}
+use Rattle.rl_ops.specs.Ops.{total_calls, OpsFit}
+use Rattle.rl_ops.specs.Room.{calls_on}
+use Rattle.rl_text.specs.Spelling.{text_of}
+use Rattle.rl_whole.specs.Running.{ShardRun, Running}
+use Rattle.rl_whole.specs.Start.{site_of, lock_with, start_of}
+use Rattle.rl_whole.specs.StartLaws.{first_length, shard_first, shards_length}
 use Rattle.rmalock.specs.Locks.{alock}
-use Rattle.rmalock.specs.Replay.{start_with, queue_count, dones_from, report_in}
+use Rattle.rmalock.specs.Replay.{start_with, queue_count, report_in}
 use Rattle.rmalock.specs.Generate.{made_place, made_ops}
 use Rattle.rmalock.specs.Rounds.{all_rounds}
-use Rattle.rmalock.specs.Summary.{summary_spelling, made_summary}
-use Rattle.rmalock.proofs.RunLaws.{IsAlike}
+use Rattle.rmalock.specs.Summary.{TheCounts, counts_in, summary_lines, made_summary}
+use Rattle.rmalock.specs.Counting.{IsSmall}
+use Rattle.rmalock.proofs.RunLaws.{lock_in, views_in, IsAlike}
 
 module _ {V : Type 0} (defined : TheShape → ℕ → Knobs → LockTable V) (place : ThePlace) (ops : Ops) where
   abbrev first : Running V
@@ -42,27 +46,36 @@ module _ {V : Type 0} (defined : TheShape → ℕ → Knobs → LockTable V) (pl
   -- there are as many shards as homes
   pub as_many_shards : (m : Running V) → IsAlike m first → length m.shards ≡ length place.homes
   as_many_shards m alike =
-      let locked : ShardRun V → LockAt V = λ S. S.lock in
-      sym (length-map m.shards locked) ∙ ap length alike.locks ∙ length-map first.shards locked
+      sym (length-map m.shards lock_in) ∙ ap length alike.locks ∙ length-map first.shards lock_in
       ∙ shards_length (λ home. defined (shape_of place) home (knobs_of place.lock)) (shape_of place).nodes place.geom ops.by_rank 0 place.homes
 
--- each rank is told
-each_told : {V : Type 0} (m : Running V) (rank : ℕ) (lists : List (List Call)) → length (dones_from m rank lists) ≡ length lists
-each_told m rank [] = refl
-each_told m rank (calls ∷ lists) = ap (λ n. suc n) (each_told m (rank + 1) lists)
+  -- a view for each rank at the start
+  first_seats : (s : ℕ) (S : ShardRun V) → slice_get first.shards s ≡ Some S → views_in S ≡ length ops.by_rank
+  first_seats s S has =
+      let T = λ (home : ℕ). defined (shape_of place) home (knobs_of place.lock) in
+      let made = shard_first T (shape_of place).nodes place.geom ops.by_rank 0 place.homes s S has in
+      let rooms = map (calls_on place.geom (0 + s)) ops.by_rank in
+      ap views_in made.2 ∙ first_length (lock_with (T made.0) (site_of place.geom ops.by_rank (0 + s))) 0 rooms ∙ length-map ops.by_rank (calls_on place.geom (0 + s))
 
-pub as_many_told : {V E : Type 0} (queues : ℕ) (m : Running V) (ranks : ℕ) (result : Result TheReport E) → length m.calls ≡ ranks → IfOk result (λ report. report ≡ report_in queues m) → IfOk result (λ report. length report.done ≡ ranks)
-as_many_told queues m ranks (Ok report) all is = ap (λ (r : TheReport). length r.done) is ∙ each_told m 0 m.calls ∙ all
-as_many_told queues m ranks (Err e) all is = tt
+  -- and after a run, and the calls are few
+  pub is_small : (m : Running V) (ranks shards : ℕ) → IsAlike m first → OpsFit ranks shards ops → IsSmall m
+  is_small m ranks shards alike fit =
+      record {
+        views = λ s S has.
+            let here : slice_get (map views_in m.shards) s ≡ Some (views_in S) = get_map views_in m.shards s S has in
+            let old = get_map_back views_in first.shards s (views_in S) (subst (λ (l : List ℕ). slice_get l s ≡ Some (views_in S)) alike.views here) in
+            sym old.2 ∙ first_seats s old.0 old.1 ∙ ap length (sym alike.calls);
+        few = subst (λ (l : List (List Call)). total_calls l ≤ 20000) (sym alike.calls) fit.few;
+      }
 
 -- there are so many paths
 pub as_many_paths : (ranks : ℕ) (place : ThePlace) → place ≡ made_place ranks → length place.paths ≡ ranks
 as_many_paths ranks place is = ap (λ (p : ThePlace). length p.paths) is ∙ length-map-range_with_len (λ rank. path_of (rank / 4 ∷ [])) 0 ranks
 
--- the summary, by the placement, the calls and the report
-pub summary_is : (number ranks calls : ℕ) (place : ThePlace) (ops : Ops) (report : TheReport) → place ≡ made_place ranks → ops ≡ made_ops number ranks calls →
-    report ≡ report_in (queue_count place) (all_rounds 2000000 (start_with alock.defined place ops)) → summary_spelling ranks calls report ≡ made_summary number ranks calls
-summary_is number ranks calls place ops report p o r =
-    ap (summary_spelling ranks calls) (r
-    ∙ ap (λ (q : ThePlace). report_in (queue_count q) (all_rounds 2000000 (start_with alock.defined q ops))) p
-    ∙ ap (λ (x : Ops). report_in (queue_count (made_place ranks)) (all_rounds 2000000 (start_with alock.defined (made_place ranks) x))) o)
+-- the summary, by the placement, the calls and what is counted
+pub summary_is : (number ranks calls : ℕ) (place : ThePlace) (ops : Ops) (counts : TheCounts) → place ≡ made_place ranks → ops ≡ made_ops number ranks calls →
+    counts ≡ counts_in (report_in (queue_count place) (all_rounds 2000000 (start_with alock.defined place ops))) → text_of (summary_lines ranks calls counts) ≡ made_summary number ranks calls
+summary_is number ranks calls place ops counts p o c =
+    ap (λ (z : TheCounts). text_of (summary_lines ranks calls z)) (c
+    ∙ ap (λ (q : ThePlace). counts_in (report_in (queue_count q) (all_rounds 2000000 (start_with alock.defined q ops)))) p
+    ∙ ap (λ (x : Ops). counts_in (report_in (queue_count (made_place ranks)) (all_rounds 2000000 (start_with alock.defined (made_place ranks) x)))) o)

@@ -33,7 +33,7 @@ module _ {V : Type 0} (m : Running V) where
 
 module _ {V : Type 0} where
   alike_self : (m : Running V) → IsAlike m m
-  alike_self m = record { locks = refl; geom = refl; calls = refl; sizes = refl }
+  alike_self m = record { locks = refl; views = refl; geom = refl; calls = refl; sizes = refl }
 
   stepped_if_alike : (may : Bool) (m : Running V) (rank : ℕ) → IsAlike (stepped_if may m rank) m
   stepped_if_alike true m rank = stepped_alike m rank

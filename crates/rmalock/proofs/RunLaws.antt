@@ -1,5 +1,5 @@
--- What no run changes: the locks of the shards, the size of the table, and what the ranks ask for.
-use Rattle.std.proofs.Common.{◌≡◌, ℕ, ◌+◌, List, [], ◌∷◌, map, sum_by, Result, Ok, Err, IfOk, slice_get, slice_set, Bool, true, false, Option, Some, None, refl, ap, sym, ◌∙◌}
+-- What no run changes: the locks of the shards, how many views each has, the size of the table, and what the ranks ask for.
+use Rattle.std.proofs.Common.{◌≡◌, ℕ, ◌+◌, List, [], ◌∷◌, length, length-set, map, sum_by, Result, Ok, Err, IfOk, slice_get, slice_set, Bool, true, false, Option, Some, None, refl, ap, sym, ◌∙◌}
 use Rattle.std.proofs.lemmas.List.Sums.{sum_by-cons}
 use Rattle.rl_word.specs.Places.{map_set, set_same_get, get_map}
 use Rattle.rl_word.specs.declared.acts.Atom.{Atom}
@@ -8,18 +8,26 @@ use Rattle.rl_ops.specs.declared.schedule.Turn.{Turn}
 use Rattle.rl_ops.specs.Schedule.{steps_of}
 use Rattle.rl_whole.specs.declared.whole.WholeView.{WholeView}
 use Rattle.rl_whole.specs.Running.{LockAt, ShardRun, Running}
-use Rattle.rl_whole.specs.Whole.{next_of}
+use Rattle.rl_step.specs.Do.{do_got}
+use Rattle.rl_whole.specs.Opening.{opened_in}
+use Rattle.rl_whole.specs.Whole.{next_of, after_of}
 use Rattle.rl_whole.specs.ShardSteps.{opened_at, makes, made_at}
 use Rattle.rl_whole.specs.Run.{changed_if, opens, opened_if, block_opened, atom_made, stepped, run_of, steps_in}
 
 module _ {V : Type 0} where
-  -- a change that leaves a shard's lock leaves all locks
-  same_locks : (shards : List (ShardRun V)) (s : ℕ) (f : ShardRun V → ShardRun V) (found : Option (ShardRun V)) → slice_get shards s ≡ found → ((S : ShardRun V) → (f S).lock ≡ S.lock) →
-      map (λ S. S.lock) (changed_if shards s f found) ≡ map (λ S. S.lock) shards
-  same_locks shards s f None e keeps = refl
-  same_locks shards s f (Some S) e keeps =
-      let lock_in : ShardRun V → LockAt V = λ S. S.lock in
-      map_set lock_in shards s (f S) ∙ ap (slice_set (map lock_in shards) s) (keeps S) ∙ set_same_get (map lock_in shards) s S.lock (get_map lock_in shards s S e)
+  -- a change that leaves what is told of a shard leaves what is told of all
+  same_told : {X : Type 0} (told : ShardRun V → X) (shards : List (ShardRun V)) (s : ℕ) (f : ShardRun V → ShardRun V) (found : Option (ShardRun V)) → slice_get shards s ≡ found → ((S : ShardRun V) → told (f S) ≡ told S) →
+      map told (changed_if shards s f found) ≡ map told shards
+  same_told told shards s f None e keeps = refl
+  same_told told shards s f (Some S) e keeps =
+      map_set told shards s (f S) ∙ ap (slice_set (map told shards) s) (keeps S) ∙ set_same_get (map told shards) s (told S) (get_map told shards s S e)
+
+  -- a shard's lock, and how many views it has
+  abbrev pub lock_in : ShardRun V → LockAt V
+  lock_in S = S.lock
+
+  abbrev pub views_in : ShardRun V → ℕ
+  views_in S = length S.views
 
   opened_lock : (k : ℕ) (block : List Call) (seq : ℕ) (S : ShardRun V) (x : Option (WholeView V)) → (opened_at S k block seq x).lock ≡ S.lock
   opened_lock k block seq S None = refl
@@ -33,29 +41,55 @@ module _ {V : Type 0} where
   made_lock k step S None = refl
   made_lock k step S (Some x) = makes_lock k step S x (next_of S.lock x)
 
+  opened_views : (k : ℕ) (block : List Call) (seq : ℕ) (S : ShardRun V) (x : Option (WholeView V)) → views_in (opened_at S k block seq x) ≡ views_in S
+  opened_views k block seq S None = refl
+  opened_views k block seq S (Some x) = length-set S.views k (opened_in S.lock.table block seq x)
+
+  makes_views : (k step : ℕ) (S : ShardRun V) (x : WholeView V) (at : Option Atom) → views_in (makes S k step x at) ≡ views_in S
+  makes_views k step S x None = refl
+  makes_views k step S x (Some at) = length-set S.views k (after_of S.lock x (do_got at S.held.words S.held.cards)).view
+
+  made_views : (k step : ℕ) (S : ShardRun V) (x : Option (WholeView V)) → views_in (made_at S k step x) ≡ views_in S
+  made_views k step S None = refl
+  made_views k step S (Some x) = makes_views k step S x (next_of S.lock x)
+
   -- what two machines have in common
   pub record IsAlike (m n : Running V) : Type 0 where
-    pub locks : map (λ S. S.lock) m.shards ≡ map (λ S. S.lock) n.shards
+    pub locks : map lock_in m.shards ≡ map lock_in n.shards
+    pub views : map views_in m.shards ≡ map views_in n.shards
     pub geom : m.geom ≡ n.geom
     pub calls : m.calls ≡ n.calls
     pub sizes : m.sizes ≡ n.sizes
 
   pub alike_then : (l m n : Running V) → IsAlike l m → IsAlike m n → IsAlike l n
-  alike_then l m n a b = record { locks = a.locks ∙ b.locks; geom = a.geom ∙ b.geom; calls = a.calls ∙ b.calls; sizes = a.sizes ∙ b.sizes }
+  alike_then l m n a b = record { locks = a.locks ∙ b.locks; views = a.views ∙ b.views; geom = a.geom ∙ b.geom; calls = a.calls ∙ b.calls; sizes = a.sizes ∙ b.sizes }
 
   opened_alike : (m : Running V) (k : ℕ) (b : Bool) → IsAlike (opened_if m k b) m
-  opened_alike m k false = record { locks = refl; geom = refl; calls = refl; sizes = refl }
+  opened_alike m k false = record { locks = refl; views = refl; geom = refl; calls = refl; sizes = refl }
   opened_alike m k true =
-      record { locks = same_locks m.shards _ _ _ refl (λ S. opened_lock k _ _ S (slice_get S.views k)); geom = refl; calls = refl; sizes = refl }
+      record {
+        locks = same_told lock_in m.shards _ _ _ refl (λ S. opened_lock k _ _ S (slice_get S.views k));
+        views = same_told views_in m.shards _ _ _ refl (λ S. opened_views k _ _ S (slice_get S.views k));
+        geom = refl;
+        calls = refl;
+        sizes = refl;
+      }
 
   made_alike : (m : Running V) (k : ℕ) → IsAlike (atom_made m k) m
-  made_alike m k = record { locks = same_locks m.shards _ _ _ refl (λ S. made_lock k _ S (slice_get S.views k)); geom = refl; calls = refl; sizes = refl }
+  made_alike m k =
+      record {
+        locks = same_told lock_in m.shards _ _ _ refl (λ S. made_lock k _ S (slice_get S.views k));
+        views = same_told views_in m.shards _ _ _ refl (λ S. made_views k _ S (slice_get S.views k));
+        geom = refl;
+        calls = refl;
+        sizes = refl;
+      }
 
   pub stepped_alike : (m : Running V) (k : ℕ) → IsAlike (stepped m k) m
   stepped_alike m k = alike_then (stepped m k) (block_opened m k) m (made_alike (block_opened m k) k) (opened_alike m k (opens m k))
 
   pub run_alike : (m : Running V) (ks : List ℕ) → IsAlike (run_of m ks) m
-  run_alike m [] = record { locks = refl; geom = refl; calls = refl; sizes = refl }
+  run_alike m [] = record { locks = refl; views = refl; geom = refl; calls = refl; sizes = refl }
   run_alike m (k ∷ ks) = alike_then (run_of (stepped m k) ks) (stepped m k) m (run_alike (stepped m k) ks) (stepped_alike m k)
 
 -- the steps of a schedule, counted turn by turn

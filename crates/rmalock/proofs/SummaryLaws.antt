@@ -3,9 +3,9 @@ use Rattle.std.proofs.Common.{◌≡◌, ℕ, List, [], ◌∷◌, ◌++◌, cod
 use Rattle.std.proofs.lemmas.Grind.{flat_map-append}
 use Rattle.rl_text.specs.Spelling.{line_text, text_of}
 use Rattle.rl_step.specs.declared.tallies.Steps.{Steps}
-use Rattle.rl_history.specs.Reports.{TheShard, TheReport}
 use Rattle.rl_history.specs.Spelling.{steps_lines}
-use Rattle.rmalock.specs.Summary.{shard_lines, all_done, sizes_words, done_words, summary_spelling}
+use Rattle.rmalock.specs.declared.counts.ShardCounts.{ShardCounts}
+use Rattle.rmalock.specs.Summary.{TheCounts, shard_lines, sizes_words, done_words, summary_lines}
 
 -- the first line, the sizes, the shards, what is done, and the last lines
 sections : (o1 o2 o3 o4 o5 : List ℕ) (sizes done : List (List ℕ)) (shards last : List (List (List ℕ))) → o1 ≡ codes "rmalock-summary 1\n" → o2 ≡ o1 ++ line_text sizes
@@ -20,11 +20,11 @@ sections o1 o2 o3 o4 o5 sizes done shards last e1 e2 e3 e4 e5 =
     ∙ ap (λ (t : List ℕ). codes "rmalock-summary 1\n" ++ (line_text sizes ++ t)) (sym apart))
 
 -- the pieces of a summary's text, one after the other
-pub summary-printed : (ranks calls done : ℕ) (report : TheReport) (shards : List TheShard) (steps : Option Steps) (o1 o2 o3 o4 o5 : List ℕ) → shards ≡ report.shards → done ≡ all_done report.done → steps ≡ report.steps
+pub summary-printed : (ranks calls done : ℕ) (counts : TheCounts) (shards : List ShardCounts) (steps : Option Steps) (o1 o2 o3 o4 o5 : List ℕ) → shards ≡ counts.shards → done ≡ counts.done → steps ≡ counts.steps
     → o1 ≡ codes "rmalock-summary 1\n" → o2 ≡ o1 ++ line_text (sizes_words ranks calls) → o3 ≡ o2 ++ text_of (shard_lines shards) → o4 ≡ o3 ++ line_text (done_words done calls)
-    → o5 ≡ o4 ++ text_of (steps_lines steps ++ (codes "end" ∷ []) ∷ []) → o5 ≡ summary_spelling ranks calls report
-summary-printed ranks calls done report shards steps o1 o2 o3 o4 o5 s d t e1 e2 e3 e4 e5 =
-    sections o1 o2 o3 o4 o5 (sizes_words ranks calls) (done_words (all_done report.done) calls) (shard_lines report.shards) (steps_lines report.steps ++ (codes "end" ∷ []) ∷ []) e1 e2
-    (e3 ∙ ap (λ (parts : List TheShard). o2 ++ text_of (shard_lines parts)) s)
+    → o5 ≡ o4 ++ text_of (steps_lines steps ++ (codes "end" ∷ []) ∷ []) → o5 ≡ text_of (summary_lines ranks calls counts)
+summary-printed ranks calls done counts shards steps o1 o2 o3 o4 o5 s d t e1 e2 e3 e4 e5 =
+    sections o1 o2 o3 o4 o5 (sizes_words ranks calls) (done_words counts.done calls) (shard_lines counts.shards) (steps_lines counts.steps ++ (codes "end" ∷ []) ∷ []) e1 e2
+    (e3 ∙ ap (λ (parts : List ShardCounts). o2 ++ text_of (shard_lines parts)) s)
     (e4 ∙ ap (λ (n : ℕ). o3 ++ line_text (done_words n calls)) d)
     (e5 ∙ ap (λ (z : Option Steps). o4 ++ text_of (steps_lines z ++ (codes "end" ∷ []) ∷ [])) t)

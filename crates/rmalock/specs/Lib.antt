@@ -9,3 +9,5 @@ pub mod Summary
 pub mod Command
 pub mod Answer
 pub mod RunAnswer
+-- what is counted of a machine; skip at first
+pub mod Counting

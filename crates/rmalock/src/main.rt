@@ -4,6 +4,7 @@
 mod answer;
 mod command;
 mod complaint;
+mod counts;
 mod generating;
 #[cfg(test)]
 mod generating_tests;

@@ -7,14 +7,13 @@ ghost use Rattle.rl_ops.specs.declared.ops.TheConstants.{MOST_CALLS};
 ghost use Rattle.rl_ops.specs.Ops.{OpsFit};
 ghost use Rattle.rmalock.specs.Replay.{start_with, report_in, queue_count};
 ghost use Rattle.rmalock.specs.Rounds.{all_rounds};
-ghost use Rattle.rmalock.specs.Summary.{made_summary};
+ghost use Rattle.rmalock.specs.Summary.{counts_in, made_summary};
 
+use crate::counts::{RunCounts, counts_of_machine};
 use crate::generating::generate;
-use crate::reporting::report_of_machine;
 use crate::rounds::make_rounds;
 use crate::summary::summary_text;
 use rl_alock::Alock;
-use rl_history::Report;
 use rl_ops::Ops;
 use rl_place::Place;
 use rl_step::Algo;
@@ -24,18 +23,17 @@ use std::alloc::{AllocError as OutOfMemory, Global};
 /// A run of rounds has at most so many steps.
 const MOST_STEPS: u32 = 2_000_000;
 
-/// The report of a run of rounds, of at most so many steps, with this kind of lock.
-fn report_of_rounds<A: Algo>(
+/// What is counted of a run of rounds, of at most so many steps, with this kind of lock.
+fn counts_of_rounds<A: Algo>(
     alloc: Global,
     place: &Place,
     ops: Ops,
     most: u32,
-) -> Result<Report, OutOfMemory>
+) -> Result<RunCounts, OutOfMemory>
     requires proper { IsProper place.now }
     requires knobs { A.suits_knobs (shape_of place.now) (knobs_of place.now.lock) }
     requires calls { OpsFit (length place.now.paths) place.now.geom.shards ops }
-    ensures report { IfOk result (λ report. report ≡ report_in (queue_count place.now) (all_rounds most (start_with A.defined place.now ops))) }
-    ensures ranks { IfOk result (λ report. length report.done ≡ length place.now.paths) }
+    ensures { IfOk result (λ counts. counts ≡ counts_in (report_in (queue_count place.now) (all_rounds most (start_with A.defined place.now ops)))) }
 {
     let shape = place.shape(alloc)?;
     let homes = place.homes.as_slice();
@@ -49,7 +47,7 @@ fn report_of_rounds<A: Algo>(
         ops,
     )?;
     make_rounds(alloc, &mut machine, ranks, most)?;
-    report_of_machine(alloc, place, &machine)
+    counts_of_machine(alloc, place, &machine)
 }
 
 /// The summary of a run of so many calls of so many ranks, all made from a number: rounds of the machine under ALock, until no
@@ -66,6 +64,6 @@ pub fn made_summary(
     ensures { IfOk result (λ text. text.items ≡ made_summary number ranks calls) }
 {
     let (place, ops) = generate(alloc, number, ranks, calls)?;
-    let report = report_of_rounds::<Alock>(alloc, &place, ops, MOST_STEPS)?;
-    summary_text(alloc, ranks, calls, &report)
+    let counts = counts_of_rounds::<Alock>(alloc, &place, ops, MOST_STEPS)?;
+    summary_text(alloc, ranks, calls, &counts)
 }

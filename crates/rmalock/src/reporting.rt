@@ -84,7 +84,7 @@ fn parts_of<A: Algo>(
 }
 
 /// What each of so many ranks has done of the calls that it was given.
-fn dones_of<A: Algo>(
+pub fn dones_of<A: Algo>(
     alloc: Global,
     machine: &Machine<A>,
     ranks: u32,

@@ -1,24 +1,17 @@
-use Rattle.std.proofs.Common.{◌≡◌, length, IfOk, ap, sym, subst, arith}
+use Rattle.std.proofs.Common.{◌≡◌, length, IfOk, ap, sym, subst}
 use Rattle.rl_place.specs.Places.{ThePlace}
 use Rattle.rl_ops.specs.Ops.{OpsFit}
 use Rattle.rmalock.proofs.MakeLaws.{as_many_paths, summary_is}
 use Rattle.rmalock.proofs.making.made_summary.Goals as goal
 
-pub report_of_rounds-requires-clause-calls : goal.report_of_rounds-requires-clause-calls
-report_of_rounds-requires-clause-calls c =
+pub counts_of_rounds-requires-clause-calls : goal.counts_of_rounds-requires-clause-calls
+counts_of_rounds-requires-clause-calls c =
     let made = c.in_ok-place.ensures in
     let ops = c.in_ok-place.ops in
     let shards = ap (λ (p : ThePlace). p.geom.shards) made.place in
     subst (λ n. OpsFit (length c.in_ok-place.place.paths) n ops) (sym shards) (subst (λ n. OpsFit n 4 ops) (sym (as_many_paths c.args.ranks c.in_ok-place.place made.place)) made.fit)
 
-pub summary_text-requires : goal.summary_text-requires
-summary_text-requires c =
-    let all = c.in_ok-report.ensures.ranks in
-    let paths = as_many_paths c.args.ranks c.in_ok-place.place c.in_ok-place.ensures.place in
-    let most = c.requires.most_ranks in
-    omega (arith, all, paths, most)
-
 pub returns : goal.returns
 returns c =
     let made = c.in_ok-place.ensures in
-    subst (λ text. IfOk c.summary_text.result (λ t. t.items ≡ text)) (summary_is c.args.number c.args.ranks c.args.calls c.in_ok-place.place c.in_ok-place.ops c.in_ok-report.report made.place made.ops c.in_ok-report.ensures.report) c.summary_text.ensures
+    subst (λ text. IfOk c.summary_text.result (λ t. t.items ≡ text)) (summary_is c.args.number c.args.ranks c.args.calls c.in_ok-place.place c.in_ok-place.ops c.in_ok-counts.counts made.place made.ops c.in_ok-counts.ensures) c.summary_text.ensures

@@ -1,6 +1,6 @@
 use Rattle.std.proofs.Common.{◌≡◌, ◌≤◌, ◌*◌, ◌^◌, take}
 use Rattle.rmalock.specs.Summary.{all_done}
-use Rattle.rmalock.proofs.summary.all_done.Given as goal
+use Rattle.rmalock.proofs.counts.all_done.Given as goal
 
 -- those of the ranks so far
 abbrev pub invariant-loop-rank : goal.invariant-loop-rank

@@ -1,38 +1,40 @@
 use Rattle.std.proofs.Common.{◌≡◌, length, IfOk, ap, sym, subst, ◌∙◌}
 use Rattle.std.proofs.lemmas.List.{length-map}
 use Rattle.rl_whole.specs.Running.{running, shard_run}
+use Rattle.rmalock.specs.Counting.{IsSmall}
 use Rattle.rmalock.specs.Replay.{start_with, report_in, queue_count}
 use Rattle.rmalock.specs.Rounds.{all_rounds}
+use Rattle.rmalock.specs.Summary.{counts_in}
 use Rattle.rmalock.proofs.RoundLaws.{rounds_alike}
-use Rattle.rmalock.proofs.MakeLaws.{rounds_from, as_many_shards, as_many_told}
-use Rattle.rmalock.proofs.making.report_of_rounds.Goals as goal
+use Rattle.rmalock.proofs.MakeLaws.{rounds_from, as_many_shards, is_small}
+use Rattle.rmalock.proofs.making.counts_of_rounds.Goals as goal
 
-pub report_of_machine-requires-clause-shards : goal.report_of_machine-requires-clause-shards
-report_of_machine-requires-clause-shards g c =
+pub counts_of_machine-requires-clause-shards : goal.counts_of_machine-requires-clause-shards
+counts_of_machine-requires-clause-shards g c =
     let place = c.args.place.now in
     let run = rounds_from g.A.Algo.defined place c.args.ops _ _ _ _ c.args.most _ (running g.A.Algo.table c.make_rounds.new.machine)
     c.place.view_is c.in_ok-shape.ensures.exact c.knobs.ensures c.as_slice-homes.ensures.value c.in_ok-machine.ensures.made c.in_ok-make_rounds.ensures in
     sym (length-map c.make_rounds.new.machine.shards (shard_run g.A.Algo.table)) ∙ ap (λ m. length m.shards) run
     ∙ as_many_shards g.A.Algo.defined place c.args.ops (all_rounds c.args.most (start_with g.A.Algo.defined place c.args.ops)) (rounds_alike c.args.most (start_with g.A.Algo.defined place c.args.ops) c.args.most) ∙ c.requires.proper.each_shard
 
-pub report_of_machine-requires-clause-ranks : goal.report_of_machine-requires-clause-ranks
-report_of_machine-requires-clause-ranks g c =
+pub counts_of_machine-requires-clause-ranks : goal.counts_of_machine-requires-clause-ranks
+counts_of_machine-requires-clause-ranks g c =
     let place = c.args.place.now in
     let run = rounds_from g.A.Algo.defined place c.args.ops _ _ _ _ c.args.most _ (running g.A.Algo.table c.make_rounds.new.machine)
     c.place.view_is c.in_ok-shape.ensures.exact c.knobs.ensures c.as_slice-homes.ensures.value c.in_ok-machine.ensures.made c.in_ok-make_rounds.ensures in
     ap (λ m. length m.calls) run ∙ ap length (rounds_alike c.args.most (start_with g.A.Algo.defined place c.args.ops) c.args.most).calls ∙ c.requires.calls.ranks_there
 
-pub returns-clause-report : goal.returns-clause-report
-returns-clause-report g c =
+pub counts_of_machine-requires-clause-small : goal.counts_of_machine-requires-clause-small
+counts_of_machine-requires-clause-small g c =
     let place = c.args.place.now in
     let run = rounds_from g.A.Algo.defined place c.args.ops _ _ _ _ c.args.most _ (running g.A.Algo.table c.make_rounds.new.machine)
     c.place.view_is c.in_ok-shape.ensures.exact c.knobs.ensures c.as_slice-homes.ensures.value c.in_ok-machine.ensures.made c.in_ok-make_rounds.ensures in
-    subst (λ m. IfOk c.report_of_machine.result (λ report. report ≡ report_in (queue_count place) m)) run c.report_of_machine.ensures
+    subst IsSmall (sym run)
+    (is_small g.A.Algo.defined place c.args.ops (all_rounds c.args.most (start_with g.A.Algo.defined place c.args.ops)) _ _ (rounds_alike c.args.most (start_with g.A.Algo.defined place c.args.ops) c.args.most) c.requires.calls)
 
-pub returns-clause-ranks : goal.returns-clause-ranks
-returns-clause-ranks g c =
+pub returns : goal.returns
+returns g c =
     let place = c.args.place.now in
     let run = rounds_from g.A.Algo.defined place c.args.ops _ _ _ _ c.args.most _ (running g.A.Algo.table c.make_rounds.new.machine)
     c.place.view_is c.in_ok-shape.ensures.exact c.knobs.ensures c.as_slice-homes.ensures.value c.in_ok-machine.ensures.made c.in_ok-make_rounds.ensures in
-    let ranks = ap (λ m. length m.calls) run ∙ ap length (rounds_alike c.args.most (start_with g.A.Algo.defined place c.args.ops) c.args.most).calls ∙ c.requires.calls.ranks_there in
-    as_many_told (queue_count place) (running g.A.Algo.table c.make_rounds.new.machine) (length place.paths) c.report_of_machine.result ranks c.report_of_machine.ensures
+    subst (λ m. IfOk c.counts_of_machine.result (λ counts. counts ≡ counts_in (report_in (queue_count place) m))) run c.counts_of_machine.ensures
