@@ -45,6 +45,7 @@ pub mod StartLaws
 pub mod Filling
 pub mod CauseLaws
 pub mod StepCauses
+pub mod BusyLaws
 pub mod MachineSteps
 pub mod StateLaws
 pub mod StateSteps
@@ -60,3 +61,6 @@ pub mod RoundLaws
 pub mod Rested
 pub mod RestedLaws
 pub mod RoundSteps
+pub mod RankSets
+pub mod RoundRobin
+pub mod RoundRobinLaws

@@ -1,6 +1,6 @@
 -- A rank that opens its next block: the block in the code's lists, its shard, and the step.
 use Rattle.std.specs.Prelude.{◌≡◌, ℕ, ◌+◌, ◌≤◌, ◌<◌, true, List, [], length, get_or, slice_get, slice_index, slice_set, Some, None}
-use Rattle.std.proofs.Common.{sym, ◌∙◌, ap, subst, arith}
+use Rattle.std.proofs.Common.{sym, ◌∙◌, ap, subst, get_or-set_same, arith}
 use Rattle.rl_word.specs.Acts.{Layout}
 use Rattle.rl_word.specs.Places.{one_at}
 use Rattle.rl_model.specs.declared.call.Call.{Call}
@@ -14,8 +14,8 @@ use Rattle.rl_whole.specs.declared.state.MachineState.{MachineState}
 use Rattle.rl_whole.specs.declared.whole.WholeView.{WholeView}
 use Rattle.rl_whole.specs.Running.{ShardRun, Running, lock_at, shard_run, running}
 use Rattle.rl_whole.specs.Whole.{Good, next_of}
-use Rattle.rl_whole.specs.Asks.{block_from, block_shard}
-use Rattle.rl_whole.specs.AskLaws.{size_is, block_is, block_at, inside}
+use Rattle.rl_whole.specs.Asks.{block_from, block_shard, place_after}
+use Rattle.rl_whole.specs.AskLaws.{size_is, block_is, block_at, stands_at, inside}
 use Rattle.rl_whole.specs.ShardSteps.{opened_on, atom_on, answer_on}
 use Rattle.rl_whole.specs.Run.{calls_by, sizes_by, opens, next_block, stepped, answer_of_step}
 use Rattle.rl_whole.specs.MachineLaws.{OpensAt, opens_at}
@@ -86,6 +86,7 @@ module _ (A V : Type 0) (table : A → LockTable V) (good : A → LockState V �
     pub fits : (x : WholeView V) → slice_get item.flat.views.items k ≡ Some x → IsOpen (lock_at table item.core).site k blk first x.work.transcript
     pub step : (S' : ShardRun V) (answer : Stepped) → S' ≡ atom_on k (steps_made m.steps) (opened_on k blk first (shard_run table (shard_view item))) → answer ≡ answer_on k (opened_on k blk first (shard_run table (shard_view item))) →
         (machine_with run (slice_set run.shards place S') (slice_set m.opened.items k (first + length blk)) (counted answer m.steps) ≡ stepped run k) × (answer ≡ answer_of_step run k)
+    pub stands : place_after m.geom (calls_by run k) (slice_index (slice_set m.opened.items k (first + length blk)) k) ≡ place
 
   can_open_there : (item : ShardState A V) → slice_get m.shards.items (block_shard m.geom block) ≡ Some item → CanOpen n (block_shard m.geom block) block item
   unfolding o
@@ -113,6 +114,9 @@ module _ (A V : Type 0) (table : A → LockTable V) (good : A → LockState V �
                   ∙ ap (λ (b : List Call). machine_with run (slice_set run.shards place S') (slice_set m.opened.items k (n + length b)) (counted answer m.steps)) block_same ∙ q.0,
               q.1,
             );
+        stands =
+            let at_k : slice_index (slice_set m.opened.items k (n + length block)) k ≡ n + length block = get_or-set_same m.opened.items k (n + length block) 0 block_there.opened in
+            ap (place_after m.geom (calls_by run k)) (at_k ∙ ap (λ (b : List Call). n + length b) block_same) ∙ stands_at m.geom (calls_by run k) (sizes_by run k) n o.next ∙ sym place_same;
       }
 
   pub can_open : (first place : ℕ) (blk : List Call) (item : ShardState A V) → first ≡ n → blk ≡ block_from (get_or m.ops.by_rank k []) (get_or m.ops.sizes k []) first → place ≡ block_shard m.geom blk →

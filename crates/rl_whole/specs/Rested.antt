@@ -39,6 +39,10 @@ pub record RestsAt {V : Type 0} (shards : List (ShardRun V)) (k s : ℕ) (answer
   pub named : IsNamed shard.held answer
   pub idle : (h : TheWindow) (a : Stepped) → Shows h answer a → IsIdle shard.lock h k view (next_of shard.lock view) a
 
+-- where rank k was answered so and stands on shard s, it is about to take the card that the answer names
+abbrev pub IsHeldOffBy : {V : Type 0} → Running V → ℕ → ℕ → Stepped → Type 0
+IsHeldOffBy m k s answer = (node holder : ℕ) → answer ≡ Busy node holder → RestsAt m.shards k s (Busy node 0)
+
 -- what is noted of rank k is true: it rests where it was seen to, whoever is in the card, or goes in a round, or it has no open call
 -- and none left
 abbrev pub Rested : {V : Type 0} → Running V → ℕ → LastRest V → Type 0

@@ -1,5 +1,5 @@
 -- The view exchanged in the code's lists is a step of a rank that goes round.
-use Rattle.std.specs.Prelude.{◌≡◌, ℕ, ◌<◌, List, length, map, slice_get, slice_index, slice_set, Some}
+use Rattle.std.specs.Prelude.{◌≡◌, ℕ, ◌<◌, List, length, map, slice_get, slice_index, slice_set, Some, refl}
 use Rattle.std.proofs.Common.{sym, ◌∙◌, ap, subst, arith}
 use Rattle.std.proofs.lemmas.List.{length-map}
 use Rattle.std.proofs.lemmas.Option.{slice_get_within}
@@ -17,6 +17,8 @@ use Rattle.rl_whole.specs.State.{shard_view, machine_view, IsMachine}
 use Rattle.rl_whole.specs.StateLaws.{is_there, shard_set}
 use Rattle.rl_whole.specs.MachineSteps.{machine_with}
 use Rattle.rl_whole.specs.RestedLaws.{open_stands}
+use Rattle.rl_whole.specs.RoundRobin.{KeepsHeld}
+use Rattle.rl_whole.specs.RoundRobinLaws.{held_viewed}
 use Rattle.rl_whole.specs.Rounds.{with_lock, leg_answer, turned_round, IsInRound}
 use Rattle.rl_whole.specs.RoundLaws.{viewed, turned_in, one_leg}
 
@@ -60,3 +62,7 @@ module _ (A V : Type 0) (table : A → LockTable V) (good : A → LockState V �
 
       pub leg_turned : IsInRound after k s (turned_round round)
       leg_turned = subst (λ z. IsInRound z k s (turned_round round)) (sym after_is) (turned_in k s round run r)
+
+      -- and leaves all cards
+      pub leg_holds : KeepsHeld run.shards after
+      leg_holds = held_viewed run.shards after s r.shard (viewed r.shard k (with_lock r.view round.here.view)) r.has refl after_is

@@ -48,7 +48,7 @@ first_busy a home got true true d s node holder e q = let m : s ≡ Moved = cc i
 first_busy a home got true false d s node holder e q = cc
 first_busy a home got false z d s node holder e q = cc
 
-load_busy : (home got : ℕ) (b : Bool) (d : CardState) (s : Stepped) (node holder : ℕ) → (if b then Learn (ToLeave home) got true else Stay (Loaded got) Moved) ≡ Stay d s → s ≡ Busy node holder → ⊥
+pub load_busy : (home got : ℕ) (b : Bool) (d : CardState) (s : Stepped) (node holder : ℕ) → (if b then Learn (ToLeave home) got true else Stay (Loaded got) Moved) ≡ Stay d s → s ≡ Busy node holder → ⊥
 load_busy home got true d s node holder e q = cc
 load_busy home got false d s node holder e q = let m : s ≡ Moved = cc in let bad : Moved ≡ Busy node holder = sym m ∙ q in cc
 
@@ -61,7 +61,7 @@ stay_busy home (Some a) Free got d s node holder e q = (refl, first_busy a home 
 stay_busy home (Some a) InCard got d s node holder e q = absurd (load_busy home got (skips a got) d s node holder e q)
 stay_busy home (Some a) (Loaded g) got d s node holder e q = cc
 
-learnt_not_busy : (base : ℕ) (p : Option Act) (got : ℕ) (lost waits : Bool) (node holder : ℕ) → shifted_answer base (answer_of p got lost waits) ≡ Busy node holder → ⊥
+pub learnt_not_busy : (base : ℕ) (p : Option Act) (got : ℕ) (lost waits : Bool) (node holder : ℕ) → shifted_answer base (answer_of p got lost waits) ≡ Busy node holder → ⊥
 learnt_not_busy base None got lost waits node holder e = cc
 learnt_not_busy base (Some a) got true waits node holder e = cc
 learnt_not_busy base (Some a) got false true node holder e = cc
@@ -135,26 +135,26 @@ module _ (A V : Type 0) (table : A → LockTable V) (good : A → LockState V �
   Fine acts m = MachineGood A V table good layout cores acts m
 
   -- a rank that is there, where it stands
-  record Stands (acts : List (List Deed)) (m : Running V) (k : ℕ) : Type 0 where
+  pub record Stands (acts : List (List Deed)) (m : Running V) (k : ℕ) : Type 0 where
     pub found : Found A V table good further layout laws cores acts m (place_of m k)
     pub view : WholeView V
     pub has_view : slice_get found.shard.views k ≡ Some view
 
-  stands_there : (acts : List (List Deed)) (m : Running V) (k : ℕ) → Fine acts m → k < length m.calls → Stands acts m k
+  pub stands_there : (acts : List (List Deed)) (m : Running V) (k : ℕ) → Fine acts m → k < length m.calls → Stands acts m k
   stands_there acts m k g h =
       let f = found_at A V table good further layout laws cores acts m (place_of m k) g (g.stands k h) in
       let x = some_at f.shard.views k (let a = f.is.ranks in omega arith) in
       record { found = f; view = x.0; has_view = x.1 }
 
   module _ (acts : List (List Deed)) (m : Running V) (k : ℕ) (g : Fine acts m) (h : k < length m.calls) (t : Stands acts m k) where
-    lawful : LockLaws t.found.shard.lock.table (good t.found.core.algo) (further t.found.core.algo) (layout t.found.core.algo)
+    pub lawful : LockLaws t.found.shard.lock.table (good t.found.core.algo) (further t.found.core.algo) (layout t.found.core.algo)
     lawful = laws_of A V table good further layout laws cores t.found.core t.found.shard.lock t.found.is.lock_is
 
     may : MayBe (Good t.found.shard.lock (good t.found.core.algo) (layout t.found.core.algo)) t.view
     may = record { held = t.found.shard.held; views = t.found.shard.views; rank = k; is_ruled = t.found.is.is_good.rule; has = t.has_view }
 
     -- what is said of the machine there is said of the view
-    answer_there : atom_answer m k ≡ answer_to t.found.shard.lock t.found.shard.held t.view (next_of t.found.shard.lock t.view)
+    pub answer_there : atom_answer m k ≡ answer_to t.found.shard.lock t.found.shard.held t.view (next_of t.found.shard.lock t.view)
     answer_there = ap (on_shard Finished (answer_on k)) t.found.has ∙ ap (answer_at t.found.shard) t.has_view
 
     open_there : has_open_call m k ≡ is_open t.found.shard.lock t.view
@@ -235,10 +235,10 @@ module _ (A V : Type 0) (table : A → LockTable V) (good : A → LockState V �
       absurd (omega arith)
 
   module _ (acts : List (List Deed)) (m : Running V) (k : ℕ) (g : Fine acts m) (h : k < length m.calls) where
-    fine_opened : Fine acts (block_opened m k)
+    pub fine_opened : Fine acts (block_opened m k)
     fine_opened = block_good A V table good further layout laws cores acts m k g h
 
-    still_there : k < length (block_opened m k).calls
+    pub still_there : k < length (block_opened m k).calls
     still_there = subst (λ c. k < length c) (sym (opened_calls A V table good further layout laws cores m k (opens m k))) h
 
     -- each answer of a step has its cause

@@ -1,6 +1,7 @@
 //! All shards in plain vectors, stepped one rank at a time.
 
-ghost use Rattle.std.specs.Prelude.{◌≡◌, ◌↔◌, ◌-◌, ◌<◌, ◌^◌, [], length, map, get_or, slice_index, IfOk, OnErr};
+ghost use Rattle.rl_step.specs.declared.events.Stepped.TheVariants.{Busy};
+ghost use Rattle.std.specs.Prelude.{◌≡◌, ◌↔◌, true, ◌-◌, ◌<◌, ◌^◌, [], length, map, get_or, slice_index, IfOk, OnErr};
 ghost use Rattle.std.specs.List.{AllByRecursion};
 ghost use Rattle.rl_model.specs.Geom.{GeomFits};
 ghost use Rattle.rl_word.specs.Shapes.{IsProper, layout_of};
@@ -10,8 +11,9 @@ ghost use Rattle.rl_whole.specs.Causes.{StepCause, IsFinished, OnlyCountsBusy};
 ghost use Rattle.rl_whole.specs.Cores.{EachCore, EachHandsOn};
 ghost use Rattle.rl_whole.specs.Promises.{IsSound, StaysSound};
 ghost use Rattle.rl_whole.specs.Records.{journal_at, transcripts_at};
-ghost use Rattle.rl_whole.specs.Rested.{Rested};
-ghost use Rattle.rl_whole.specs.Run.{done_of, stepped, answer_of_step, has_open_call, trace_of, kept_by};
+ghost use Rattle.rl_whole.specs.Rested.{RestsAt, Rested, IsHeldOffBy};
+ghost use Rattle.rl_whole.specs.RoundRobin.{IsHeld};
+ghost use Rattle.rl_whole.specs.Run.{done_of, place_of, stepped, answer_of_step, has_open_call, trace_of, kept_by};
 ghost use Rattle.rl_whole.specs.Running.{running};
 ghost use Rattle.rl_whole.specs.Start.{start_of};
 ghost use Rattle.rl_whole.specs.State.{cores_of};
@@ -19,7 +21,7 @@ ghost use Rattle.rl_whole.specs.State.{cores_of};
 use crate::last_rest::LastRest;
 use crate::records;
 use crate::start::{first_shards, none_opened};
-use crate::state::{MachineState, make_step, move_on};
+use crate::state::{FullStep, MachineState, make_step, move_on};
 use rl_model::{Entry, Geom};
 use rl_ops::Ops;
 use rl_step::{Algo, Event, Stepped, Steps};
@@ -114,26 +116,48 @@ impl<A: Algo> Machine<A> {
         Ok(answer)
     }
 
-    /// What is known of the rank after a step with this answer: whether it is seen that the card that it takes is held, that its load
-    /// leaves the lock's view as it was, that it goes in a round of two loads, or that all its calls are done.
+    /// What is known of the rank after this step of it: that it is about to take the card that was held, or, where that is seen, that its
+    /// load leaves the lock's view as it was, that it goes in a round of two loads, or that all its calls are done.
     #[inline(always)]
-    pub(crate) fn rest_after(&self, rank: u32, answer: Stepped) -> LastRest<A::View>
-        requires { rank < length self.now.calls }
+    pub(crate) fn rest_after(&self, rank: u32, step: FullStep) -> LastRest<A::View>
+        requires there { rank < length self.now.calls }
+        requires held_off { IsHeldOffBy (running A.table self.now) rank step.place step.answer }
         ensures { Rested (running A.table self.now) rank result }
     {
-        self.state.rest_after(rank, answer)
+        self.state.rest_after(rank, step)
     }
 
-    /// One step of a rank, made in full.
+    /// How many shards there are.
+    pub(crate) fn shard_count(&self) -> usize
+        ensures { result ≡ length self.now.shards }
+    {
+        self.state.shards.len()
+    }
+
+    /// Whether a rank that was seen to be about to take the card of a node, on a shard, is held off still: another rank is in the card.
     #[inline(always)]
-    pub(crate) fn move_on(&mut self, rank: u32) -> Result<Stepped, OutOfMemory>
+    pub(crate) fn is_held_off(&self, rank: u32, shard: u32, node: u32) -> bool
+        requires there { rank < length self.now.calls }
+        requires rested { RestsAt (running A.table self.now).shards rank shard (Busy node 0) }
+        ensures { result ≡ true → IsHeld (running A.table self.now).shards shard node }
+    {
+        self.state.is_held_off(rank, shard, node)
+    }
+
+    /// One step of a rank, made in full, with the shard where it stands then. Where it is answered Busy the rank is about to take the
+    /// card that the answer names.
+    #[inline(always)]
+    pub(crate) fn move_on(&mut self, rank: u32) -> Result<FullStep, OutOfMemory>
         requires there { rank < length self.old.calls }
         requires few { steps_made self.old.steps < 2 ^ 32 - 1 }
         ensures cores { cores_of self.new ≡ cores_of self.old }
         ensures stepped { IfOk result (λ _. running A.table self.new ≡ stepped (running A.table self.old) rank) }
+        ensures place { IfOk result (λ made. made.place ≡ place_of (running A.table self.new) rank) }
+        ensures there { IfOk result (λ made. made.place < length self.new.shards) }
+        ensures held_off { IfOk result (λ made. IsHeldOffBy (running A.table self.new) rank made.place made.answer) }
     {
-        let answer = move_on(&mut self.state, rank)?;
-        Ok(answer)
+        let made = move_on(&mut self.state, rank)?;
+        Ok(made)
     }
 
     /// Whether the rank has an open call: it has until the call's last atom was made, a card's Leave among them.

@@ -41,12 +41,24 @@ fn first_views<A: Algo>(
     requires few { length rooms.now < 2 ^ 32 }
     ensures { IfOk result (λ views. views.items ≡ first_views (lock_at A.table core.now) 0 rooms.now) }
 {
-    let mut views = Vec::new(alloc);
+    let mut views = Vec::with_capacity(alloc, rooms.len())?;
     for rank in 0..rooms.len() as u32 {
         let view = core.first(alloc, rank, rooms[rank as usize])?;
         views.push(view)?;
     }
     Ok(views)
+}
+
+/// A shard's list of events has room for so many of each call at first. Few calls have more, and room in which nothing is put costs
+/// nothing, while a list that grows is copied.
+const EVENTS_OF_A_CALL: usize = 16;
+
+/// How many events a shard has room for at first, whose ranks have so many calls each.
+fn events_room(calls: &[u32]) -> usize {
+    let all = calls
+        .iter()
+        .fold(0u32, |all, count| all.saturating_add(*count));
+    all as usize * EVENTS_OF_A_CALL
 }
 
 /// A shard of so many nodes, whose ranks have room for so many entries each. Refused only for want of memory.
@@ -69,6 +81,6 @@ pub fn opening<A: Algo>(
     Ok(ShardState {
         core,
         flat: Flat::new(words, views),
-        events: Vec::new(alloc),
+        events: Vec::with_capacity(alloc, events_room(rooms))?,
     })
 }

@@ -6,6 +6,7 @@ ghost use Rattle.rl_whole.specs.Opening.{OfView};
 ghost use Rattle.rl_whole.specs.Rested.{Rested};
 ghost use Rattle.rl_whole.specs.RoundLaws.{viewed};
 ghost use Rattle.rl_whole.specs.Rounds.{with_lock, turned_round, IsInRound, GoesRound};
+ghost use Rattle.rl_whole.specs.RoundRobin.{KeepsHeld};
 ghost use Rattle.rl_whole.specs.Run.{stepped};
 ghost use Rattle.rl_whole.specs.Running.{running};
 ghost use Rattle.rl_whole.specs.State.{running_shard, machine_view, cores_of, IsMachine};
@@ -84,6 +85,7 @@ pub fn make_leg<A: Algo>(state: &mut MachineState<A>, rank: u32, place: u32, rou
     requires shows { GoesRound (running A.table (machine_view state.old)).shards rank place round 1 }
     ensures made { running A.table (machine_view state.new) ≡ stepped (running A.table (machine_view state.old)) rank }
     ensures in_round { IsInRound (running A.table (machine_view state.new)).shards rank place (turned_round round) }
+    ensures held { KeepsHeld (running A.table (machine_view state.old)).shards (running A.table (machine_view state.new)).shards }
     ensures cores { cores_of (machine_view state.new) ≡ cores_of (machine_view state.old) }
 {
     state.steps.count(round.here.answer());

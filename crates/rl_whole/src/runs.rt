@@ -1,6 +1,6 @@
 //! A whole replay: a machine is made and takes the steps of a schedule.
 
-ghost use Rattle.std.specs.Prelude.{◌≡◌, true, false, ◌+◌, ◌-◌, ◌<◌, ◌^◌, length, replicate, IfOk};
+ghost use Rattle.std.specs.Prelude.{ℕ, ◌≡◌, ◌≢◌, true, false, ◌+◌, ◌-◌, ◌<◌, ◌^◌, List, length, replicate, slice_get, slice_set, IfOk};
 ghost use Rattle.std.specs.List.{AllByRecursion};
 ghost use Rattle.rl_model.specs.Geom.{GeomFits};
 ghost use Rattle.rl_word.specs.Shapes.{IsProper};
@@ -10,13 +10,16 @@ ghost use Rattle.rl_ops.specs.Schedule.{TurnFits, steps_of};
 ghost use Rattle.rl_whole.specs.Promises.{IsSound, EachKeepsQueues};
 ghost use Rattle.rl_whole.specs.Run.{run_of, stepped, turn_ranks, ranks_of, steps_in};
 ghost use Rattle.rl_whole.specs.RunActs.{EachSays};
-ghost use Rattle.rl_whole.specs.Rested.{AllRested, IsForgotten};
+ghost use Rattle.rl_whole.specs.declared.round_robin.AtCard.{AtCard};
+ghost use Rattle.rl_whole.specs.RoundRobin.{AreListed, KeepsHeld};
+ghost use Rattle.rl_whole.specs.Rested.{AllRested, IsForgotten, IsHeldOffBy};
 ghost use Rattle.rl_whole.specs.Running.{Running, running};
 ghost use Rattle.rl_whole.specs.Start.{start_of};
 ghost use Rattle.rl_whole.specs.State.{cores_of};
 
 use crate::last_rest::{LastRest, no_rests};
 use crate::machine::{Machine, soundness};
+use crate::state::FullStep;
 use rl_model::Geom;
 use rl_ops::{Ops, Turn};
 use rl_step::{Algo, Stepped};
@@ -25,7 +28,7 @@ use std::alloc::{AllocError as OutOfMemory, Global};
 
 /// Whether a step got on: nothing shows then that the rank rests.
 #[inline(always)]
-fn got_on(answer: Stepped) -> bool {
+pub(crate) fn got_on(answer: Stepped) -> bool {
     match answer {
         Stepped::Moved | Stepped::Lost { .. } => true,
         Stepped::Waiting { .. } | Stepped::Busy { .. } | Stepped::Finished => false,
@@ -35,7 +38,7 @@ fn got_on(answer: Stepped) -> bool {
 /// Whether what was noted of the rank shows all of so many steps: then they are counted, or made by exchanging the lock's view. Else
 /// nothing has changed.
 #[inline(always)]
-fn take_noted<A: Algo>(
+pub(crate) fn take_noted<A: Algo>(
     machine: &mut Machine<A>,
     rests: &mut Vec<LastRest<A::View>>,
     rank: u32,
@@ -49,7 +52,9 @@ fn take_noted<A: Algo>(
     ensures run { result ≡ true → running A.table machine.new ≡ run_of (running A.table machine.old) (replicate count rank) }
     ensures many { length rests.new.items ≡ length rests.old.items }
     ensures rested { AllRested (running A.table machine.new) rests.new.items }
+    ensures listed { (cards : List AtCard) → AreListed rests.old.items cards → AreListed rests.new.items cards }
     ensures kept { result ≡ false → machine.new ≡ machine.old }
+    ensures held { KeepsHeld (running A.table machine.old).shards (running A.table machine.new).shards }
 {
     let at = rank as usize;
     if let LastRest::HeldOff { shard, node } = &rests[at] {
@@ -61,35 +66,46 @@ fn take_noted<A: Algo>(
     machine.rest(rank, &rests[at], count)
 }
 
+/// Notes that nothing is known. It stands apart from the steps, of which few come here, since a note is large.
+#[inline(never)]
+fn clear<V: Copy>(last: &mut LastRest<V>)
+    ensures { last.new ≡ LastRest.Unknown }
+{
+    *last = LastRest::Unknown;
+}
+
 /// Notes that nothing is known of a rank, where something was.
 #[inline(always)]
-fn forget<V: Copy>(rests: &mut Vec<LastRest<V>>, rank: u32)
+pub(crate) fn forget<V: Copy>(rests: &mut Vec<LastRest<V>>, rank: u32)
     requires { rank < length rests.old.items }
     ensures many { length rests.new.items ≡ length rests.old.items }
     ensures forgotten { IsForgotten rests.new.items rank }
+    ensures only { rests.new.items ≡ slice_set rests.old.items rank LastRest.Unknown }
     ensures rested { (m : Running V) → AllRested m rests.old.items → AllRested m rests.new.items }
 {
     match &rests[rank as usize] {
         LastRest::Unknown => {}
-        _ => rests[rank as usize] = LastRest::Unknown,
+        _ => clear(&mut rests[rank as usize]),
     }
 }
 
-/// Looks for what is known of a rank after a step with this answer, and notes it.
+/// Looks for what is known of a rank after this step of it, and notes it.
 #[inline(never)]
-fn look<A: Algo>(
+pub(crate) fn look<A: Algo>(
     machine: &Machine<A>,
     rests: &mut Vec<LastRest<A::View>>,
     rank: u32,
-    answer: Stepped,
+    step: FullStep,
 )
     requires there { rank < length machine.now.calls }
+    requires held_off { IsHeldOffBy (running A.table machine.now) rank step.place step.answer }
     requires many { length rests.old.items ≡ length machine.now.calls }
     requires rested { AllRested (running A.table machine.now) rests.old.items }
     ensures many { length rests.new.items ≡ length rests.old.items }
     ensures rested { AllRested (running A.table machine.now) rests.new.items }
+    ensures only { (k : ℕ) → k ≢ rank → slice_get rests.new.items k ≡ slice_get rests.old.items k }
 {
-    rests[rank as usize] = machine.rest_after(rank, answer);
+    rests[rank as usize] = machine.rest_after(rank, step);
 }
 
 /// A step of a rank made in full. Where it didn't get on, what is known of the rank then is noted, and else nothing. Whether it got on.
@@ -109,11 +125,11 @@ fn step_in_full<A: Algo>(
     ensures rested { IfOk result (λ _. AllRested (running A.table machine.new) rests.new.items) }
 {
     forget(rests, rank);
-    let answer = machine.move_on(rank)?;
-    if got_on(answer) {
+    let step = machine.move_on(rank)?;
+    if got_on(step.answer) {
         return Ok(true);
     }
-    look(machine, rests, rank, answer);
+    look(machine, rests, rank, step);
     Ok(false)
 }
 
@@ -153,48 +169,6 @@ pub fn take_steps<A: Algo>(
         }
     }
     Ok(())
-}
-
-/// A step made in full, apart from the loop over the ranks of a round, most of which rest.
-#[inline(never)]
-fn step_apart<A: Algo>(
-    machine: &mut Machine<A>,
-    rests: &mut Vec<LastRest<A::View>>,
-    rank: u32,
-) -> Result<(), OutOfMemory>
-    requires there { rank < length machine.old.calls }
-    requires few { steps_made machine.old.steps < 2 ^ 32 - 1 }
-    requires many { length rests.old.items ≡ length machine.old.calls }
-    requires rested { AllRested (running A.table machine.old) rests.old.items }
-    ensures stepped { IfOk result (λ _. running A.table machine.new ≡ stepped (running A.table machine.old) rank) }
-    ensures many { length rests.new.items ≡ length rests.old.items }
-    ensures rested { IfOk result (λ _. AllRested (running A.table machine.new) rests.new.items) }
-{
-    let _got_on = step_in_full(machine, rests, rank)?;
-    Ok(())
-}
-
-/// Takes one step of a rank, as `take_steps` takes so many: for rounds, in which each rank takes one.
-///
-/// Fewer than 2^32 steps are made in all. Refused only for want of memory.
-#[inline(always)]
-pub fn take_step<A: Algo>(
-    machine: &mut Machine<A>,
-    rests: &mut Vec<LastRest<A::View>>,
-    rank: u32,
-) -> Result<(), OutOfMemory>
-    requires there { rank < length machine.old.calls }
-    requires few { steps_made machine.old.steps < 2 ^ 32 - 1 }
-    requires many { length rests.old.items ≡ length machine.old.calls }
-    requires rested { AllRested (running A.table machine.old) rests.old.items }
-    ensures stepped { IfOk result (λ _. running A.table machine.new ≡ stepped (running A.table machine.old) rank) }
-    ensures many { length rests.new.items ≡ length rests.old.items }
-    ensures rested { IfOk result (λ _. AllRested (running A.table machine.new) rests.new.items) }
-{
-    if take_noted(machine, rests, rank, 1) {
-        return Ok(());
-    }
-    step_apart(machine, rests, rank)
 }
 
 /// Takes the steps of one turn. A stop has none.

@@ -7,7 +7,8 @@ ghost use Rattle.rl_step.specs.Answers.{steps_made};
 ghost use Rattle.rl_whole.specs.Asks.{place_after, block_from, block_shard};
 ghost use Rattle.rl_whole.specs.Rest.{Rests};
 ghost use Rattle.rl_whole.specs.Causes.{IsFinished};
-ghost use Rattle.rl_whole.specs.Rested.{Shows, RestsAt, Rested};
+ghost use Rattle.rl_whole.specs.Rested.{Shows, RestsAt, Rested, IsHeldOffBy};
+ghost use Rattle.rl_whole.specs.RoundRobin.{IsHeld};
 ghost use Rattle.rl_whole.specs.Run.{done_of, place_of, has_open_call, opens, atom_made, atom_answer, stepped, answer_of_step};
 ghost use Rattle.rl_whole.specs.Running.{running};
 ghost use Rattle.rl_whole.specs.State.{running_shard, machine_view, cores_of, IsRuled, IsMachine};
@@ -35,6 +36,15 @@ pub struct MachineState<A: Algo> {
     pub steps: Steps,
     /// Where each rank opened its last block: a guess, by which nothing is decided.
     pub seen: Vec<u32>,
+}
+
+/// A step that was made in full.
+#[derive(Clone, Copy, PartialEq, Eq, Debug)]
+pub struct FullStep {
+    /// The shard where its rank stands after it.
+    pub place: u32,
+    /// How it went.
+    pub answer: Stepped,
 }
 
 /// How many steps were made.
@@ -302,18 +312,19 @@ impl<A: Algo> MachineState<A> {
         Some(self.rest_at(rank, place, answer))
     }
 
-    /// What is known of the rank after a step with this answer: whether it is seen that the card that it takes is held, that its load
-    /// leaves the lock's view as it was, that it goes in a round of two loads, or that all its calls are done.
+    /// What is known of the rank after this step of it: that it is about to take the card that was held, or, where that is seen, that its
+    /// load leaves the lock's view as it was, that it goes in a round of two loads, or that all its calls are done.
     #[inline(always)]
-    pub fn rest_after(&self, rank: u32, answer: Stepped) -> LastRest<A::View>
+    pub fn rest_after(&self, rank: u32, step: FullStep) -> LastRest<A::View>
         requires there { rank < length self.now.ops.by_rank }
         requires good { IsMachine A A.View A.table A.good A.layout (machine_view self.now) }
+        requires held_off { IsHeldOffBy (running A.table (machine_view self.now)) rank step.place step.answer }
         ensures { Rested (running A.table (machine_view self.now)) rank result }
     {
-        match answer {
-            Stepped::Busy { .. } => match self.held_off(rank) {
-                Some(at) => at.noted(),
-                None => LastRest::Unknown,
+        match step.answer {
+            Stepped::Busy { node, .. } => LastRest::HeldOff {
+                shard: step.place,
+                node,
             },
             Stepped::Waiting { .. } => match self.waiting(rank) {
                 Some(at) => at.noted(),
@@ -330,7 +341,8 @@ impl<A: Algo> MachineState<A> {
         requires there { rank < length self.now.ops.by_rank }
         requires good { IsMachine A A.View A.table A.good A.layout (machine_view self.now) }
         requires rested { RestsAt (running A.table (machine_view self.now)).shards rank shard (Busy node 0) }
-        ensures { result ≡ true → (holder : ℕ) × Rests (running A.table (machine_view self.now)) rank (Busy node holder) }
+        ensures rests { result ≡ true → (holder : ℕ) × Rests (running A.table (machine_view self.now)) rank (Busy node holder) }
+        ensures held { result ≡ true → IsHeld (running A.table (machine_view self.now)).shards shard node }
     {
         let shard = &self.shards[shard as usize];
         is_held(shard.flat.words(), node)
@@ -355,31 +367,33 @@ fn go_on_at<A: Algo>(
     state: &mut MachineState<A>,
     rank: u32,
     place: u32,
-) -> Result<Stepped, OutOfMemory>
+) -> Result<FullStep, OutOfMemory>
     requires there { rank < length state.old.ops.by_rank }
     requires good { IsMachine A A.View A.table A.good A.layout (machine_view state.old) }
     requires few { steps_made state.old.steps < 2 ^ 32 - 1 }
     requires stands { place ≡ place_of (running A.table (machine_view state.old)) rank }
     requires place { place < length state.old.shards.items }
     ensures made { IfOk result (λ _. running A.table (machine_view state.new) ≡ atom_made (running A.table (machine_view state.old)) rank) }
-    ensures answer { IfOk result (λ answer. answer ≡ atom_answer (running A.table (machine_view state.old)) rank) }
+    ensures answer { IfOk result (λ made. made.answer ≡ atom_answer (running A.table (machine_view state.old)) rank) }
+    ensures place { IfOk result (λ made. made.place ≡ place_of (running A.table (machine_view state.new)) rank) }
     ensures cores { cores_of (machine_view state.new) ≡ cores_of (machine_view state.old) }
     ensures kept { OnErr result (machine_view state.new ≡ machine_view state.old) }
 {
     let step = made(state.steps);
     let answer = step_on(&mut state.shards[place as usize], rank, step)?;
     state.steps.count(answer);
-    Ok(answer)
+    Ok(FullStep { place, answer })
 }
 
 /// Makes the next atom of the rank, where it stands, if it has one, and counts the answer.
 #[inline(always)]
-pub fn go_on<A: Algo>(state: &mut MachineState<A>, rank: u32) -> Result<Stepped, OutOfMemory>
+pub fn go_on<A: Algo>(state: &mut MachineState<A>, rank: u32) -> Result<FullStep, OutOfMemory>
     requires there { rank < length state.old.ops.by_rank }
     requires good { IsMachine A A.View A.table A.good A.layout (machine_view state.old) }
     requires few { steps_made state.old.steps < 2 ^ 32 - 1 }
     ensures made { IfOk result (λ _. running A.table (machine_view state.new) ≡ atom_made (running A.table (machine_view state.old)) rank) }
-    ensures answer { IfOk result (λ answer. answer ≡ atom_answer (running A.table (machine_view state.old)) rank) }
+    ensures answer { IfOk result (λ made. made.answer ≡ atom_answer (running A.table (machine_view state.old)) rank) }
+    ensures place { IfOk result (λ made. made.place ≡ place_of (running A.table (machine_view state.new)) rank) }
     ensures cores { cores_of (machine_view state.new) ≡ cores_of (machine_view state.old) }
     ensures kept { OnErr result (machine_view state.new ≡ machine_view state.old) }
 {
@@ -389,13 +403,14 @@ pub fn go_on<A: Algo>(state: &mut MachineState<A>, rank: u32) -> Result<Stepped,
 
 /// Opens the rank's next block, on the shard of its calls, makes the next atom there, and counts the answer.
 #[inline(never)]
-pub fn open_next<A: Algo>(state: &mut MachineState<A>, rank: u32) -> Result<Stepped, OutOfMemory>
+pub fn open_next<A: Algo>(state: &mut MachineState<A>, rank: u32) -> Result<FullStep, OutOfMemory>
     requires there { rank < length state.old.ops.by_rank }
     requires good { IsMachine A A.View A.table A.good A.layout (machine_view state.old) }
     requires few { steps_made state.old.steps < 2 ^ 32 - 1 }
     requires opens { opens (running A.table (machine_view state.old)) rank ≡ true }
     ensures made { IfOk result (λ _. running A.table (machine_view state.new) ≡ stepped (running A.table (machine_view state.old)) rank) }
-    ensures answer { IfOk result (λ answer. answer ≡ answer_of_step (running A.table (machine_view state.old)) rank) }
+    ensures answer { IfOk result (λ made. made.answer ≡ answer_of_step (running A.table (machine_view state.old)) rank) }
+    ensures place { IfOk result (λ made. made.place ≡ place_of (running A.table (machine_view state.new)) rank) }
     ensures cores { cores_of (machine_view state.new) ≡ cores_of (machine_view state.old) }
     ensures kept { OnErr result (machine_view state.new ≡ machine_view state.old) }
 {
@@ -409,18 +424,19 @@ pub fn open_next<A: Algo>(state: &mut MachineState<A>, rank: u32) -> Result<Step
     state.opened[at] = first + block.len() as u32;
     state.steps.count(answer);
     note_place(&mut state.seen, at, place);
-    Ok(answer)
+    Ok(FullStep { place, answer })
 }
 
 /// One step of a rank, made in full: its next block is opened where none is open and one is left; then, where a call is open, one
 /// atom is made.
 #[inline(always)]
-pub fn move_on<A: Algo>(state: &mut MachineState<A>, rank: u32) -> Result<Stepped, OutOfMemory>
+pub fn move_on<A: Algo>(state: &mut MachineState<A>, rank: u32) -> Result<FullStep, OutOfMemory>
     requires there { rank < length state.old.ops.by_rank }
     requires good { IsMachine A A.View A.table A.good A.layout (machine_view state.old) }
     requires few { steps_made state.old.steps < 2 ^ 32 - 1 }
     ensures made { IfOk result (λ _. running A.table (machine_view state.new) ≡ stepped (running A.table (machine_view state.old)) rank) }
-    ensures answer { IfOk result (λ answer. answer ≡ answer_of_step (running A.table (machine_view state.old)) rank) }
+    ensures answer { IfOk result (λ made. made.answer ≡ answer_of_step (running A.table (machine_view state.old)) rank) }
+    ensures place { IfOk result (λ made. made.place ≡ place_of (running A.table (machine_view state.new)) rank) }
     ensures cores { cores_of (machine_view state.new) ≡ cores_of (machine_view state.old) }
     ensures kept { OnErr result (machine_view state.new ≡ machine_view state.old) }
 {
@@ -449,6 +465,9 @@ pub fn make_step<A: Algo>(state: &mut MachineState<A>, rank: u32) -> Result<Step
             state.steps.count(answer);
             Ok(answer)
         }
-        None => move_on(state, rank),
+        None => {
+            let made = move_on(state, rank)?;
+            Ok(made.answer)
+        }
     }
 }

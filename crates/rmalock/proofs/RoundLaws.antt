@@ -4,6 +4,7 @@ use Rattle.std.proofs.lemmas.Bool.{lt-ltb, le-ltb}
 use Rattle.rl_word.specs.Places.{same_or_not}
 use Rattle.rl_step.specs.Answers.{steps_made}
 use Rattle.rl_whole.specs.Running.{Running}
+use Rattle.rl_whole.specs.RoundRobin.{turned}
 use Rattle.rl_whole.specs.Run.{stepped}
 use Rattle.rl_whole.specs.ReplayLaws.{stepped_one}
 use Rattle.rmalock.specs.Rounds.{has_work, any_has_work, may_step, stepped_if, turns, goes_on, next_round, rounds}
@@ -39,12 +40,6 @@ module _ {V : Type 0} where
   stepped_if_alike true m rank = stepped_alike m rank
   stepped_if_alike false m rank = alike_self m
 
-  -- one turn more, with a step or without
-  pub turn_more : (most : ℕ) (m now new : Running V) (rank : ℕ) → now ≡ turns most m rank → may_step most now ≡ true → new ≡ stepped now rank → new ≡ turns most m (rank + 1)
-  turn_more most m now new rank is may made =
-      let may_then : may_step most (turns most m rank) ≡ true = ap (may_step most) (sym is) ∙ may in
-      made ∙ ap (λ u. stepped u rank) is ∙ sym (rw (add-one, may_then) refl)
-
   -- while steps are left, each turn is a step
   pub turns_count : (most : ℕ) (m : Running V) (rank : ℕ) → rank ≤ most - steps_made m.steps → steps_made (turns most m rank).steps ≡ steps_made m.steps + rank
   turns_count most m zero low = omega arith
@@ -59,6 +54,15 @@ module _ {V : Type 0} where
   turn_may most m rank low =
       let count : steps_made (turns most m rank).steps ≡ steps_made m.steps + rank = turns_count most m rank (omega (arith, low)) in
       lt-ltb (steps_made (turns most m rank).steps) most (omega (arith, low, count))
+
+  -- they are then the ranks' steps one after the other
+  pub turns_turned : (most : ℕ) (m : Running V) (rank : ℕ) → rank ≤ most - steps_made m.steps → turns most m rank ≡ turned m 0 rank
+  turns_turned most m zero low = refl
+  turns_turned most m (suc rank) low =
+      let now = turns most m rank in
+      let may : may_step most now ≡ true = turn_may most m rank (omega (arith, low)) in
+      let at : rank ≡ 0 + rank = omega arith in
+      ap (λ b. stepped_if b now rank) may ∙ ap (λ u. stepped u rank) (turns_turned most m rank (omega (arith, low))) ∙ ap (stepped (turned m 0 rank)) at
 
   -- where no step may be made after some turns, further turns change nothing
   turns_end : (most : ℕ) (m : Running V) (rank more : ℕ) → may_step most (turns most m rank) ≡ false → turns most m (more + rank) ≡ turns most m rank

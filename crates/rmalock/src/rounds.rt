@@ -1,12 +1,12 @@
 //! Rounds: the ranks of a machine take turns, one step each.
 ghost use Rattle.std.specs.Prelude.{◌≡◌, true, ◌≤◌, ◌<◌, length, IfOk};
 ghost use Rattle.rl_step.specs.Answers.{steps_made};
-ghost use Rattle.rl_whole.specs.Rested.{AllRested};
+ghost use Rattle.rl_whole.specs.RoundRobin.{IsKnown};
 ghost use Rattle.rl_whole.specs.Running.{running};
 ghost use Rattle.rmalock.specs.Rounds.{has_work as has_work_at, any_has_work as any_has_work_at, goes_on as goes_on_at, turns, all_rounds};
 
 use rl_step::{Algo, Steps};
-use rl_whole::{LastRest, Machine, no_rests, take_step};
+use rl_whole::{Machine, RoundRobin, nothing_known, take_round};
 use std::alloc::{AllocError as OutOfMemory, Global};
 
 /// How many steps were made.
@@ -53,21 +53,18 @@ fn goes_on<A: Algo>(machine: &Machine<A>, ranks: u32, most: u32) -> bool
 /// A turn of each of the first ranks, while fewer steps than the most were made: of so many of them as steps may still be made.
 fn take_turns<A: Algo>(
     machine: &mut Machine<A>,
-    rests: &mut Vec<LastRest<A::View>>,
+    robin: &mut RoundRobin<A::View>,
     ranks: u32,
     most: u32,
 ) -> Result<(), OutOfMemory>
     requires there { ranks ≤ length machine.old.calls }
-    requires many { length rests.old.items ≡ length machine.old.calls }
-    requires rested { AllRested (running A.table machine.old) rests.old.items }
+    requires known { IsKnown (running A.table machine.old) robin.old }
     ensures turns { IfOk result (λ _. running A.table machine.new ≡ turns most (running A.table machine.old) ranks) }
-    ensures many { length rests.new.items ≡ length rests.old.items }
-    ensures rested { IfOk result (λ _. AllRested (running A.table machine.new) rests.new.items) }
+    ensures known { IfOk result (λ _. IsKnown (running A.table machine.new) robin.new) }
 {
     let left = u64::from(most).saturating_sub(steps_made(machine.steps())) as u32;
-    for rank in 0..ranks.min(left) {
-        take_step(machine, rests, rank)?;
-    }
+    let turns = ranks.min(left);
+    take_round(machine, robin, turns)?;
     Ok(())
 }
 
@@ -82,12 +79,12 @@ pub fn make_rounds<A: Algo>(
     requires { ranks ≡ length machine.old.calls }
     ensures { IfOk result (λ _. running A.table machine.new ≡ all_rounds most (running A.table machine.old)) }
 {
-    let mut rests = no_rests(alloc, machine)?;
+    let mut robin = nothing_known(alloc, machine)?;
     for _ in 0..most {
         if !goes_on(machine, ranks, most) {
             return Ok(());
         }
-        take_turns(machine, &mut rests, ranks, most)?;
+        take_turns(machine, &mut robin, ranks, most)?;
     }
     Ok(())
 }

@@ -1,10 +1,12 @@
 //! Steps of a rank that rests, or goes in a round of two loads: they are counted at once while its shard shows it.
 
-ghost use Rattle.std.specs.Prelude.{◌≡◌, ◌+◌, ◌-◌, ◌<◌, ◌≤◌, ◌^◌, true, false, List, length, replicate};
+ghost use Rattle.std.specs.Prelude.{ℕ, ◌≡◌, ◌+◌, ◌-◌, ◌<◌, ◌≤◌, ◌^◌, true, false, List, length, replicate};
 ghost use Rattle.rl_step.specs.Answers.{steps_made};
 ghost use Rattle.rl_step.specs.declared.events.Stepped.TheVariants.{Busy, Waiting};
 ghost use Rattle.rl_whole.specs.declared.last_rest.LastRest.{LastRest};
 ghost use Rattle.rl_whole.specs.Rested.{RestsAt, Rested, AllRested};
+ghost use Rattle.rl_whole.specs.Rest.{with_steps};
+ghost use Rattle.rl_whole.specs.RoundRobin.{KeepsHeld, IsHeldOff, turned};
 ghost use Rattle.rl_whole.specs.Rounds.{turned_round, IsInRound, GoesRound};
 ghost use Rattle.rl_whole.specs.Run.{stepped, run_of};
 ghost use Rattle.rl_whole.specs.Running.{running};
@@ -28,6 +30,7 @@ impl<A: Algo> Machine<A> {
         ensures cores { cores_of self.new ≡ cores_of self.old }
         ensures run { result ≡ true → running A.table self.new ≡ run_of (running A.table self.old) (replicate count rank) }
         ensures noted { (rests : List (LastRest A.View)) → AllRested (running A.table self.old) rests → AllRested (running A.table self.new) rests }
+        ensures shards { (running A.table self.new).shards ≡ (running A.table self.old).shards }
         ensures kept { result ≡ false → self.new ≡ self.old }
     {
         if !self.state.is_held_off(rank, shard, node) {
@@ -36,6 +39,21 @@ impl<A: Algo> Machine<A> {
         let busy = Stepped::Busy { node, holder: 0 };
         count_more(&mut self.state.steps, busy, count);
         true
+    }
+
+    /// A step of each of so many ranks, from this one on, each of which is about to take a card that another rank is in. The first rank is
+    /// named for the contract alone.
+    #[inline(always)]
+    pub(crate) fn pass_over(&mut self, _at: u32, count: u32)
+        requires there { _at + count ≤ length self.old.calls }
+        requires few { steps_made self.old.steps + count < 2 ^ 32 }
+        requires held_off { (k : ℕ) → _at ≤ k → k < _at + count → IsHeldOff (running A.table self.old) k }
+        ensures cores { cores_of self.new ≡ cores_of self.old }
+        ensures turned { running A.table self.new ≡ turned (running A.table self.old) _at count }
+        ensures counted { running A.table self.new ≡ with_steps (running A.table self.old) self.new.steps }
+    {
+        let busy = Stepped::Busy { node: 0, holder: 0 };
+        count_more(&mut self.state.steps, busy, count);
     }
 
     /// The same of a rank that was seen to wait for a word, while the word has the same value.
@@ -47,6 +65,7 @@ impl<A: Algo> Machine<A> {
         ensures cores { cores_of self.new ≡ cores_of self.old }
         ensures run { result ≡ true → running A.table self.new ≡ run_of (running A.table self.old) (replicate count rank) }
         ensures noted { (rests : List (LastRest A.View)) → AllRested (running A.table self.old) rests → AllRested (running A.table self.new) rests }
+        ensures shards { (running A.table self.new).shards ≡ (running A.table self.old).shards }
         ensures kept { result ≡ false → self.new ≡ self.old }
     {
         if !self.state.waits_still(rank, shard, word, value) {
@@ -70,6 +89,7 @@ impl<A: Algo> Machine<A> {
         ensures cores { cores_of self.new ≡ cores_of self.old }
         ensures run { result ≡ true → running A.table self.new ≡ run_of (running A.table self.old) (replicate count rank) }
         ensures noted { (rests : List (LastRest A.View)) → AllRested (running A.table self.old) rests → AllRested (running A.table self.new) rests }
+        ensures shards { (running A.table self.new).shards ≡ (running A.table self.old).shards }
         ensures kept { result ≡ false → self.new ≡ self.old }
     {
         match last {
@@ -126,6 +146,7 @@ impl<A: Algo> Machine<A> {
         ensures cores { cores_of self.new ≡ cores_of self.old }
         ensures made { running A.table self.new ≡ stepped (running A.table self.old) rank }
         ensures in_round { IsInRound (running A.table self.new).shards rank place (turned_round round) }
+        ensures held { KeepsHeld (running A.table self.old).shards (running A.table self.new).shards }
     {
         make_leg(&mut self.state, rank, place, round);
     }
@@ -140,6 +161,7 @@ impl<A: Algo> Machine<A> {
         ensures cores { cores_of self.new ≡ cores_of self.old }
         ensures run { result ≡ true → running A.table self.new ≡ run_of (running A.table self.old) (replicate count rank) }
         ensures in_round { Rested (running A.table self.new) rank last.new }
+        ensures held { KeepsHeld (running A.table self.old).shards (running A.table self.new).shards }
         ensures kept { result ≡ false → self.new ≡ self.old }
     {
         let LastRest::Round { place, round } = *last else {

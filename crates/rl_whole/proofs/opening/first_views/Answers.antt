@@ -5,9 +5,6 @@ use Rattle.rl_whole.specs.Running.{lock_at}
 use Rattle.rl_whole.specs.Filling.{views_next, take_whole}
 use Rattle.rl_whole.proofs.opening.first_views.Goals as goal
 
-pub loop-rank-init : goal.loop-rank-init
-loop-rank-init g c = c.new-views.ensures.items
-
 pub loop-rank-preserved : goal.loop-rank-preserved
 loop-rank-preserved g c =
     let L = lock_at g.A.Algo.table c.args.core.now in

@@ -5,7 +5,7 @@ use Rattle.rl_whole.specs.RoundLaws.{viewed}
 use Rattle.rl_whole.specs.Rounds.{with_lock}
 use Rattle.rl_whole.specs.State.{running_shard}
 use Rattle.rl_whole.specs.StateLaws.{core_set}
-use Rattle.rl_whole.specs.RoundSteps.{round_there, round_seen_there, round_rank, leg_made, leg_turned}
+use Rattle.rl_whole.specs.RoundSteps.{round_there, round_seen_there, round_rank, leg_made, leg_turned, leg_holds}
 use Rattle.rl_step.specs.Answers.{counted}
 use Rattle.rl_whole.proofs.round_steps.make_leg.Goals as goal
 use Rattle.rl_whole.proofs.round_steps.make_leg.Goals.{After-index_mut, After-set_on}
@@ -49,3 +49,9 @@ returns-clause-in_round g c =
 pub returns-clause-cores : goal.returns-clause-cores
 returns-clause-cores g c =
     core_set c.args.state.now.shards.items c.args.place c.index_mut.result.now c.set_on.new.shard (has g (goal.at.returns-clause-cores g c).After-index_mut) c.set_on.ensures.core
+
+pub returns-clause-held : goal.returns-clause-held
+returns-clause-held g c =
+    let at = goal.at.returns-clause-held g c in
+    leg_holds _ _ g.A.Algo.table g.A.Algo.good g.A.Algo.layout c.args.state.now c.requires.good c.args.rank c.args.place c.requires.there c.args.round c.requires.shows.0 c.index_mut.result.now (has g at.After-index_mut)
+    c.set_on.new.shard (set g at.After-set_on)

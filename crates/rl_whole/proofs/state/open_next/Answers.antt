@@ -119,3 +119,6 @@ pub returns-clause-cores : goal.returns-clause-cores
 returns-clause-cores g c =
     let at = goal.at.returns-clause-cores g c in
     core_set c.args.state.now.shards.items c.block_shard-place.result c.index_mut-shard.result.now c.open_and_step.new.shard (has g at.After-index_mut-shard (first_is g at.After-index-first)) c.open_and_step.ensures.core
+
+pub returns-clause-place : goal.returns-clause-place
+returns-clause-place g c = let at = goal.at.returns-clause-place g c in sym (can g at.After-index_mut-shard (first_is g at.After-index-first)).stands

@@ -5,7 +5,7 @@ use Rattle.rmalock.proofs.RoundLaws.{rounds_alike, no_round, round_more, all_mad
 use Rattle.rmalock.proofs.rounds.make_rounds.Goals as goal
 
 pub loop-init : goal.loop-init
-loop-init g c = (sym (no_round c.args.most (running g.A.Algo.table c.args.machine.now)), c.in_ok-rests.ensures.many, c.in_ok-rests.ensures.rested)
+loop-init g c = (sym (no_round c.args.most (running g.A.Algo.table c.args.machine.now)), c.in_ok-robin.ensures)
 
 pub goes_on-requires : goal.goes_on-requires
 goes_on-requires g c =
@@ -19,11 +19,6 @@ take_turns-requires-clause-there g c =
     let same : length c.loop.machine.calls ≡ length old.calls = ap (λ m. length m.calls) c.loop.invariant.0 ∙ ap length (rounds_alike c.args.most old c.loop.counter).calls in
     let all : c.args.ranks ≡ length old.calls = c.requires in
     omega (arith, all, same)
-
-pub take_turns-requires-clause-many : goal.take_turns-requires-clause-many
-take_turns-requires-clause-many g c =
-    let old = running g.A.Algo.table c.args.machine.now in
-    c.loop.invariant.1 ∙ sym (ap (λ m. length m.calls) c.loop.invariant.0 ∙ ap length (rounds_alike c.args.most old c.loop.counter).calls)
 
 pub returns-then-not-goes_on : goal.returns-then-not-goes_on
 returns-then-not-goes_on g c =
@@ -46,6 +41,5 @@ loop-preserved g c =
           ∙ ap (λ m. turns most m c.args.ranks) c.loop.invariant.0
           ∙ ap (turns most now) (c.requires ∙ sym same)
           ∙ sym (round_more most old n (ap (goes_on most) (sym c.loop.invariant.0) ∙ sym c.goes_on.ensures ∙ c.if-not-goes_on.false)),
-      c.take_turns.ensures.many ∙ c.loop.invariant.1,
-      c.in_ok-take_turns.ensures.rested,
+      c.in_ok-take_turns.ensures.known,
     )

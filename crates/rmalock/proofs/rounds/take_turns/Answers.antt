@@ -1,45 +1,31 @@
-use Rattle.std.proofs.Common.{◌≡◌, ◌+◌, ◌-◌, ◌<◌, length, min, ap, sym, ◌∙◌, arith}
+-- As many turns as steps are left are the turns of all.
+use Rattle.std.proofs.Common.{◌≡◌, ◌+◌, ◌-◌, ◌<◌, ◌≤◌, ◌^◌, length, min, ap, sym, ◌∙◌, arith}
 use Rattle.rl_step.specs.Answers.{steps_made}
 use Rattle.rl_whole.specs.Running.{running}
-use Rattle.rmalock.specs.Rounds.{may_step}
-use Rattle.rmalock.proofs.RoundLaws.{turn_may, turn_more, turns_alike, turns_count, turns_left}
+use Rattle.rmalock.proofs.RoundLaws.{turns_turned, turns_left}
 use Rattle.rmalock.proofs.rounds.take_turns.Goals as goal
+use Rattle.rmalock.proofs.rounds.take_turns.Goals.{After-min-turns}
+use Rattle.rmalock.proofs.rounds.take_turns.Given.{Over}
 
-pub take_step-requires-clause-there : goal.take_step-requires-clause-there
-take_step-requires-clause-there g c =
-    let old = running g.A.Algo.table c.args.machine.now in
-    let same : length c.loop-rank.machine.calls ≡ length old.calls = ap (λ m. length m.calls) c.loop-rank.invariant.0 ∙ ap length (turns_alike c.args.most old c.loop-rank.rank).calls in
-    let low = c.loop-rank-test.true in
-    let all = c.requires.there in
-    omega (arith, low, c.min-rank-end.ensures, all, same)
-
-pub take_step-requires-clause-few : goal.take_step-requires-clause-few
-take_step-requires-clause-few g c =
-    let old = running g.A.Algo.table c.args.machine.now in
+-- how many there are
+all : (g : Over) (c : After-min-turns g) → c.min-turns.result ≡ min c.args.ranks (c.args.most - steps_made c.args.machine.now.steps)
+all g c =
     let made = ap steps_made c.steps.ensures in
-    let low : c.loop-rank.rank < c.args.most - steps_made old.steps = omega (arith, c.loop-rank-test.true, c.min-rank-end.ensures, c.saturating_sub-left.ensures, c.from.ensures, c.steps_made.ensures, made) in
-    let count : steps_made c.loop-rank.machine.steps ≡ steps_made old.steps + c.loop-rank.rank = ap (λ m. steps_made m.steps) c.loop-rank.invariant.0 ∙ turns_count c.args.most old c.loop-rank.rank (omega (arith, low)) in
-    omega (arith, low, count, c.ranges.most.fits)
+    omega (arith, c.min-turns.ensures, c.saturating_sub-left.ensures, c.from.ensures, c.steps_made.ensures, made)
 
-pub take_step-requires-clause-many : goal.take_step-requires-clause-many
-take_step-requires-clause-many g c =
-    let old = running g.A.Algo.table c.args.machine.now in
-    c.loop-rank.invariant.1 ∙ c.requires.many ∙ sym (ap (λ m. length m.calls) c.loop-rank.invariant.0 ∙ ap length (turns_alike c.args.most old c.loop-rank.rank).calls)
+pub take_round-requires-clause-there : goal.take_round-requires-clause-there
+take_round-requires-clause-there g c =
+    let there = c.requires.there in
+    let least = c.min-turns.ensures in
+    omega arith
 
-pub loop-rank-preserved : goal.loop-rank-preserved
-loop-rank-preserved g c =
-    let old = running g.A.Algo.table c.args.machine.now in
-    let now = running g.A.Algo.table c.loop-rank.machine in
-    let new = running g.A.Algo.table c.take_step.new.machine in
-    let made = ap steps_made c.steps.ensures in
-    let low : c.loop-rank.rank < c.args.most - steps_made old.steps = omega (arith, c.loop-rank-test.true, c.min-rank-end.ensures, c.saturating_sub-left.ensures, c.from.ensures, c.steps_made.ensures, made) in
-    let may = ap (may_step c.args.most) c.loop-rank.invariant.0 ∙ turn_may c.args.most old c.loop-rank.rank low in
-    (turn_more c.args.most old now new c.loop-rank.rank c.loop-rank.invariant.0 may c.in_ok-take_step.ensures.stepped, c.take_step.ensures.many ∙ c.loop-rank.invariant.1, c.in_ok-take_step.ensures.rested)
+pub take_round-requires-clause-few : goal.take_round-requires-clause-few
+take_round-requires-clause-few g c =
+    let n = all g (goal.at.take_round-requires-clause-few g c).After-min-turns in
+    omega (arith, n, c.ranges.most.fits)
 
 pub returns-clause-turns : goal.returns-clause-turns
 returns-clause-turns g c =
     let old = running g.A.Algo.table c.args.machine.now in
-    let made = ap steps_made c.steps.ensures in
-    let all : c.loop-rank.rank ≡ min c.args.ranks (c.args.most - steps_made old.steps) =
-    omega (arith, c.loop-rank-test.false, c.loop-rank.auto.rank-end, c.min-rank-end.ensures, c.saturating_sub-left.ensures, c.from.ensures, c.steps_made.ensures, made) in
-    c.loop-rank.invariant.0 ∙ turns_left c.args.most old c.loop-rank.rank c.args.ranks all
+    let n = all g (goal.at.returns-clause-turns g c).After-min-turns in
+    c.in_ok-take_round.ensures.turned ∙ sym (turns_turned c.args.most old c.min-turns.result (omega (arith, n))) ∙ turns_left c.args.most old c.min-turns.result c.args.ranks n

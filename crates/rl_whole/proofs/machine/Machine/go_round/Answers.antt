@@ -2,6 +2,7 @@
 use Rattle.std.proofs.Common.{◌≡◌, ◌+◌, ◌/◌, ◌<◌, List, length, replicate, ap, sym, ◌∙◌, subst, arith}
 use Rattle.rl_step.specs.Answers.{steps_made}
 use Rattle.rl_whole.specs.ReplayLaws.{turn_counts}
+use Rattle.rl_whole.specs.RoundRobin.{IsHeld}
 use Rattle.rl_whole.specs.Rounds.{GoesRound}
 use Rattle.rl_whole.specs.RoundLaws.{run_end}
 use Rattle.rl_whole.specs.Run.{stepped, run_of}
@@ -36,3 +37,9 @@ returns-clause-run g c =
     let odd = c.if-count-eq0.false in
     let whole : n + n + 1 ≡ c.args.count = omega arith in
     λ _. c.make_leg.ensures.made ∙ ap (λ m. stepped m rank) c.count_rounds.ensures.run ∙ sym (run_end old (n + n) rank) ∙ ap (λ i. run_of old (replicate i rank)) whole
+
+pub returns-then-count-eq0-clause-held : goal.returns-then-count-eq0-clause-held
+returns-then-count-eq0-clause-held g c = λ s n h. subst (λ (l : List (ShardRun _)). IsHeld l s n) (sym c.count_rounds.ensures.shards) h
+
+pub returns-clause-held : goal.returns-clause-held
+returns-clause-held g c = λ s n h. c.make_leg.ensures.held s n (subst (λ (l : List (ShardRun _)). IsHeld l s n) (sym c.count_rounds.ensures.shards) h)

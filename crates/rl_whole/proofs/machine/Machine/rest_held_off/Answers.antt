@@ -16,14 +16,14 @@ invariant_of-self g c = machine_with_steps _ _ g.A.Algo.table g.A.Algo.good g.A.
 pub returns-clause-run : goal.returns-clause-run
 returns-clause-run g c = λ _.
     let m = running g.A.Algo.table (machine_view c.self.inside.state) in
-    let off = c.is_held_off.ensures c.if-not-is_held_off.false in
+    let off = c.is_held_off.ensures.rests c.if-not-is_held_off.false in
     subst (λ z. with_steps m c.count_more.new.steps ≡ run_of (running g.A.Algo.table z) (replicate c.args.count c.args.rank)) c.self.view_is
     (ap (with_steps m) c.count_more.ensures ∙ sym (rest_run m c.args.rank (Busy c.args.node off.0) c.args.count off.1))
 
 pub returns-clause-noted : goal.returns-clause-noted
 returns-clause-noted g c = λ rests noted.
     let m = running g.A.Algo.table (machine_view c.self.inside.state) in
-    let off = c.is_held_off.ensures c.if-not-is_held_off.false in
+    let off = c.is_held_off.ensures.rests c.if-not-is_held_off.false in
     let busy = Busy c.args.node off.0 in
     let counted : with_steps m c.count_more.new.steps ≡ run_of m (replicate c.args.count c.args.rank) =
     ap (with_steps m) c.count_more.ensures ∙ sym (rest_run m c.args.rank busy c.args.count off.1) in
