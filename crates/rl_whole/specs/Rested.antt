@@ -5,6 +5,8 @@ use Rattle.rl_step.specs.declared.events.Stepped.TheVariants.{Moved, Waiting, Lo
 use Rattle.rl_step.specs.Do.{TheWindow}
 use Rattle.rl_whole.specs.declared.last_rest.LastRest.{LastRest}
 use Rattle.rl_whole.specs.declared.last_rest.LastRest.TheVariants as last
+use Rattle.rl_whole.specs.declared.state.StepEnd.{StepEnd}
+use Rattle.rl_whole.specs.declared.state.Told.TheVariants as told
 use Rattle.rl_whole.specs.declared.whole.WholeView.{WholeView}
 use Rattle.rl_whole.specs.Causes.{IsFinished}
 use Rattle.rl_whole.specs.Running.{ShardRun, Running}
@@ -39,9 +41,9 @@ pub record RestsAt {V : Type 0} (shards : List (ShardRun V)) (k s : ℕ) (answer
   pub named : IsNamed shard.held answer
   pub idle : (h : TheWindow) (a : Stepped) → Shows h answer a → IsIdle shard.lock h k view (next_of shard.lock view) a
 
--- where rank k was answered so and stands on shard s, it is about to take the card that the answer names
-abbrev pub IsHeldOffBy : {V : Type 0} → Running V → ℕ → ℕ → Stepped → Type 0
-IsHeldOffBy m k s answer = (node holder : ℕ) → answer ≡ Busy node holder → RestsAt m.shards k s (Busy node 0)
+-- where rank k's step ended so and tells that it was held off, it is about to take the card of that node
+abbrev pub IsHeldOffBy : {V : Type 0} → Running V → ℕ → StepEnd → Type 0
+IsHeldOffBy m k end = (node : ℕ) → end.told ≡ told.HeldOff node → RestsAt m.shards k end.place (Busy node 0)
 
 -- what is noted of rank k is true: it rests where it was seen to, whoever is in the card, or goes in a round, or it has no open call
 -- and none left

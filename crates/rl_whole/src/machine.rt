@@ -21,7 +21,7 @@ ghost use Rattle.rl_whole.specs.State.{cores_of};
 use crate::last_rest::LastRest;
 use crate::records;
 use crate::start::{first_shards, none_opened};
-use crate::state::{FullStep, MachineState, make_step, move_on};
+use crate::state::{MachineState, StepEnd, make_step, move_on};
 use rl_model::{Entry, Geom};
 use rl_ops::Ops;
 use rl_step::{Algo, Event, Stepped, Steps};
@@ -119,12 +119,12 @@ impl<A: Algo> Machine<A> {
     /// What is known of the rank after this step of it: that it is about to take the card that was held, or, where that is seen, that its
     /// load leaves the lock's view as it was, that it goes in a round of two loads, or that all its calls are done.
     #[inline(always)]
-    pub(crate) fn rest_after(&self, rank: u32, step: FullStep) -> LastRest<A::View>
+    pub(crate) fn rest_after(&self, rank: u32, end: StepEnd) -> LastRest<A::View>
         requires there { rank < length self.now.calls }
-        requires held_off { IsHeldOffBy (running A.table self.now) rank step.place step.answer }
+        requires held_off { IsHeldOffBy (running A.table self.now) rank end }
         ensures { Rested (running A.table self.now) rank result }
     {
-        self.state.rest_after(rank, step)
+        self.state.rest_after(rank, end)
     }
 
     /// How many shards there are.
@@ -144,20 +144,20 @@ impl<A: Algo> Machine<A> {
         self.state.is_held_off(rank, shard, node)
     }
 
-    /// One step of a rank, made in full, with the shard where it stands then. Where it is answered Busy the rank is about to take the
-    /// card that the answer names.
+    /// One step of a rank, made in full, with the shard where it stands then. Where it was held off the rank is about to take the
+    /// card that is named.
     #[inline(always)]
-    pub(crate) fn move_on(&mut self, rank: u32) -> Result<FullStep, OutOfMemory>
+    pub(crate) fn move_on(&mut self, rank: u32) -> Result<StepEnd, OutOfMemory>
         requires there { rank < length self.old.calls }
         requires few { steps_made self.old.steps < 2 ^ 32 - 1 }
         ensures cores { cores_of self.new ≡ cores_of self.old }
         ensures stepped { IfOk result (λ _. running A.table self.new ≡ stepped (running A.table self.old) rank) }
-        ensures place { IfOk result (λ made. made.place ≡ place_of (running A.table self.new) rank) }
-        ensures there { IfOk result (λ made. made.place < length self.new.shards) }
-        ensures held_off { IfOk result (λ made. IsHeldOffBy (running A.table self.new) rank made.place made.answer) }
+        ensures place { IfOk result (λ end. end.place ≡ place_of (running A.table self.new) rank) }
+        ensures there { IfOk result (λ end. end.place < length self.new.shards) }
+        ensures held_off { IfOk result (IsHeldOffBy (running A.table self.new) rank) }
     {
-        let made = move_on(&mut self.state, rank)?;
-        Ok(made)
+        let end = move_on(&mut self.state, rank)?;
+        Ok(end)
     }
 
     /// Whether the rank has an open call: it has until the call's last atom was made, a card's Leave among them.

@@ -13,9 +13,9 @@ ghost use Rattle.rl_whole.specs.Running.{Running, running};
 use crate::last_rest::{LastRest, no_rests};
 use crate::machine::Machine;
 use crate::rank_set::{RankSet, SET_RANKS};
-use crate::runs::{forget, got_on, look, take_noted};
-use crate::state::FullStep;
-use rl_step::{Algo, Stepped};
+use crate::runs::{forget, look, take_noted};
+use crate::state::{StepEnd, Told};
+use rl_step::Algo;
 use std::alloc::{AllocError as OutOfMemory, Global};
 
 /// Ranks that are noted to be about to take the card of one node of a shard.
@@ -143,19 +143,17 @@ impl<V: Copy> RoundRobin<V> {
 
 /// Notes what is known of a rank after this step of it, where nothing was.
 #[inline(always)]
-fn note<A: Algo>(machine: &Machine<A>, robin: &mut RoundRobin<A::View>, rank: u32, step: FullStep)
+fn note<A: Algo>(machine: &Machine<A>, robin: &mut RoundRobin<A::View>, rank: u32, end: StepEnd)
     requires there { rank < length machine.now.calls }
-    requires held_off { IsHeldOffBy (running A.table machine.now) rank step.place step.answer }
+    requires held_off { IsHeldOffBy (running A.table machine.now) rank end }
     requires forgotten { IsForgotten robin.old.rests.items rank }
-    requires known { IsKnownBut (running A.table machine.now) step.place robin.old }
-    ensures known { IsKnownBut (running A.table machine.now) step.place robin.new }
+    requires known { IsKnownBut (running A.table machine.now) end.place robin.old }
+    ensures known { IsKnownBut (running A.table machine.now) end.place robin.new }
 {
-    if got_on(step.answer) {
-        return;
-    }
-    match step.answer {
-        Stepped::Busy { node, .. } => robin.list(rank, step.place, node),
-        _ => look(machine, &mut robin.rests, rank, step),
+    match end.told {
+        Told::GotOn => {}
+        Told::HeldOff { node } => robin.list(rank, end.place, node),
+        Told::Waits | Told::Finished => look(machine, &mut robin.rests, rank, end),
     }
 }
 
@@ -193,9 +191,9 @@ fn step_awake<A: Algo>(
     ensures known { IfOk result (λ _. IsKnown (running A.table machine.new) robin.new) }
 {
     robin.wake(rank);
-    let step = machine.move_on(rank)?;
-    note(machine, robin, rank, step);
-    look_at_card(machine, robin, step.place);
+    let end = machine.move_on(rank)?;
+    note(machine, robin, rank, end);
+    look_at_card(machine, robin, end.place);
     Ok(())
 }
 

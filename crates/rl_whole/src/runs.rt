@@ -19,21 +19,12 @@ ghost use Rattle.rl_whole.specs.State.{cores_of};
 
 use crate::last_rest::{LastRest, no_rests};
 use crate::machine::{Machine, soundness};
-use crate::state::FullStep;
+use crate::state::{StepEnd, Told};
 use rl_model::Geom;
 use rl_ops::{Ops, Turn};
-use rl_step::{Algo, Stepped};
+use rl_step::Algo;
 use rl_word::{Knobs, Shape};
 use std::alloc::{AllocError as OutOfMemory, Global};
-
-/// Whether a step got on: nothing shows then that the rank rests.
-#[inline(always)]
-pub(crate) fn got_on(answer: Stepped) -> bool {
-    match answer {
-        Stepped::Moved | Stepped::Lost { .. } => true,
-        Stepped::Waiting { .. } | Stepped::Busy { .. } | Stepped::Finished => false,
-    }
-}
 
 /// Whether what was noted of the rank shows all of so many steps: then they are counted, or made by exchanging the lock's view. Else
 /// nothing has changed.
@@ -95,17 +86,17 @@ pub(crate) fn look<A: Algo>(
     machine: &Machine<A>,
     rests: &mut Vec<LastRest<A::View>>,
     rank: u32,
-    step: FullStep,
+    end: StepEnd,
 )
     requires there { rank < length machine.now.calls }
-    requires held_off { IsHeldOffBy (running A.table machine.now) rank step.place step.answer }
+    requires held_off { IsHeldOffBy (running A.table machine.now) rank end }
     requires many { length rests.old.items ≡ length machine.now.calls }
     requires rested { AllRested (running A.table machine.now) rests.old.items }
     ensures many { length rests.new.items ≡ length rests.old.items }
     ensures rested { AllRested (running A.table machine.now) rests.new.items }
     ensures only { (k : ℕ) → k ≢ rank → slice_get rests.new.items k ≡ slice_get rests.old.items k }
 {
-    rests[rank as usize] = machine.rest_after(rank, step);
+    rests[rank as usize] = machine.rest_after(rank, end);
 }
 
 /// A step of a rank made in full. Where it didn't get on, what is known of the rank then is noted, and else nothing. Whether it got on.
@@ -125,11 +116,11 @@ fn step_in_full<A: Algo>(
     ensures rested { IfOk result (λ _. AllRested (running A.table machine.new) rests.new.items) }
 {
     forget(rests, rank);
-    let step = machine.move_on(rank)?;
-    if got_on(step.answer) {
+    let end = machine.move_on(rank)?;
+    if end.told == Told::GotOn {
         return Ok(true);
     }
-    look(machine, rests, rank, step);
+    look(machine, rests, rank, end);
     Ok(false)
 }
 

@@ -47,6 +47,40 @@ pub struct FullStep {
     pub answer: Stepped,
 }
 
+/// How a step made in full ended. It is short, since it is handed on with each step.
+#[derive(Clone, Copy, PartialEq, Eq, Debug)]
+pub struct StepEnd {
+    /// The shard where its rank stands after it.
+    pub place: u32,
+    /// What its answer tells of the rank.
+    pub told: Told,
+}
+
+/// What the answer of a step tells of its rank.
+#[derive(Clone, Copy, PartialEq, Eq, Debug)]
+pub enum Told {
+    /// It got on: Moved or Lost.
+    GotOn,
+    /// It is about to take the card of this node, which was held: Busy.
+    HeldOff { node: u32 },
+    /// It waits on: Waiting.
+    Waits,
+    /// It has no call open: Finished.
+    Finished,
+}
+
+/// What an answer tells.
+fn what_is_told(answer: Stepped) -> Told
+    ensures { (node : ℕ) → result ≡ Told.HeldOff node → (holder : ℕ) × (answer ≡ Busy node holder) }
+{
+    match answer {
+        Stepped::Moved | Stepped::Lost { .. } => Told::GotOn,
+        Stepped::Busy { node, .. } => Told::HeldOff { node },
+        Stepped::Waiting { .. } => Told::Waits,
+        Stepped::Finished => Told::Finished,
+    }
+}
+
 /// How many steps were made.
 #[inline(always)]
 fn made(steps: Steps) -> u32
@@ -315,23 +349,24 @@ impl<A: Algo> MachineState<A> {
     /// What is known of the rank after this step of it: that it is about to take the card that was held, or, where that is seen, that its
     /// load leaves the lock's view as it was, that it goes in a round of two loads, or that all its calls are done.
     #[inline(always)]
-    pub fn rest_after(&self, rank: u32, step: FullStep) -> LastRest<A::View>
+    pub fn rest_after(&self, rank: u32, end: StepEnd) -> LastRest<A::View>
         requires there { rank < length self.now.ops.by_rank }
         requires good { IsMachine A A.View A.table A.good A.layout (machine_view self.now) }
-        requires held_off { IsHeldOffBy (running A.table (machine_view self.now)) rank step.place step.answer }
+        requires held_off { IsHeldOffBy (running A.table (machine_view self.now)) rank end }
         ensures { Rested (running A.table (machine_view self.now)) rank result }
     {
-        match step.answer {
-            Stepped::Busy { node, .. } => LastRest::HeldOff {
-                shard: step.place,
+        match end.told {
+            Told::GotOn => LastRest::Unknown,
+            Told::HeldOff { node } => LastRest::HeldOff {
+                shard: end.place,
                 node,
             },
-            Stepped::Waiting { .. } => match self.waiting(rank) {
+            Told::Waits => match self.waiting(rank) {
                 Some(at) => at.noted(),
                 None => self.round_of(rank),
             },
-            Stepped::Finished if self.is_finished(rank) => LastRest::Finished,
-            Stepped::Finished | Stepped::Moved | Stepped::Lost { .. } => LastRest::Unknown,
+            Told::Finished if self.is_finished(rank) => LastRest::Finished,
+            Told::Finished => LastRest::Unknown,
         }
     }
 
@@ -385,8 +420,9 @@ fn go_on_at<A: Algo>(
     Ok(FullStep { place, answer })
 }
 
-/// Makes the next atom of the rank, where it stands, if it has one, and counts the answer.
-#[inline(always)]
+/// Makes the next atom of the rank, where it stands, if it has one, and counts the answer. Few steps come this way; it is out of line,
+/// since a step that held the atom's code twice would be too large to be put in line itself.
+#[inline(never)]
 pub fn go_on<A: Algo>(state: &mut MachineState<A>, rank: u32) -> Result<FullStep, OutOfMemory>
     requires there { rank < length state.old.ops.by_rank }
     requires good { IsMachine A A.View A.table A.good A.layout (machine_view state.old) }
@@ -430,7 +466,7 @@ pub fn open_next<A: Algo>(state: &mut MachineState<A>, rank: u32) -> Result<Full
 /// One step of a rank, made in full: its next block is opened where none is open and one is left; then, where a call is open, one
 /// atom is made.
 #[inline(always)]
-pub fn move_on<A: Algo>(state: &mut MachineState<A>, rank: u32) -> Result<FullStep, OutOfMemory>
+fn move_fully<A: Algo>(state: &mut MachineState<A>, rank: u32) -> Result<FullStep, OutOfMemory>
     requires there { rank < length state.old.ops.by_rank }
     requires good { IsMachine A A.View A.table A.good A.layout (machine_view state.old) }
     requires few { steps_made state.old.steps < 2 ^ 32 - 1 }
@@ -447,6 +483,25 @@ pub fn move_on<A: Algo>(state: &mut MachineState<A>, rank: u32) -> Result<FullSt
     } else {
         go_on(state, rank)
     }
+}
+
+/// The same, with what the step tells in place of its answer.
+#[inline(always)]
+pub fn move_on<A: Algo>(state: &mut MachineState<A>, rank: u32) -> Result<StepEnd, OutOfMemory>
+    requires there { rank < length state.old.ops.by_rank }
+    requires good { IsMachine A A.View A.table A.good A.layout (machine_view state.old) }
+    requires few { steps_made state.old.steps < 2 ^ 32 - 1 }
+    ensures made { IfOk result (λ _. running A.table (machine_view state.new) ≡ stepped (running A.table (machine_view state.old)) rank) }
+    ensures answer { IfOk result (λ end. (node : ℕ) → end.told ≡ Told.HeldOff node → (holder : ℕ) × (answer_of_step (running A.table (machine_view state.old)) rank ≡ Busy node holder)) }
+    ensures place { IfOk result (λ end. end.place ≡ place_of (running A.table (machine_view state.new)) rank) }
+    ensures cores { cores_of (machine_view state.new) ≡ cores_of (machine_view state.old) }
+    ensures kept { OnErr result (machine_view state.new ≡ machine_view state.old) }
+{
+    let step = move_fully(state, rank)?;
+    Ok(StepEnd {
+        place: step.place,
+        told: what_is_told(step.answer),
+    })
 }
 
 /// One step of a rank: counted alone where it is seen that the rank rests, and else made in full.
@@ -466,8 +521,8 @@ pub fn make_step<A: Algo>(state: &mut MachineState<A>, rank: u32) -> Result<Step
             Ok(answer)
         }
         None => {
-            let made = move_on(state, rank)?;
-            Ok(made.answer)
+            let step = move_fully(state, rank)?;
+            Ok(step.answer)
         }
     }
 }

@@ -4,12 +4,12 @@ use Rattle.rl_whole.specs.RoundRobinLaws.{known_noted}
 use Rattle.rl_whole.specs.Running.{running}
 use Rattle.rl_whole.proofs.round_robin.note.Goals as goal
 
-pub returns-in-Busy : goal.returns-in-Busy
-returns-in-Busy g c =
-    record { known = c.list.ensures.known (running g.A.Algo.table c.args.machine.now) c.args.step.place (c.requires.held_off c.in-Busy.node c.in-Busy.holder c.in-Busy.is) c.requires.known }
+pub returns-in-HeldOff : goal.returns-in-HeldOff
+returns-in-HeldOff g c =
+    record { known = c.list.ensures.known (running g.A.Algo.table c.args.machine.now) c.args.end.place (c.requires.held_off c.in-HeldOff.node c.in-HeldOff.is) c.requires.known }
 
-pub returns-in_default : goal.returns-in_default
-returns-in_default g c =
+pub returns-in-Waits : goal.returns-in-Waits
+returns-in-Waits g c =
     record {
       known =
           known_noted _ (running g.A.Algo.table c.args.machine.now) c.args.robin.now c.look.new.rests.items c.args.rank c.requires.forgotten c.look.ensures.many c.look.ensures.rested c.look.ensures.only c.requires.known

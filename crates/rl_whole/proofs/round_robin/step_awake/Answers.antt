@@ -10,8 +10,8 @@ pub note-requires-clause-known : goal.note-requires-clause-known
 note-requires-clause-known g c =
     let m = running g.A.Algo.table c.args.machine.now in
     let rank = c.args.rank in
-    let place = c.in_ok-step.step.place in
+    let place = c.in_ok-end.end.place in
     let robin = c.wake.new.self in
-    let stepped = c.in_ok-step.ensures.stepped in
+    let stepped = c.in_ok-end.ensures.stepped in
     subst (λ u. IsKnownBut u place robin) (sym stepped)
-    (known_stepped m robin rank place c.wake.ensures.forgotten (c.in_ok-step.ensures.place ∙ ap (λ u. place_of u rank) stepped) (c.wake.ensures.known m c.requires.known))
+    (known_stepped m robin rank place c.wake.ensures.forgotten (c.in_ok-end.ensures.place ∙ ap (λ u. place_of u rank) stepped) (c.wake.ensures.known m c.requires.known))
