@@ -5,11 +5,11 @@ ghost use Rattle.std.specs.Prelude.{length};
 ghost use Rattle.rl_place.specs.Places.{IsProper};
 ghost use Rattle.rl_ops.specs.Ops.{OpsFit};
 
+use rl_cores::SpinCore;
+use rl_machine::Machine;
 use rl_ops::{Ops, read_ops};
 use rl_place::{Place, read_place};
-use rl_spin::Spin;
 use rl_step::Event;
-use rl_whole::Machine;
 use std::alloc::{AllocError as OutOfMemory, Global};
 
 const PLACE: &[u8] =
@@ -24,7 +24,7 @@ fn nine_steps(alloc: Global, place: &Place, ops: Ops) -> Result<Vec<(u32, Event)
 {
     let shape = place.shape(alloc)?;
     let homes = place.homes.as_slice();
-    let mut machine: Machine<Spin> = Machine::new(
+    let mut machine: Machine<SpinCore> = Machine::new(
         alloc,
         &shape,
         place.knobs(),

@@ -1,4 +1,2 @@
 pub mod ReadLemmas
 mod ReplayLemmas
--- for the crates above
-pub mod BudgetLaws

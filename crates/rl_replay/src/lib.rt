@@ -8,8 +8,6 @@
 //!
 //! The promise: what is read is what the bytes spell, or the first complaint, for every source; a fault is blamed on the
 //! source exactly where its count of faults rose. `specs/Reading.antt` and `specs/Files.antt` say it.
-//! `proofs/BudgetLaws.antt` has what a program needs that makes the machine of a placement with RMA-MCS or RMA-RW: the
-//! settings of a proper placement suit its lock.
 //!
 //! Not said here: what is made of the files.
 #![tactic(auto)]

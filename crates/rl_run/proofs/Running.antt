@@ -9,9 +9,10 @@ use Rattle.rl_model.specs.declared.call.Call.{Call}
 use Rattle.rl_model.specs.declared.geom.Geom.{Geom}
 use Rattle.rl_journal.specs.Lists.{all_at}
 use Rattle.rl_journal.specs.Ranks.{IsRankInOrder}
-use Rattle.rl_step.specs.Lock.{LockTable, LockState}
-use Rattle.rl_whole.specs.Asks.{asked_of}
-use Rattle.rl_whole.specs.ShardSteps.{entries_in}
+use Rattle.rl_asks.specs.ShardTables.{ShardTable}
+use Rattle.rl_asks.specs.ShardLaws.{GoodOf}
+use Rattle.rl_asks.specs.Asks.{asked_of}
+use Rattle.rl_asks.specs.RankGood.{entries_in}
 use Rattle.rl_shard.specs.declared.shard.Shard.{Shard}
 use Rattle.rl_shard.specs.declared.seat.Seat.{Seat}
 use Rattle.rl_shard.specs.declared.closed.Closed.{Closed}
@@ -20,7 +21,7 @@ use Rattle.rl_shard.specs.Ends.{IsEnd, transcripts_of}
 use Rattle.rl_run.specs.declared.caller.Caller.{Caller}
 use Rattle.rl_run.specs.Rows.{IsRow, IsGrid, AreEnded, heads, tails}
 use Rattle.rl_run.specs.RowLaws.{ended_at}
-use Rattle.rl_run.specs.Callers.{IsCaller, IsAtEnd, seats_of, who}
+use Rattle.rl_run.specs.Callers.{IsCaller, IsAtEnd, entries_on, seats_of, who}
 use Rattle.rl_run.specs.Runs.{IsShutSeat, AreCallers, HasRun, told_by}
 
 heads_at : {T : Type 0} (rows : List (List T)) → ((r : ℕ) (row : List T) → slice_get rows r ≡ Some row → 0 < length row) → (r : ℕ) (t : T) (row : List T) → slice_get rows r ≡ Some (t ∷ row) → slice_get (heads rows) r ≡ Some t
@@ -33,37 +34,36 @@ tail_is : {T : Type 0} (row : List T) (n : ℕ) → length row ≡ suc n → len
 tail_is [] n e = absurd (omega arith)
 tail_is (x ∷ row) n e = omega arith
 
-module _ {A V : Type 0} (table : A → LockTable V) (good : A → LockState V → Type 0) (layout : A → Layout) where
+module _ {C V : Type 0} (table : C → ShardTable V) (good : GoodOf C V) (layout : C → Layout) where
   -- the entries in a rank's row of seats are those that the ends of the shards have of it
-  by_ends : (ws : List (Shard A V)) (rows : List (List (Seat A V))) (es : List Closed) → AreEnded (IsEnd table) ws rows es → ((r : ℕ) (row : List (Seat A V)) → slice_get rows r ≡ Some row → length row ≡ length ws) →
-      (r : ℕ) (row : List (Seat A V)) → slice_get rows r ≡ Some row → map entries_at row ≡ map (told_by r) es
-  by_ends [] rows [] a long r [] g = refl
-  by_ends [] rows [] a long r (t ∷ row) g = absurd (let l = long r (t ∷ row) g in omega arith)
+  by_ends : (ws : List (Shard C V)) (rows : List (List (Seat C V))) (es : List Closed) → AreEnded (IsEnd table) ws rows es → ((r : ℕ) (row : List (Seat C V)) → slice_get rows r ≡ Some row → length row ≡ length ws) →
+      (r : ℕ) (row : List (Seat C V)) → slice_get rows r ≡ Some row → entries_on table ws row ≡ map (told_by r) es
+  by_ends [] rows [] a long r row g = refl
   by_ends [] rows (e ∷ es) a long r row g = absurd a
   by_ends (w ∷ ws) rows [] a long r row g = absurd a
   by_ends (w ∷ ws) rows (e ∷ es) a long r [] g = absurd (let l = long r [] g in omega arith)
   by_ends (w ∷ ws) rows (e ∷ es) a long r (t ∷ row) g =
       let top : slice_get (heads rows) r ≡ Some t = heads_at rows (λ i y h. let l = long i y h in omega arith) r t row g in
-      let kept : slice_get (transcripts_of e) r ≡ Some (entries_at t) = ap (λ l. slice_get l r) a.0.transcripts_are ∙ get_map entries_at (heads rows) r t top in
-      let here : told_by r e ≡ entries_at t = get_or_from_slice_get (transcripts_of e) r (entries_at t) [] kept in
+      let kept : slice_get (transcripts_of e) r ≡ Some (entries_at table w t) = ap (λ l. slice_get l r) a.0.transcripts_are ∙ get_map (entries_at table w) (heads rows) r t top in
+      let here : told_by r e ≡ entries_at table w t = get_or_from_slice_get (transcripts_of e) r (entries_at table w t) [] kept in
       let on = by_ends ws (tails rows) es a.1 (λ i y h. let q = get_map_back (drop 1) rows i y h in ap length (sym q.2) ∙ tail_is q.0 (length ws) (long i q.0 q.1)) r row (get_map (drop 1) rows r (t ∷ row) g) in
-      ap (λ z. z ∷ map entries_at row) (sym here) ∙ ap (λ z. told_by r e ∷ z) on
+      ap (λ z. z ∷ entries_on table ws row) (sym here) ∙ ap (λ z. told_by r e ∷ z) on
 
-  module _ (shards : List (Shard A V)) (old new : List (Caller A V)) (are : AreCallers table good layout shards old) (all : All (IsCaller table good layout shards) new) (done : All (IsAtEnd table shards) new) (same : map who new ≡ map who old) where
+  module _ (shards : List (Shard C V)) (old new : List (Caller C V)) (are : AreCallers table good layout shards old) (all : All (IsCaller table good layout shards) new) (done : All (IsAtEnd table shards) new) (same : map who new ≡ map who old) where
     rows_grid : IsGrid (IsShutSeat table good layout) shards (map seats_of new)
     rows_grid r row e =
         let q = get_map_back seats_of new r row e in
         let p = get_map_back who old r (who q.0) (ap (λ l. slice_get l r) (sym same) ∙ get_map who new r q.0 q.1) in
         let rank : q.0.rank ≡ r = ap (λ (z : ℕ × List Call × List ℕ × Geom). z.0) (sym p.2) ∙ (are r p.0 p.1).0 in
-        let C = all_at (IsCaller table good layout shards) new r q.0 all q.1 in
+        let K = all_at (IsCaller table good layout shards) new r q.0 all q.1 in
         let E = all_at (IsAtEnd table shards) new r q.0 done q.1 in
         subst (IsRow (IsShutSeat table good layout) shards r) q.2
-        (record { long = C.row.long; each = λ s w t gw gt. let M = C.row.each s w t gw gt in (M.0 ∙ rank, M.1, E.closed s w t gw gt) })
+        (record { long = K.row.long; each = λ s w t gw gt. let M = K.row.each s w t gw gt in (M.0 ∙ rank, M.1, E.closed s w t gw gt) })
 
-    pub has_run : (rows : List (List (Seat A V))) (ends : List Closed) → rows ≡ map seats_of new → AreEnded (IsEnd table) shards rows ends → HasRun table shards old ends
+    pub has_run : (rows : List (List (Seat C V))) (ends : List Closed) → rows ≡ map seats_of new → AreEnded (IsEnd table) shards rows ends → HasRun table shards old ends
     has_run rows ends is a =
         let grid : IsGrid (IsShutSeat table good layout) shards rows = subst (IsGrid (IsShutSeat table good layout) shards) (sym is) rows_grid in
-        let lists : (r : ℕ) (d : Caller A V) → slice_get new r ≡ Some d → map entries_at d.seats.items ≡ map (told_by r) ends =
+        let lists : (r : ℕ) (d : Caller C V) → slice_get new r ≡ Some d → entries_on table shards d.seats.items ≡ map (told_by r) ends =
         λ r d get. by_ends shards rows ends a (λ i y h. (grid i y h).long) r (seats_of d) (ap (λ l. slice_get l r) is ∙ get_map seats_of new r d get) in
         record {
           rows = rows;
@@ -84,11 +84,11 @@ module _ {A V : Type 0} (table : A → LockTable V) (good : A → LockState V �
               ap entries_in (sym (lists r p.0 p.1)) ∙ E.total ∙ ap (λ (z : ℕ × List Call × List ℕ × Geom). length z.1) p.2;
         }
 
-  pub callers_grid : {X : Type 0} (f : X → List (Seat A V)) (shards : List (Shard A V)) (old new : List (Caller A V)) (rows : List X) → AreCallers table good layout shards old → All (IsCaller table good layout shards) new → All (IsAtEnd table shards) new → map who new ≡ map who old → map f rows ≡ map seats_of new →
+  pub callers_grid : {X : Type 0} (f : X → List (Seat C V)) (shards : List (Shard C V)) (old new : List (Caller C V)) (rows : List X) → AreCallers table good layout shards old → All (IsCaller table good layout shards) new → All (IsAtEnd table shards) new → map who new ≡ map who old → map f rows ≡ map seats_of new →
       IsGrid (IsShutSeat table good layout) shards (map f rows)
   callers_grid f shards old new rows are all done same is = subst (IsGrid (IsShutSeat table good layout) shards) (sym is) (rows_grid shards old new are all done same)
 
-  pub each_caller : (shards : List (Shard A V)) (cs : List (Caller A V)) → AreCallers table good layout shards cs → All (IsCaller table good layout shards) cs
+  pub each_caller : (shards : List (Shard C V)) (cs : List (Caller C V)) → AreCallers table good layout shards cs → All (IsCaller table good layout shards) cs
   each_caller shards cs are k d h = (are k (get_or cs k d) (slice_get-get_or cs k d h)).1
 
 pub ok_more : {X E : Type 0} (P Q : X → Type 0) (r : Result X E) → ((x : X) → P x → Q x) → IfOk r P → IfOk r Q

@@ -1,5 +1,5 @@
 -- A run of a placement's ranks, from the shards that were made to the report.
-use Rattle.std.proofs.Common.{◌≡◌, ℕ, zero, suc, ◌<◌, ◌≤◌, ◌^◌, List, [], ◌∷◌, All, get_or, length, map, None, refl, sym, ap, subst, ◌∙◌, arith, vec_items, vec_len, ◌++◌, append_assoc, ◌+◌, take, Some, Vec, Global}
+use Rattle.std.proofs.Common.{◌≡◌, ℕ, suc, ◌<◌, ◌≤◌, ◌^◌, List, [], ◌∷◌, All, get_or, length, map, None, refl, sym, ap, subst, ◌∙◌, arith, vec_len, ◌++◌, append_assoc, ◌+◌, take, Some, Vec, Global}
 use Rattle.std.specs.List.{slice_get}
 use Rattle.std.proofs.lemmas.Option.{slice_get-get_or, slice_get_within, get_or_from_slice_get}
 use Rattle.std.proofs.lemmas.List.{length-map, map-append, take_more}
@@ -11,15 +11,20 @@ use Rattle.rl_word.specs.declared.locks.LockName.{LockName}
 use Rattle.rl_word.specs.declared.shapes.Knobs.{Knobs}
 use Rattle.rl_model.specs.declared.call.Call.{Call}
 use Rattle.rl_model.specs.declared.geom.Geom.{Geom}
-use Rattle.rl_step.specs.Lock.{LockTable, LockState}
+use Rattle.rl_asks.specs.ShardTables.{ShardTable, site_with}
+use Rattle.rl_asks.specs.ShardLaws.{GoodOf}
 use Rattle.rl_step.specs.LockQueues.{queues_of, readers_share}
 use Rattle.rl_place.specs.LockWords.{name_of}
 use Rattle.rl_place.specs.Places.{ThePlace, IsProper}
 use Rattle.rl_place.specs.Shapes.{shape_of, knobs_of}
 use Rattle.rl_ops.specs.declared.ops.Ops.{Ops}
+use Rattle.rl_ops.specs.Room.{updates_on}
+use Rattle.rl_journal.specs.Blocks.{is_tenure}
+use Rattle.rl_work.specs.Site.{Site}
+use Rattle.std.specs.Prelude.{Bool, false, slice_index}
 use Rattle.rl_ops.specs.Ops.{OpsFit, EachOfBlocks, total_calls}
-use Rattle.rl_whole.specs.OpsBridge.{each_blocks}
-use Rattle.rl_whole.specs.StateLaws.{few_calls}
+use Rattle.rl_asks.specs.OpsBridge.{each_blocks}
+use Rattle.rl_asks.specs.AskLaws.{few_calls}
 use Rattle.rl_history.specs.declared.report.Done.{Done}
 use Rattle.rl_history.specs.Naming.{naming_of}
 use Rattle.rl_history.specs.Reports.{TheShard}
@@ -51,10 +56,11 @@ sizes_long shards [] (s ∷ sizes) each = absurd each
 sizes_long shards (c ∷ lists) [] each = absurd each
 sizes_long shards (c ∷ lists) (s ∷ sizes) each = ap suc (sizes_long shards lists sizes each.1)
 
-module _ {A V : Type 0} (D : TheShape → ℕ → Knobs → LockTable V) (table : A → LockTable V) (good : A → LockState V → Type 0) (layout : A → Layout)
+module _ {C V : Type 0} (D : TheShape → ℕ → Knobs → Site → ShardTable V) (table : C → ShardTable V) (good : GoodOf C V) (layout : C → Layout)
     (place : ThePlace) (ops : Ops) (proper : IsProper place) (fit : OpsFit (length place.paths) place.geom.shards ops)
     (shape : TheShape) (knobs : Knobs) (geom : Geom) (homes : List ℕ) (shape_is : shape ≡ shape_of place) (knobs_is : knobs ≡ knobs_of place.lock) (geom_is : geom ≡ place.geom) (homes_is : homes ≡ place.homes)
-    (shards : List (Shard A V)) (rows : List (List (Seat A V))) (new : AreNew D table good layout shape knobs geom homes ops.by_rank shards rows) (all : length shards ≡ geom.shards) where
+    (shards : List (Shard C V)) (rows : List (List (Seat C V))) (new : AreNew D table good layout shape knobs geom homes ops.by_rank shards rows) (all : length shards ≡ geom.shards)
+    (batches : Bool) (has_batches : (shape : TheShape) (home : ℕ) (knobs : Knobs) (site : Site) → (D shape home knobs site).batches ≡ batches) (alone : batches ≡ false → (k i : ℕ) → slice_index (get_or ops.sizes k []) i ≤ 1) where
   long : length ops.sizes ≡ length ops.by_rank
   long = sizes_long place.geom.shards ops.by_rank ops.sizes fit.blocks
 
@@ -68,22 +74,23 @@ module _ {A V : Type 0} (D : TheShape → ℕ → Knobs → LockTable V) (table 
   all_place : length shards ≡ place.geom.shards
   all_place = all ∙ ap (λ g. g.shards) geom_is
 
-  module _ (cs : List (Caller A V)) (made : map made_of cs ≡ wanted place.geom 0 ops.by_rank ops.sizes rows) where
+  module _ (cs : List (Caller C V)) (made : map made_of cs ≡ wanted place.geom 0 ops.by_rank ops.sizes rows) where
     as_many : length cs ≡ length ops.by_rank
     as_many = sym (length-map cs made_of) ∙ ap length made ∙ wanted_long place.geom 0 ops.by_rank ops.sizes rows long new_place.ranks
 
     pub are_callers_of : All (MayWork table good layout) cs → AreCallers table good layout shards cs
     are_callers_of may =
         are_callers D table good layout (shape_of place) (knobs_of place.lock) place.geom place.homes ops.by_rank ops.sizes shards rows new_place proper.geom all_place long
-        (λ k. let f = few_calls ops.by_rank k 20000 fit.few in omega arith) (each_blocks place.geom proper.geom ops.by_rank ops.sizes fit.blocks) cs made may
+        (λ k. let f = few_calls ops.by_rank k 20000 fit.few in omega arith) (each_blocks place.geom proper.geom ops.by_rank ops.sizes fit.blocks)
+        (λ s w gw e. alone (sym (ap (λ z. z.batches) (new_place.each s w gw).table_is ∙ has_batches (shape_of place) (get_or place.homes s 0) (knobs_of place.lock) (site_with place.geom s (map (updates_on place.geom s) ops.by_rank))) ∙ e)) cs made may
 
-    pub rooted : All (IsShardOf (length cs)) shards
-    rooted k d within = subst (λ n. IsShardOf n (get_or shards k d)) (sym as_many) (new_place.each k (get_or shards k d) (slice_get-get_or shards k d within)).is_shard
+    pub rooted : All (IsShardOf table (length cs)) shards
+    rooted k d within = subst (λ n. IsShardOf table n (get_or shards k d)) (sym as_many) (new_place.each k (get_or shards k d) (slice_get-get_or shards k d within)).is_shard
 
-    module _ (name : LockName) (kind : name ≡ name_of place.lock) (has_queues : (shape : TheShape) (home : ℕ) (knobs : Knobs) → (D shape home knobs).queues ≡ queues_of name shape home knobs)
-        (has_shares : (shape : TheShape) (home : ℕ) (knobs : Knobs) → (D shape home knobs).shares ≡ readers_share name) (ends : List Closed) (run : HasRun table shards cs ends) where
+    module _ (name : LockName) (kind : name ≡ name_of place.lock) (has_queues : (shape : TheShape) (home : ℕ) (knobs : Knobs) (site : Site) → (D shape home knobs site).queues ≡ queues_of name shape home knobs)
+        (spares : Bool → Bool) (has_tenures : (shape : TheShape) (home : ℕ) (knobs : Knobs) (site : Site) → (D shape home knobs site).tenure ≡ is_tenure (spares (readers_share name))) (as_readers : spares (readers_share name) ≡ readers_share name) (ends : List Closed) (run : HasRun table shards cs ends) where
       are : AreClosedShards place ops (map told ends)
-      are = closed_shards D name table good layout has_queues has_shares place ops kind proper fit long shards rows new_place all_place cs made ends run
+      are = closed_shards D name table good layout has_queues spares has_tenures as_readers place ops kind proper fit long shards rows new_place all_place cs made ends run
 
       pub short : (k : ℕ) (d : Closed) → k < length ends → vec_len (get_or ends k d).journal < 2 ^ 32
       short k d within =

@@ -1,116 +1,140 @@
 -- A caller begins, opens its next block, and steps; and at the end its calls are all done.
-use Rattle.std.specs.Prelude.{◌≡◌, ℕ, ◌+◌, ◌<◌, ◌≤◌, ◌^◌, true, false, List, drop, length, map, slice_get, slice_index, slice_set, Some, None, refl}
+use Rattle.std.specs.Prelude.{◌≡◌, ℕ, zero, suc, ◌+◌, ◌<◌, ◌≤◌, ◌^◌, Bool, true, false, List, [], ◌∷◌, count_by, drop, length, map, slice_get, slice_index, slice_set, Some, refl}
 use Rattle.std.proofs.Common.{sym, ◌∙◌, ap, subst, ⊎_elim, arith}
-use Rattle.std.proofs.lemmas.Option.{same_Some}
-use Rattle.rl_word.specs.Acts.{Layout}
-use Rattle.rl_word.specs.Places.{get_map, get_set_cases}
+use Rattle.std.proofs.lemmas.List.{length-drop}
+use Rattle.std.proofs.lemmas.Option.{same_Some, slice_get_within}
+use Rattle.rl_word.specs.Places.{get_set_cases, some_at}
 use Rattle.rl_model.specs.declared.call.Call.{Call}
 use Rattle.rl_model.specs.declared.geom.Geom.{Geom}
-use Rattle.rl_journal.specs.Ranks.{IsInOrder, IsRankInOrder}
-use Rattle.rl_step.specs.declared.events.Event.{Event}
-use Rattle.rl_step.specs.declared.events.Standing.TheVariants.{Asking}
-use Rattle.rl_step.specs.Core.{MayBe}
-use Rattle.rl_step.specs.Lock.{LockState, LockLaws, Deed}
+use Rattle.rl_journal.specs.Ranks.{IsRankInOrder}
+use Rattle.rl_work.specs.Site.{Site}
 use Rattle.rl_work.specs.WorkGood.{IsOpen}
-use Rattle.rl_whole.specs.declared.whole.WholeView.{WholeView}
-use Rattle.rl_whole.specs.Running.{LockAt}
-use Rattle.rl_whole.specs.Opening.{opened_in}
-use Rattle.rl_whole.specs.Whole.{Good, is_open, is_at_work, mode_of, next_of, work_side}
-use Rattle.rl_whole.specs.ShardGood.{stand}
-use Rattle.rl_whole.specs.Asks.{place_after, asked_of, block_from, block_shard}
-use Rattle.rl_whole.specs.AskLaws.{NextBlock, size_is, block_is, inside, block_at, stands_at}
-use Rattle.rl_whole.specs.OpenLaws.{closed_is_out, shut_is_none, none_is_shut}
-use Rattle.rl_whole.specs.StateLaws.{is_begun}
-use Rattle.rl_whole.specs.ShardSteps.{entries_in}
-use Rattle.rl_whole.specs.WorkEnds.{AtomWork}
+use Rattle.rl_asks.specs.Asks.{is_on, place_after, asked_of, block_from, block_shard}
+use Rattle.rl_asks.specs.AskLaws.{NextBlock, next_of_blocks, size_is, block_is, inside, block_at, stands_at, is_begun}
+use Rattle.rl_asks.specs.Desks.{Desk, IsDesk, OpensBlock, Turns, entries_of}
+use Rattle.rl_asks.specs.RankGood.{RankGood, entries_in}
+use Rattle.rl_asks.specs.RankLaws.{rank_begins, closed_all, all_done, block_fits, rank_opens, rank_turns}
 use Rattle.rl_run.specs.RowLaws.{row_after}
-use Rattle.rl_run.specs.Progress.{AreShut, Progress, entries_of}
-use Rattle.rl_run.specs.ProgressLaws.{progress_begins, progress_opens, progress_steps, block_may_open, next_block, shut_all, in_order, all_told}
-use Rattle.rl_run.specs.Calling.{AllClosedAt, IsMine, IsCallerAt, IsReadyAt}
+use Rattle.rl_run.specs.Calling.{desks_of, AllClosedAt, IsMine, IsCallerAt, IsReadyAt}
 
-module _ {V W T : Type 0} (lock : W → LockAt V) (view : T → WholeView V) (rank_of : T → ℕ) (Is : W → T → Type 0)
-    (good : W → LockState V → Type 0) (further : W → List Event → List Deed → Type 0) (layout : W → Layout) (home : W → ℕ) (laws : (w : W) → LockLaws (lock w).table (good w) (further w) (layout w))
-    (may : (w : W) (t : T) → Is w t → MayBe (Good (lock w) (good w) (layout w)) (view t)) where
-  shut_by : (w : W) (t : T) → Is w t → next_of (lock w) (view t) ≡ None → is_open (lock w) (view t) ≡ false
-  shut_by w t is closed = none_is_shut V (lock w) (good w) (further w) (layout w) (laws w) (home w) (view t) (may w t is) closed
+module _ {W T : Type 0} (site : W → Site) (batches : W → Bool) (desk : W → T → Desk) (rank_of : T → ℕ) (Is Closed : W → T → Type 0) (fine : (w : W) (t : T) → Is w t → IsDesk (desk w t))
+    (shut : (w : W) (t : T) → Is w t → Closed w t → (desk w t).is_open ≡ false) (closed_by : (w : W) (t : T) → Is w t → (desk w t).is_open ≡ false → Closed w t) where
+  -- ---- desks of seats
 
-  closed_by : (w : W) (t : T) → Is w t → is_open (lock w) (view t) ≡ false → next_of (lock w) (view t) ≡ None
-  closed_by w t is shut = shut_is_none V (lock w) (good w) (further w) (layout w) (laws w) (home w) (view t) (may w t is) shut
+  abbrev desks : List W → List T → List Desk
+  desks ws ts = desks_of site batches desk rank_of Is Closed ws ts
 
-  own_order : (w : W) (t : T) → Is w t → IsInOrder (entries_of (view t))
-  own_order w t is =
-      let m = may w t is in
-      (m.is_ruled.work_part.own m.rank (work_side (lock w).table (view t)) (get_map (work_side (lock w).table) m.views m.rank (view t) m.has)).in_order
+  desk_there : (ws : List W) (ts : List T) (s : ℕ) (w : W) (t : T) → slice_get ws s ≡ Some w → slice_get ts s ≡ Some t → slice_get (desks ws ts) s ≡ Some (desk w t)
+  desk_there [] ts s w t gw gt = absurd (cc)
+  desk_there (v ∷ ws) [] s w t gw gt = absurd (cc)
+  desk_there (v ∷ ws) (u ∷ ts) zero w t gw gt = ap (λ z. Some (desk z u)) (same_Some _ _ gw) ∙ ap (λ z. Some (desk w z)) (same_Some _ _ gt)
+  desk_there (v ∷ ws) (u ∷ ts) (suc s) w t gw gt = desk_there ws ts s w t gw gt
+
+  -- whose desk it is
+  record Whose (ws : List W) (ts : List T) (s : ℕ) (d : Desk) : Type 0 where
+    w : W
+    t : T
+    has_w : slice_get ws s ≡ Some w
+    has_t : slice_get ts s ≡ Some t
+    is : desk w t ≡ d
+
+  whose : (ws : List W) (ts : List T) (s : ℕ) (d : Desk) → slice_get (desks ws ts) s ≡ Some d → Whose ws ts s d
+  whose [] ts s d e = absurd (cc)
+  whose (v ∷ ws) [] s d e = absurd (cc)
+  whose (v ∷ ws) (u ∷ ts) zero d e = record { w = v; t = u; has_w = refl; has_t = refl; is = same_Some _ _ e }
+  whose (v ∷ ws) (u ∷ ts) (suc s) d e = let q = whose ws ts s d e in record { w = q.w; t = q.t; has_w = q.has_w; has_t = q.has_t; is = q.is }
+
+  desks_set : (ws : List W) (ts : List T) (s : ℕ) (w : W) (u : T) → slice_get ws s ≡ Some w → slice_set (desks ws ts) s (desk w u) ≡ desks ws (slice_set ts s u)
+  desks_set [] ts s w u gw = absurd (cc)
+  desks_set (v ∷ ws) [] s w u gw = refl
+  desks_set (v ∷ ws) (t ∷ ts) zero w u gw = ap (λ z. desk z u ∷ desks ws ts) (sym (same_Some _ _ gw))
+  desks_set (v ∷ ws) (t ∷ ts) (suc s) w u gw = ap (λ z. desk v t ∷ z) (desks_set ws ts s w u gw)
 
   module _ (geom : Geom) (rank : ℕ) (calls : List Call) (sizes : List ℕ) where
     -- a caller is made: no call was opened
-    pub caller_begins : (ws : List W) (seats : List T) → IsReadyAt lock view rank_of Is geom rank calls sizes ws seats → IsCallerAt lock view rank_of Is geom rank calls sizes 0 0 ws seats
+    pub caller_begins : (ws : List W) (seats : List T) → IsReadyAt site batches desk rank_of Is Closed geom rank calls sizes ws seats → IsCallerAt site batches desk rank_of Is Closed geom rank calls sizes 0 0 ws seats
     caller_begins ws seats r = record {
       about = r.about;
       row = r.row;
       at_is = refl;
-      progress = progress_begins lock view geom rank calls sizes ws seats r.row.long (let f = r.about.fits.some_shards in let a = r.about.all in omega arith) r.blocks
-          (λ s w t gw gt. let f = r.fresh s w t gw gt in record { shut = shut_by w t (r.row.each s w t gw gt).1 f.closed; nothing = f.nothing; room = f.room });
+      stands = let f = r.about.fits.some_shards in let a = r.about.all in omega arith;
+      good = rank_begins geom calls sizes rank (desks ws seats) r.blocks
+          (λ s d e.
+          let q = whose ws seats s d e in
+          let is = (r.row.each s q.w q.t q.has_w q.has_t).1 in
+          let f = r.fresh s q.w q.t q.has_w q.has_t in
+          record {
+            shut = ap (λ (z : Desk). z.is_open) (sym q.is) ∙ shut q.w q.t is f.closed;
+            owing = subst (λ (z : Desk). z.owes ≡ true → z.is_open ≡ true) q.is (fine q.w q.t is).owing;
+            nothing = ap entries_of (sym q.is) ∙ f.nothing;
+            room = subst (λ (z : Desk). count_by (is_on geom s) calls ≤ z.kept.room) q.is f.room;
+          });
     }
 
-    module _ (n at : ℕ) (ws : List W) (seats : List T) (c : IsCallerAt lock view rank_of Is geom rank calls sizes n at ws seats) where
+    module _ (n at : ℕ) (ws : List W) (seats : List T) (c : IsCallerAt site batches desk rank_of Is Closed geom rank calls sizes n at ws seats) where
       pub at_there : at < length ws
-      at_there = subst (λ z. z < length ws) (sym c.at_is) c.progress.stands
+      at_there = c.stands
 
       pub at_seat : at < length seats
       at_seat = let l = c.row.long in let h = at_there in omega arith
 
-      pub is_mine : (s : ℕ) (w : W) (t : T) → slice_get ws s ≡ Some w → slice_get seats s ≡ Some t → (rank_of t ≡ rank) × Is w t
-      is_mine s w t gw gt = c.row.each s w t gw gt
+      -- the desk where the last block was opened is shut where its seat is closed
+      shut_at : ((w : W) (t : T) → slice_get ws at ≡ Some w → slice_get seats at ≡ Some t → Closed w t) → (d : Desk) → slice_get (desks ws seats) (place_after geom calls n) ≡ Some d → d.is_open ≡ false
+      shut_at closed d e =
+          let q = whose ws seats at d (ap (slice_get (desks ws seats)) c.at_is ∙ e) in
+          ap (λ (z : Desk). z.is_open) (sym q.is) ∙ shut q.w q.t (c.row.each at q.w q.t q.has_w q.has_t).1 (closed q.w q.t q.has_w q.has_t)
 
-      all_shut : AllClosedAt lock view rank_of Is ws seats → AreShut lock view ws seats
-      all_shut closed s w t gw gt = shut_by w t (c.row.each s w t gw gt).1 (closed s w t gw gt)
+      shut_here : AllClosedAt site batches desk rank_of Is Closed ws seats → (d : Desk) → slice_get (desks ws seats) (place_after geom calls n) ≡ Some d → d.is_open ≡ false
+      shut_here closed = shut_at (closed at)
 
       -- a block is open at most where the last one was opened
-      pub all_closed : (w : W) (t : T) → slice_get ws at ≡ Some w → slice_get seats at ≡ Some t → next_of (lock w) (view t) ≡ None → AllClosedAt lock view rank_of Is ws seats
+      pub all_closed : (w : W) (t : T) → slice_get ws at ≡ Some w → slice_get seats at ≡ Some t → Closed w t → AllClosedAt site batches desk rank_of Is Closed ws seats
       all_closed w t gw gt closed s v u gv gu =
           closed_by v u (c.row.each s v u gv gu).1
-          (shut_all lock view geom rank calls sizes n ws seats c.progress
-          (λ x y gx gy.
-          let same_w : w ≡ x = same_Some _ _ (sym gw ∙ ap (slice_get ws) c.at_is ∙ gx) in
-          let same_t : t ≡ y = same_Some _ _ (sym gt ∙ ap (slice_get seats) c.at_is ∙ gy) in
-          subst (λ z. is_open (lock z) (view y) ≡ false) same_w (subst (λ z. is_open (lock w) (view z) ≡ false) same_t (shut_by w t (c.row.each at w t gw gt).1 closed)))
-          s v u gv gu)
+          (closed_all geom calls sizes rank n (desks ws seats) c.good
+          (shut_at (λ x y gx gy. subst (λ z. Closed z y) (same_Some _ _ (sym gw ∙ gx)) (subst (Closed w) (same_Some _ _ (sym gt ∙ gy)) closed)))
+          s (desk v u) (desk_there ws seats s v u gv gu))
 
       -- a step at the shard where the last block was opened
       pub caller_steps : (w : W) (t u : T) → slice_get ws at ≡ Some w → slice_get seats at ≡ Some t → Is w u → rank_of u ≡ rank_of t →
-          AtomWork (lock w).site.shard (rank_of t) (view t).work (view u).work (stand (lock w).table (view t)) (stand (lock w).table (view u)) → IsCallerAt lock view rank_of Is geom rank calls sizes n at ws (slice_set seats at u)
+          Turns (site w).shard (rank_of t) (desk w t) (desk w u) → IsCallerAt site batches desk rank_of Is Closed geom rank calls sizes n at ws (slice_set seats at u)
       caller_steps w t u gw gt is same turns =
           let M = c.row.each at w t gw gt in
-          let s : (lock w).site.shard ≡ place_after geom calls n = (c.about.sites at w gw).shard_is ∙ c.at_is in
           record {
             about = c.about;
-            row = row_after (IsMine lock view rank_of Is) ws rank seats at w u c.row gw (same ∙ M.0, is);
+            row = row_after (IsMine site batches desk rank_of Is Closed) ws rank seats at w u c.row gw (same ∙ M.0, is);
             at_is = c.at_is;
-            progress = subst (λ z. Progress lock view geom rank calls sizes n ws (slice_set seats z u)) (sym c.at_is)
-                (progress_steps lock view geom rank calls sizes n ws seats c.progress w t u (ap (slice_get ws) (sym c.at_is) ∙ gw) (ap (slice_get seats) (sym c.at_is) ∙ gt)
-                (subst (λ z. AtomWork z rank (view t).work (view u).work (stand (lock w).table (view t)) (stand (lock w).table (view u))) s
-                (subst (λ z. AtomWork (lock w).site.shard z (view t).work (view u).work (stand (lock w).table (view t)) (stand (lock w).table (view u))) M.0 turns))
-                (own_order w u is) (let f = c.about.few in omega arith));
+            stands = c.stands;
+            good = subst (λ z. RankGood geom calls sizes n z rank) (desks_set ws seats at w u gw)
+                (rank_turns geom calls sizes rank n (desks ws seats) at (desk w t) (desk w u) c.good (desk_there ws seats at w t gw gt)
+                (subst (λ z. Turns z rank (desk w t) (desk w u)) (c.about.sites at w gw).shard_is (subst (λ z. Turns (site w).shard z (desk w t) (desk w u)) M.0 turns))
+                (fine w u is) (let f = c.about.few in omega arith));
           }
 
-      -- all calls were opened, and no block is open: the rank is in order with all its calls
-      pub caller_ends : AllClosedAt lock view rank_of Is ws seats → n ≡ length calls → IsRankInOrder geom rank (asked_of calls sizes) (length calls) (map (λ t. entries_of (view t)) seats)
-      caller_ends closed e = subst (λ k. IsRankInOrder geom rank (asked_of calls sizes) k (map (λ t. entries_of (view t)) seats)) e (in_order lock view geom rank calls sizes n ws seats c.progress (all_shut closed))
+      -- no block is open: all calls that were opened are done
+      done_all : AllClosedAt site batches desk rank_of Is Closed ws seats → c.good.done ≡ n
+      done_all closed =
+          let w = some_at ws at at_there in
+          let t = some_at seats at at_seat in
+          all_done geom calls sizes rank n (desks ws seats) c.good (shut_here closed) (desk w.0 t.0) (ap (slice_get (desks ws seats)) (sym c.at_is) ∙ desk_there ws seats at w.0 t.0 w.1 t.1)
 
-      pub caller_told : AllClosedAt lock view rank_of Is ws seats → n ≡ length calls → entries_in (map (λ t. entries_of (view t)) seats) ≡ length calls
-      caller_told closed e = all_told lock view geom rank calls sizes n ws seats c.progress (all_shut closed) ∙ e
+      -- all calls were opened, and no block is open: the rank is in order with all its calls
+      pub caller_ends : AllClosedAt site batches desk rank_of Is Closed ws seats → n ≡ length calls → IsRankInOrder geom rank (asked_of calls sizes) (length calls) (map entries_of (desks ws seats))
+      caller_ends closed e = subst (λ k. IsRankInOrder geom rank (asked_of calls sizes) k (map entries_of (desks ws seats))) (done_all closed ∙ e) c.good.order
+
+      pub caller_told : AllClosedAt site batches desk rank_of Is Closed ws seats → n ≡ length calls → entries_in (map entries_of (desks ws seats)) ≡ length calls
+      caller_told closed e = c.good.total ∙ done_all closed ∙ e
 
       -- a step that found no block open leaves the seats as they are
-      pub still_closed : (t u : T) → slice_get seats at ≡ Some t → u ≡ t → AllClosedAt lock view rank_of Is ws seats → AllClosedAt lock view rank_of Is ws (slice_set seats at u)
+      pub still_closed : (t u : T) → slice_get seats at ≡ Some t → u ≡ t → AllClosedAt site batches desk rank_of Is Closed ws seats → AllClosedAt site batches desk rank_of Is Closed ws (slice_set seats at u)
       still_closed t u gt same closed s w x gw gx =
           ⊎_elim (λ q. closed s w x gw (ap (slice_get seats) q.0 ∙ gt ∙ ap (λ z. Some z) (sym same ∙ sym q.1))) (λ q. closed s w x gw q.1) (get_set_cases seats at s u x gx)
 
       -- ---- the next block
 
-      module _ (closed : AllClosedAt lock view rank_of Is ws seats) (left : n < length calls) where
+      module _ (closed : AllClosedAt site batches desk rank_of Is Closed ws seats) (left : n < length calls) where
         b : NextBlock geom (drop n calls) (drop n sizes)
-        b = next_block lock view geom rank calls sizes n ws seats c.progress left
+        b = next_of_blocks geom (drop n calls) (drop n sizes) c.good.rest (omega (arith, length-drop n calls))
 
         -- its size, and where it stands, as the code looks them up
         pub record IsNextThere : Type 0 where
@@ -138,31 +162,31 @@ module _ {V W T : Type 0} (lock : W → LockAt V) (view : T → WholeView V) (ra
 
         -- it may be opened there; and once it is, the caller is in it
         pub record CanOpen (block : List Call) (place : ℕ) (w : W) (t : T) : Type 0 where
-          pub fits : IsOpen (lock w).site (rank_of t) block n (view t).work.transcript
-          pub opens : (u : T) → Is w u → rank_of u ≡ rank_of t → view u ≡ opened_in (lock w).table block n (view t) →
-              IsCallerAt lock view rank_of Is geom rank calls sizes (n + length block) place ws (slice_set seats place u) × (next_of (lock w) (view u) ≡ None → ⊥)
+          pub fits : IsOpen (site w) (rank_of t) block n (desk w t).kept
+          pub takes : batches w ≡ false → length block ≡ 1
+          pub opens : (u : T) → Is w u → rank_of u ≡ rank_of t → OpensBlock block n (desk w t) (desk w u) →
+              IsCallerAt site batches desk rank_of Is Closed geom rank calls sizes (n + length block) place ws (slice_set seats place u) × (Closed w u → ⊥)
 
         can_open_there : (w : W) (t : T) → slice_get ws b.is_block.shard ≡ Some w → slice_get seats b.is_block.shard ≡ Some t → CanOpen b.block b.is_block.shard w t
         can_open_there w t gw gt =
             let s : ℕ = b.is_block.shard in
             let M = c.row.each s w t gw gt in
-            let site = c.about.sites s w gw in
-            let asks : stand (lock w).table (opened_in (lock w).table b.block n (view t)) ≡ Asking =
-            (laws w).ask_asks (view t).side.view (mode_of b.block) (closed_is_out V (lock w) (good w) (further w) (layout w) (laws w) (home w) (view t) (may w t M.1) (closed s w t gw gt)) in
+            let about = c.about.sites s w gw in
+            let here : slice_get (desks ws seats) s ≡ Some (desk w t) = desk_there ws seats s w t gw gt in
             record {
-              fits = subst (λ r. IsOpen (lock w).site r b.block n (view t).work.transcript) (sym M.0)
-                  (block_may_open lock view geom rank calls sizes n ws seats c.progress (all_shut closed) b w t gw gt site.geom_is site.shard_is site.places (let f = c.about.few in omega arith));
+              fits = subst (λ r. IsOpen (site w) r b.block n (desk w t).kept) (sym M.0)
+                  (block_fits geom calls sizes rank n (desks ws seats) c.good b (done_all closed) (shut_here closed) (site w) (desk w t) here about.geom_is about.shard_is about.places (let f = c.about.few in omega arith));
+              takes = λ e. let one = c.about.takes s w gw e n in let size = size_is geom calls sizes n b in let some : 1 ≤ length b.block = b.is_block.is_asked.some in omega arith;
               opens = λ u is same made. (
                 record {
                   about = c.about;
-                  row = row_after (IsMine lock view rank_of Is) ws rank seats s w u c.row gw (same ∙ M.0, is);
+                  row = row_after (IsMine site batches desk rank_of Is Closed) ws rank seats s w u c.row gw (same ∙ M.0, is);
                   at_is = sym (stands_at geom calls sizes n b);
-                  progress = progress_opens lock view geom rank calls sizes n ws seats c.progress (all_shut closed) b w t gw gt u made asks;
+                  stands = slice_get_within ws s w gw;
+                  good = subst (λ z. RankGood geom calls sizes (n + length b.block) z rank) (desks_set ws seats s w u gw)
+                      (rank_opens geom calls sizes rank n (desks ws seats) c.good b (done_all closed) (shut_here closed) (desk w t) (desk w u) here made);
                 },
-                λ none.
-                    let shut : is_open (lock w) (view u) ≡ false = shut_by w u is none in
-                    let busy : is_open (lock w) (view u) ≡ true = ap (is_open (lock w)) made ∙ ap (λ st. is_at_work st (view t).side.card) asks in
-                    let bad : true ≡ false = sym busy ∙ shut in cc,
+                λ none. let bad : true ≡ false = sym made.is_open ∙ shut w u is none in cc,
               );
             }
 

@@ -1,5 +1,5 @@
 -- All callers are done and all shards closed: what the shards tell makes a lawful report.
-use Rattle.std.specs.Prelude.{◌≡◌, ℕ, suc, ◌+◌, ◌<◌, List, [], ◌∷◌, All, get_or, length, map, slice_get, Some, refl}
+use Rattle.std.specs.Prelude.{◌≡◌, ℕ, suc, ◌+◌, ◌<◌, Bool, List, [], ◌∷◌, All, get_or, length, map, slice_get, Some, refl}
 use Rattle.std.specs.FinMap as finite
 use Rattle.std.proofs.Common.{sym, ◌∙◌, ap, subst, arith}
 use Rattle.std.proofs.lemmas.List.{length-map}
@@ -12,10 +12,10 @@ use Rattle.rl_word.specs.Places.{get_map, get_map_back, some_at}
 use Rattle.rl_model.specs.declared.call.Call.{Call}
 use Rattle.rl_model.specs.declared.entry.Entry.{Entry}
 use Rattle.rl_model.specs.declared.geom.Geom.{Geom}
-use Rattle.rl_step.specs.Lock.{LockTable, LockState}
+use Rattle.rl_asks.specs.ShardTables.{ShardTable, site_with}
+use Rattle.rl_asks.specs.ShardLaws.{GoodOf}
 use Rattle.rl_step.specs.LockQueues.{queues_of, readers_share}
-use Rattle.rl_step.specs.Queues.{QueueOf}
-use Rattle.rl_step.specs.declared.tallies.Tally.{Tally}
+use Rattle.rl_journal.specs.Blocks.{is_tenure}
 use Rattle.rl_journal.specs.History.{Each, AreOwn}
 use Rattle.rl_journal.specs.Legal.{IsLegal, table_after}
 use Rattle.rl_journal.specs.Lists.{all_at}
@@ -25,15 +25,16 @@ use Rattle.rl_place.specs.LockWords.{name_of}
 use Rattle.rl_place.specs.Places.{ThePlace, IsProper}
 use Rattle.rl_place.specs.Shapes.{shape_of, knobs_of}
 use Rattle.rl_ops.specs.declared.ops.Ops.{Ops}
+use Rattle.rl_ops.specs.Room.{updates_on}
+use Rattle.rl_work.specs.Site.{Site}
 use Rattle.rl_ops.specs.Ops.{OpsFit}
-use Rattle.rl_whole.specs.Asks.{asked_of}
-use Rattle.rl_whole.specs.ShardSteps.{entries_in}
+use Rattle.rl_asks.specs.Asks.{asked_of}
+use Rattle.rl_asks.specs.RankGood.{entries_in}
 use Rattle.rl_shard.specs.declared.closed.Closed.{Closed}
 use Rattle.rl_shard.specs.declared.shard.Shard.{Shard}
 use Rattle.rl_shard.specs.declared.seat.Seat.{Seat}
-use Rattle.rl_shard.specs.Shards.{core_at, entries_at}
+use Rattle.rl_shard.specs.Shards.{table_at, entries_at}
 use Rattle.rl_shard.specs.Ends.{IsEnd, transcripts_of, history_of}
-use Rattle.rl_shard.specs.Queues as shards_queues
 use Rattle.rl_history.specs.Lawful.{queues_at}
 use Rattle.rl_run.specs.declared.caller.Caller.{Caller}
 use Rattle.rl_run.specs.RowLaws.{ends_long}
@@ -55,14 +56,12 @@ own_all shard r (t ∷ ts) own =
       own_all shard (r + 1) ts (λ i u g. let next : r + suc i ≡ r + 1 + i = omega arith in let q = own (suc i) u g in (subst (λ n. All (IsOwn shard n) u) next q.0, q.1)),
     )
 
-same_tallied : (queues : List QueueOf) (shares : _) (h : List Entry) (tallies : List Tally) → shards_queues.AreTallied queues shares h tallies → AreTallied queues shares h tallies
-same_tallied queues shares h tallies t = record { each = t.each; budgets = t.budgets; tenures = t.tenures }
-
-module _ {A V : Type 0} (D : TheShape → ℕ → Knobs → LockTable V) (name : LockName) (table : A → LockTable V) (good : A → LockState V → Type 0) (layout : A → Layout)
-    (has_queues : (shape : TheShape) (home : ℕ) (knobs : Knobs) → (D shape home knobs).queues ≡ queues_of name shape home knobs) (has_shares : (shape : TheShape) (home : ℕ) (knobs : Knobs) → (D shape home knobs).shares ≡ readers_share name)
+module _ {C V : Type 0} (D : TheShape → ℕ → Knobs → Site → ShardTable V) (name : LockName) (table : C → ShardTable V) (good : GoodOf C V) (layout : C → Layout)
+    (has_queues : (shape : TheShape) (home : ℕ) (knobs : Knobs) (site : Site) → (D shape home knobs site).queues ≡ queues_of name shape home knobs)
+    (spares : Bool → Bool) (has_tenures : (shape : TheShape) (home : ℕ) (knobs : Knobs) (site : Site) → (D shape home knobs site).tenure ≡ is_tenure (spares (readers_share name))) (as_readers : spares (readers_share name) ≡ readers_share name)
     (place : ThePlace) (ops : Ops) (kind : name ≡ name_of place.lock) (proper : IsProper place) (fit : OpsFit (length place.paths) place.geom.shards ops) (long : length ops.sizes ≡ length ops.by_rank)
-    (shards : List (Shard A V)) (rows : List (List (Seat A V))) (new : AreNew D table good layout (shape_of place) (knobs_of place.lock) place.geom place.homes ops.by_rank shards rows) (all : length shards ≡ place.geom.shards)
-    (cs : List (Caller A V)) (made : map made_of cs ≡ wanted place.geom 0 ops.by_rank ops.sizes rows) (ends : List Closed) (run : HasRun table shards cs ends) where
+    (shards : List (Shard C V)) (rows : List (List (Seat C V))) (new : AreNew D table good layout (shape_of place) (knobs_of place.lock) place.geom place.homes ops.by_rank shards rows) (all : length shards ≡ place.geom.shards)
+    (cs : List (Caller C V)) (made : map made_of cs ≡ wanted place.geom 0 ops.by_rank ops.sizes rows) (ends : List Closed) (run : HasRun table shards cs ends) where
   as_many : length cs ≡ length ops.by_rank
   as_many = sym (length-map cs made_of) ∙ ap length made ∙ wanted_long place.geom 0 ops.by_rank ops.sizes rows long new.ranks
 
@@ -75,18 +74,19 @@ module _ {A V : Type 0} (D : TheShape → ℕ → Knobs → LockTable V) (name :
       let q = run.at s w.0 e w.1 ge in
       let E : IsEnd table w.0 q.0 e = q.1 in
       let n = new.each s w.0 w.1 in
-      let geom : (core_at w.0).geom ≡ place.geom = ap (λ L. L.site.geom) n.lock_is in
+      let T : ShardTable V = table_at table w.0 in
+      let site : Site = site_with place.geom s (map (updates_on place.geom s) ops.by_rank) in
+      let geom : T.site.geom ≡ place.geom = ap (λ z. z.geom) n.site_is in
       let home_is : get_or place.homes s 0 ≡ home = get_or_from_slice_get place.homes s home 0 gh in
-      let table_is : table (core_at w.0).algo ≡ D (shape_of place) home (knobs_of place.lock) = ap (λ L. L.table) n.lock_is ∙ ap (λ h. D (shape_of place) h (knobs_of place.lock)) home_is in
-      let queues : (table (core_at w.0).algo).queues ≡ queues_at place home = ap (λ T. T.queues) table_is ∙ has_queues (shape_of place) home (knobs_of place.lock) ∙ ap (λ l. queues_of l (shape_of place) home (knobs_of place.lock)) kind in
-      let shares : (table (core_at w.0).algo).shares ≡ readers_share (name_of place.lock) = ap (λ T. T.shares) table_is ∙ has_shares (shape_of place) home (knobs_of place.lock) ∙ ap readers_share kind in
+      let table_is : T ≡ D (shape_of place) home (knobs_of place.lock) site = n.table_is ∙ ap (λ h. D (shape_of place) h (knobs_of place.lock) site) home_is in
+      let queues : T.queues ≡ queues_at place home = ap (λ z. z.queues) table_is ∙ has_queues (shape_of place) home (knobs_of place.lock) site ∙ ap (λ l. queues_of l (shape_of place) home (knobs_of place.lock)) kind in
+      let tenure : T.tenure ≡ is_tenure (readers_share (name_of place.lock)) = ap (λ z. z.tenure) table_is ∙ has_tenures (shape_of place) home (knobs_of place.lock) site ∙ ap is_tenure (as_readers ∙ ap readers_share kind) in
       record {
-        ranks = ap length E.transcripts_are ∙ length-map q.0 entries_at ∙ q.2 ∙ as_many ∙ fit.ranks_there;
+        ranks = ap length E.transcripts_are ∙ length-map q.0 (entries_at table w.0) ∙ q.2 ∙ as_many ∙ fit.ranks_there;
         legal = subst (λ g. IsLegal g e.journal.items (transcripts_of e)) geom E.legal;
-        own = own_all (core_at w.0).shard 0 (transcripts_of e) (λ i t g. let z : i ≡ 0 + i = omega arith in let o = E.own i t g in (subst (λ k. All (IsOwn (core_at w.0).shard k) t) z o.own, o.in_order));
+        own = own_all T.site.shard 0 (transcripts_of e) (λ i t g. let z : i ≡ 0 + i = omega arith in let o = E.own i t g in (subst (λ k. All (IsOwn T.site.shard k) t) z o.own, o.in_order));
         pairs_are = subst (λ g. e.pairs.items ≡ finite.entries (table_after g finite.empty e.journal.items)) geom E.pairs_are;
-        tallied = subst (λ b. AreTallied (queues_at place home) b (history_of e) e.queues.items) shares
-            (subst (λ qs. AreTallied qs (table (core_at w.0).algo).shares (history_of e) e.queues.items) queues (same_tallied _ _ _ _ E.tallied));
+        tallied = subst (λ qs. AreTallied qs (readers_share (name_of place.lock)) (history_of e) e.queues.items) queues (E.tallied (readers_share (name_of place.lock)) tenure);
       }
 
   rank_done : (k : ℕ) → k < length ops.by_rank → IsRankDone place ops k (map told ends)

@@ -1,13 +1,11 @@
 -- to be believed, in reading order
 pub mod Rows
-pub mod Progress
 pub mod Calling
 pub mod Callers
 pub mod Told
 pub mod Runs
 -- proved; skip at first
 pub mod RowLaws
-pub mod ProgressLaws
 pub mod CallingLaws
 pub mod CallerLaws
 pub mod RunLaws

@@ -32,7 +32,7 @@ use Rattle.rl_ops.specs.Asked.{asked_of}
 use Rattle.rl_history.specs.Naming.{naming_of, queue_names}
 use Rattle.rl_history.specs.Reports.{TheShard, EntryFits, ReplyFits, TallyFits, ShardFits, ShardsFit, DoneFits}
 use Rattle.rl_history.specs.Lawful.{journal_in, transcript_in, transcripts_in, queues_at, IsLawfulShard, IsLawful}
-use Rattle.rl_run.specs.ProgressLaws.{same_maps}
+use Rattle.rl_run.specs.RowLaws.{same_maps}
 use Rattle.rl_run.specs.Told.{Told, told_of, part_of, report_of, NumbersFit, IsClosedShard, AreClosedShards}
 use Rattle.rl_run.specs.ToldLaws.{no_such, kept_there, all_by_place, one_of_all, AskedFits, asked_fit, at_most_all, count_all, few_entries, is_beyond, ranks_there, transcripts_are, pairs_fit}
 

@@ -100,9 +100,6 @@ module _ {W T E : Type 0} (Q : W → List T → E → Type 0) where
   abbrev pub GoesOn : List W → List (List T) → List W → List (List T) → List E → Type 0
   GoesOn ws0 rows0 ws rows ends = (es : List E) → AreEnded Q ws rows es → AreEnded Q ws0 rows0 (ends ++ es)
 
-  pub goes_begin : (ws : List W) (rows : List (List T)) → GoesOn ws rows ws rows []
-  goes_begin ws rows es a = a
-
   pub goes_next : (ws0 : List W) (rows0 : List (List T)) (w : W) (ws : List W) (rows : List (List T)) (ends : List E) (e : E) → GoesOn ws0 rows0 (w ∷ ws) rows ends → Q w (heads rows) e →
       GoesOn ws0 rows0 ws (tails rows) (ends ++ e ∷ [])
   goes_next ws0 rows0 w ws rows ends e g q es a = subst (AreEnded Q ws0 rows0) (sym (append_assoc ends (e ∷ []) es)) (g (e ∷ es) (q, a))
@@ -158,13 +155,6 @@ module _ {X T : Type 0} (f : X → List T) where
   next_lists h hands rest hand row done all e same is =
       ap (λ l. l ++ map h rest) (map-append f done (row ∷ [])) ∙ append_assoc (map f done) (f row ∷ []) (map h rest) ∙ ap (λ l. map f done ++ l ∷ map h rest) same ∙ ap (λ l. map f done ++ map h l) (sym e) ∙ is
 
-  -- one row more has its seat
-  pub next_dealt : (rows rest : List X) (row next : X) (column others : List T) (t : T) (done : List X) (all : List (List T)) → rows ≡ row ∷ rest → column ≡ t ∷ others → f next ≡ f row ++ t ∷ [] →
-      map f done ++ with_column (map f rows) column ≡ all → map f (done ++ next ∷ []) ++ with_column (map f rest) others ≡ all
-  next_dealt rows rest row next column others t done all er ec cut is =
-      ap (λ l. l ++ with_column (map f rest) others) (map-append f done (next ∷ [])) ∙ append_assoc (map f done) (f next ∷ []) (with_column (map f rest) others)
-      ∙ ap (λ l. map f done ++ l ∷ with_column (map f rest) others) cut ∙ ap (λ l. map f done ++ with_column (map f l) (t ∷ others)) (sym er) ∙ ap (λ l. map f done ++ with_column (map f rows) l) (sym ec) ∙ is
-
 -- two lists as long, that agree in something at each place
 pub same_map : {X Y : Type 0} (f : X → Y) (xs ys : List X) → length ys ≡ length xs → ((i : ℕ) (d : X) → i < length xs → f (get_or ys i d) ≡ f (get_or xs i d)) → map f ys ≡ map f xs
 same_map f [] [] long same = refl
@@ -172,3 +162,10 @@ same_map f [] (y ∷ ys) long same = absurd (omega arith)
 same_map f (x ∷ xs) [] long same = absurd (omega arith)
 same_map f (x ∷ xs) (y ∷ ys) long same =
     ap (λ z. z ∷ map f ys) (same 0 x (omega arith)) ∙ ap (λ z. f x ∷ z) (same_map f xs ys (omega arith) (λ i d h. same (suc i) d (omega arith)))
+
+-- two lists that come to the same at each place
+pub same_maps : {X Y Z : Type 0} (f : X → Z) (g : Y → Z) (xs : List X) (ys : List Y) → length xs ≡ length ys → ((i : ℕ) (x : X) (y : Y) → slice_get xs i ≡ Some x → slice_get ys i ≡ Some y → f x ≡ g y) → map f xs ≡ map g ys
+same_maps f g [] [] e same = refl
+same_maps f g [] (y ∷ ys) e same = absurd (omega arith)
+same_maps f g (x ∷ xs) [] e same = absurd (omega arith)
+same_maps f g (x ∷ xs) (y ∷ ys) e same = ap (λ z. z ∷ map f xs) (same 0 x y refl refl) ∙ ap (λ z. g y ∷ z) (same_maps f g xs ys (omega arith) (λ i u v a b. same (suc i) u v a b))

@@ -1,22 +1,21 @@
 //! A rank's caller.
 
-ghost use Rattle.std.specs.Prelude.{◌≡◌, ◌↔◌, ◌<◌, ◌≤◌, ◌+◌, false, length, slice_index};
-ghost use Rattle.rl_model.specs.Geom.{GeomFits};
+ghost use Rattle.std.specs.Prelude.{◌≡◌, ◌↔◌, ◌<◌, false, length};
 ghost use Rattle.rl_step.specs.declared.events.Stepped.TheVariants.{Finished};
-ghost use Rattle.rl_whole.specs.Asks.{block_from, block_shard};
 ghost use Rattle.rl_run.specs.Callers.{IsCaller, IsReady, IsAtEnd, AllClosed, HasNone, Opens, OpensDue, StepsSeat, IsStep, who, seats_of};
 
 use crate::waiting::Patience;
 use arrayvec::ArrayVec;
+use rl_asks::{ShardCore, block_from, block_shard};
 use rl_io::{Gate, OpenGate};
 use rl_model::{Call, Geom};
 use rl_shard::{Seat, Shard};
-use rl_step::{Algo, Stepped};
+use rl_step::Stepped;
 use std::sync::Wait;
 
 /// Makes the calls of a rank, in their order, each on its shard.
 #[derive(Drop)]
-pub struct Caller<A: Algo> {
+pub struct Caller<C: ShardCore> {
     pub(crate) rank: u32,
     pub(crate) calls: Vec<Call>,
     /// Of each call that begins a block, how many calls the block has; of the others 0.
@@ -27,28 +26,7 @@ pub struct Caller<A: Algo> {
     /// The shard of the last of them; 0 before the first.
     pub(crate) at: u32,
     /// The rank's seats, one at each shard.
-    pub(crate) seats: Vec<Seat<A>>,
-}
-
-// The calls of the block that begins with the call of this number.
-fn block_from<'a>(calls: &'a [Call], sizes: &[u32], first: u32) -> &'a [Call]
-    requires sized { first < length sizes.now }
-    requires within { first + slice_index sizes.now first ≤ length calls.now }
-    ensures { result.now ≡ block_from calls.now sizes.now first }
-{
-    let size = sizes[first as usize];
-    &calls[first as usize..][..size as usize]
-}
-
-// The shard of a block, which is that of its first call.
-fn block_shard(geom: Geom, block: &[Call]) -> u32
-    requires fits { GeomFits geom }
-    ensures { result ≡ block_shard geom block.now }
-{
-    match block.first() {
-        Some(call) => call.shard(geom),
-        None => 0,
-    }
+    pub(crate) seats: Vec<Seat<C>>,
 }
 
 // The number of an answer, as a gate is told it.
@@ -62,7 +40,7 @@ fn answer_number(stepped: &Stepped) -> u32 {
     }
 }
 
-impl<A: Algo> Caller<A> {
+impl<C: ShardCore> Caller<C> {
     /// The caller of a rank on some shards, which has opened no call yet.
     ///
     /// There are fewer than 2^32 calls, with the sizes of their blocks. There is one seat of the rank for each shard, in the order of
@@ -72,10 +50,10 @@ impl<A: Algo> Caller<A> {
         calls: Vec<Call>,
         sizes: Vec<u32>,
         geom: Geom,
-        seats: Vec<Seat<A>>,
-    ) -> Caller<A>
-        ensures caller { (shards : _) → IsReady A.table A.good A.layout shards geom rank calls.items sizes.items seats.items →
-            IsCaller A.table A.good A.layout shards result }
+        seats: Vec<Seat<C>>,
+    ) -> Caller<C>
+        ensures caller { (shards : _) → IsReady C.shard_table C.good C.layout shards geom rank calls.items sizes.items seats.items →
+            IsCaller C.shard_table C.good C.layout shards result }
         ensures who { who result ≡ (rank, calls.items, sizes.items, geom) }
         ensures seats { seats_of result ≡ seats.items }
         ensures none { result.opened ≡ 0 }
@@ -92,7 +70,7 @@ impl<A: Algo> Caller<A> {
     }
 
     /// The seats, in the order of the shards.
-    pub fn seats(self) -> Vec<Seat<A>>
+    pub fn seats(self) -> Vec<Seat<C>>
         ensures { result.items ≡ seats_of self }
     {
         let Caller {
@@ -108,9 +86,9 @@ impl<A: Algo> Caller<A> {
     }
 
     // Whether a block is open: it would be at the shard of the last call that was opened.
-    fn is_open(&self, shards: &[Shard<A>]) -> bool
-        requires caller { IsCaller A.table A.good A.layout shards.now self.now }
-        ensures { (result ≡ false) ↔ AllClosed A.table shards.now self.now.seats.items }
+    fn is_open(&self, shards: &[Shard<C>]) -> bool
+        requires caller { IsCaller C.shard_table C.good C.layout shards.now self.now }
+        ensures { (result ≡ false) ↔ AllClosed C.shard_table shards.now self.now.seats.items }
     {
         let at = self.at as usize;
         let seat = &self.seats[at];
@@ -118,14 +96,14 @@ impl<A: Algo> Caller<A> {
     }
 
     // Opens the next block on the shard of its calls.
-    fn open_next(&mut self, shards: &[Shard<A>])
-        requires caller { IsCaller A.table A.good A.layout shards.now self.old }
-        requires closed { AllClosed A.table shards.now self.old.seats.items }
+    fn open_next(&mut self, shards: &[Shard<C>])
+        requires caller { IsCaller C.shard_table C.good C.layout shards.now self.old }
+        requires closed { AllClosed C.shard_table shards.now self.old.seats.items }
         requires left { self.old.opened < length self.old.calls.items }
-        ensures caller { IsCaller A.table A.good A.layout shards.now self.new }
+        ensures caller { IsCaller C.shard_table C.good C.layout shards.now self.new }
         ensures same { who self.new ≡ who self.old }
-        ensures opens { Opens A.table shards.now self.old self.new }
-        ensures is_open { AllClosed A.table shards.now self.new.seats.items → ⊥ }
+        ensures opens { Opens C.shard_table shards.now self.old self.new }
+        ensures is_open { AllClosed C.shard_table shards.now self.new.seats.items → ⊥ }
     {
         let first = self.opened;
         let block = block_from(self.calls.as_slice(), self.sizes.as_slice(), first);
@@ -139,13 +117,13 @@ impl<A: Algo> Caller<A> {
 
     // Opens the next block, of which the gate is told, where none is open and one is left. Whether it did.
     #[inline(never)]
-    fn open_due<G: Gate>(&mut self, shards: &[Shard<A>], gate: &G) -> bool
-        requires caller { IsCaller A.table A.good A.layout shards.now self.old }
-        ensures caller { IsCaller A.table A.good A.layout shards.now self.new }
+    fn open_due<G: Gate>(&mut self, shards: &[Shard<C>], gate: &G) -> bool
+        requires caller { IsCaller C.shard_table C.good C.layout shards.now self.old }
+        ensures caller { IsCaller C.shard_table C.good C.layout shards.now self.new }
         ensures same { who self.new ≡ who self.old }
-        ensures due { OpensDue A.table shards.now self.old self.new }
-        ensures none { result ≡ false → HasNone A.table shards.now self.old self.new }
-        ensures all { AllClosed A.table shards.now self.new.seats.items → self.new.opened ≡ length self.new.calls.items }
+        ensures due { OpensDue C.shard_table shards.now self.old self.new }
+        ensures none { result ≡ false → HasNone C.shard_table shards.now self.old self.new }
+        ensures all { AllClosed C.shard_table shards.now self.new.seats.items → self.new.opened ≡ length self.new.calls.items }
     {
         if self.opened as usize >= self.calls.len() {
             return false;
@@ -159,14 +137,14 @@ impl<A: Algo> Caller<A> {
     }
 
     // A step at the shard of the last call that was opened.
-    fn step_last(&mut self, shards: &[Shard<A>]) -> Stepped
-        requires caller { IsCaller A.table A.good A.layout shards.now self.old }
-        ensures caller { IsCaller A.table A.good A.layout shards.now self.new }
+    fn step_last(&mut self, shards: &[Shard<C>]) -> Stepped
+        requires caller { IsCaller C.shard_table C.good C.layout shards.now self.old }
+        ensures caller { IsCaller C.shard_table C.good C.layout shards.now self.new }
         ensures same { who self.new ≡ who self.old }
-        ensures steps { StepsSeat A.table A.good A.layout shards.now self.old self.new result }
-        ensures finished { result ≡ Finished → AllClosed A.table shards.now self.old.seats.items }
-        ensures still { AllClosed A.table shards.now self.old.seats.items → AllClosed A.table shards.now self.new.seats.items }
-        ensures closed { AllClosed A.table shards.now self.old.seats.items → result ≡ Finished }
+        ensures steps { StepsSeat C.shard_table C.good C.layout C.cause shards.now self.old self.new result }
+        ensures finished { result ≡ Finished → AllClosed C.shard_table shards.now self.old.seats.items }
+        ensures still { AllClosed C.shard_table shards.now self.old.seats.items → AllClosed C.shard_table shards.now self.new.seats.items }
+        ensures closed { AllClosed C.shard_table shards.now self.old.seats.items → result ≡ Finished }
     {
         let at = self.at as usize;
         let seat = &mut self.seats[at];
@@ -178,14 +156,14 @@ impl<A: Algo> Caller<A> {
     fn finish_block<G: Gate, R: Wait>(
         &mut self,
         rt: &R,
-        shards: &[Shard<A>],
+        shards: &[Shard<C>],
         gate: &G,
         patience: &mut Patience,
     )
-        requires caller { IsCaller A.table A.good A.layout shards.now self.old }
-        ensures caller { IsCaller A.table A.good A.layout shards.now self.new }
+        requires caller { IsCaller C.shard_table C.good C.layout shards.now self.old }
+        ensures caller { IsCaller C.shard_table C.good C.layout shards.now self.new }
         ensures same { who self.new ≡ who self.old }
-        ensures closed { AllClosed A.table shards.now self.new.seats.items }
+        ensures closed { AllClosed C.shard_table shards.now self.new.seats.items }
     {
         let rank = self.rank;
         let at = self.at as usize;
@@ -208,13 +186,13 @@ impl<A: Algo> Caller<A> {
     ///
     /// The answers are those of `Seat::step`, but Finished, which comes exactly where no block is open and none is left: then all calls
     /// of the rank are done.
-    pub fn step(&mut self, shards: &[Shard<A>]) -> Stepped
-        requires caller { IsCaller A.table A.good A.layout shards.now self.old }
-        ensures caller { IsCaller A.table A.good A.layout shards.now self.new }
+    pub fn step(&mut self, shards: &[Shard<C>]) -> Stepped
+        requires caller { IsCaller C.shard_table C.good C.layout shards.now self.old }
+        ensures caller { IsCaller C.shard_table C.good C.layout shards.now self.new }
         ensures same { who self.new ≡ who self.old }
-        ensures step { IsStep A.table A.good A.layout shards.now self.old self.new result }
-        ensures finished { (result ≡ Finished) ↔ (AllClosed A.table shards.now self.old.seats.items × (self.old.opened ≡ length self.old.calls.items)) }
-        ensures all_done { result ≡ Finished → IsAtEnd A.table shards.now self.new }
+        ensures step { IsStep C.shard_table C.good C.layout C.cause shards.now self.old self.new result }
+        ensures finished { (result ≡ Finished) ↔ (AllClosed C.shard_table shards.now self.old.seats.items × (self.old.opened ≡ length self.old.calls.items)) }
+        ensures all_done { result ≡ Finished → IsAtEnd C.shard_table shards.now self.new }
     {
         self.open_due(shards, &OpenGate);
         self.step_last(shards)
@@ -222,11 +200,11 @@ impl<A: Algo> Caller<A> {
 
     /// Steps until all calls of the rank are done. The gate is told of each block before it is opened, and of each step after it was
     /// made. It may wait for other ranks; it takes no memory. The shards are those of the caller's seats.
-    pub fn work<G: Gate, R: Wait>(&mut self, rt: &R, shards: &[Shard<A>], gate: &G)
-        requires caller { IsCaller A.table A.good A.layout shards.now self.old }
-        ensures caller { IsCaller A.table A.good A.layout shards.now self.new }
+    pub fn work<G: Gate, R: Wait>(&mut self, rt: &R, shards: &[Shard<C>], gate: &G)
+        requires caller { IsCaller C.shard_table C.good C.layout shards.now self.old }
+        ensures caller { IsCaller C.shard_table C.good C.layout shards.now self.new }
         ensures same { who self.new ≡ who self.old }
-        ensures all_done { IsAtEnd A.table shards.now self.new }
+        ensures all_done { IsAtEnd C.shard_table shards.now self.new }
     {
         let mut patience = Patience::new();
         for _ in rt.forever() {

@@ -9,15 +9,15 @@ ghost use Rattle.rl_run.specs.Runs.{IsShutSeat};
 
 use crate::caller::Caller;
 use crate::rows::first_seats;
+use rl_asks::ShardCore;
 use rl_shard::{Closed, Seat, Shard};
-use rl_step::Algo;
 use std::alloc::{AllocError as OutOfMemory, Global};
 
 /// The seats of each rank.
-pub fn rows_of<A: Algo>(
+pub fn rows_of<C: ShardCore>(
     alloc: Global,
-    mut callers: Vec<Caller<A>>,
-) -> Result<Vec<Vec<Seat<A>>>, OutOfMemory>
+    mut callers: Vec<Caller<C>>,
+) -> Result<Vec<Vec<Seat<C>>>, OutOfMemory>
     ensures { IfOk result (λ rows. map vec_items rows.items ≡ map seats_of callers.items) }
 {
     let mut rows = Vec::with_capacity(alloc, callers.len())?;
@@ -29,10 +29,10 @@ pub fn rows_of<A: Algo>(
 }
 
 // Closes one shard, with its seats in the order of the ranks.
-fn close_one<A: Algo>(shard: Shard<A>, column: Vec<Seat<A>>) -> Result<Closed, OutOfMemory>
-    requires rooted { IsShardOf (vec_len column) shard }
-    requires column { IsColumn (IsShutSeat A.table A.good A.layout) shard column.items }
-    ensures { IfOk result (λ e. IsEnd A.table shard column.items e) }
+fn close_one<C: ShardCore>(shard: Shard<C>, column: Vec<Seat<C>>) -> Result<Closed, OutOfMemory>
+    requires rooted { IsShardOf C.shard_table (vec_len column) shard }
+    requires column { IsColumn (IsShutSeat C.shard_table C.good C.layout) shard column.items }
+    ensures { IfOk result (λ e. IsEnd C.shard_table shard column.items e) }
 {
     match shard.close(column) {
         Ok(closed) => Ok(closed),
@@ -41,14 +41,14 @@ fn close_one<A: Algo>(shard: Shard<A>, column: Vec<Seat<A>>) -> Result<Closed, O
 }
 
 /// Closes the shards one after the other, each with its seats in the order of the ranks. Refused only for want of memory.
-pub fn close_all<A: Algo>(
+pub fn close_all<C: ShardCore>(
     alloc: Global,
-    mut shards: Vec<Shard<A>>,
-    mut rows: Vec<Vec<Seat<A>>>,
+    mut shards: Vec<Shard<C>>,
+    mut rows: Vec<Vec<Seat<C>>>,
 ) -> Result<Vec<Closed>, OutOfMemory>
-    requires rooted { All (IsShardOf (vec_len rows)) shards.items }
-    requires grid { IsGrid (IsShutSeat A.table A.good A.layout) shards.items (map vec_items rows.items) }
-    ensures { IfOk result (λ ends. AreEnded (IsEnd A.table) shards.items (map vec_items rows.items) ends.items) }
+    requires rooted { All (IsShardOf C.shard_table (vec_len rows)) shards.items }
+    requires grid { IsGrid (IsShutSeat C.shard_table C.good C.layout) shards.items (map vec_items rows.items) }
+    ensures { IfOk result (λ ends. AreEnded (IsEnd C.shard_table) shards.items (map vec_items rows.items) ends.items) }
 {
     let mut ends = Vec::with_capacity(alloc, shards.len())?;
     while shards.len() > 0 {

@@ -10,10 +10,10 @@ ghost use Rattle.rl_run.specs.Runs.{AreNew, MayWork, made_of, wanted};
 
 use crate::caller::Caller;
 use crate::rows::deal_seats;
+use rl_asks::ShardCore;
 use rl_model::{Call, Geom};
 use rl_ops::Ops;
 use rl_shard::{Seat, Shard};
-use rl_step::Algo;
 use rl_word::{Knobs, Shape};
 use std::alloc::{AllocError as OutOfMemory, Global};
 
@@ -30,7 +30,7 @@ fn empty_rows<T: Drop>(alloc: Global, ranks: usize) -> Result<Vec<Vec<T>>, OutOf
 
 /// The shards of a table on these homes, and the seats of each rank, in the order of the shards. `queues` is how many queues the lock
 /// of a shard has. Refused only for want of memory.
-pub fn open_all<A: Algo>(
+pub fn open_all<C: ShardCore>(
     alloc: Global,
     shape: &Shape,
     knobs: Knobs,
@@ -38,17 +38,17 @@ pub fn open_all<A: Algo>(
     homes: &[u32],
     ops: &Ops,
     queues: u32,
-) -> Result<(Vec<Shard<A>>, Vec<Vec<Seat<A>>>), OutOfMemory>
+) -> Result<(Vec<Shard<C>>, Vec<Vec<Seat<C>>>), OutOfMemory>
     requires proper { IsProper shape.now }
-    requires knobs { A.suits_knobs shape.now knobs }
+    requires knobs { C.suits_knobs shape.now knobs }
     requires fits { GeomFits geom }
     requires many { length homes.now ≡ geom.shards }
     requires homes { AllByRecursion (λ home. home < shape.now.nodes) homes.now }
     requires ranks { length ops.now.by_rank ≡ length shape.now.node_of }
     requires few { total_calls ops.now.by_rank ≤ 20000 }
-    requires queues { (home : ℕ) → queues ≡ length (queues_of A.name shape.now home knobs) }
+    requires queues { (home : ℕ) → queues ≡ length (queues_of C.name shape.now home knobs) }
     ensures all { IfOk result (λ p. length p.0.items ≡ geom.shards) }
-    ensures made { IfOk result (λ p. AreNew A.defined A.table A.good A.layout shape.now knobs geom homes.now ops.now.by_rank p.0.items (map vec_items p.1.items)) }
+    ensures made { IfOk result (λ p. AreNew C.defined C.shard_table C.good C.layout shape.now knobs geom homes.now ops.now.by_rank p.0.items (map vec_items p.1.items)) }
 {
     let mut rooms = ops.rooms(alloc, geom)?;
     let mut shards = Vec::new(alloc);
@@ -64,18 +64,18 @@ pub fn open_all<A: Algo>(
 }
 
 /// A caller for each rank, of its calls with their sizes and its row of seats. Refused only for want of memory.
-pub fn callers_of<A: Algo>(
+pub fn callers_of<C: ShardCore>(
     alloc: Global,
     geom: Geom,
     mut calls: Vec<Vec<Call>>,
     mut sizes: Vec<Vec<u32>>,
-    mut rows: Vec<Vec<Seat<A>>>,
-) -> Result<Vec<Caller<A>>, OutOfMemory>
+    mut rows: Vec<Vec<Seat<C>>>,
+) -> Result<Vec<Caller<C>>, OutOfMemory>
     requires sizes { vec_len sizes ≡ vec_len calls }
     requires rows { vec_len rows ≡ vec_len calls }
     requires few { vec_len calls ≤ 32 }
     ensures made { IfOk result (λ callers. map made_of callers.items ≡ wanted geom 0 (map vec_items calls.items) (map vec_items sizes.items) (map vec_items rows.items)) }
-    ensures may { IfOk result (λ callers. All (MayWork A.table A.good A.layout) callers.items) }
+    ensures may { IfOk result (λ callers. All (MayWork C.shard_table C.good C.layout) callers.items) }
 {
     let mut callers = Vec::with_capacity(alloc, calls.len())?;
     let mut rank = 0;

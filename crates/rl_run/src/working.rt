@@ -4,25 +4,25 @@ ghost use Rattle.std.specs.Prelude.{◌≡◌, All, map};
 ghost use Rattle.rl_run.specs.Callers.{IsCaller, IsAtEnd, who};
 
 use crate::caller::Caller;
+use rl_asks::ShardCore;
 use rl_io::Gate;
 use rl_shard::Shard;
-use rl_step::Algo;
 use std::sync::Wait;
 use std::thread::{Threads, for_each_mut};
 
 /// Each caller makes all its calls, in a thread of its own: the list of callers is halved, and the halves run beside each other, down
 /// to single callers. A caller for which no thread can be started runs in the thread of its half. It takes no memory of the callers'.
-pub fn work_all<A: Algo + Send + Sync, G: Gate, R: Threads + Wait + Sync>(
+pub fn work_all<C: ShardCore + Send + Sync, G: Gate, R: Threads + Wait + Sync>(
     rt: &R,
-    shards: &[Shard<A>],
+    shards: &[Shard<C>],
     gate: &G,
-    callers: &mut [Caller<A>],
+    callers: &mut [Caller<C>],
 )
 where
-    A::View: Send + Sync,
-    requires { All (IsCaller A.table A.good A.layout shards.now) callers.old }
-    ensures callers { All (IsCaller A.table A.good A.layout shards.now) callers.new }
-    ensures all_done { All (IsAtEnd A.table shards.now) callers.new }
+    C::View: Send + Sync,
+    requires { All (IsCaller C.shard_table C.good C.layout shards.now) callers.old }
+    ensures callers { All (IsCaller C.shard_table C.good C.layout shards.now) callers.new }
+    ensures all_done { All (IsAtEnd C.shard_table shards.now) callers.new }
     ensures same { map who callers.new ≡ map who callers.old }
 {
     let threads = callers.len().max(1);
@@ -30,9 +30,9 @@ where
         rt,
         callers,
         threads,
-        &|_place: usize, caller: &mut Caller<A>|
-            requires { IsCaller A.table A.good A.layout shards.now caller.old }
-            ensures { IsCaller A.table A.good A.layout shards.entry.now caller.new × IsAtEnd A.table shards.entry.now caller.new × (who caller.new ≡ who caller.old) }
+        &|_place: usize, caller: &mut Caller<C>|
+            requires { IsCaller C.shard_table C.good C.layout shards.now caller.old }
+            ensures { IsCaller C.shard_table C.good C.layout shards.entry.now caller.new × IsAtEnd C.shard_table shards.entry.now caller.new × (who caller.new ≡ who caller.old) }
         { caller.work(rt, shards, gate) },
     );
 }

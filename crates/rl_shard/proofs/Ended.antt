@@ -4,15 +4,12 @@ use Rattle.std.specs.FinMap as finite
 use Rattle.std.proofs.lemmas.List.Sums.{sum_by-cons}
 use Rattle.rl_word.specs.Places.{get_map, get_map_back, some_at}
 use Rattle.rl_word.specs.Acts.{Layout}
-use Rattle.rl_step.specs.declared.events.Event.{Event}
-use Rattle.rl_step.specs.Lock.{LockTable, LockState, LockLaws, Deed}
 use Rattle.rl_step.specs.Do.{TheWindow}
 use Rattle.rl_journal.specs.Legal.{IsLegal, table_after}
 use Rattle.rl_journal.specs.History.{history, IsSorted}
 use Rattle.rl_journal.specs.HistoryLaws.{replayed}
-use Rattle.rl_whole.specs.declared.whole.Whole.{Whole}
-use Rattle.rl_whole.specs.Running.{LockAt, lock_at}
-use Rattle.rl_whole.specs.Whole.{next_of}
+use Rattle.rl_asks.specs.ShardTables.{ShardTable, journal_at}
+use Rattle.rl_asks.specs.ShardLaws.{GoodOf, CauseOf, FurtherOf, LawsOf}
 use Rattle.rl_shard.specs.declared.shard.Shard.{Shard}
 use Rattle.rl_shard.specs.declared.seat.Seat.{Seat}
 use Rattle.rl_shard.specs.declared.closed.Closed.{Closed}
@@ -21,70 +18,77 @@ use Rattle.rl_shard.specs.declared.counting.CountedView.{CountedView}
 use Rattle.rl_shard.specs.Tallies.{full, tally_at}
 use Rattle.rl_shard.specs.Queues.{AreTallied}
 use Rattle.rl_shard.specs.Counting.{whole_of, settled_by, passed_by, counting_rule}
-use Rattle.rl_shard.specs.Shards.{AreClosed, core_at, counting_at, counted_at, entries_at, tallies_at}
+use Rattle.rl_shard.specs.Shards.{AreClosed, core_at, table_at, counting_at, counted_at, entries_at, tallies_at}
 use Rattle.rl_shard.specs.Ends.{IsEnd, transcripts_of, history_of, all_settled, all_passed}
-use Rattle.rl_shard.specs.Closing.{entries_in, IsLeft, AreTotals, journal_left, pairs_left}
+use Rattle.rl_shard.specs.Closing.{entries_in, IsLeft, AreTotals, pairs_left}
 use Rattle.rl_shard.proofs.EndLaws.{own_at, legal_now, sorted_now, tallied_now}
 use Rattle.rl_shard.proofs.SeatLists.{views_closed}
 
-module _ {A V : Type 0} where
-  sums_settled : (q : ℕ) (seats : List (Seat A V)) → sum_by (settled_by q) (map counted_at seats) ≡ all_settled q seats
+module _ {C V : Type 0} where
+  sums_settled : (q : ℕ) (seats : List (Seat C V)) → sum_by (settled_by q) (map counted_at seats) ≡ all_settled q seats
   sums_settled q [] = refl
   sums_settled q (s ∷ seats) =
-      let f : Seat A V → ℕ = λ z. (tally_at q (tallies_at z)).settled in
+      let f : Seat C V → ℕ = λ z. (tally_at q (tallies_at z)).settled in
       sum_by-cons (settled_by q) (counted_at s) (map counted_at seats) ∙ (omega (arith, sums_settled q seats, sum_by-cons f s seats))
 
-  sums_passed : (q : ℕ) (seats : List (Seat A V)) → sum_by (passed_by q) (map counted_at seats) ≡ all_passed q seats
+  sums_passed : (q : ℕ) (seats : List (Seat C V)) → sum_by (passed_by q) (map counted_at seats) ≡ all_passed q seats
   sums_passed q [] = refl
   sums_passed q (s ∷ seats) =
-      let f : Seat A V → ℕ = λ z. (tally_at q (tallies_at z)).passed in
+      let f : Seat C V → ℕ = λ z. (tally_at q (tallies_at z)).passed in
       sum_by-cons (passed_by q) (counted_at s) (map counted_at seats) ∙ (omega (arith, sums_passed q seats, sum_by-cons f s seats))
 
-  seat_entries : (seats : List (Seat A V)) → map entries_in (map counted_at seats) ≡ map entries_at seats
-  seat_entries [] = refl
-  seat_entries (s ∷ seats) = ap (λ z. entries_at s ∷ z) (seat_entries seats)
+  seat_entries : (table : C → ShardTable V) (shard : Shard C V) (seats : List (Seat C V)) → map (entries_in (table_at table shard)) (map counted_at seats) ≡ map (entries_at table shard) seats
+  seat_entries table shard [] = refl
+  seat_entries table shard (s ∷ seats) = ap (λ z. entries_at table shard s ∷ z) (seat_entries table shard seats)
 
-  module _ (table : A → LockTable V) (good : A → LockState V → Type 0) (further : A → List Event → List Deed → Type 0) (layout : A → Layout) (laws : (a : A) → LockLaws (table a) (good a) (further a) (layout a)) (shard : Shard A V) (seats : List (Seat A V)) (closed : AreClosed table shard seats)
-      (words cards : List ℕ) (views : List (CountedView V)) (rule : counting_rule table good layout (counting_at shard) (record { words = words; cards = cards }) views) (is : views ≡ map counted_at seats) where
-    -- the words are those of a window on which no block is open
-    pub is_left : (core : Counting A V) → core ≡ counting_at shard → IsLeft table good layout core.whole words
-    is_left core e =
-        subst (λ (c : Counting A V). IsLeft table good layout c.whole words) (sym e)
-        (record {
-          cards = cards;
-          views = map whole_of views;
-          rule = rule.rule;
-          closed = λ r x has.
-              let q = get_map_back whole_of views r x has in
-              ap (next_of (lock_at table (core_at shard))) (sym q.2) ∙ views_closed table shard seats views is closed r q.0 q.1;
-        })
+module _ (C V : Type 0) (table : C → ShardTable V) (good : GoodOf C V) (cause : CauseOf C V) (further : FurtherOf C) (layout : C → Layout) (laws : LawsOf C V table good cause further layout) (shard : Shard C V) (seats : List (Seat C V)) (closed : AreClosed table shard seats)
+    (words cards : List ℕ) (views : List (CountedView V)) (rule : counting_rule table good layout (counting_at shard) (record { words = words; cards = cards }) views) (is : views ≡ map counted_at seats) where
+  abbrev core : C
+  core = core_at shard
 
-    pub is_end : (e : Closed) → e.journal.items ≡ journal_left table (core_at shard) words → e.pairs.items ≡ pairs_left table (core_at shard) words → transcripts_of e ≡ map entries_in views →
-        ((s : Seat A V) → slice_get seats 0 ≡ Some s → AreTotals seats (length (tallies_at s)) e.queues.items) → 0 < length seats → IsEnd table shard seats e
-    is_end e journal pairs transcripts sums some =
-        let core : Whole A V = core_at shard in
-        let L : LockAt V = lock_at table core in
-        let h : TheWindow = record { words = words; cards = cards } in
-        let first = some_at seats 0 some in
-        let each : length (tallies_at first.0) ≡ length L.table.queues = rule.each 0 (counted_at first.0) (ap (λ l. slice_get l 0) is ∙ get_map counted_at seats 0 first.0 first.1) in
-        let totals : AreTotals seats (length L.table.queues) e.queues.items = subst (λ n. AreTotals seats n e.queues.items) each (sums first.0 first.1) in
-        let settles : (q : ℕ) → all_settled q seats ≡ sum_by (settled_by q) views = λ q. sym (ap (sum_by (settled_by q)) is ∙ sums_settled q seats) in
-        let passes : (q : ℕ) → all_passed q seats ≡ sum_by (passed_by q) views = λ q. sym (ap (sum_by (passed_by q)) is ∙ sums_passed q seats) in
-        let legal : IsLegal core.geom e.journal.items (transcripts_of e) =
-        subst (λ j. IsLegal core.geom j (transcripts_of e)) (sym journal)
-        (subst (IsLegal core.geom (journal_left table core words)) (sym transcripts) (legal_now V L (good core.algo) (further core.algo) (layout core.algo) (laws core.algo) core.home h views rule)) in
-        let past : history_of e ≡ history (journal_left table core words) (map entries_in views) = ap (λ j. history j (transcripts_of e)) journal ∙ ap (history (journal_left table core words)) transcripts in
-        record {
-          transcripts_are = transcripts ∙ ap (map entries_in) is ∙ seat_entries seats;
-          own = λ r t has. own_at V L (good core.algo) (further core.algo) (layout core.algo) (laws core.algo) core.home h views rule r t (ap (λ l. slice_get l r) (sym transcripts) ∙ has);
-          legal = legal;
-          replayed = replayed core.geom e.journal.items (transcripts_of e) legal;
-          sorted = subst IsSorted (sym past) (sorted_now V L (good core.algo) (further core.algo) (layout core.algo) (laws core.algo) core.home h views rule);
-          pairs_are = pairs ∙ ap (λ j. finite.entries (table_after core.geom finite.empty j)) (sym journal);
-          settled_are = λ q low. (totals.settled_are q (let n = totals.each in omega arith)).0;
-          passed_are = λ q low. (totals.passed_are q (let n = totals.each in omega arith)).0;
-          tallied = subst (λ es. AreTallied L.table.queues L.table.shares es e.queues.items) (sym past)
-              (tallied_now V L (good core.algo) (further core.algo) (layout core.algo) (laws core.algo) core.home h views rule (views_closed table shard seats views is closed) e.queues.items totals.each
-              (λ q low. let t = totals.settled_are q low in (t.0 ∙ settles q, subst (λ n. n < full) (settles q) t.1))
-              (λ q low. let t = totals.passed_are q low in (t.0 ∙ passes q, subst (λ n. n < full) (passes q) t.1)));
-        }
+  abbrev T : ShardTable V
+  T = table core
+
+  -- the words are those of a window on which no block is open
+  pub is_left : (k : Counting C V) → k ≡ counting_at shard → IsLeft (table k.whole) (good k.whole) words
+  is_left k e =
+      subst (λ (c : Counting C V). IsLeft (table c.whole) (good c.whole) words) (sym e)
+      (record {
+        cards = cards;
+        views = map whole_of views;
+        trace = rule.trace;
+        acts = rule.acts;
+        is_good = rule.is_good;
+        closed = λ r x has.
+            let q = get_map_back whole_of views r x has in
+            ap (λ z. (T.own z).is_open) (sym q.2) ∙ views_closed table shard seats views is closed r q.0 q.1;
+      })
+
+  pub is_end : (e : Closed) → e.journal.items ≡ journal_at T words → e.pairs.items ≡ pairs_left T words → transcripts_of e ≡ map (entries_in T) views →
+      ((s : Seat C V) → slice_get seats 0 ≡ Some s → AreTotals seats (length (tallies_at s)) e.queues.items) → 0 < length seats → IsEnd table shard seats e
+  is_end e journal pairs transcripts sums some =
+      let h : TheWindow = record { words = words; cards = cards } in
+      let first = some_at seats 0 some in
+      let each : length (tallies_at first.0) ≡ length T.queues = rule.each 0 (counted_at first.0) (ap (λ l. slice_get l 0) is ∙ get_map counted_at seats 0 first.0 first.1) in
+      let totals : AreTotals seats (length T.queues) e.queues.items = subst (λ n. AreTotals seats n e.queues.items) each (sums first.0 first.1) in
+      let settles : (q : ℕ) → all_settled q seats ≡ sum_by (settled_by q) views = λ q. sym (ap (sum_by (settled_by q)) is ∙ sums_settled q seats) in
+      let passes : (q : ℕ) → all_passed q seats ≡ sum_by (passed_by q) views = λ q. sym (ap (sum_by (passed_by q)) is ∙ sums_passed q seats) in
+      let shut = views_closed table shard seats views is closed in
+      let legal : IsLegal T.site.geom e.journal.items (transcripts_of e) =
+      subst (λ j. IsLegal T.site.geom j (transcripts_of e)) (sym journal)
+      (subst (IsLegal T.site.geom (journal_at T words)) (sym transcripts) (legal_now V T (good core) (cause core) (further core) (layout core) (laws core) h views rule shut)) in
+      let past : history_of e ≡ history (journal_at T words) (map (entries_in T) views) = ap (λ j. history j (transcripts_of e)) journal ∙ ap (history (journal_at T words)) transcripts in
+      record {
+        transcripts_are = transcripts ∙ ap (map (entries_in T)) is ∙ seat_entries table shard seats;
+        own = λ r t has. own_at V T (good core) (cause core) (further core) (layout core) (laws core) h views rule shut r t (ap (λ l. slice_get l r) (sym transcripts) ∙ has);
+        legal = legal;
+        replayed = replayed T.site.geom e.journal.items (transcripts_of e) legal;
+        sorted = subst IsSorted (sym past) (sorted_now V T (good core) (cause core) (further core) (layout core) (laws core) h views rule shut);
+        pairs_are = pairs ∙ ap (λ j. finite.entries (table_after T.site.geom finite.empty j)) (sym journal);
+        settled_are = λ q low. (totals.settled_are q (let n = totals.each in omega arith)).0;
+        passed_are = λ q low. (totals.passed_are q (let n = totals.each in omega arith)).0;
+        tallied = λ shares tenure. subst (λ es. AreTallied T.queues shares es e.queues.items) (sym past)
+            (tallied_now V T (good core) (cause core) (further core) (layout core) (laws core) h views rule shut shares tenure e.queues.items totals.each
+            (λ q low. let t = totals.settled_are q low in (t.0 ∙ settles q, subst (λ n. n < full) (settles q) t.1))
+            (λ q low. let t = totals.passed_are q low in (t.0 ∙ passes q, subst (λ n. n < full) (passes q) t.1)));
+      }

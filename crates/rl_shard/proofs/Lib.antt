@@ -1,10 +1,8 @@
 pub mod OpeningLaws
 pub mod ClosingLaws
-pub mod Alone
 pub mod Members
 pub mod Tenures
 pub mod EndLaws
 pub mod Totals
 pub mod SeatLists
 pub mod Ended
-pub mod FreshLaws

@@ -1,11 +1,10 @@
 -- The seats of a shard, as its window has them.
-use Rattle.std.proofs.Common.{◌≡◌, ℕ, List, [], ◌∷◌, length, map, slice_get, Some, None, sym, refl, ap, ◌∙◌, subst}
+use Rattle.std.proofs.Common.{◌≡◌, ℕ, List, [], ◌∷◌, length, map, slice_get, Some, false, sym, refl, ap, ◌∙◌, subst}
 use Rattle.std.proofs.lemmas.List.{length-map}
 use Rattle.rl_word.specs.Places.{get_map, get_map_back}
 use Rattle.rl_word.specs.Acts.{Layout}
-use Rattle.rl_step.specs.Lock.{LockTable, LockState}
-use Rattle.rl_whole.specs.Running.{lock_at}
-use Rattle.rl_whole.specs.Whole.{next_of}
+use Rattle.rl_asks.specs.ShardTables.{ShardTable}
+use Rattle.rl_asks.specs.ShardLaws.{GoodOf}
 use Rattle.rl_window.specs.declared.knows.Knows.TheVariants.{Root}
 use Rattle.rl_window.specs.declared.window.WinSeat.{WinSeat}
 use Rattle.rl_window.specs.Seats.{IsSeatOf, IsKept, IsAll, AreKept, HasSeats, all_given, view_of}
@@ -14,27 +13,27 @@ use Rattle.rl_shard.specs.declared.seat.Seat.{Seat}
 use Rattle.rl_shard.specs.declared.counting.Counting.{Counting}
 use Rattle.rl_shard.specs.declared.counting.CountedView.{CountedView}
 use Rattle.rl_shard.specs.Counting.{counting_rule}
-use Rattle.rl_shard.specs.Shards.{AreOf, AreClosed, core_at, counted_at}
+use Rattle.rl_shard.specs.Shards.{AreOf, AreClosed, table_at, counted_at}
 use Rattle.rl_shard.specs.Closing.{inner_of, seated}
 
-module _ {A V : Type 0} where
-  pub inner_seated : (inner : List (WinSeat (Counting A V) (CountedView V))) → map inner_of (map seated inner) ≡ inner
+module _ {C V : Type 0} where
+  pub inner_seated : (inner : List (WinSeat (Counting C V) (CountedView V))) → map inner_of (map seated inner) ≡ inner
   inner_seated [] = refl
   inner_seated (s ∷ inner) = ap (λ z. s ∷ z) (inner_seated inner)
 
-  pub seated_inner : (seats : List (Seat A V)) → map seated (map inner_of seats) ≡ seats
+  pub seated_inner : (seats : List (Seat C V)) → map seated (map inner_of seats) ≡ seats
   seated_inner [] = refl
   seated_inner (s ∷ seats) = ap (λ z. s ∷ z) (seated_inner seats)
 
-  pub inner_views : (seats : List (Seat A V)) → map view_of (map inner_of seats) ≡ map counted_at seats
+  pub inner_views : (seats : List (Seat C V)) → map view_of (map inner_of seats) ≡ map counted_at seats
   inner_views [] = refl
   inner_views (s ∷ seats) = ap (λ z. counted_at s ∷ z) (inner_views seats)
 
-  pub seated_views : (inner : List (WinSeat (Counting A V) (CountedView V))) → map counted_at (map seated inner) ≡ map view_of inner
+  pub seated_views : (inner : List (WinSeat (Counting C V) (CountedView V))) → map counted_at (map seated inner) ≡ map view_of inner
   seated_views [] = refl
   seated_views (s ∷ inner) = ap (λ z. view_of s ∷ z) (seated_views inner)
 
-  module _ (table : A → LockTable V) (good : A → LockState V → Type 0) (layout : A → Layout) (shard : Shard A V) (seats : List (Seat A V)) (inner : List (WinSeat (Counting A V) (CountedView V))) (is : inner ≡ map inner_of seats) where
+  module _ (table : C → ShardTable V) (good : GoodOf C V) (layout : C → Layout) (shard : Shard C V) (seats : List (Seat C V)) (inner : List (WinSeat (Counting C V) (CountedView V))) (is : inner ≡ map inner_of seats) where
     -- a shard's seats are its window's
     pub all_inner : AreOf table good layout shard seats → (n : ℕ) → HasSeats shard.window n → n ≡ length seats → IsAll (counting_rule table good layout) shard.window inner
     all_inner are n root e =
@@ -61,10 +60,10 @@ module _ {A V : Type 0} where
     )
 
   -- no seat has an open block where its view has none
-  pub seats_closed : (table : A → LockTable V) (shard : Shard A V) (seats : List (Seat A V)) (vs : List (CountedView V)) → map counted_at seats ≡ vs → ((r : ℕ) (x : CountedView V) → slice_get vs r ≡ Some x → next_of (lock_at table (core_at shard)) x.whole ≡ None) → AreClosed table shard seats
+  pub seats_closed : (table : C → ShardTable V) (shard : Shard C V) (seats : List (Seat C V)) (vs : List (CountedView V)) → map counted_at seats ≡ vs → ((r : ℕ) (x : CountedView V) → slice_get vs r ≡ Some x → ((table_at table shard).own x.whole).is_open ≡ false) → AreClosed table shard seats
   seats_closed table shard seats vs is closed r s e = closed r (counted_at s) (ap (λ l. slice_get l r) (sym is) ∙ get_map counted_at seats r s e)
 
-  pub views_closed : (table : A → LockTable V) (shard : Shard A V) (seats : List (Seat A V)) (vs : List (CountedView V)) → vs ≡ map counted_at seats → AreClosed table shard seats → (r : ℕ) (x : CountedView V) → slice_get vs r ≡ Some x → next_of (lock_at table (core_at shard)) x.whole ≡ None
+  pub views_closed : (table : C → ShardTable V) (shard : Shard C V) (seats : List (Seat C V)) (vs : List (CountedView V)) → vs ≡ map counted_at seats → AreClosed table shard seats → (r : ℕ) (x : CountedView V) → slice_get vs r ≡ Some x → ((table_at table shard).own x.whole).is_open ≡ false
   views_closed table shard seats vs is closed r x e =
       let q = get_map_back counted_at seats r x (ap (λ l. slice_get l r) (sym is) ∙ e) in
-      ap (λ (z : CountedView V). next_of (lock_at table (core_at shard)) z.whole) (sym q.2) ∙ closed r q.0 q.1
+      ap (λ (z : CountedView V). ((table_at table shard).own z.whole).is_open) (sym q.2) ∙ closed r q.0 q.1

@@ -3,7 +3,7 @@ use Rattle.std.proofs.Common.{◌≡◌, ◌≢◌, ◌<◌, ◌+◌, ℕ, zero,
 use Rattle.std.specs.Prelude.{◌⊎◌, slice_get, Some}
 use Rattle.std.proofs.Common.{inl, inr}
 use Rattle.std.proofs.lemmas.List.Sums.{sum_by-append, sum_by-cons}
-use Rattle.rl_whole.specs.RecordLaws.{take_next}
+use Rattle.rl_asks.specs.Filling.{take_next}
 use Rattle.rl_step.specs.declared.tallies.Tally.{Tally}
 use Rattle.rl_shard.specs.declared.seat.Seat.{Seat}
 use Rattle.rl_shard.specs.Tallies.{full, tally_at}
@@ -18,7 +18,7 @@ more_at (x ∷ ts) t zero n e h = inl (omega arith, refl)
 more_at (x ∷ ts) t (suc q) n e h =
     ⊎_elim (λ p. inl (let a = p.0 in omega arith, p.1)) (λ p. inr (let a = p.0 in omega arith, p.1)) (more_at ts t q (length ts) refl (omega arith))
 
-module _ {A V : Type 0} (seats : List (Seat A V)) where
+module _ {C V : Type 0} (seats : List (Seat C V)) where
   pub no_totals : (ts : List Tally) → ts ≡ [] → AreTotals seats 0 ts
   no_totals ts e = record { each = ap length e; settled_are = λ q h. absurd (omega arith); passed_are = λ q h. absurd (omega arith) }
 
@@ -38,12 +38,12 @@ module _ {A V : Type 0} (seats : List (Seat A V)) where
       }
 
   -- what the seats hold so far
-  pub settled_more : (q i : ℕ) (s : Seat A V) → slice_get seats i ≡ Some s → all_settled q (take (i + 1) seats) ≡ all_settled q (take i seats) + (tally_at q (tallies_at s)).settled
+  pub settled_more : (q i : ℕ) (s : Seat C V) → slice_get seats i ≡ Some s → all_settled q (take (i + 1) seats) ≡ all_settled q (take i seats) + (tally_at q (tallies_at s)).settled
   settled_more q i s get =
-      let f : Seat A V → ℕ = λ z. (tally_at q (tallies_at z)).settled in
+      let f : Seat C V → ℕ = λ z. (tally_at q (tallies_at z)).settled in
       ap (sum_by f) (take_next seats i s get) ∙ sum_by-append f (take i seats) (s ∷ []) ∙ ap (λ n. sum_by f (take i seats) + n) (sum_by-cons f s [] ∙ omega arith)
 
-  pub passed_more : (q i : ℕ) (s : Seat A V) → slice_get seats i ≡ Some s → all_passed q (take (i + 1) seats) ≡ all_passed q (take i seats) + (tally_at q (tallies_at s)).passed
+  pub passed_more : (q i : ℕ) (s : Seat C V) → slice_get seats i ≡ Some s → all_passed q (take (i + 1) seats) ≡ all_passed q (take i seats) + (tally_at q (tallies_at s)).passed
   passed_more q i s get =
-      let f : Seat A V → ℕ = λ z. (tally_at q (tallies_at z)).passed in
+      let f : Seat C V → ℕ = λ z. (tally_at q (tallies_at z)).passed in
       ap (sum_by f) (take_next seats i s get) ∙ sum_by-append f (take i seats) (s ∷ []) ∙ ap (λ n. sum_by f (take i seats) + n) (sum_by-cons f s [] ∙ omega arith)

@@ -6,10 +6,9 @@ pub mod Shards
 pub mod Steps
 pub mod Ends
 -- of the code's own calls
+pub mod Starts
 pub mod Closing
 -- proved; skip at first
 pub mod TallyLaws
 pub mod CountingLaws
 pub mod SeatLaws
--- for tests
-pub mod Fresh

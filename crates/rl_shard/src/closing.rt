@@ -5,39 +5,36 @@ ghost use Rattle.std.specs.FinMap as finite;
 ghost use Rattle.rl_model.specs.Geom.{GeomFits};
 ghost use Rattle.rl_journal.specs.Legal.{table_after};
 ghost use Rattle.rl_work.specs.Site.{journal_base};
-ghost use Rattle.rl_whole.specs.Running.{lock_at};
+ghost use Rattle.rl_asks.specs.ShardTables.{journal_at};
 ghost use Rattle.rl_shard.specs.Tallies.{full, tally_at};
-ghost use Rattle.rl_shard.specs.Shards.{IsShardOf, core_at, tallies_at};
+ghost use Rattle.rl_shard.specs.Shards.{IsShardOf, core_at, table_at, tallies_at};
 ghost use Rattle.rl_shard.specs.Ends.{all_settled, all_passed};
-ghost use Rattle.rl_shard.specs.Closing.{inner_of, seated, entries_in, IsLeft, journal_left, pairs_left, HasRoom, AreTotals};
+ghost use Rattle.rl_shard.specs.Closing.{inner_of, seated, entries_in, IsLeft, pairs_left, HasRoom, AreTotals};
 
 use crate::closed::Closed;
 use crate::counting::{CountedView, Counting};
 use crate::seat::Seat;
 use crate::shard::Shard;
+use rl_asks::{ENTRY_WORDS, ShardCore};
 use rl_journal::journal_entry;
-use rl_model::{Entry, Geom};
-use rl_step::{Algo, Tally};
+use rl_model::Entry;
+use rl_step::Tally;
 use rl_volume::{content_into, volume_words};
-use rl_whole::Whole;
 use rl_window::WinSeat;
 use rl_work::{COUNT_WORD, VOLUME_BASE, journal_base};
 use std::alloc::{AllocError as OutOfMemory, Global};
 
-/// How many words an entry of a journal takes.
-const ENTRY_WORDS: usize = 6;
-
 /// The memory for a close.
 #[derive(Drop)]
-pub struct Parts<A: Algo> {
+pub struct Parts<C: ShardCore> {
     /// Room for all that a closed shard leaves, and the tallies.
     pub closed: Closed,
     /// Room for the window's seats.
-    pub inner: Vec<WinSeat<Counting<A>>>,
+    pub inner: Vec<WinSeat<Counting<C>>>,
 }
 
 /// The tally of a queue that the seats hold together; a count that is full stands still.
-fn total<A: Algo>(seats: &[Seat<A>], queue: usize) -> Tally
+fn total<C: ShardCore>(seats: &[Seat<C>], queue: usize) -> Tally
     ensures settled { result.settled ≡ min (all_settled queue seats.now) full }
     ensures passed { result.passed ≡ min (all_passed queue seats.now) full }
 {
@@ -52,9 +49,9 @@ fn total<A: Algo>(seats: &[Seat<A>], queue: usize) -> Tally
 }
 
 /// The tallies of so many queues that the seats hold together. A count that is full is refused like want of memory.
-fn totals<A: Algo>(
+fn totals<C: ShardCore>(
     alloc: Global,
-    seats: &[Seat<A>],
+    seats: &[Seat<C>],
     queues: usize,
 ) -> Result<Vec<Tally>, OutOfMemory>
     ensures { IfOk result (λ t. AreTotals seats.now queues t.items) }
@@ -79,9 +76,12 @@ fn places(rooms: &[u32]) -> u32
 }
 
 /// Takes the memory for a close, and adds up the tallies.
-pub fn take_parts<A: Algo>(shard: &Shard<A>, seats: &[Seat<A>]) -> Result<Parts<A>, OutOfMemory>
-    requires shard { IsShardOf (length seats.now) shard.now }
-    ensures room { IfOk result (λ p. HasRoom (core_at shard.now) (length seats.now) p.closed) }
+pub fn take_parts<C: ShardCore>(
+    shard: &Shard<C>,
+    seats: &[Seat<C>],
+) -> Result<Parts<C>, OutOfMemory>
+    requires shard { IsShardOf C.shard_table (length seats.now) shard.now }
+    ensures room { IfOk result (λ p. HasRoom (table_at C.shard_table shard.now) (length seats.now) p.closed) }
     ensures inner { IfOk result (λ p. (p.inner.items ≡ []) × (length seats.now ≤ vec_capacity p.inner)) }
     ensures queues { IfOk result (λ p. (s : _) → slice_get seats.now 0 ≡ Some s → AreTotals seats.now (length (tallies_at s)) p.closed.queues.items) }
 {
@@ -90,9 +90,9 @@ pub fn take_parts<A: Algo>(shard: &Shard<A>, seats: &[Seat<A>]) -> Result<Parts<
         None => 0,
     };
     let core = shard.core();
-    let geom = core.geom;
+    let geom = core.geom();
     let closed = Closed {
-        journal: Vec::with_capacity(shard.alloc, places(core.rooms.as_slice()) as usize)?,
+        journal: Vec::with_capacity(shard.alloc, places(core.rooms()) as usize)?,
         pairs: Vec::with_capacity(shard.alloc, (geom.buckets + geom.overflow) as usize)?,
         transcripts: Vec::with_capacity(shard.alloc, seats.len())?,
         queues: totals(shard.alloc, seats, queues)?,
@@ -102,7 +102,7 @@ pub fn take_parts<A: Algo>(shard: &Shard<A>, seats: &[Seat<A>]) -> Result<Parts<
 }
 
 /// Moves the window's seats out of the shard's.
-pub fn take_seats<A: Algo>(seats: &mut Vec<Seat<A>>, inner: &mut Vec<WinSeat<Counting<A>>>)
+pub fn take_seats<C: ShardCore>(seats: &mut Vec<Seat<C>>, inner: &mut Vec<WinSeat<Counting<C>>>)
     requires { vec_len seats.old + vec_len inner.old ≤ vec_capacity inner.old }
     ensures inner { inner.new.items ≡ inner.old.items ++ map inner_of seats.old.items }
     ensures seats { (seats.new.items ≡ []) × (vec_capacity seats.new ≡ vec_capacity seats.old) }
@@ -114,7 +114,7 @@ pub fn take_seats<A: Algo>(seats: &mut Vec<Seat<A>>, inner: &mut Vec<WinSeat<Cou
 }
 
 /// Makes the shard's seats of the window's.
-pub fn give_seats<A: Algo>(mut inner: Vec<WinSeat<Counting<A>>>, seats: &mut Vec<Seat<A>>)
+pub fn give_seats<C: ShardCore>(mut inner: Vec<WinSeat<Counting<C>>>, seats: &mut Vec<Seat<C>>)
     requires { vec_len inner + vec_len seats.old ≤ vec_capacity seats.old }
     ensures { seats.new.items ≡ seats.old.items ++ map seated inner.items }
 {
@@ -126,12 +126,12 @@ pub fn give_seats<A: Algo>(mut inner: Vec<WinSeat<Counting<A>>>, seats: &mut Vec
 }
 
 /// The entry of the update at a place of the journal.
-fn update_at<A: Algo>(core: &Whole<A>, words: &[u64], at: u32) -> Entry
-    requires left { IsLeft A.table A.good A.layout core.now words.now }
-    requires there { at < length (journal_left A.table core.now words.now) }
-    ensures { slice_get (journal_left A.table core.now words.now) at ≡ Some result }
+fn update_at<C: ShardCore>(core: &C, words: &[u64], at: u32) -> Entry
+    requires left { IsLeft (C.shard_table core.now) (C.good core.now) words.now }
+    requires there { at < length (journal_at (C.shard_table core.now) words.now) }
+    ensures { slice_get (journal_at (C.shard_table core.now) words.now) at ≡ Some result }
 {
-    let first = journal_base(core.geom) as usize + ENTRY_WORDS * at as usize;
+    let first = journal_base(core.geom()) as usize + ENTRY_WORDS as usize * at as usize;
     let spelled = [
         words[first],
         words[first + 1],
@@ -140,14 +140,14 @@ fn update_at<A: Algo>(core: &Whole<A>, words: &[u64], at: u32) -> Entry
         words[first + 4],
         words[first + 5],
     ];
-    journal_entry(core.shard, at, spelled)
+    journal_entry(core.shard(), at, spelled)
 }
 
 /// Reads the journal.
-fn read_journal<A: Algo>(core: &Whole<A>, words: &[u64], journal: &mut Vec<Entry>)
-    requires left { IsLeft A.table A.good A.layout core.now words.now }
-    requires room { (journal.old.items ≡ []) × (sum core.now.rooms.items ≤ vec_capacity journal.old) }
-    ensures { journal.new.items ≡ journal_left A.table core.now words.now }
+fn read_journal<C: ShardCore>(core: &C, words: &[u64], journal: &mut Vec<Entry>)
+    requires left { IsLeft (C.shard_table core.now) (C.good core.now) words.now }
+    requires room { (journal.old.items ≡ []) × (sum (C.shard_table core.now).site.rooms ≤ vec_capacity journal.old) }
+    ensures { journal.new.items ≡ journal_at (C.shard_table core.now) words.now }
 {
     for at in 0..words[COUNT_WORD as usize] as u32 {
         journal.push_reserved(update_at(core, words, at));
@@ -155,44 +155,48 @@ fn read_journal<A: Algo>(core: &Whole<A>, words: &[u64], journal: &mut Vec<Entry
 }
 
 /// Reads what the table holds.
-fn read_pairs<A: Algo>(core: &Whole<A>, words: &[u64], pairs: &mut Vec<(u64, u64)>)
-    requires left { IsLeft A.table A.good A.layout core.now words.now }
-    requires room { (pairs.old.items ≡ []) × (core.now.geom.buckets + core.now.geom.overflow ≤ vec_capacity pairs.old) }
-    ensures { pairs.new.items ≡ pairs_left A.table core.now words.now }
+fn read_pairs<C: ShardCore>(core: &C, words: &[u64], pairs: &mut Vec<(u64, u64)>)
+    requires left { IsLeft (C.shard_table core.now) (C.good core.now) words.now }
+    requires room { (pairs.old.items ≡ []) × ((C.shard_table core.now).site.geom.buckets + (C.shard_table core.now).site.geom.overflow ≤ vec_capacity pairs.old) }
+    ensures { pairs.new.items ≡ pairs_left (C.shard_table core.now) words.now }
 {
-    let geom = core.geom;
+    let geom = core.geom();
     let first = VOLUME_BASE as usize;
     let end = first + volume_words(geom) as usize;
     content_into(geom, &words[first..end], pairs);
 }
 
 /// Takes the transcripts out of the views.
-fn take_transcripts<V: Copy>(mut views: Vec<CountedView<V>>, transcripts: &mut Vec<Vec<Entry>>)
+fn take_transcripts<C: ShardCore>(
+    core: &C,
+    mut views: Vec<CountedView<C::View>>,
+    transcripts: &mut Vec<Vec<Entry>>,
+)
     requires { vec_len views + vec_len transcripts.old ≤ vec_capacity transcripts.old }
-    ensures { map vec_items transcripts.new.items ≡ map vec_items transcripts.old.items ++ map entries_in views.items }
+    ensures { map vec_items transcripts.new.items ≡ map vec_items transcripts.old.items ++ map (entries_in (C.shard_table core.now)) views.items }
 {
     while views.len() > 0 {
         let CountedView { whole, tallies: _ } = views.remove(0);
-        transcripts.push_reserved(whole.work.into_transcript());
+        transcripts.push_reserved(core.into_entries(whole));
     }
 }
 
 /// Fills the parts, without memory.
-pub fn finish<A: Algo>(
-    core: &Whole<A>,
+pub fn finish<C: ShardCore>(
+    core: &C,
     words: &[u64],
-    views: Vec<CountedView<A::View>>,
+    views: Vec<CountedView<C::View>>,
     mut closed: Closed,
 ) -> Closed
-    requires left { IsLeft A.table A.good A.layout core.now words.now }
-    requires room { HasRoom core.now (vec_len views) closed }
-    ensures journal { result.journal.items ≡ journal_left A.table core.now words.now }
-    ensures pairs { result.pairs.items ≡ pairs_left A.table core.now words.now }
-    ensures transcripts { map vec_items result.transcripts.items ≡ map entries_in views.items }
+    requires left { IsLeft (C.shard_table core.now) (C.good core.now) words.now }
+    requires room { HasRoom (C.shard_table core.now) (vec_len views) closed }
+    ensures journal { result.journal.items ≡ journal_at (C.shard_table core.now) words.now }
+    ensures pairs { result.pairs.items ≡ pairs_left (C.shard_table core.now) words.now }
+    ensures transcripts { map vec_items result.transcripts.items ≡ map (entries_in (C.shard_table core.now)) views.items }
     ensures queues { result.queues ≡ closed.queues }
 {
     read_journal(core, words, &mut closed.journal);
     read_pairs(core, words, &mut closed.pairs);
-    take_transcripts(views, &mut closed.transcripts);
+    take_transcripts(core, views, &mut closed.transcripts);
     closed
 }

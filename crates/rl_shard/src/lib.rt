@@ -1,14 +1,15 @@
 //! A shard of the hash table, whose window threads share, and a seat on it for each rank.
 //!
 //! - A *shard* (`Shard`) is one part of the table behind a lock of its own: a window of words and cards (`rl_window`) under the
-//!   rule of the whole machine of its lock (`rl_whole`).
+//!   rule of a rank's machine on one shard (`ShardCore` of `rl_asks`).
 //! - A *seat* (`Seat`) is the one right to act as a rank on the shard. Whoever has a seat and a `&Shard` opens a *block*, which is
 //!   a call alone or the calls of a batch, and steps until no block is open; in a thread of its own too.
-//! - A rank's *tallies* (`Tallies`) are how often its own acts settled and passed each queue of the lock. The whole machine keeps
-//!   no such counts; `Counting` is the whole machine with them.
+//! - A rank's *tallies* (`Tallies`) are how often its own acts settled and passed each queue of the lock. A shard's core keeps
+//!   no such counts; `Counting` is the core with them.
 //!
-//! Promise, for every lock that keeps the laws of one: between any two table steps the rule holds, so one rank writes at most, and
-//! none reads beside it (`exclusion`), and the two domains stay apart (`domains`). A step is exactly one table step, or Finished
+//! Promise, for every core that keeps the laws of one: between any two table steps the rule holds, so one rank writes at most, and
+//! none reads beside it (`exclusion`), no queue was passed more often than its budget allows (`budgets`), and the two domains stay apart
+//! (`domains`). A step is exactly one table step, or Finished
 //! where no block is open; its answer has its cause (`specs/Steps`). What a closed shard leaves (`specs/Ends`) is legal: the history
 //! gives every entry its reply on one thread, the pairs are the table after it, each queue kept its budget in all, and was settled
 //! and passed as often as it was had.
@@ -27,10 +28,7 @@ mod tallies;
 
 pub use closed::Closed;
 pub use counting::{CountedView, Counting};
-pub use laws::{domains, exclusion};
+pub use laws::{budgets, domains, exclusion};
 pub use seat::Seat;
 pub use shard::Shard;
 pub use tallies::Tallies;
-
-#[cfg(test)]
-mod tests;

@@ -3,18 +3,17 @@
 ghost use Rattle.std.specs.Prelude.{◌≡◌, ◌↔◌, ◌∷◌, [], Some, None, false, length};
 ghost use Rattle.rl_step.specs.declared.events.Stepped.TheVariants.{Finished};
 ghost use Rattle.rl_work.specs.WorkGood.{IsOpen};
-ghost use Rattle.rl_whole.specs.Opening.{opened_in};
-ghost use Rattle.rl_whole.specs.Running.{lock_at};
 ghost use Rattle.rl_shard.specs.Tallies.{tally_at};
-ghost use Rattle.rl_shard.specs.Shards.{IsOf, IsClosed, core_at, view_at, tallies_at, entries_at, rank_at, steps_at, next_at};
+ghost use Rattle.rl_shard.specs.Shards.{IsOf, IsClosed, core_at, table_at, view_at, desk_at, tallies_at, entries_at, rank_at, steps_at, next_at};
 ghost use Rattle.rl_shard.specs.Steps.{Makes, CauseAt, TurnsAt, IsUnhindered};
 
 use crate::counting::Counting;
 use crate::shard::Shard;
 use crate::stepping::step;
 use arrayvec::ArrayVec;
+use rl_asks::ShardCore;
 use rl_model::{Call, Entry};
-use rl_step::{Algo, Event, Stepped, Tally};
+use rl_step::{Event, Stepped, Tally};
 use rl_window::WinSeat;
 
 /// The seat of a rank at a shard: the one right to act as the rank there.
@@ -22,11 +21,11 @@ use rl_window::WinSeat;
 /// It goes to whatever thread acts for the rank, and the shard is shared by all. A seat that is dropped leaves its shard as it is; the
 /// shard can't be closed any more.
 #[derive(Drop)]
-pub struct Seat<A: Algo> {
-    pub(crate) seat: WinSeat<Counting<A>>,
+pub struct Seat<C: ShardCore> {
+    pub(crate) seat: WinSeat<Counting<C>>,
 }
 
-impl<A: Algo> Seat<A> {
+impl<C: ShardCore> Seat<C> {
     /// The number of the rank.
     pub fn rank(&self) -> u32
         ensures { result ≡ rank_at self.now }
@@ -34,11 +33,13 @@ impl<A: Algo> Seat<A> {
         self.seat.rank()
     }
 
-    /// The rank's entries on the shard, in the order in which they were done.
-    pub fn transcript(&self) -> &[Entry]
-        ensures { result.now ≡ entries_at self.now }
+    /// The rank's entries on the shard, as its view has them, in the order in which they were done.
+    ///
+    /// The shard is the seat's.
+    pub fn transcript<'a>(&'a self, shard: &Shard<C>) -> &'a [Entry]
+        ensures { result.now ≡ entries_at C.shard_table shard.now self.now }
     {
-        self.seat.view().whole.transcript()
+        shard.core().entries(&self.seat.view().whole)
     }
 
     /// How often the rank's acts settled and passed a queue of the lock. One that isn't there was never settled or passed.
@@ -58,9 +59,9 @@ impl<A: Algo> Seat<A> {
     /// Whether a block is open: it is from `begin` on until its last atom was made, that of leaving a card among them.
     ///
     /// The seat is the shard's.
-    pub fn is_open(&self, shard: &Shard<A>) -> bool
-        requires { IsOf A.table A.good A.layout shard.now self.now }
-        ensures { (result ≡ false) ↔ IsClosed A.table shard.now self.now }
+    pub fn is_open(&self, shard: &Shard<C>) -> bool
+        requires { IsOf C.shard_table C.good C.layout shard.now self.now }
+        ensures { result ≡ (desk_at C.shard_table shard.now self.now).is_open }
     {
         shard.window.core().is_open(self.seat.view())
     }
@@ -69,32 +70,33 @@ impl<A: Algo> Seat<A> {
     ///
     /// The seat is the shard's. The call is one of the shard, its number `seq` greater than those of all the rank's entries here, and
     /// the seat has room for it: for one more entry, and where it is an update, for one more update.
-    pub fn begin(&mut self, shard: &Shard<A>, call: Call, seq: u32)
-        requires seat { IsOf A.table A.good A.layout shard.now self.old }
-        requires closed { IsClosed A.table shard.now self.old }
-        requires open { IsOpen (lock_at A.table (core_at shard.now)).site (rank_at self.old) (call ∷ []) seq (view_at self.old).work.transcript }
-        ensures seat { IsOf A.table A.good A.layout shard.now self.new }
+    pub fn begin(&mut self, shard: &Shard<C>, call: Call, seq: u32)
+        requires seat { IsOf C.shard_table C.good C.layout shard.now self.old }
+        requires closed { IsClosed C.shard_table shard.now self.old }
+        requires open { IsOpen (table_at C.shard_table shard.now).site (rank_at self.old) (call ∷ []) seq (desk_at C.shard_table shard.now self.old).kept }
+        ensures seat { IsOf C.shard_table C.good C.layout shard.now self.new }
         ensures rank { rank_at self.new ≡ rank_at self.old }
-        ensures opened { view_at self.new ≡ opened_in (A.table (core_at shard.now).algo) (call ∷ []) seq (view_at self.old) }
+        ensures opened { view_at self.new ≡ (table_at C.shard_table shard.now).opened (call ∷ []) seq (view_at self.old) }
         ensures tallies { tallies_at self.new ≡ tallies_at self.old }
         ensures no_step { steps_at self.new ≡ steps_at self.old }
     {
         self.begin_batch(shard, &[call], seq);
     }
 
-    /// Opens a batch, where no block is open. Its calls are done as one: all of them, or none where one is answered that it can't be
-    /// done. It makes no table step and takes no memory.
+    /// Opens a block, where none is open: a call alone, or a batch, whose calls are done as one: all of them, or none where one is
+    /// answered that it can't be done. It makes no table step and takes no memory.
     ///
-    /// The seat is the shard's. There are 2 to 8 calls, all updates of the shard. The first has the number `seq`, and the others the
-    /// numbers after it, which are below 2^32; `seq` is greater than the numbers of all the rank's entries here; and the seat has
-    /// room for them: for so many more entries and updates.
-    pub fn begin_batch(&mut self, shard: &Shard<A>, calls: &[Call], seq: u32)
-        requires seat { IsOf A.table A.good A.layout shard.now self.old }
-        requires closed { IsClosed A.table shard.now self.old }
-        requires open { IsOpen (lock_at A.table (core_at shard.now)).site (rank_at self.old) calls.now seq (view_at self.old).work.transcript }
-        ensures seat { IsOf A.table A.good A.layout shard.now self.new }
+    /// The seat is the shard's, and so are the calls. A batch has 2 to 8 calls, all updates; where the shard's core does no batches, the
+    /// block is a call alone. The first call has the number `seq`, and the others the numbers after it, which are below 2^32; `seq` is
+    /// greater than the numbers of all the rank's entries here; and the seat has room for them: for so many more entries and updates.
+    pub fn begin_batch(&mut self, shard: &Shard<C>, calls: &[Call], seq: u32)
+        requires seat { IsOf C.shard_table C.good C.layout shard.now self.old }
+        requires closed { IsClosed C.shard_table shard.now self.old }
+        requires open { IsOpen (table_at C.shard_table shard.now).site (rank_at self.old) calls.now seq (desk_at C.shard_table shard.now self.old).kept }
+        requires takes { (table_at C.shard_table shard.now).batches ≡ false → length calls.now ≡ 1 }
+        ensures seat { IsOf C.shard_table C.good C.layout shard.now self.new }
         ensures rank { rank_at self.new ≡ rank_at self.old }
-        ensures opened { view_at self.new ≡ opened_in (A.table (core_at shard.now).algo) calls.now seq (view_at self.old) }
+        ensures opened { view_at self.new ≡ (table_at C.shard_table shard.now).opened calls.now seq (view_at self.old) }
         ensures tallies { tallies_at self.new ≡ tallies_at self.old }
         ensures no_step { steps_at self.new ≡ steps_at self.old }
     {
@@ -115,34 +117,34 @@ impl<A: Algo> Seat<A> {
     /// - Moved: none of these.
     ///
     /// A rank that is alone on the shard is never answered Waiting, Lost or Busy.
-    pub fn step(&mut self, shard: &Shard<A>) -> Stepped
-        requires seat { IsOf A.table A.good A.layout shard.now self.old }
-        ensures seat { IsOf A.table A.good A.layout shard.now self.new }
+    pub fn step(&mut self, shard: &Shard<C>) -> Stepped
+        requires seat { IsOf C.shard_table C.good C.layout shard.now self.old }
+        ensures seat { IsOf C.shard_table C.good C.layout shard.now self.new }
         ensures rank { rank_at self.new ≡ rank_at self.old }
-        ensures finished { (result ≡ Finished) ↔ IsClosed A.table shard.now self.old }
-        ensures nothing { IsClosed A.table shard.now self.old → self.new ≡ self.old }
-        ensures makes { (at : _) → next_at A.table shard.now self.old ≡ Some at → Makes A.table A.good A.layout shard.now self.old self.new at result }
-        ensures cause { CauseAt A.table A.good A.layout shard.now self.old result }
-        ensures alone { length (A.layout (core_at shard.now).algo).node_of ≡ 1 → IsUnhindered result }
-        ensures turned { TurnsAt A.table shard.now self.old self.new }
+        ensures finished { (result ≡ Finished) ↔ IsClosed C.shard_table shard.now self.old }
+        ensures nothing { IsClosed C.shard_table shard.now self.old → self.new ≡ self.old }
+        ensures makes { (at : _) → next_at C.shard_table shard.now self.old ≡ Some at → Makes C.shard_table C.good C.layout shard.now self.old self.new at result }
+        ensures cause { CauseAt C.shard_table C.good C.layout C.cause shard.now self.old result }
+        ensures alone { length (C.layout (core_at shard.now)).node_of ≡ 1 → IsUnhindered result }
+        ensures turned { TurnsAt C.shard_table shard.now self.old self.new }
     {
         self.step_with(shard, &mut ArrayVec::new())
     }
 
     /// The same step with a list for its events, which is empty before and after: who makes many steps makes the list but once.
     #[inline(always)]
-    pub fn step_with(&mut self, shard: &Shard<A>, events: &mut ArrayVec<Event, 8>) -> Stepped
-        requires seat { IsOf A.table A.good A.layout shard.now self.old }
+    pub fn step_with(&mut self, shard: &Shard<C>, events: &mut ArrayVec<Event, 8>) -> Stepped
+        requires seat { IsOf C.shard_table C.good C.layout shard.now self.old }
         requires none { events.old.items ≡ [] }
-        ensures seat { IsOf A.table A.good A.layout shard.now self.new }
+        ensures seat { IsOf C.shard_table C.good C.layout shard.now self.new }
         ensures none { events.new.items ≡ [] }
         ensures rank { rank_at self.new ≡ rank_at self.old }
-        ensures finished { (result ≡ Finished) ↔ IsClosed A.table shard.now self.old }
-        ensures nothing { IsClosed A.table shard.now self.old → self.new ≡ self.old }
-        ensures makes { (at : _) → next_at A.table shard.now self.old ≡ Some at → Makes A.table A.good A.layout shard.now self.old self.new at result }
-        ensures cause { CauseAt A.table A.good A.layout shard.now self.old result }
-        ensures alone { length (A.layout (core_at shard.now).algo).node_of ≡ 1 → IsUnhindered result }
-        ensures turned { TurnsAt A.table shard.now self.old self.new }
+        ensures finished { (result ≡ Finished) ↔ IsClosed C.shard_table shard.now self.old }
+        ensures nothing { IsClosed C.shard_table shard.now self.old → self.new ≡ self.old }
+        ensures makes { (at : _) → next_at C.shard_table shard.now self.old ≡ Some at → Makes C.shard_table C.good C.layout shard.now self.old self.new at result }
+        ensures cause { CauseAt C.shard_table C.good C.layout C.cause shard.now self.old result }
+        ensures alone { length (C.layout (core_at shard.now)).node_of ≡ 1 → IsUnhindered result }
+        ensures turned { TurnsAt C.shard_table shard.now self.old self.new }
     {
         let stepped = step(&shard.window, &mut self.seat, events);
         events.clear();

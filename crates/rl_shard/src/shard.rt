@@ -5,11 +5,11 @@ ghost use Rattle.rl_model.specs.Geom.{GeomFits};
 ghost use Rattle.rl_word.specs.Shapes.{IsProper, layout_of};
 ghost use Rattle.rl_step.specs.Lock.{HandsOn};
 ghost use Rattle.rl_step.specs.LockQueues.{queues_of};
-ghost use Rattle.rl_whole.specs.Running.{lock_at};
-ghost use Rattle.rl_whole.specs.Start.{lock_with, site_with};
+ghost use Rattle.rl_asks.specs.ShardTables.{site_with};
 ghost use Rattle.rl_window.specs.Seats.{HasSeats};
 ghost use Rattle.rl_shard.specs.Counting.{counting_rule, first_counted};
-ghost use Rattle.rl_shard.specs.Shards.{IsShardOf, AreOf, AreClosed, core_at, counting_at, counted_at};
+ghost use Rattle.rl_shard.specs.Shards.{IsShardOf, AreOf, AreClosed, core_at, table_at, counting_at, counted_at};
+ghost use Rattle.rl_shard.specs.Starts.{IsStart};
 ghost use Rattle.rl_shard.specs.Ends.{IsEnd};
 
 use crate::closed::Closed;
@@ -17,22 +17,21 @@ use crate::closing::{Parts, finish, give_seats, take_parts, take_seats};
 use crate::counting::{CountedView, Counting};
 use crate::opening::{first_views, first_words};
 use crate::seat::Seat;
+use rl_asks::ShardCore;
 use rl_model::Geom;
 use rl_ops::Room;
-use rl_step::Algo;
-use rl_whole::Whole;
 use rl_window::Window;
 use rl_word::{Knobs, Shape};
 use std::alloc::{AllocError as OutOfMemory, Global};
 
 /// One shard of the table, whose window threads share. Its ranks act on it by their seats.
 #[derive(Drop)]
-pub struct Shard<A: Algo> {
-    pub(crate) window: Window<Counting<A>>,
+pub struct Shard<C: ShardCore> {
+    pub(crate) window: Window<Counting<C>>,
     pub(crate) alloc: Global,
 }
 
-impl<A: Algo> Shard<A> {
+impl<C: ShardCore> Shard<C> {
     /// A shard before its first block, and a seat for each rank, in the order of the ranks.
     ///
     /// The shape is proper, and `home` one of its nodes, where the shard's words live; the settings suit the lock. `shard` is the
@@ -51,37 +50,55 @@ impl<A: Algo> Shard<A> {
         shard: u32,
         room: Room,
         queues: u32,
-    ) -> Result<(Shard<A>, Vec<Seat<A>>), OutOfMemory>
+    ) -> Result<(Shard<C>, Vec<Seat<C>>), OutOfMemory>
         requires proper { IsProper shape.now }
-        requires knobs { A.suits_knobs shape.now knobs }
+        requires knobs { C.suits_knobs shape.now knobs }
         requires home { home < shape.now.nodes }
         requires fits { GeomFits geom }
         requires calls { vec_len room.calls ≡ length shape.now.node_of }
         requires updates { (vec_len room.updates ≡ length shape.now.node_of) × (sum room.updates.items ≤ 20000) }
-        requires queues { queues ≡ length (queues_of A.name shape.now home knobs) }
-        ensures lock { IfOk result (λ p. lock_at A.table (core_at p.0) ≡ lock_with (A.defined shape.now home knobs) (site_with geom shard room.updates.items)) }
-        ensures promised { IfOk result (λ p. HandsOn (A.further (core_at p.0).algo) (A.promised shape.now home knobs)) }
-        ensures layout { IfOk result (λ p. A.layout (core_at p.0).algo ≡ layout_of shape.now) }
-        ensures shard { IfOk result (λ p. IsShardOf (length shape.now.node_of) p.0) }
-        ensures seats { IfOk result (λ p. AreOf A.table A.good A.layout p.0 p.1.items) }
-        ensures views { IfOk result (λ p. map counted_at p.1.items ≡ first_counted (lock_at A.table (core_at p.0)) queues room.calls.items) }
-        ensures closed { IfOk result (λ p. AreClosed A.table p.0 p.1.items) }
+        requires queues { queues ≡ length (queues_of C.name shape.now home knobs) }
+        ensures core { IfOk result (λ p. table_at C.shard_table p.0 ≡ C.defined shape.now home knobs (site_with geom shard room.updates.items)) }
+        ensures promised { IfOk result (λ p. HandsOn (C.further (core_at p.0)) (C.promised shape.now home knobs)) }
+        ensures layout { IfOk result (λ p. C.layout (core_at p.0) ≡ layout_of shape.now) }
+        ensures shard { IfOk result (λ p. IsShardOf C.shard_table (length shape.now.node_of) p.0) }
+        ensures seats { IfOk result (λ p. AreOf C.shard_table C.good C.layout p.0 p.1.items) }
+        ensures views { IfOk result (λ p. map counted_at p.1.items ≡ first_counted (table_at C.shard_table p.0) queues room.calls.items) }
+        ensures closed { IfOk result (λ p. AreClosed C.shard_table p.0 p.1.items) }
     {
         let Room { calls, updates } = room;
-        let whole = Whole::new(alloc, shape, knobs, home, geom, shard, updates)?;
-        let words = first_words(alloc, &whole)?;
-        let views = first_views(alloc, &whole, calls.as_slice(), queues)?;
+        let core = C::make(alloc, shape, knobs, home, geom, shard, updates)?;
+        Shard::start(alloc, core, shape.nodes, calls.as_slice(), queues)
+    }
+
+    /// A shard of a core before its first block, and a seat for each rank, which may make so many entries; with so many nodes and queues.
+    fn start(
+        alloc: Global,
+        core: C,
+        nodes: u32,
+        rooms: &[u32],
+        queues: u32,
+    ) -> Result<(Shard<C>, Vec<Seat<C>>), OutOfMemory>
+        requires start { IsStart C.shard_table C.good C.layout core nodes queues rooms.now }
+        ensures core { IfOk result (λ p. core_at p.0 ≡ core) }
+        ensures shard { IfOk result (λ p. IsShardOf C.shard_table (length rooms.now) p.0) }
+        ensures seats { IfOk result (λ p. AreOf C.shard_table C.good C.layout p.0 p.1.items) }
+        ensures views { IfOk result (λ p. map counted_at p.1.items ≡ first_counted (table_at C.shard_table p.0) queues rooms.now) }
+        ensures closed { IfOk result (λ p. AreClosed C.shard_table p.0 p.1.items) }
+    {
+        let words = first_words(alloc, &core)?;
+        let views = first_views(alloc, &core, rooms, queues)?;
         Shard::open(
             alloc,
-            Counting { whole },
+            Counting { whole: core },
             words.as_slice(),
-            shape.nodes,
+            nodes,
             views,
         )
     }
 
     /// The machine of the shard's ranks.
-    pub(crate) fn core(&self) -> &Whole<A>
+    pub(crate) fn core(&self) -> &C
         ensures { result.now ≡ core_at self.now }
     {
         &self.window.core().whole
@@ -90,15 +107,15 @@ impl<A: Algo> Shard<A> {
     /// A shard with these words and free cards, and a seat for each view.
     fn open(
         alloc: Global,
-        core: Counting<A>,
+        core: Counting<C>,
         words: &[u64],
         nodes: u32,
-        views: Vec<CountedView<A::View>>,
-    ) -> Result<(Shard<A>, Vec<Seat<A>>), OutOfMemory>
-        requires rule { counting_rule A.table A.good A.layout core (record { words = words.now; cards = replicate nodes 0 }) views.items }
+        views: Vec<CountedView<C::View>>,
+    ) -> Result<(Shard<C>, Vec<Seat<C>>), OutOfMemory>
+        requires rule { counting_rule C.shard_table C.good C.layout core (record { words = words.now; cards = replicate nodes 0 }) views.items }
         requires some { (0 < length words.now) × (0 < vec_len views) × (vec_len views < 2 ^ 32) }
         ensures core { IfOk result (λ p. counting_at p.0 ≡ core) }
-        ensures seats { IfOk result (λ p. HasSeats p.0.window (vec_len views) × AreOf A.table A.good A.layout p.0 p.1.items) }
+        ensures seats { IfOk result (λ p. HasSeats p.0.window (vec_len views) × AreOf C.shard_table C.good C.layout p.0 p.1.items) }
         ensures views { IfOk result (λ p. map counted_at p.1.items ≡ views.items) }
     {
         let mut seats = Vec::with_capacity(alloc, views.len())?;
@@ -116,11 +133,11 @@ impl<A: Algo> Shard<A> {
     ///
     /// Want of memory, which is taken before anything is closed; a count that doesn't fit 64 bits is treated so too. Shard and seats
     /// are handed back as they were.
-    pub fn close(self, mut seats: Vec<Seat<A>>) -> Result<Closed, (Shard<A>, Vec<Seat<A>>)>
-        requires shard { IsShardOf (vec_len seats) self }
-        requires seats { AreOf A.table A.good A.layout self seats.items }
-        requires closed { AreClosed A.table self seats.items }
-        ensures end { IfOk result (λ e. IsEnd A.table self seats.items e) }
+    pub fn close(self, mut seats: Vec<Seat<C>>) -> Result<Closed, (Shard<C>, Vec<Seat<C>>)>
+        requires shard { IsShardOf C.shard_table (vec_len seats) self }
+        requires seats { AreOf C.shard_table C.good C.layout self seats.items }
+        requires closed { AreClosed C.shard_table self seats.items }
+        ensures end { IfOk result (λ e. IsEnd C.shard_table self seats.items e) }
         ensures refused { IfErr result (λ p. (p.0 ≡ self) × (p.1.items ≡ seats.items)) }
     {
         let Ok(parts) = take_parts(&self, seats.as_slice()) else {

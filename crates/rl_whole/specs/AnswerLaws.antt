@@ -11,9 +11,9 @@ use Rattle.rl_whole.specs.declared.card_state.CardState.TheVariants.{Free, InCar
 use Rattle.rl_whole.specs.declared.effect.Effect.{Effect}
 use Rattle.rl_whole.specs.declared.effect.Effect.TheVariants.{Work, Stay, Learn}
 use Rattle.rl_whole.specs.declared.whole.WholeView.{WholeView}
-use Rattle.rl_work.specs.Work.{WorkTurned, work_after}
 use Rattle.rl_whole.specs.Split.{skips, effect_at, answer_of, plan_home}
 use Rattle.rl_whole.specs.Whole.{shifted_answer, IsAnswerShiftable, effect_turned, after_of}
+use Rattle.rl_work.specs.Ways.{Worked}
 
 -- while an act goes on, the answer is Moved, or Busy with the home of its word and the holder that the Take found
 first_stays : (a : Act) (home got : ℕ) (b z : Bool) (c : CardState) (s : Stepped) →
@@ -54,14 +54,15 @@ learnt_goes_on base (Some a) got true waits e = cc
 learnt_goes_on base (Some a) got false true e = cc
 learnt_goes_on base (Some a) got false false e = cc
 
-effect_goes_on : {V : Type 0} (L : LockAt V) (x : WholeView V) (w : WorkTurned) (got : ℕ) (t : Effect) →
+effect_goes_on : {V K : Type 0} (L : LockAt V K) (x : WholeView V K) (w : Worked K) (got : ℕ) (t : Effect) → (t ≡ Work → w.stepped ≡ Finished → ⊥) →
     effect_at (plan_home L.table (L.table.plan x.side.view)) (L.table.plan x.side.view) x.side.card got ≡ t → (effect_turned L x w t).stepped ≡ Finished → ⊥
-effect_goes_on L x w got Work q e = cc
-effect_goes_on L x w got (Stay c s) q e =
+effect_goes_on L x w got Work works q e = works refl e
+effect_goes_on L x w got (Stay c s) works q e =
     let same : s ≡ Finished = sym (stays_answer L.base _ _ _ got c s q) ∙ e in
     ⊎_elim (λ k. let bad : Moved ≡ Finished = sym k ∙ same in cc) (λ k. let bad : Busy (plan_home L.table (L.table.plan x.side.view)) (got - 1) ≡ Finished = sym k ∙ same in cc)
     (stays_as (plan_home L.table (L.table.plan x.side.view)) (L.table.plan x.side.view) x.side.card got c s q)
-effect_goes_on L x w got (Learn c t lost) q e = learnt_goes_on L.base (L.table.plan x.side.view) t lost (L.table.learn x.side.view t).waits e
+effect_goes_on L x w got (Learn c t lost) works q e = learnt_goes_on L.base (L.table.plan x.side.view) t lost (L.table.learn x.side.view t).waits e
 
-pub atom_goes_on : {V : Type 0} (L : LockAt V) (x : WholeView V) (got : ℕ) → (after_of L x got).stepped ≡ Finished → ⊥
-atom_goes_on L x got e = effect_goes_on L x (work_after L.site.geom L.site.shard x.rank x.work got) got (effect_at (plan_home L.table (L.table.plan x.side.view)) (L.table.plan x.side.view) x.side.card got) refl e
+pub atom_goes_on : {V K : Type 0} (L : LockAt V K) (x : WholeView V K) (got : ℕ) →
+    (effect_at (plan_home L.table (L.table.plan x.side.view)) (L.table.plan x.side.view) x.side.card got ≡ Work → (L.work.after x.rank x.work got).stepped ≡ Finished → ⊥) → (after_of L x got).stepped ≡ Finished → ⊥
+atom_goes_on L x got works e = effect_goes_on L x (L.work.after x.rank x.work got) got (effect_at (plan_home L.table (L.table.plan x.side.view)) (L.table.plan x.side.view) x.side.card got) works refl e

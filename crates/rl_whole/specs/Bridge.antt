@@ -1,8 +1,8 @@
 -- Between the lock's part and the work's part of the rule: what an atom of the lock does to a standing, and an atom of the work to
 -- the words.
 use Rattle.std.specs.Prelude.{◌≡◌, ◌⊎◌, ℕ, zero, suc, ◌+◌, ◌-◌, ◌<◌, ◌==◌, Bool, true, false, cond, List, [], ◌∷◌, ◌++◌, length, take, drop, if◌then◌else◌, slice_index, slice_set, Option, Some, None, refl}
-use Rattle.std.proofs.Common.{sym, ◌∙◌, ap, ⊎_elim, arith}
-use Rattle.std.proofs.lemmas.List.{take-set-le, drop-set-lt, get_or-take}
+use Rattle.std.proofs.Common.{sym, ◌∙◌, ap, subst, ⊎_elim, arith}
+use Rattle.std.proofs.lemmas.List.{take-set-le, drop-set-lt, drop-set-add}
 use Rattle.rl_word.specs.declared.acts.Act.{Act}
 use Rattle.rl_word.specs.declared.acts.Atom.{Atom}
 use Rattle.rl_word.specs.declared.acts.Atom.TheVariants as atom
@@ -13,14 +13,17 @@ use Rattle.rl_step.specs.declared.events.Standing.{Standing}
 use Rattle.rl_step.specs.declared.events.Standing.TheVariants as standing
 use Rattle.rl_step.specs.declared.events.Stepped.TheVariants.{Moved, Busy}
 use Rattle.rl_step.specs.Lock.{Shift, holds_only}
-use Rattle.rl_step.specs.Do.{do_words, do_cards, do_got, CanDo}
-use Rattle.rl_work.specs.EndLaws.{IsPlain}
+use Rattle.rl_step.specs.Do.{do_words, do_cards}
+use Rattle.rl_work.specs.Site.{lock_base}
+use Rattle.rl_work.specs.Ways.{SameWork, IsWorkWord, IsWorkAtom}
+use Rattle.rl_whole.specs.Running.{LockAt}
+use Rattle.rl_whole.specs.ShiftLaws.{IsLow, above_stays, length-do_words}
 use Rattle.rl_whole.specs.declared.card_state.CardState.{CardState}
 use Rattle.rl_whole.specs.declared.card_state.CardState.TheVariants.{Free, InCard, Loaded, ToLeave}
 use Rattle.rl_whole.specs.declared.effect.Effect.{Effect}
 use Rattle.rl_whole.specs.declared.effect.Effect.TheVariants.{Work, Stay, Learn}
 use Rattle.rl_whole.specs.Split.{skips, effect_at, atom_at}
-use Rattle.rl_whole.specs.Whole.{leaves, one_if, shifted}
+use Rattle.rl_whole.specs.Whole.{leaves, one_if, shifted, lock_words}
 
 -- what an atom of the lock may do to a standing, with its events
 abbrev pub Moves : ℕ → Standing → Standing → List Event → Type 0
@@ -107,29 +110,36 @@ front_stays base (atom.CardLoad w) ws = refl
 front_stays base (atom.CardStore w v) ws = take-set-le base ws (base + w) v (omega arith)
 front_stays base (atom.Leave n) ws = refl
 
-take_set_in : (n : ℕ) (l : List ℕ) (i v : ℕ) → i < n → take n (slice_set l i v) ≡ slice_set (take n l) i v
-take_set_in zero l i v h = absurd (omega arith)
-take_set_in (suc n) [] i v h = refl
-take_set_in (suc n) (x ∷ xs) zero v h = refl
-take_set_in (suc n) (x ∷ xs) (suc i) v h = ap (λ z. x ∷ z) (take_set_in n xs i v (omega arith))
-
--- an atom of the work is on those words alone
-pub record OnFront (base r : ℕ) (at : Atom) (ws cs : List ℕ) : Type 0 where
-  pub front : take base (do_words at ws) ≡ do_words at (take base ws)
-  pub behind : drop base (do_words at ws) ≡ drop base ws
+-- an atom of the work leaves the lock's words and the cards
+pub record IsOffLock {V K : Type 0} (L : LockAt V K) (r : ℕ) (at : Atom) (ws cs : List ℕ) : Type 0 where
+  pub words : lock_words L (do_words at ws) ≡ lock_words L ws
   pub cards : do_cards r at cs ≡ cs
-  pub got : do_got at ws cs ≡ do_got at (take base ws) cs
 
-pub on_front : (base r home : ℕ) (at : Atom) (ws cs : List ℕ) → length (take base ws) ≡ base → IsPlain at → CanDo home r at (take base ws) cs → OnFront base r at ws cs
-on_front base r home (atom.Load w) ws cs e p c =
-    let low : w < length (take base ws) = c in
-    record { front = refl; behind = refl; cards = refl; got = sym (get_or-take base ws w 0 (omega arith)) }
-on_front base r home (atom.Store w v) ws cs e p c =
-    let low : w < length (take base ws) = c in
-    let here : w < base = omega arith in
-    record { front = take_set_in base ws w v here; behind = drop-set-lt base ws w v here; cards = refl; got = refl }
-on_front base r home (atom.LocalCas w old new) ws cs e p c = absurd p
-on_front base r home (atom.Take n) ws cs e p c = absurd p
-on_front base r home (atom.CardLoad w) ws cs e p c = absurd p
-on_front base r home (atom.CardStore w v) ws cs e p c = absurd p
-on_front base r home (atom.Leave n) ws cs e p c = absurd p
+module _ {V K : Type 0} (L : LockAt V K) (base_is : L.base ≡ lock_base L.work.site) (behind_is : L.work.behind ≡ L.base + L.table.size) where
+  set_off : (w v : ℕ) (ws : List ℕ) → IsWorkWord L.work w → lock_words L (slice_set ws w v) ≡ lock_words L ws
+  set_off w v ws h =
+      ⊎_elim
+      (λ low. ap (take L.table.size) (drop-set-lt L.base ws w v (omega arith)))
+      (λ high.
+      let k : ℕ = w - L.base in
+      let at : w ≡ L.base + k = omega arith in
+      ap (λ n. take L.table.size (drop L.base (slice_set ws n v))) at ∙ ap (take L.table.size) (drop-set-add L.base ws k v) ∙ take-set-le L.table.size (drop L.base ws) k v (omega arith))
+      h.place
+
+  pub off_lock : (r : ℕ) (at : Atom) (ws cs : List ℕ) → IsWorkAtom L.work at → IsOffLock L r at ws cs
+  off_lock r (atom.Load w) ws cs h = record { words = refl; cards = refl }
+  off_lock r (atom.Store w v) ws cs h = record { words = set_off w v ws h; cards = refl }
+  off_lock r (atom.LocalCas w old new) ws cs h = absurd h
+  off_lock r (atom.Take n) ws cs h = absurd h
+  off_lock r (atom.CardLoad w) ws cs h = absurd h
+  off_lock r (atom.CardStore w v) ws cs h = absurd h
+  off_lock r (atom.Leave n) ws cs h = absurd h
+
+  -- and an atom of the lock leaves the words of the work
+  pub same_work : (at : Atom) (ws : List ℕ) → IsLow L.table.size at → SameWork L.work ws (do_words (shifted L.base at) ws)
+  same_work at ws low =
+      record {
+        same_length = length-do_words (shifted L.base at) ws;
+        before = subst (λ b. take b (do_words (shifted L.base at) ws) ≡ take b ws) base_is (front_stays L.base at ws);
+        behind = λ w h. above_stays L.base L.table.size at ws w low (omega arith);
+      }

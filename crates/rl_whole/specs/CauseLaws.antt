@@ -1,6 +1,9 @@
 -- Each answer of a step has its cause, for every lock.
-use Rattle.std.specs.Prelude.{◌≡◌, ◌≢◌, ℕ, ◌+◌, ◌==◌, Bool, true, false, not, List, drop, slice_get, slice_index, Option, Some, None, refl}
-use Rattle.std.proofs.Common.{sym, ◌∙◌, ap, subst, ⊎_elim, arith, get_or-drop}
+use Rattle.std.specs.Prelude.{◌≡◌, ◌≢◌, ℕ, ◌+◌, ◌<◌, ◌==◌, Bool, true, false, not, List, map, take, drop, slice_get, slice_index, Option, Some, None, refl}
+use Rattle.std.proofs.Common.{sym, ◌∙◌, ap, subst, inl, inr, ⊎_elim, arith, get_or-drop}
+use Rattle.std.proofs.lemmas.List.{get_or-take}
+use Rattle.rl_step.specs.Core.{MayBe}
+use Rattle.rl_step.specs.declared.events.Stepped.TheVariants.{Moved, Waiting, Lost, Busy, Finished}
 use Rattle.std.proofs.lemmas.Option.{same_Some}
 use Rattle.std.proofs.lemmas.Bool.Decides.{eqb_tells}
 use Rattle.rl_word.specs.Places.{get_map}
@@ -13,9 +16,7 @@ use Rattle.rl_step.specs.declared.events.Event.{Event}
 use Rattle.rl_step.specs.declared.events.Stepped.{Stepped}
 use Rattle.rl_step.specs.Lock.{LockState, LockLaws, Deed, IsLoad, PlansLoad}
 use Rattle.rl_step.specs.Do.{TheWindow, do_got}
-use Rattle.rl_work.specs.Work.{WorkTurned, work_after}
-use Rattle.rl_work.specs.EndLaws.{IsPlain, plain_atom}
-use Rattle.rl_whole.specs.Running.{LockAt}
+use Rattle.rl_whole.specs.Running.{LockAt, Goods, BothLaws}
 use Rattle.rl_whole.specs.declared.card_state.CardState.{CardState}
 use Rattle.rl_whole.specs.declared.card_state.CardState.TheVariants.{Free, InCard, Loaded, ToLeave}
 use Rattle.rl_whole.specs.declared.effect.Effect.{Effect}
@@ -24,16 +25,19 @@ use Rattle.rl_whole.specs.declared.whole.WholeView.{WholeView}
 use Rattle.rl_whole.specs.Split.{SplitState, lock_of, view_of, home_of, plan_home, first_atom, card_atom, side_atom, skips, guess_of, answer_of, effect_at, turned_by, card_after, StandsStill}
 use Rattle.rl_whole.specs.SplitActs.{bool_cases, card_cases, plain_cases, first_card, plain_got, after_plain, after_take, after_busy, after_load, after_skip}
 use Rattle.rl_whole.specs.SplitLaws.{none_at}
-use Rattle.rl_whole.specs.Whole.{side_of, split_of, shifted, shifted_answer, work_plan, next_of, after_of, effect_turned, Good}
+use Rattle.rl_whole.specs.Whole.{side_of, work_side, split_of, lock_words, shifted, shifted_answer, next_of, after_of, Good}
 use Rattle.rl_whole.specs.ShiftLaws.{shift_got}
-use Rattle.rl_whole.specs.WholeLaws.{next_cases, plan_cases}
-use Rattle.rl_whole.specs.Causes.{Compares, Cause, GoesOn}
+use Rattle.rl_whole.specs.WholeLaws.{next_either, works_at, work_answers, after_work, lock_turned}
+use Rattle.rl_whole.specs.WholeOwes.{plan_there}
+use Rattle.rl_whole.specs.Bridge.{no_work}
+use Rattle.rl_whole.specs.Causes.{Compares, Cause, GoesOn, HasToWait, HasLost, IsWork}
+use Rattle.rl_work.specs.Ways.{WorkTable, IsWorkAtom, AnswersAs, IsNextLoad, IsWorkAtom}
 
 -- a plain act whose first atom is a load loads its word; no first atom of a plain act is a Take
-plain_load : {V : Type 0} (L : LockAt V) (a : Act) (word : ℕ) → by_card a ≡ false → shifted L.base (first_atom L.table a) ≡ atom.Load word → IsLoad a
+plain_load : {V K : Type 0} (L : LockAt V K) (a : Act) (word : ℕ) → by_card a ≡ false → shifted L.base (first_atom L.table a) ≡ atom.Load word → IsLoad a
 plain_load L a word e q = plain_cases (λ b. shifted L.base (first_atom L.table b) ≡ atom.Load word → IsLoad b) (λ w k. tt) (λ w v k. cc) (λ w old new k. cc) a e q
 
-plain_no_take : {V : Type 0} (L : LockAt V) (a : Act) (node : ℕ) → by_card a ≡ false → shifted L.base (first_atom L.table a) ≡ atom.Take node → ⊥
+plain_no_take : {V K : Type 0} (L : LockAt V K) (a : Act) (node : ℕ) → by_card a ≡ false → shifted L.base (first_atom L.table a) ≡ atom.Take node → ⊥
 plain_no_take L a node e q = plain_cases (λ b. shifted L.base (first_atom L.table b) ≡ atom.Take node → ⊥) (λ w k. cc) (λ w v k. cc) (λ w old new k. cc) a e q
 
 -- an act that is a load
@@ -46,7 +50,7 @@ load_case P load (act.CardSwap w v) h = absurd h
 load_case P load (act.CardAdd w d) h = absurd h
 
 -- a load's one atom, and what it tells
-load_atom : {V : Type 0} (L : LockAt V) (a : Act) → IsLoad a → shifted L.base (first_atom L.table a) ≡ atom.Load (L.base + word_of a)
+load_atom : {V K : Type 0} (L : LockAt V K) (a : Act) → IsLoad a → shifted L.base (first_atom L.table a) ≡ atom.Load (L.base + word_of a)
 load_atom L a h = load_case (λ b. shifted L.base (first_atom L.table b) ≡ atom.Load (L.base + word_of b)) (λ w. refl) a h
 
 load_told : (a : Act) (g : ℕ) → IsLoad a → told a g ≡ g
@@ -89,7 +93,7 @@ told_skips : (a : Act) (g : ℕ) → by_card a ≡ false → skips a (told a g) 
 told_skips a g e = plain_cases (λ b. skips b (told b g) ≡ skips b g) (λ w. refl) (λ w v. refl) (λ w old new. refl) a e
 
 -- a plain act that skips its store is a local compare-and-swap, and one by card a CardCas
-plain_compares : {V : Type 0} (L : LockAt V) (a : Act) (got : ℕ) → by_card a ≡ false → skips a got ≡ true → Compares L.base a (shifted L.base (first_atom L.table a)) (guess_of a)
+plain_compares : {V K : Type 0} (L : LockAt V K) (a : Act) (got : ℕ) → by_card a ≡ false → skips a got ≡ true → Compares L.base a (shifted L.base (first_atom L.table a)) (guess_of a)
 plain_compares L a got e s =
     plain_cases (λ b. skips b got ≡ true → Compares L.base b (shifted L.base (first_atom L.table b)) (guess_of b)) (λ w k. cc) (λ w v k. cc) (λ w old new k. (refl, refl)) a e s
 
@@ -109,13 +113,21 @@ skips_other (act.CardAdd w d) got s = cc
 plain_told : (a : Act) (g got : ℕ) → by_card a ≡ false → skips a got ≡ true → told a g ≡ g
 plain_told a g got e s = plain_cases (λ b. skips b got ≡ true → told b g ≡ g) (λ w k. refl) (λ w v k. cc) (λ w old new k. refl) a e s
 
+-- the cause of an answer of the lock's atom
+abbrev LockCause : {V K : Type 0} → LockAt V K → TheWindow → V → Atom → Stepped → Type 0
+LockCause L h v at Moved = GoesOn L h v at
+LockCause L h v at (Waiting word value) = HasToWait L h v at word value
+LockCause L h v at (Lost guess seen) = HasLost L h v at guess seen
+LockCause L h v at (Busy node holder) = (at ≡ atom.Take node) × (slice_index h.cards node ≡ holder + 1)
+LockCause L h v at Finished = ⊥
+
 -- where the planned act's round has to be made again after what it found, it is a load, and so is the next act
-abbrev pub BeginsAgain : {V : Type 0} → LockAt V → TheWindow → V → Type 0
+abbrev pub BeginsAgain : {V K : Type 0} → LockAt V K → TheWindow → V → Type 0
 BeginsAgain L h v =
     (a : Act) → L.table.plan v ≡ Some a → (L.table.learn v (told a (slice_index h.words (L.base + word_of a)))).waits ≡ true →
     IsLoad a × PlansLoad (L.table.plan (L.table.learn v (told a (slice_index h.words (L.base + word_of a)))).view)
 
-module _ (V : Type 0) (L : LockAt V) (h : TheWindow) (v : V) (rounds : BeginsAgain L h v) where
+module _ (V K : Type 0) (L : LockAt V K) (h : TheWindow) (v : V) (rounds : BeginsAgain L h v) where
   -- an atom that neither compares nor loads goes on, but for a Take
   plain_sailing : (at : Atom) → ((node : ℕ) → at ≡ atom.Take node → slice_index h.cards node ≡ 0) → (IsCompare at → ⊥) → ((word : ℕ) → at ≡ atom.Load word → ⊥) → GoesOn L h v at
   plain_sailing at free no_compare no_load =
@@ -127,7 +139,7 @@ module _ (V : Type 0) (L : LockAt V) (h : TheWindow) (v : V) (rounds : BeginsAga
 
   -- an answer of a plain act that lost no compare
   learnt_cause : (a : Act) (got : ℕ) → L.table.plan v ≡ Some a → by_card a ≡ false → got ≡ told a (slice_index h.words (L.base + word_of a)) → skips a got ≡ false →
-      (b : Bool) → (L.table.learn v got).waits ≡ b → Cause L h v (Some (shifted L.base (first_atom L.table a))) (shifted_answer L.base (answer_of (Some a) got false b))
+      (b : Bool) → (L.table.learn v got).waits ≡ b → LockCause L h v (shifted L.base (first_atom L.table a)) (shifted_answer L.base (answer_of (Some a) got false b))
   learnt_cause a got pl bc tells sk true e =
       let round = rounds a pl (ap (λ z. (L.table.learn v z).waits) (sym tells) ∙ e) in
       record {
@@ -161,7 +173,7 @@ module _ (V : Type 0) (L : LockAt V) (h : TheWindow) (v : V) (rounds : BeginsAga
   in_window w = get_or-drop L.base h.words w 0
 
   abbrev CauseOf : Atom → Stepped → Type 0
-  CauseOf at s = Cause L h v (Some at) (shifted_answer L.base s)
+  CauseOf at s = LockCause L h v at (shifted_answer L.base s)
 
   -- the one atom of a plain act
   plain_cause : (r : ℕ) (a : Act) (got : ℕ) → L.table.plan v ≡ Some a → by_card a ≡ false → got ≡ do_got (first_atom L.table a) (drop L.base h.words) h.cards →
@@ -226,7 +238,7 @@ module _ (V : Type 0) (L : LockAt V) (h : TheWindow) (v : V) (rounds : BeginsAga
 
   -- the store in a card
   store_cause : (a : Act) (g : ℕ) (b : Bool) → L.table.plan v ≡ Some a → by_card a ≡ true → told a g ≡ told a (slice_index h.words (L.base + word_of a)) → (L.table.learn v (told a g)).waits ≡ b →
-      Cause L h v (Some (atom.CardStore (L.base + word_of a) (written a g))) (shifted_answer L.base (answer_of (Some a) (told a g) false b))
+      LockCause L h v (atom.CardStore (L.base + word_of a) (written a g)) (shifted_answer L.base (answer_of (Some a) (told a g) false b))
   store_cause a g true pl bc tells e = absurd (load_plain a (rounds a pl (ap (λ z. (L.table.learn v z).waits) (sym tells) ∙ e)).0 bc)
   store_cause a g false pl bc tells e = plain_sailing (atom.CardStore (L.base + word_of a) (written a g)) (λ node q. cc) (λ c. c) (λ word q. cc)
 
@@ -249,57 +261,87 @@ module _ (V : Type 0) (L : LockAt V) (h : TheWindow) (v : V) (rounds : BeginsAga
       (store_cause a g (L.table.learn v (told a g)).waits pl k.0 (ap (told a) (sym k.2 ∙ in_window (word_of a))) refl)
 
 -- an atom of the work is no Take
-work_no_take : (at : Atom) (node : ℕ) → IsPlain at → at ≡ atom.Take node → ⊥
-work_no_take (atom.Load w) node h e = cc
-work_no_take (atom.Store w v) node h e = cc
-work_no_take (atom.LocalCas w old new) node h e = absurd h
-work_no_take (atom.Take n) node h e = absurd h
-work_no_take (atom.CardLoad w) node h e = absurd h
-work_no_take (atom.CardStore w v) node h e = absurd h
-work_no_take (atom.Leave n) node h e = absurd h
+pub work_no_take : {K : Type 0} (T : WorkTable K) (at : Atom) (node : ℕ) → IsWorkAtom T at → at ≡ atom.Take node → ⊥
+work_no_take T (atom.Load w) node h e = cc
+work_no_take T (atom.Store w v) node h e = cc
+work_no_take T (atom.LocalCas w old new) node h e = absurd h
+work_no_take T (atom.Take n) node h e = absurd h
+work_no_take T (atom.CardLoad w) node h e = absurd h
+work_no_take T (atom.CardStore w v) node h e = absurd h
+work_no_take T (atom.Leave n) node h e = absurd h
 
--- the answer is the lock's, for an atom of the work too
-effect_answer : {V : Type 0} (L : LockAt V) (x : WholeView V) (t : WorkTurned) (e : Effect) →
-    (effect_turned L x t e).stepped ≡ shifted_answer L.base (turned_by L.table x.rank x.side.view (L.table.plan x.side.view) e).stepped
-effect_answer L x t Work = refl
-effect_answer L x t (Stay c answer) = refl
-effect_answer L x t (Learn c told lost) = refl
+-- a word that stands still among the first so many stands still
+still_longer : (n : ℕ) (ws : List ℕ) (p : Option Act) (c : CardState) → ((a : Act) → p ≡ Some a → word_of a < n) → StandsStill (take n ws) p c → StandsStill ws p c
+still_longer n ws p Free low s = tt
+still_longer n ws p (ToLeave m) low s = tt
+still_longer n ws None InCard low s = absurd s
+still_longer n ws None (Loaded g) low s = absurd s
+still_longer n ws (Some a) InCard low s = s
+still_longer n ws (Some a) (Loaded g) low s = (s.0, s.1, sym (get_or-take n ws (word_of a) 0 (low a refl)) ∙ s.2)
 
-answer_is : {V : Type 0} (L : LockAt V) (x : WholeView V) (got : ℕ) → (after_of L x got).stepped ≡ shifted_answer L.base (card_after L.table x.rank x.side.view (L.table.plan x.side.view) x.side.card got).stepped
-answer_is L x got =
-    effect_answer L x (work_after L.site.geom L.site.shard x.rank x.work got) (effect_at (plan_home L.table (L.table.plan x.side.view)) (L.table.plan x.side.view) x.side.card got)
+-- a cause by the lock is one of the answer, where the atom is the lock's
+lock_gives : {V K : Type 0} (L : LockAt V K) (h : TheWindow) (x : WholeView V K) (at b : Atom) → side_atom L.table x.side ≡ Some b → (s : Stepped) → LockCause L h x.side.view at s → Cause L h x (Some at) s
+lock_gives L h x at b is Moved c = (c, λ w. let bad : Some b ≡ None = sym is ∙ w.0 in absurd (cc))
+lock_gives L h x at b is (Waiting word value) c = inl c
+lock_gives L h x at b is (Lost guess seen) c = inl c
+lock_gives L h x at b is (Busy node holder) c = c
+lock_gives L h x at b is Finished c = absurd c
 
-module _ (V : Type 0) (L : LockAt V) (good : LockState V → Type 0) (further : List Event → List Deed → Type 0) (layout : Layout) (laws : LockLaws L.table good further layout) (home : ℕ) where
+-- the cause of an answer of the work
+work_gives : {V K : Type 0} (L : LockAt V K) (h : TheWindow) (x : WholeView V K) (at : Atom) → IsWork L x at → GoesOn L h x.side.view at → (s : Stepped) → (L.work.after x.rank x.work (do_got at h.words h.cards)).stepped ≡ s →
+    AnswersAs at (do_got at h.words h.cards) (L.work.next x.rank (L.work.after x.rank x.work (do_got at h.words h.cards)).work) (L.work.after x.rank x.work (do_got at h.words h.cards)).follow s → Cause L h x (Some at) s
+work_gives L h x at is goes Moved e a = (goes, λ w. e)
+work_gives L h x at is goes (Waiting word value) e a =
+    inr (record {
+      is_work = is;
+      made = a.0;
+      tells = a.1 ∙ ap (λ z. do_got z h.words h.cards) a.0;
+      unmet = ap (λ n. (L.work.after x.rank x.work n).stepped) a.1 ∙ e;
+      again = subst (λ n. IsNextLoad (L.work.next x.rank (L.work.after x.rank x.work n).work)) (sym a.1) a.2;
+    })
+work_gives L h x at is goes (Lost guess seen) e a =
+    inr (record { is_work = is; loads = a.0; found = sym a.1; other = a.2; lost = ap (λ n. (L.work.after x.rank x.work n).stepped) a.1 ∙ e })
+work_gives L h x at is goes (Busy node holder) e a = absurd a
+work_gives L h x at is goes Finished e a = absurd a
+
+module _ (V K : Type 0) (L : LockAt V K) (good : Goods V K) (further : List Event → List Deed → Type 0) (layout : Layout) (laws : BothLaws L good further layout) (home : ℕ) where
   -- by the lock's law
-  rounds_of : (h : TheWindow) (vs : List (WholeView V)) (r : ℕ) (x : WholeView V) → Good L good layout h vs → slice_get vs r ≡ Some x → BeginsAgain L h x.side.view
+  rounds_of : (h : TheWindow) (vs : List (WholeView V K)) (r : ℕ) (x : WholeView V K) → Good L good layout h vs → slice_get vs r ≡ Some x → BeginsAgain L h x.side.view
   rounds_of h vs r x g has a pl e =
-      let s : SplitState V = split_of L.base h vs g.modes g.past in
-      let here : told a (slice_index s.words (word_of a)) ≡ told a (slice_index h.words (L.base + word_of a)) = ap (told a) (get_or-drop L.base h.words (word_of a) 0) in
-      let law = laws.waits_on_loads (lock_of s) r x.side.view a (record { is_good = g.lock_part.lock; has = get_map view_of s.sides r x.side (get_map side_of vs r x has); planned = pl })
+      let s : SplitState V = split_of L h vs g.modes g.past in
+      let low : word_of a < L.table.size = plan_there V K L good further layout laws home x a (record { held = h; views = vs; rank = r; is_ruled = g; has = has }) pl in
+      let here : told a (slice_index s.words (word_of a)) ≡ told a (slice_index h.words (L.base + word_of a)) = ap (told a) (get_or-take L.table.size (drop L.base h.words) (word_of a) 0 low ∙ get_or-drop L.base h.words (word_of a) 0) in
+      let law = laws.lock.waits_on_loads (lock_of s) r x.side.view a (record { is_good = g.lock_part.lock; has = get_map view_of s.sides r x.side (get_map side_of vs r x has); planned = pl })
       (ap (λ z. (L.table.learn x.side.view z).waits) here ∙ e) in
       (law.0, subst (λ z. PlansLoad (L.table.plan (L.table.learn x.side.view z).view)) here law.1)
 
-  pub answer_cause : (h : TheWindow) (vs : List (WholeView V)) (r : ℕ) (x : WholeView V) (at : Atom) → Good L good layout h vs → slice_get vs r ≡ Some x → next_of L x ≡ Some at →
-      Cause L h x.side.view (Some at) (after_of L x (do_got at h.words h.cards)).stepped
+  pub answer_cause : (h : TheWindow) (vs : List (WholeView V K)) (r : ℕ) (x : WholeView V K) (at : Atom) → Good L good layout h vs → slice_get vs r ≡ Some x → next_of L x ≡ Some at →
+      Cause L h x (Some at) (after_of L x (do_got at h.words h.cards)).stepped
   answer_cause h vs r x at g has e =
-      let still = g.lock_part.still r x.side (get_map side_of vs r x has) in
       let got : ℕ = do_got at h.words h.cards in
-      subst (Cause L h x.side.view (Some at)) (sym (answer_is L x got))
-      (⊎_elim
+      let may : MayBe (Good L good layout) x = record { held = h; views = vs; rank = r; is_ruled = g; has = has } in
+      ⊎_elim
       (λ q.
+      let still = still_longer L.table.size (drop L.base h.words) (L.table.plan x.side.view) x.side.card (λ a pl. plan_there V K L good further layout laws home x a may pl) (g.lock_part.still r x.side (get_map side_of vs r x has)) in
       let same : got ≡ do_got q.0 (drop L.base h.words) h.cards = ap (λ z. do_got z h.words h.cards) (sym q.2) ∙ shift_got L.base q.0 h.words h.cards in
-      subst (λ n. Cause L h x.side.view (Some at) (shifted_answer L.base (card_after L.table x.rank x.side.view (L.table.plan x.side.view) x.side.card n).stepped)) (sym same)
-      (subst (λ z. Cause L h x.side.view (Some z) (shifted_answer L.base (card_after L.table x.rank x.side.view (L.table.plan x.side.view) x.side.card (do_got q.0 (drop L.base h.words) h.cards)).stepped)) q.2
-      (lock_cause V L h x.side.view (rounds_of h vs r x g has) x.rank (L.table.plan x.side.view) x.side.card q.0 refl still q.1)))
+      let calm = no_work (plan_home L.table (L.table.plan x.side.view)) (L.table.plan x.side.view) x.side.card got q.0 q.1 in
+      let answer : (after_of L x got).stepped ≡ shifted_answer L.base (card_after L.table x.rank x.side.view (L.table.plan x.side.view) x.side.card got).stepped =
+      ap (λ t. t.stepped) (lock_turned L x (L.work.after x.rank x.work got) (effect_at (plan_home L.table (L.table.plan x.side.view)) (L.table.plan x.side.view) x.side.card got) calm) in
+      let cause : LockCause L h x.side.view at (shifted_answer L.base (card_after L.table x.rank x.side.view (L.table.plan x.side.view) x.side.card got).stepped) =
+      subst (λ n. LockCause L h x.side.view at (shifted_answer L.base (card_after L.table x.rank x.side.view (L.table.plan x.side.view) x.side.card n).stepped)) (sym same)
+      (subst (λ z. LockCause L h x.side.view z (shifted_answer L.base (card_after L.table x.rank x.side.view (L.table.plan x.side.view) x.side.card (do_got q.0 (drop L.base h.words) h.cards)).stepped)) q.2
+      (lock_cause V K L h x.side.view (rounds_of h vs r x g has) x.rank (L.table.plan x.side.view) x.side.card q.0 refl still q.1)) in
+      lock_gives L h x at q.0 q.1 (after_of L x got).stepped (subst (LockCause L h x.side.view at) (sym answer) cause))
       (λ q.
-      let away = none_at V L.table good further layout laws (drop L.base h.words) (L.table.plan x.side.view) x.side.card still q.0 in
-      let plain : IsPlain at = plain_atom L.site.geom x.work x.work.stage at (plan_cases V L good further layout laws home L.site.geom (L.table.standing x.side.view) x.work at q.1).1 in
-      let work : card_after L.table x.rank x.side.view (L.table.plan x.side.view) x.side.card got ≡ card_after L.table x.rank x.side.view None Free got =
-      ap (λ p. card_after L.table x.rank x.side.view p x.side.card got) away.0 ∙ ap (λ c. card_after L.table x.rank x.side.view None c got) away.1 in
-      subst (λ z. Cause L h x.side.view (Some at) (shifted_answer L.base z.stepped)) (sym work)
-      (record {
-        free = λ node e. absurd (work_no_take at node plain e);
+      let away = none_at V L.table good.lock further layout laws.lock (lock_words L h.words) (L.table.plan x.side.view) x.side.card (g.lock_part.still r x.side (get_map side_of vs r x has)) q.0 in
+      let works = works_at V K L good further layout laws home h vs g r x has at q.1 q.2 in
+      let plain : IsWorkAtom L.work at = laws.work.plain h.words (map (work_side L.table) vs) r (work_side L.table x) at works in
+      let goes : GoesOn L h x.side.view at =
+      record {
+        free = λ node e. absurd (work_no_take L.work at node plain e);
         won = λ guess seen l. let bad : None ≡ Some l.act = sym away.0 ∙ l.planned in cc;
         met = λ word value w. let bad : None ≡ Some w.act = sym away.0 ∙ w.planned in cc;
-      }))
-      (next_cases V L good further layout laws home (side_atom L.table x.side) (work_plan L.site.geom (L.table.standing x.side.view) x.work) at e))
+      } in
+      subst (Cause L h x (Some at)) (sym (ap (λ t. t.stepped) (after_work V K L good further layout laws home h vs g r x has q.0 got)))
+      (work_gives L h x at (q.0, q.2) goes (L.work.after x.rank x.work got).stepped refl (work_answers V K L good further layout laws home h vs g r x has at q.1 q.2)))
+      (next_either V K L good further layout laws home x at e)

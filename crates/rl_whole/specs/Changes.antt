@@ -1,5 +1,5 @@
 -- The holders that a trace tells of are the ranks that stand so: each change of a standing keeps this, and its events are exclusive.
-use Rattle.std.specs.Prelude.{◌≡◌, ◌≢◌, ◌⊎◌, ℕ, ◌==◌, Bool, true, false, List, [], ◌∷◌, if◌then◌else◌, slice_get, slice_set, Some, refl}
+use Rattle.std.specs.Prelude.{◌≡◌, ◌≢◌, ◌⊎◌, ℕ, ◌==◌, Bool, true, false, List, [], ◌∷◌, if◌then◌else◌, slice_get, slice_set, Option, Some, None, refl}
 use Rattle.std.proofs.Common.{sym, ◌∙◌, ap, subst, inl, inr, ⊎_elim, eq-eqb}
 use Rattle.std.proofs.lemmas.Bool.{ne_eqb, true≢false}
 use Rattle.rl_word.specs.Places.{get_set_cases, get_set_same, get_set_other, same_or_not, one_at, set_same_get}
@@ -7,23 +7,26 @@ use Rattle.rl_step.specs.declared.events.Event.{Event}
 use Rattle.rl_step.specs.declared.events.Event.TheVariants.{Touch, EnterW, EnterR, LeaveW, LeaveR}
 use Rattle.rl_step.specs.declared.events.Standing.{Standing}
 use Rattle.rl_step.specs.declared.events.Standing.TheVariants.{Out, Asking, Writer, Reader, Leaving}
-use Rattle.rl_step.specs.Lock.{Shift, IsHolder, holds_only}
+use Rattle.rl_step.specs.Lock.{Shift, Rests, holds_only}
 use Rattle.rl_step.specs.Exclusion.{Alone, ExclusiveFrom, TouchFits, writers_after, readers_after, writers_of, readers_of}
 use Rattle.rl_step.specs.ExclusionLaws.{quiet_writers, quiet_readers, quiet_exclusive, one_holds}
-use Rattle.rl_work.specs.WorkGood.{standing_after}
-use Rattle.rl_whole.specs.Whole.{departure_if}
+use Rattle.rl_work.specs.declared.follow.Follow.{Follow}
+use Rattle.rl_work.specs.declared.follow.Follow.TheVariants.{On, Ask, Over}
+use Rattle.rl_work.specs.Ways.{AsksOut, TouchesAs, standing_after}
+use Rattle.rl_asks.specs.Standings.{AloneIn}
+use Rattle.rl_whole.specs.Whole.{work_events}
 
 -- A change of a rank's standing, and the events of holders that come with it: those of an act; a touch alone, of a writer or, to
--- read, of a reader; or a touch and the holder's leave.
+-- read, of a reader; or the holder's leave, with such a touch before it or without.
 abbrev pub Change : ℕ → Standing → Standing → List Event → Type 0
 Change r Out Asking es = holds_only es ≡ []
 Change r Asking Asking es = holds_only es ≡ []
 Change r Asking Writer es = holds_only es ≡ EnterW r ∷ []
 Change r Asking Reader es = holds_only es ≡ EnterR r ∷ []
 Change r Writer Writer es = (holds_only es ≡ []) ⊎ ((w : Bool) × (es ≡ Touch r w ∷ []))
-Change r Writer Leaving es = (w : Bool) × (es ≡ Touch r w ∷ LeaveW r ∷ [])
+Change r Writer Leaving es = (es ≡ LeaveW r ∷ []) ⊎ ((w : Bool) × (es ≡ Touch r w ∷ LeaveW r ∷ []))
 Change r Reader Reader es = (holds_only es ≡ []) ⊎ (es ≡ Touch r false ∷ [])
-Change r Reader Leaving es = es ≡ Touch r false ∷ LeaveR r ∷ []
+Change r Reader Leaving es = (es ≡ LeaveR r ∷ []) ⊎ (es ≡ Touch r false ∷ LeaveR r ∷ [])
 Change r Leaving Leaving es = holds_only es ≡ []
 Change r Leaving Out es = holds_only es ≡ []
 Change r Out Out es = holds_only es ≡ []
@@ -35,11 +38,6 @@ pub record Match (ws rs : ℕ → Bool) (sts : List Standing) : Type 0 where
   pub writer : (k : ℕ) → slice_get sts k ≡ Some Writer → ws k ≡ true
   pub reads : (k : ℕ) → rs k ≡ true → slice_get sts k ≡ Some Reader
   pub reader : (k : ℕ) → slice_get sts k ≡ Some Reader → rs k ≡ true
-
--- at most one stands as writer, and none as reader beside it
-pub record AloneIn (sts : List Standing) : Type 0 where
-  pub one : (i j : ℕ) → slice_get sts i ≡ Some Writer → slice_get sts j ≡ Some Writer → i ≡ j
-  pub none : (i j : ℕ) → slice_get sts i ≡ Some Writer → slice_get sts j ≡ Some Reader → ⊥
 
 alone_of : (ws rs : ℕ → Bool) (sts : List Standing) → Match ws rs sts → AloneIn sts → Alone ws rs
 alone_of ws rs sts m a =
@@ -140,21 +138,27 @@ leave_goes ws rs sts r w e es m a b h touch leave after =
     subst (λ z. Goes ws rs z (slice_set sts r Leaving)) (sym h)
     (record { match = after; exclusive = (alone, touch, (alone, leave, alone_of (writers_after e ws) (readers_after e rs) (slice_set sts r Leaving) after b)) })
 
+left_w : (ws rs : ℕ → Bool) (sts : List Standing) (r : ℕ) → Match ws rs sts → slice_get sts r ≡ Some Writer → Match (writers_after (LeaveW r) ws) (readers_after (LeaveW r) rs) (slice_set sts r Leaving)
+left_w ws rs sts r m has =
+    match_set ws rs (writers_after (LeaveW r) ws) (readers_after (LeaveW r) rs) sts r Writer Leaving m has
+    (λ k ne. (set_there k r false ws ne, refl))
+    (λ e. let q : false ≡ true = sym (set_here r false ws) ∙ e in cc) (λ e. cc) (λ e. let q : Writer ≡ Reader = one_at sts r Writer Reader has (m.reads r e) in cc) (λ e. cc)
+
+left_r : (ws rs : ℕ → Bool) (sts : List Standing) (r : ℕ) → Match ws rs sts → slice_get sts r ≡ Some Reader → Match (writers_after (LeaveR r) ws) (readers_after (LeaveR r) rs) (slice_set sts r Leaving)
+left_r ws rs sts r m has =
+    match_set ws rs (writers_after (LeaveR r) ws) (readers_after (LeaveR r) rs) sts r Reader Leaving m has
+    (λ k ne. (refl, set_there k r false rs ne))
+    (λ e. let q : Reader ≡ Writer = one_at sts r Reader Writer has (m.writes r e) in cc) (λ e. cc) (λ e. let q : false ≡ true = sym (set_here r false rs) ∙ e in cc) (λ e. cc)
+
 leave_w_goes : (ws rs : ℕ → Bool) (sts : List Standing) (r : ℕ) (w : Bool) (es : List Event) → Match ws rs sts → AloneIn sts → AloneIn (slice_set sts r Leaving) → slice_get sts r ≡ Some Writer → es ≡ Touch r w ∷ LeaveW r ∷ [] →
     Goes ws rs es (slice_set sts r Leaving)
 leave_w_goes ws rs sts r w es m a b has h =
-    leave_goes ws rs sts r w (LeaveW r) es m a b h (touch_w_fits ws rs r w (m.writer r has)) tt
-    (match_set ws rs (writers_after (LeaveW r) ws) (readers_after (LeaveW r) rs) sts r Writer Leaving m has
-    (λ k ne. (set_there k r false ws ne, refl))
-    (λ e. let q : false ≡ true = sym (set_here r false ws) ∙ e in cc) (λ e. cc) (λ e. let q : Writer ≡ Reader = one_at sts r Writer Reader has (m.reads r e) in cc) (λ e. cc))
+    leave_goes ws rs sts r w (LeaveW r) es m a b h (touch_w_fits ws rs r w (m.writer r has)) tt (left_w ws rs sts r m has)
 
 leave_r_goes : (ws rs : ℕ → Bool) (sts : List Standing) (r : ℕ) (es : List Event) → Match ws rs sts → AloneIn sts → AloneIn (slice_set sts r Leaving) → slice_get sts r ≡ Some Reader → es ≡ Touch r false ∷ LeaveR r ∷ [] →
     Goes ws rs es (slice_set sts r Leaving)
 leave_r_goes ws rs sts r es m a b has h =
-    leave_goes ws rs sts r false (LeaveR r) es m a b h (λ f. m.reader r has) tt
-    (match_set ws rs (writers_after (LeaveR r) ws) (readers_after (LeaveR r) rs) sts r Reader Leaving m has
-    (λ k ne. (refl, set_there k r false rs ne))
-    (λ e. let q : Reader ≡ Writer = one_at sts r Reader Writer has (m.writes r e) in cc) (λ e. cc) (λ e. let q : false ≡ true = sym (set_here r false rs) ∙ e in cc) (λ e. cc))
+    leave_goes ws rs sts r false (LeaveR r) es m a b h (λ f. m.reader r has) tt (left_r ws rs sts r m has)
 
 -- a step that changes a rank's standing as it may keeps the match, and its events are exclusive
 pub goes : (ws rs : ℕ → Bool) (sts : List Standing) (r : ℕ) (old st : Standing) (es : List Event) → Match ws rs sts → AloneIn sts → AloneIn (slice_set sts r st) → slice_get sts r ≡ Some old →
@@ -175,14 +179,18 @@ goes ws rs sts r Writer Writer es m a b has h =
     ⊎_elim (λ q. quiet_goes ws rs sts r Writer Writer es m a has q (λ e. refl) (λ e. refl) (λ e. cc) (λ e. cc))
     (λ q. touch_goes ws rs sts r Writer q.0 es m a has q.1 (touch_w_fits ws rs r q.0 (m.writer r has))) h
 goes ws rs sts r Writer Reader es m a b has h = absurd h
-goes ws rs sts r Writer Leaving es m a b has h = leave_w_goes ws rs sts r h.0 es m a b has h.1
+goes ws rs sts r Writer Leaving es m a b has h =
+    ⊎_elim (λ q. event_goes ws rs sts (slice_set sts r Leaving) es (LeaveW r) (ap holds_only q) m a b tt (left_w ws rs sts r m has))
+    (λ q. leave_w_goes ws rs sts r q.0 es m a b has q.1) h
 goes ws rs sts r Reader Out es m a b has h = absurd h
 goes ws rs sts r Reader Asking es m a b has h = absurd h
 goes ws rs sts r Reader Writer es m a b has h = absurd h
 goes ws rs sts r Reader Reader es m a b has h =
     ⊎_elim (λ q. quiet_goes ws rs sts r Reader Reader es m a has q (λ e. cc) (λ e. cc) (λ e. refl) (λ e. refl))
     (λ q. touch_goes ws rs sts r Reader false es m a has q (λ f. m.reader r has)) h
-goes ws rs sts r Reader Leaving es m a b has h = leave_r_goes ws rs sts r es m a b has h
+goes ws rs sts r Reader Leaving es m a b has h =
+    ⊎_elim (λ q. event_goes ws rs sts (slice_set sts r Leaving) es (LeaveR r) (ap holds_only q) m a b tt (left_r ws rs sts r m has))
+    (λ q. leave_r_goes ws rs sts r es m a b has q) h
 goes ws rs sts r Leaving Out es m a b has h = quiet_goes ws rs sts r Leaving Out es m a has h (λ e. cc) (λ e. cc) (λ e. cc) (λ e. cc)
 goes ws rs sts r Leaving Asking es m a b has h = absurd h
 goes ws rs sts r Leaving Writer es m a b has h = absurd h
@@ -218,12 +226,38 @@ change_refl r Writer = inl refl
 change_refl r Reader = inl refl
 change_refl r Leaving = refl
 
--- the change by an atom of the work: a reader's writes nothing
-pub work_change : (r : ℕ) (st : Standing) (w over : Bool) (new : Standing) → IsHolder st → (st ≡ Reader → w ≡ false) → new ≡ standing_after over st → Change r st new (Touch r w ∷ departure_if r st over)
-work_change r Out w over new h reads e = absurd h
-work_change r Asking w over new h reads e = absurd h
-work_change r Writer w true new h reads e = subst (λ z. Change r Writer z (Touch r w ∷ LeaveW r ∷ [])) (sym e) (w, refl)
-work_change r Writer w false new h reads e = subst (λ z. Change r Writer z (Touch r w ∷ [])) (sym e) (inr (w, refl))
-work_change r Reader w true new h reads e = subst (λ z. Change r Reader z (Touch r w ∷ LeaveR r ∷ [])) (sym e) (ap (λ b. Touch r b ∷ LeaveR r ∷ []) (reads refl))
-work_change r Reader w false new h reads e = subst (λ z. Change r Reader z (Touch r w ∷ [])) (sym e) (inr (ap (λ b. Touch r b ∷ []) (reads refl)))
-work_change r Leaving w over new h reads e = absurd h
+-- the change by an atom of the work: a rank that is out touches nothing, and a reader's touch writes nothing
+out_quiet : (r : ℕ) (touch : Option Bool) (follow : Follow) → TouchesAs touch Out → holds_only (work_events r touch Out follow) ≡ []
+out_quiet r None On t = refl
+out_quiet r None (Ask m) t = refl
+out_quiet r None Over t = refl
+out_quiet r (Some true) follow t = absurd (cc)
+out_quiet r (Some false) follow t = absurd t
+
+out_change : (r : ℕ) (touch : Option Bool) (follow : Follow) → TouchesAs touch Out → Change r Out (standing_after follow Out) (work_events r touch Out follow)
+out_change r touch On t = out_quiet r touch On t
+out_change r touch (Ask m) t = out_quiet r touch (Ask m) t
+out_change r touch Over t = out_quiet r touch Over t
+
+holder_change_w : (r : ℕ) (touch : Option Bool) (follow : Follow) → AsksOut follow Writer → Change r Writer (standing_after follow Writer) (work_events r touch Writer follow)
+holder_change_w r None On a = inl refl
+holder_change_w r (Some w) On a = inr (w, refl)
+holder_change_w r touch (Ask m) a = absurd (cc)
+holder_change_w r None Over a = inl refl
+holder_change_w r (Some w) Over a = inr (w, refl)
+
+holder_change_r : (r : ℕ) (touch : Option Bool) (follow : Follow) → TouchesAs touch Reader → AsksOut follow Reader → Change r Reader (standing_after follow Reader) (work_events r touch Reader follow)
+holder_change_r r None On t a = inl refl
+holder_change_r r (Some true) On t a = absurd (cc)
+holder_change_r r (Some false) On t a = inr refl
+holder_change_r r touch (Ask m) t a = absurd (cc)
+holder_change_r r None Over t a = inl refl
+holder_change_r r (Some true) Over t a = absurd (cc)
+holder_change_r r (Some false) Over t a = inr refl
+
+pub work_change : (r : ℕ) (st : Standing) (touch : Option Bool) (follow : Follow) (new : Standing) → Rests st → TouchesAs touch st → AsksOut follow st → new ≡ standing_after follow st → Change r st new (work_events r touch st follow)
+work_change r Out touch follow new h t a e = subst (λ z. Change r Out z (work_events r touch Out follow)) (sym e) (out_change r touch follow t)
+work_change r Asking touch follow new h t a e = absurd h
+work_change r Writer touch follow new h t a e = subst (λ z. Change r Writer z (work_events r touch Writer follow)) (sym e) (holder_change_w r touch follow a)
+work_change r Reader touch follow new h t a e = subst (λ z. Change r Reader z (work_events r touch Reader follow)) (sym e) (holder_change_r r touch follow t a)
+work_change r Leaving touch follow new h t a e = absurd h

@@ -1,5 +1,5 @@
 -- Which atoms a rank's next one may be: those of cards only where the rank may make acts through cards.
-use Rattle.std.specs.Prelude.{◌≡◌, ℕ, true, List, slice_get, Option, Some, None, refl}
+use Rattle.std.specs.Prelude.{◌≡◌, ℕ, true, List, map, slice_get, Option, Some, None, refl}
 use Rattle.std.proofs.Common.{sym, ap, subst, ⊎_elim}
 use Rattle.std.proofs.lemmas.Option.{same_Some}
 use Rattle.rl_word.specs.Acts.{word_of, by_card, Layout}
@@ -15,31 +15,13 @@ use Rattle.rl_whole.specs.declared.card_state.CardState.TheVariants.{Free, InCar
 use Rattle.rl_whole.specs.declared.side.Side.{Side}
 use Rattle.rl_step.specs.Core.{MayBe}
 use Rattle.rl_step.specs.Do.{TheWindow}
-use Rattle.rl_whole.specs.Running.{LockAt, ShardRun}
+use Rattle.rl_whole.specs.Running.{LockAt, Goods, BothLaws}
+use Rattle.rl_asks.specs.Domains.{IsCardAtom, IsLocalAtom, IsLocalAct}
 use Rattle.rl_whole.specs.declared.whole.WholeView.{WholeView}
-use Rattle.rl_whole.specs.Whole.{shifted, work_plan, next_of, side_of, Good}
-use Rattle.rl_whole.specs.WholeLaws.{next_cases, plan_cases}
-use Rattle.rl_work.specs.EndLaws.{IsPlain, plain_atom}
+use Rattle.rl_whole.specs.Whole.{shifted, next_of, side_of, work_side, Good}
+use Rattle.rl_whole.specs.WholeLaws.{next_either, works_at}
 use Rattle.rl_whole.specs.Split.{SplitState, LockGood, UsesCards, lock_of, view_of, side_atom, card_atom, card_in, first_at, home_of}
-
--- an atom of a card
-abbrev pub IsCardAtom : Atom → Type 0
-IsCardAtom (atom.Load w) = ⊥
-IsCardAtom (atom.Store w v) = ⊥
-IsCardAtom (atom.LocalCas w old new) = ⊥
-IsCardAtom (atom.Take n) = Unit {0}
-IsCardAtom (atom.CardLoad w) = Unit {0}
-IsCardAtom (atom.CardStore w v) = Unit {0}
-IsCardAtom (atom.Leave n) = Unit {0}
-
--- a local compare-and-swap, as an atom and as an act
-abbrev pub IsLocalAtom : Atom → Type 0
-IsLocalAtom (atom.LocalCas w old new) = Unit {0}
-IsLocalAtom _ = ⊥
-
-abbrev pub IsLocalAct : Act → Type 0
-IsLocalAct (act.LocalCas w old new) = Unit {0}
-IsLocalAct _ = ⊥
+use Rattle.rl_work.specs.Ways.{WorkTable, IsWorkAtom}
 
 -- the lock lets rank r make some local compare-and-swap
 abbrev pub UsesLocals : {V : Type 0} → LockTable V → ℕ → Type 0
@@ -47,16 +29,11 @@ UsesLocals T r = (a : Act) × IsLocalAct a × (T.may_make r a ≡ true)
 
 -- in every state under the rule a rank's next atom is one of a card only where it may make acts through cards, and a local
 -- compare-and-swap only where it may make one
-abbrev pub KeepsToCards : {V : Type 0} → LockAt V → (TheWindow → List (WholeView V) → Type 0) → Type 0
+abbrev pub KeepsToCards : {V K : Type 0} → LockAt V K → (TheWindow → List (WholeView V K) → Type 0) → Type 0
 KeepsToCards L rule = (x : _) (at : Atom) → MayBe rule x → next_of L x ≡ Some at → IsCardAtom at → UsesCards L.table x.rank
 
-abbrev pub KeepsToLocals : {V : Type 0} → LockAt V → (TheWindow → List (WholeView V) → Type 0) → Type 0
+abbrev pub KeepsToLocals : {V K : Type 0} → LockAt V K → (TheWindow → List (WholeView V K) → Type 0) → Type 0
 KeepsToLocals L rule = (x : _) (at : Atom) → MayBe rule x → next_of L x ≡ Some at → IsLocalAtom at → UsesLocals L.table x.rank
-
--- so on a shard: whichever atom a rank comes to make there
-pub record KeepsDomains {V : Type 0} (S : ShardRun V) : Type 0 where
-  pub cards : (k : ℕ) (x : WholeView V) (at : Atom) → slice_get S.views k ≡ Some x → next_of S.lock x ≡ Some at → IsCardAtom at → UsesCards S.lock.table k
-  pub locals : (k : ℕ) (x : WholeView V) (at : Atom) → slice_get S.views k ≡ Some x → next_of S.lock x ≡ Some at → IsLocalAtom at → UsesLocals S.lock.table k
 
 module _ (V : Type 0) (T : LockTable V) (good : LockState V → Type 0) (further : List Event → List Deed → Type 0) (layout : Layout) (laws : LockLaws T good further layout) where
   -- the first atom of an act is of its kind
@@ -97,14 +74,14 @@ module _ (V : Type 0) (T : LockTable V) (good : LockState V → Type 0) (further
   local_atom_allowed s r x at g has e c = local_at s r x.view (T.plan x.view) x.card at g has refl e c
 
 -- an atom of the work is neither
-plain_neither : (at : Atom) → IsPlain at → (IsCardAtom at → ⊥) × (IsLocalAtom at → ⊥)
-plain_neither (atom.Load w) p = (λ c. c, λ c. c)
-plain_neither (atom.Store w v) p = (λ c. c, λ c. c)
-plain_neither (atom.LocalCas w old new) p = (λ c. c, λ c. p)
-plain_neither (atom.Take n) p = (λ c. p, λ c. c)
-plain_neither (atom.CardLoad w) p = (λ c. p, λ c. c)
-plain_neither (atom.CardStore w v) p = (λ c. p, λ c. c)
-plain_neither (atom.Leave n) p = (λ c. p, λ c. c)
+plain_neither : {K : Type 0} (T : WorkTable K) (at : Atom) → IsWorkAtom T at → (IsCardAtom at → ⊥) × (IsLocalAtom at → ⊥)
+plain_neither T (atom.Load w) p = (λ c. c, λ c. c)
+plain_neither T (atom.Store w v) p = (λ c. c, λ c. c)
+plain_neither T (atom.LocalCas w old new) p = (λ c. c, λ c. p)
+plain_neither T (atom.Take n) p = (λ c. p, λ c. c)
+plain_neither T (atom.CardLoad w) p = (λ c. p, λ c. c)
+plain_neither T (atom.CardStore w v) p = (λ c. p, λ c. c)
+plain_neither T (atom.Leave n) p = (λ c. p, λ c. c)
 
 -- and one that is moved by the lock's base is of the kind that it was
 unshifted : (base : ℕ) (at : Atom) → (IsCardAtom (shifted base at) → IsCardAtom at) × (IsLocalAtom (shifted base at) → IsLocalAtom at)
@@ -117,30 +94,20 @@ unshifted base (atom.CardStore w v) = (λ h. h, λ h. h)
 unshifted base (atom.Leave n) = (λ h. h, λ h. h)
 
 -- a rank's next atom of the whole machine
-module _ (V : Type 0) (L : LockAt V) (good : LockState V → Type 0) (further : List Event → List Deed → Type 0) (layout : Layout) (laws : LockLaws L.table good further layout) (home : ℕ) where
-  planned_plain : (x : WholeView V) (at : Atom) → work_plan L.site.geom (L.table.standing x.side.view) x.work ≡ Some at → IsPlain at
-  planned_plain x at e = plain_atom L.site.geom x.work x.work.stage at (plan_cases V L good further layout laws home L.site.geom (L.table.standing x.side.view) x.work at e).1
-
+module _ (V K : Type 0) (L : LockAt V K) (good : Goods V K) (further : List Event → List Deed → Type 0) (layout : Layout) (laws : BothLaws L good further layout) (home : ℕ) where
   -- a kind of atoms, none of which is the work's, and that a rank's lock makes only where it may
-  module _ (IsKind : Atom → Type 0) (Uses : ℕ → Type 0) (same : (at : Atom) → IsKind (shifted L.base at) → IsKind at) (no_work : (at : Atom) → IsPlain at → IsKind at → ⊥)
-      (allowed : (s : SplitState V) (r : ℕ) (x : Side V) (at : Atom) → LockGood L.table good layout s → slice_get s.sides r ≡ Some x → side_atom L.table x ≡ Some at → IsKind at → Uses r) where
-    next_allowed : (x : WholeView V) (at : Atom) → MayBe (Good L good layout) x → next_of L x ≡ Some at → IsKind at → Uses x.rank
+  module _ (IsKind : Atom → Type 0) (Uses : ℕ → Type 0) (same : (at : Atom) → IsKind (shifted L.base at) → IsKind at) (no_work : (at : Atom) → IsWorkAtom L.work at → IsKind at → ⊥)
+      (allowed : (s : SplitState V) (r : ℕ) (x : Side V) (at : Atom) → LockGood L.table good.lock layout s → slice_get s.sides r ≡ Some x → side_atom L.table x ≡ Some at → IsKind at → Uses r) where
+    next_allowed : (x : WholeView V K) (at : Atom) → MayBe (Good L good layout) x → next_of L x ≡ Some at → IsKind at → Uses x.rank
     next_allowed x at m e c =
         ⊎_elim
         (λ q. subst Uses (sym (m.is_ruled.own m.rank x m.has)) (allowed _ m.rank x.side q.0 m.is_ruled.lock_part (get_map side_of m.views m.rank x m.has) q.1 (same q.0 (subst IsKind (sym q.2) c))))
-        (λ q. absurd (no_work at (planned_plain x at q.1) c))
-        (next_cases V L good further layout laws home (side_atom L.table x.side) (work_plan L.site.geom (L.table.standing x.side.view) x.work) at e)
+        (λ q. absurd (no_work at (laws.work.plain m.held.words (map (work_side L.table) m.views) m.rank (work_side L.table x) at
+        (works_at V K L good further layout laws home m.held m.views m.is_ruled m.rank x m.has at q.1 q.2)) c))
+        (next_either V K L good further layout laws home x at e)
 
-  pub next_card_allowed : (x : WholeView V) (at : Atom) → MayBe (Good L good layout) x → next_of L x ≡ Some at → IsCardAtom at → UsesCards L.table x.rank
-  next_card_allowed = next_allowed IsCardAtom (UsesCards L.table) (λ at. (unshifted L.base at).0) (λ at p. (plain_neither at p).0) (card_atom_allowed V L.table good further layout laws)
+  pub next_card_allowed : (x : WholeView V K) (at : Atom) → MayBe (Good L good layout) x → next_of L x ≡ Some at → IsCardAtom at → UsesCards L.table x.rank
+  next_card_allowed = next_allowed IsCardAtom (UsesCards L.table) (λ at. (unshifted L.base at).0) (λ at p. (plain_neither L.work at p).0) (card_atom_allowed V L.table good.lock further layout laws.lock)
 
-  pub next_local_allowed : (x : WholeView V) (at : Atom) → MayBe (Good L good layout) x → next_of L x ≡ Some at → IsLocalAtom at → UsesLocals L.table x.rank
-  next_local_allowed = next_allowed IsLocalAtom (UsesLocals L.table) (λ at. (unshifted L.base at).1) (λ at p. (plain_neither at p).1) (local_atom_allowed V L.table good further layout laws)
-
-  -- so each shard under the rule keeps them
-  pub keeps_domains : (h : TheWindow) (vs : List (WholeView V)) (trace : List (ℕ × Event)) → Good L good layout h vs → KeepsDomains (record { lock = L; held = h; views = vs; trace = trace })
-  keeps_domains h vs trace rule =
-      record {
-        cards = λ k x at has next is. subst (UsesCards L.table) (rule.own k x has) (next_card_allowed x at (record { held = h; views = vs; rank = k; is_ruled = rule; has = has }) next is);
-        locals = λ k x at has next is. subst (UsesLocals L.table) (rule.own k x has) (next_local_allowed x at (record { held = h; views = vs; rank = k; is_ruled = rule; has = has }) next is);
-      }
+  pub next_local_allowed : (x : WholeView V K) (at : Atom) → MayBe (Good L good layout) x → next_of L x ≡ Some at → IsLocalAtom at → UsesLocals L.table x.rank
+  next_local_allowed = next_allowed IsLocalAtom (UsesLocals L.table) (λ at. (unshifted L.base at).1) (λ at p. (plain_neither L.work at p).1) (local_atom_allowed V L.table good.lock further layout laws.lock)

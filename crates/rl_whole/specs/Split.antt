@@ -7,7 +7,7 @@ use Rattle.rl_word.specs.declared.acts.Atom.{Atom}
 use Rattle.rl_word.specs.declared.acts.Atom.TheVariants as atom
 use Rattle.rl_word.specs.Acts.{word_of, written, told, by_card, Layout}
 use Rattle.rl_step.specs.declared.events.Event.{Event}
-use Rattle.rl_step.specs.declared.events.Event.TheVariants.{Touch, LeaveW, LeaveR}
+use Rattle.rl_step.specs.declared.events.Event.TheVariants.{LeaveW, LeaveR}
 use Rattle.rl_step.specs.declared.events.Standing.{Standing}
 use Rattle.rl_step.specs.declared.events.Standing.TheVariants as standing
 use Rattle.rl_step.specs.declared.events.Stepped.{Stepped}
@@ -150,10 +150,10 @@ departure rank standing.Writer = LeaveW rank ∷ []
 departure rank standing.Reader = LeaveR rank ∷ []
 departure rank standing.Leaving = []
 
--- what an effect leaves of the side of rank, which has this lock view and this planned act. The work is one load of the count, which is a touch
+-- what an effect leaves of the side of rank, which has this lock view and this planned act. The work's atoms are none of the lock's: what
+-- they leave of its side is for the whole machine to say (`work_turned`)
 abbrev pub turned_by : {V : Type 0} → LockTable V → ℕ → V → Option Act → Effect → SideTurned V
-turned_by T rank v p Work =
-    record { side = record { view = T.leave v; card = Free }; events = Touch rank false ∷ departure rank (T.standing v); deeds = []; stepped = Moved }
+turned_by T rank v p Work = record { side = record { view = v; card = Free }; events = []; deeds = []; stepped = Moved }
 turned_by T rank v p (Stay c answer) = record { side = record { view = v; card = c }; events = []; deeds = []; stepped = answer }
 turned_by T rank v p (Learn c got lost) =
     record {

@@ -1,118 +1,112 @@
--- What an atom does to a rank's work: its block goes on, or ends, and then its entries join the transcript.
-use Rattle.std.specs.Prelude.{◌≡◌, ◌⊎◌, ℕ, Bool, true, false, List, ◌++◌, map, take, slice_get, Some, refl}
-use Rattle.std.proofs.Common.{sym, ◌∙◌, ap, subst, inl, inr}
-use Rattle.rl_word.specs.Places.{get_map}
+-- What an atom does to the ranks' work: of each rank its block goes on, or is done, and then its entries join the transcript.
+use Rattle.std.specs.Prelude.{◌≡◌, ◌⊎◌, ℕ, List, map, slice_get, slice_set, Some, None, refl}
+use Rattle.std.proofs.Common.{sym, ◌∙◌, ap, subst, inl, inr, ⊎_elim}
+use Rattle.rl_word.specs.Places.{get_map, map_set, get_set_cases, one_at}
 use Rattle.rl_word.specs.Acts.{Layout}
 use Rattle.rl_word.specs.declared.acts.Atom.{Atom}
-use Rattle.rl_model.specs.declared.entry.Entry.{Entry}
-use Rattle.rl_journal.specs.Blocks.{calls_of}
 use Rattle.rl_step.specs.declared.events.Event.{Event}
 use Rattle.rl_step.specs.declared.events.Standing.{Standing}
-use Rattle.rl_step.specs.declared.events.Standing.TheVariants.{Out, Asking, Writer, Reader, Leaving}
-use Rattle.rl_step.specs.Lock.{LockState, LockLaws, Deed, IsHolder, Shift}
-use Rattle.rl_step.specs.Do.{TheWindow, do_got}
-use Rattle.rl_step.specs.Core.{MayGet}
-use Rattle.rl_work.specs.Work.{TheWork, WorkTurned, batch_in, work_after}
-use Rattle.rl_work.specs.AtomLaws.{entry_calls, few_replies}
-use Rattle.rl_work.specs.EndLaws.{Tells, Ends, EndsBy, turn_ends}
-use Rattle.rl_whole.specs.Running.{LockAt}
-use Rattle.rl_whole.specs.declared.effect.Effect.{Effect}
-use Rattle.rl_whole.specs.declared.effect.Effect.TheVariants as effect
+use Rattle.rl_step.specs.Lock.{Deed, Rests}
+use Rattle.rl_step.specs.Do.{TheWindow, do_got, do_words}
+use Rattle.rl_work.specs.Ways.{WorkSide, Worked, SameWork, Works, look, own_look, side_after}
+pub use Rattle.rl_work.specs.Ways.{Look, GoesOn, EndsWork, AtomWork}
+use Rattle.rl_whole.specs.Running.{LockAt, Goods, BothLaws}
 use Rattle.rl_whole.specs.declared.whole.WholeView.{WholeView}
-use Rattle.rl_whole.specs.Split.{SplitState, lock_of, view_of, effect_at, plan_home}
-use Rattle.rl_whole.specs.Changes.{shift_cases}
-use Rattle.rl_whole.specs.LearnLaws.{learns_at}
-use Rattle.rl_whole.specs.Whole.{side_of, work_side, split_of, left_if, next_of, after_of, whole_table, effect_turned, Good}
-use Rattle.rl_whole.specs.WholeOwes.{work_holds, got_is}
-use Rattle.rl_whole.specs.ShardGood.{stand}
-use Rattle.rl_whole.specs.RankGood.{is_working}
+use Rattle.rl_whole.specs.Split.{side_atom}
+use Rattle.rl_whole.specs.Bridge.{same_work}
+use Rattle.rl_whole.specs.Whole.{work_side, shifted, followed, look_of, next_of, after_of, Good}
+use Rattle.rl_whole.specs.WholeLaws.{next_either, works_at, lock_low, work_at, laid, own_after, after_work, after_lock, followed_stands}
 
--- the block goes on, or there is none: the rank is at work as it was
-pub record GoesOn (x y : TheWork) (old new : Standing) : Type 0 where
-  pub same_calls : y.calls ≡ x.calls
-  pub same_seq : y.seq ≡ x.seq
-  pub same_items : y.transcript.items ≡ x.transcript.items
-  pub same_room : y.transcript.room ≡ x.transcript.room
-  pub works : is_working new ≡ is_working old
+-- looks that are one
+pub same_looks : (shard rank : ℕ) (a b : Look) → b ≡ a → AtomWork shard rank a b
+same_looks shard rank a b e =
+    inl (record {
+      same_calls = ap (λ (z : Look). z.calls) e;
+      same_seq = ap (λ (z : Look). z.seq) e;
+      same_items = ap (λ (z : Look). z.items) e;
+      same_room = ap (λ (z : Look). z.room) e;
+      owes = ap (λ (z : Look). z.owes) e;
+    })
 
--- the work of the block ends: its entries join the transcript
-pub record EndsWork (shard rank : ℕ) (x y : TheWork) (old new : Standing) : Type 0 where
-  pub was : is_working old ≡ true
-  pub is_over : is_working new ≡ false
-  pub same_room : y.transcript.room ≡ x.transcript.room
-  pub entries : List Entry
-  pub items : y.transcript.items ≡ x.transcript.items ++ entries
-  pub calls_are : calls_of entries ≡ x.calls
-  pub tells : Tells shard rank (batch_in x) x.seq 0 entries
+module _ (V K : Type 0) (L : LockAt V K) (good : Goods V K) (further : List Event → List Deed → Type 0) (layout : Layout) (laws : BothLaws L good further layout) (home : ℕ) where
+  module _ (h : TheWindow) (vs : List (WholeView V K)) (r : ℕ) (x : WholeView V K) (at : Atom) (g : Good L good layout h vs) (has : slice_get vs r ≡ Some x) (e : next_of L x ≡ Some at) where
+    abbrev got : ℕ
+    got = do_got at h.words h.cards
 
-abbrev pub AtomWork : ℕ → ℕ → TheWork → TheWork → Standing → Standing → Type 0
-AtomWork shard rank x y old new = GoesOn x y old new ⊎ EndsWork shard rank x y old new
+    abbrev after : WholeView V K
+    after = (after_of L x (do_got at h.words h.cards)).view
 
--- an act of the lock leaves a rank at work as it was
-shift_works : (r : ℕ) (old new : Standing) (es : List Event) → Shift r old new es → is_working new ≡ is_working old
-shift_works r old new es s = shift_cases r es (λ o n. is_working n ≡ is_working o) (λ e. refl) (λ e. refl) (λ e. refl) (λ e. refl) (λ e. refl) old new s
+    -- an atom of the lock leaves the rank's work, and what it says of all ranks
+    lock_case : (b : Atom) → side_atom L.table x.side ≡ Some b → shifted L.base b ≡ at → (k : ℕ) (u w : WholeView V K) → slice_get vs k ≡ Some u → slice_get (slice_set vs r after) k ≡ Some w →
+        look_of L (do_words at h.words) w ≡ look_of L h.words u
+    lock_case b is same k u w was now =
+        let kept : (x.rank ≡ after.rank) × (x.work ≡ after.work) = after_lock V K L good further layout laws home x b at (do_got at h.words h.cards) is in
+        let low = lock_low V K L good further layout laws home h vs g r x has b is in
+        let others : SameWork L.work h.words (do_words at h.words) = subst (λ z. SameWork L.work h.words (do_words z h.words)) same (same_work L g.base_is g.behind_is b h.words low) in
+        let seen : look L.work (do_words at h.words) k u.work ≡ look L.work h.words k u.work =
+        laws.work.same_look h.words (do_words at h.words) (map (work_side L.table) vs) k (work_side L.table u) (work_at V K L good further layout laws home h vs g k u was) others in
+        let named : u.rank ≡ k = g.own k u was in
+        let stays : look_of L (do_words at h.words) u ≡ look_of L h.words u = ap (λ n. look L.work (do_words at h.words) n u.work) named ∙ seen ∙ ap (λ n. look L.work h.words n u.work) (sym named) in
+        ⊎_elim
+        (λ q.
+        let here : x ≡ u = one_at vs r x u has (ap (slice_get vs) (sym q.0) ∙ was) in
+        ap (look_of L (do_words at h.words)) q.1 ∙ ap (λ n. look L.work (do_words at h.words) n after.work) (sym kept.0) ∙ ap (look L.work (do_words at h.words) x.rank) (sym kept.1)
+        ∙ ap (look_of L (do_words at h.words)) here ∙ stays)
+        (λ q. ap (look_of L (do_words at h.words)) (one_at vs k w u q.1 was) ∙ stays)
+        (get_set_cases vs r k after w now)
 
-holder_works : (st : Standing) → IsHolder st → is_working st ≡ true
-holder_works Out h = absurd h
-holder_works Asking h = absurd h
-holder_works Writer h = refl
-holder_works Reader h = refl
-holder_works Leaving h = absurd h
+    -- an atom of the work
+    module _ (none : side_atom L.table x.side ≡ None) (rests : Rests (L.table.standing x.side.view)) (planned : L.work.next x.rank x.work ≡ Some at) where
+      works : Works L.work good.work h.words (map (work_side L.table) vs) r (work_side L.table x) at
+      works = works_at V K L good further layout laws home h vs g r x has at rests planned
 
-module _ (V : Type 0) (L : LockAt V) (good : LockState V → Type 0) (further : List Event → List Deed → Type 0) (layout : Layout) (laws : LockLaws L.table good further layout) (home : ℕ) where
-  module _ (h : TheWindow) (vs : List (WholeView V)) (r : ℕ) (x : WholeView V) (at : Atom) (g : Good L good layout h vs) (has : slice_get vs r ≡ Some x) (e : next_of L x ≡ Some at) where
-    abbrev may_get : MayGet (whole_table L home) (Good L good layout) x (do_got at h.words h.cards)
-    may_get = record { held = h; views = vs; rank = r; atom = at; plans = record { is_ruled = g; has = has; planned = e }; gives = refl }
+      named_x : x.rank ≡ r
+      named_x = g.own r x has
 
-    -- an atom of the work, by whether the work is over with it
-    over_work : IsHolder (stand L.table x) → (w : WorkTurned) → Ends L.site.shard r x.work w → (over : Bool) → w.over ≡ over →
-        AtomWork L.site.shard r x.work w.work (stand L.table x) (L.table.standing (left_if L.table x.side.view w.over))
-    over_work holds w ended false q =
-        inl (record {
-          same_calls = ended.same_calls;
-          same_seq = ended.same_seq;
-          same_items = subst (EndsBy L.site.shard r x.work w.work) q ended.kept;
-          same_room = ended.same_room;
-          works = ap (λ b. is_working (L.table.standing (left_if L.table x.side.view b))) q;
-        })
-    over_work holds w ended true q =
-        let k : EndsBy L.site.shard r x.work w.work true = subst (EndsBy L.site.shard r x.work w.work) q ended.kept in
-        inr (record {
-          was = holder_works (stand L.table x) holds;
-          is_over = ap (λ b. is_working (L.table.standing (left_if L.table x.side.view b))) q ∙ ap is_working (laws.leave_leaves x.side.view holds);
-          same_room = ended.same_room;
-          entries = k.0;
-          items = k.1;
-          calls_are = k.2;
-          tells = k.3;
-        })
+      abbrev turned : ℕ → Worked K
+      turned n = L.work.after n x.work (do_got at h.words h.cards)
 
-    work_effect : (n : ℕ) → n ≡ r → (t : Effect) → effect_at (plan_home L.table (L.table.plan x.side.view)) (L.table.plan x.side.view) x.side.card (do_got at h.words h.cards) ≡ t →
-        AtomWork L.site.shard r x.work (effect_turned L x (work_after L.site.geom L.site.shard n x.work (do_got at h.words h.cards)) t).view.work (stand L.table x)
-        (stand L.table (effect_turned L x (work_after L.site.geom L.site.shard n x.work (do_got at h.words h.cards)) t).view)
-    work_effect n named effect.Work q =
-        let got : ℕ = do_got at h.words h.cards in
-        let holds : IsHolder (stand L.table x) = work_holds V L good further layout laws home x got may_get q in
-        let side : slice_get (map (work_side L.table) vs) r ≡ Some (work_side L.table x) = get_map (work_side L.table) vs r x has in
-        let ended : (k : ℕ) → k ≡ r → Ends L.site.shard r x.work (work_after L.site.geom L.site.shard k x.work got) = λ k is.
-        subst (λ z. Ends L.site.shard r x.work (work_after L.site.geom L.site.shard z x.work got)) (sym is)
-        (turn_ends L.site.geom L.site.shard r x.work x.work.stage got (few_replies L.site (take L.base h.words) (map (work_side L.table) vs) g.work_part r (work_side L.table x) side)
-        (λ made st. entry_calls L.site (take L.base h.words) (map (work_side L.table) vs) g.work_part r (work_side L.table x) side made st)) in
-        over_work holds (work_after L.site.geom L.site.shard n x.work got) (ended n named) (work_after L.site.geom L.site.shard n x.work got).over refl
-    work_effect n named (effect.Stay hand answer) q = inl (record { same_calls = refl; same_seq = refl; same_items = refl; same_room = refl; works = refl })
-    work_effect n named (effect.Learn hand told' lost) q =
-        let s : SplitState V = split_of L.base h vs g.modes g.past in
-        let here : slice_get s.sides r ≡ Some x.side = get_map side_of vs r x has in
-        let l = learns_at V L.table good further layout laws s r x.side.view (L.table.plan x.side.view) x.side.card (do_got at h.words h.cards) hand told' lost g.lock_part here refl q
-        (λ b f. got_is V L good further layout laws home x (do_got at h.words h.cards) may_get b f) in
-        inl (record {
-          same_calls = refl;
-          same_seq = refl;
-          same_items = refl;
-          same_room = refl;
-          works = subst (λ k. is_working (L.table.standing (L.table.learn x.side.view k).view) ≡ is_working (stand L.table x)) (sym l.2)
-              (shift_works r _ _ _ (laws.shifts (lock_of s) r x.side.view l.0 (record { is_good = g.lock_part.lock; has = get_map view_of s.sides r x.side here; planned = l.1 })));
-        })
+      after_is : after ≡ record { side = after.side; rank = x.rank; work = (turned x.rank).work }
+      after_is =
+          let q = after_work V K L good further layout laws home h vs g r x has none (do_got at h.words h.cards) in
+          ap (λ t. record { side = after.side; rank = t.view.rank; work = t.view.work }) q
 
-    pub atom_work : AtomWork L.site.shard r x.work (after_of L x (do_got at h.words h.cards)).view.work (stand L.table x) (stand L.table (after_of L x (do_got at h.words h.cards)).view)
-    atom_work = work_effect x.rank (g.own r x has) (effect_at (plan_home L.table (L.table.plan x.side.view)) (L.table.plan x.side.view) x.side.card (do_got at h.words h.cards)) refl
+      stands : side_after L.work r (work_side L.table x) (do_got at h.words h.cards) ≡ work_side L.table after
+      stands =
+          let asks = (laws.work.follows h.words h.cards (map (work_side L.table) vs) r (work_side L.table x) at works).0 in
+          let q = after_work V K L good further layout laws home h vs g r x has none (do_got at h.words h.cards) in
+          ap (λ st. record { standing = st; work = (turned r).work }) (sym (followed_stands L.table good.lock further layout laws.lock x.side.view (turned r).follow asks))
+          ∙ ap (λ n. record { standing = L.table.standing (followed L.table x.side.view (turned n).follow); work = (turned n).work }) (sym named_x)
+          ∙ ap (λ t. work_side L.table t.view) (sym q)
+
+      work_case : (k : ℕ) (u w : WholeView V K) → slice_get vs k ≡ Some u → slice_get (slice_set vs r after) k ≡ Some w →
+          AtomWork L.work.site.shard k (look_of L h.words u) (look_of L (do_words at h.words) w)
+      work_case k u w was now =
+          let before : u.rank ≡ k = g.own k u was in
+          let behind : w.rank ≡ k = own_after vs r x after g.own has (ap (λ z. z.rank) after_is) k w now in
+          let there : slice_get (slice_set (map (work_side L.table) vs) r (side_after L.work r (work_side L.table x) (do_got at h.words h.cards))) k ≡ Some (work_side L.table w) =
+          ap (λ z. slice_get (slice_set (map (work_side L.table) vs) r z) k) stands ∙ ap (λ z. slice_get z k) (sym (map_set (work_side L.table) vs r after)) ∙ get_map (work_side L.table) (slice_set vs r after) k w now in
+          subst (λ n. AtomWork L.work.site.shard k (look L.work h.words n u.work) (look_of L (do_words at h.words) w)) (sym before)
+          (subst (λ n. AtomWork L.work.site.shard k (look L.work h.words k u.work) (look L.work (do_words at h.words) n w.work)) (sym behind)
+          (laws.work.changes h.words h.cards (map (work_side L.table) vs) r (work_side L.table x) at works k (work_side L.table u) (work_side L.table w) (get_map (work_side L.table) vs k u was) there))
+
+      turn_case : AtomWork L.work.site.shard r (own_look L.work x.work) (own_look L.work after.work)
+      turn_case =
+          subst (λ z. AtomWork L.work.site.shard r (own_look L.work x.work) (own_look L.work z)) (ap (λ n. (turned n).work) (sym named_x) ∙ ap (λ z. z.work) (sym after_is))
+          (laws.work.turns h.words h.cards (map (work_side L.table) vs) r (work_side L.table x) at works)
+
+    -- of each rank
+    pub atom_work : (k : ℕ) (u w : WholeView V K) → slice_get vs k ≡ Some u → slice_get (slice_set vs r after) k ≡ Some w → AtomWork L.work.site.shard k (look_of L h.words u) (look_of L (do_words at h.words) w)
+    atom_work k u w was now =
+        ⊎_elim
+        (λ q. same_looks L.work.site.shard k (look_of L h.words u) (look_of L (do_words at h.words) w) (lock_case q.0 q.1 q.2 k u w was now))
+        (λ q. work_case q.0 q.1 q.2 k u w was now)
+        (next_either V K L good further layout laws home x at e)
+
+    -- and of the rank that makes it, by what it keeps itself
+    pub atom_turn : AtomWork L.work.site.shard r (own_look L.work x.work) (own_look L.work after.work)
+    atom_turn =
+        ⊎_elim
+        (λ q. same_looks L.work.site.shard r (own_look L.work x.work) (own_look L.work after.work) (ap (own_look L.work) (sym (after_lock V K L good further layout laws home x q.0 at (do_got at h.words h.cards) q.1).1)))
+        (λ q. turn_case q.0 q.1 q.2)
+        (next_either V K L good further layout laws home x at e)

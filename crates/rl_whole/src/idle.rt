@@ -1,71 +1,34 @@
 //! Atoms of which it is seen beforehand that they change nothing.
 
-ghost use Rattle.std.specs.Prelude.{◌≡◌, ◌↔◌, ◌==◌, ◌<◌, ℕ, true, false, length, slice_index, Some, IfSome};
+ghost use Rattle.std.specs.Prelude.{◌≡◌, Some, None, IfSome};
+ghost use Rattle.rl_word.specs.declared.acts.Act.{Act as TheAct};
+ghost use Rattle.rl_asks.specs.Idle.{SeenWaiting};
 ghost use Rattle.rl_step.specs.Core.{MayBe};
-ghost use Rattle.rl_whole.specs.Running.{lock_at};
-ghost use Rattle.rl_step.specs.declared.events.Stepped.{Stepped as TheStepped};
-ghost use Rattle.rl_step.specs.Do.{TheWindow};
-ghost use Rattle.rl_whole.specs.Rest.{IsIdle};
-ghost use Rattle.rl_whole.specs.Rested.{Shows, IsNamed};
-ghost use Rattle.rl_whole.specs.Whole.{rule_of, is_open, next_of};
+ghost use Rattle.rl_whole.specs.Running.{tables, goods};
+ghost use Rattle.rl_whole.specs.Whole.{rule_of};
+ghost use Rattle.rl_whole.specs.WholeShards.{shard_at};
 
 use crate::card_state::CardState;
-use crate::split::{by_card, word};
 use crate::whole::{Whole, WholeView};
 use arrayvec::ArrayVec;
-use rl_step::{Algo, Stepped, Words};
-use rl_word::Act;
+use rl_step::{Algo, Core, Stepped, Words};
+use rl_word::{Act, Atom};
+use rl_work::Work;
 
-/// The act that a view's next atom begins, where its rank is in no card.
+/// The answer of a load of the lock, where its test isn't met, and the lock's view stays as it was: it changes nothing, and is answered by
+/// Waiting. `None` says nothing of the atom.
 #[inline(always)]
-fn act_begun<A: Algo>(core: &Whole<A>, view: &WholeView<A::View>) -> Option<Act>
-    requires { MayBe (rule_of A.table A.good A.layout core.now) view.now }
-    ensures { IfSome result (λ act. (view.now.side.card ≡ CardState.Free) × ((A.table core.now.algo).plan view.now.side.view ≡ Some act)) }
+fn lock_waits<A: Algo, W: Work>(
+    core: &Whole<A, W>,
+    view: &WholeView<A::View, W::Side>,
+    words: &Words,
+    word: u32,
+) -> Option<Stepped>
+    requires may { (s : MayBe (rule_of (tables A.table W.table) (goods A.good W.good) A.layout core.now) view.now) × (s.held ≡ words.now) }
+    requires free { view.now.side.card ≡ CardState.Free }
+    requires planned { (A.table core.now.algo).plan view.now.side.view ≡ Some (TheAct.Load word) }
+    ensures { IfSome result (SeenWaiting (shard_at (tables A.table W.table) core.now) words.now view.now) }
 {
-    match view.side.card {
-        CardState::Free => core.algo.plan(view.side.view),
-        CardState::InCard | CardState::Loaded { .. } | CardState::ToLeave { .. } => None,
-    }
-}
-
-/// The answer of a view's next atom on these words and cards, where the atom is a Take and another rank is in the card: it changes
-/// nothing, and is answered by Busy. `None` says nothing of the atom.
-#[inline(always)]
-pub fn idle<A: Algo>(core: &Whole<A>, view: &WholeView<A::View>, words: &Words) -> Option<Stepped>
-    requires { (s : MayBe (rule_of A.table A.good A.layout core.now) view.now) × (s.held ≡ words.now) }
-    ensures in_call { IfSome result (λ _. is_open (lock_at A.table core.now) view.now ≡ true) }
-    ensures named { IfSome result (IsNamed words.now) }
-    ensures shows { IfSome result (λ answer. Shows words.now answer answer) }
-    ensures idle { IfSome result (λ answer. (k : ℕ) (h : TheWindow) (a : TheStepped) → Shows h answer a → IsIdle (lock_at A.table core.now) h k view.now (next_of (lock_at A.table core.now) view.now) a) }
-{
-    let act = act_begun(core, view)?;
-    if !by_card(act) {
-        return None;
-    }
-    let node = core.algo.spot(word(act)).home;
-    let held = words.card(node);
-    if held == 0 {
-        return None;
-    }
-    Some(Stepped::Busy {
-        node,
-        holder: (held - 1) as u32,
-    })
-}
-
-/// The answer of a view's next atom on these words and cards, where the atom is a load of the lock whose test isn't met, and the
-/// lock's view stays as it was: it changes nothing, and is answered by Waiting. `None` says nothing of the atom.
-#[inline(always)]
-pub fn waits<A: Algo>(core: &Whole<A>, view: &WholeView<A::View>, words: &Words) -> Option<Stepped>
-    requires { (s : MayBe (rule_of A.table A.good A.layout core.now) view.now) × (s.held ≡ words.now) }
-    ensures in_call { IfSome result (λ _. is_open (lock_at A.table core.now) view.now ≡ true) }
-    ensures named { IfSome result (IsNamed words.now) }
-    ensures shows { IfSome result (λ answer. Shows words.now answer answer) }
-    ensures idle { IfSome result (λ answer. (k : ℕ) (h : TheWindow) (a : TheStepped) → Shows h answer a → IsIdle (lock_at A.table core.now) h k view.now (next_of (lock_at A.table core.now) view.now) a) }
-{
-    let Act::Load { word } = act_begun(core, view)? else {
-        return None;
-    };
     let at = core.base + word;
     let value = words.value(at);
     let mut events = ArrayVec::new();
@@ -78,20 +41,48 @@ pub fn waits<A: Algo>(core: &Whole<A>, view: &WholeView<A::View>, words: &Words)
     }
 }
 
-/// Whether another rank is in the card that a rank was seen to be about to take: it rests still.
+/// The answer of the work's next atom, where the lock plans nothing, and it is seen to be a load by which the rank waits on: it changes
+/// nothing, and is answered by Waiting. `None` says nothing of the atom.
 #[inline(always)]
-pub fn is_held(words: &Words, node: u32) -> bool
-    requires { node < length words.now.cards }
-    ensures { (result ≡ true) ↔ ((slice_index words.now.cards node == 0) ≡ false) }
+fn work_waits<A: Algo, W: Work>(
+    core: &Whole<A, W>,
+    view: &WholeView<A::View, W::Side>,
+    words: &Words,
+) -> Option<Stepped>
+    requires may { (s : MayBe (rule_of (tables A.table W.table) (goods A.good W.good) A.layout core.now) view.now) × (s.held ≡ words.now) }
+    requires free { view.now.side.card ≡ CardState.Free }
+    requires planned { (A.table core.now.algo).plan view.now.side.view ≡ None }
+    ensures { IfSome result (SeenWaiting (shard_at (tables A.table W.table) core.now) words.now view.now) }
 {
-    words.card(node) != 0
+    let next = core.next(view)?;
+    let Atom::Load { word } = next.0 else {
+        return None;
+    };
+    let value = words.value(word);
+    if core.work.waits_on(view.rank, &view.work, word, value) {
+        Some(Stepped::Waiting { word, value })
+    } else {
+        None
+    }
 }
 
-/// Whether a word has the value with which a rank was seen to wait for it: it rests still.
+/// The answer of a view's next atom on these words and cards, where it is seen that the atom is a load, of the lock or of the work, by
+/// which its rank waits on as it stands. `None` says nothing of the atom.
 #[inline(always)]
-pub fn has_still(words: &Words, word: u32, value: u64) -> bool
-    requires { word < length words.now.words }
-    ensures { (result ≡ true) ↔ (slice_index words.now.words word ≡ value) }
+pub fn waits<A: Algo, W: Work>(
+    core: &Whole<A, W>,
+    view: &WholeView<A::View, W::Side>,
+    words: &Words,
+) -> Option<Stepped>
+    requires { (s : MayBe (rule_of (tables A.table W.table) (goods A.good W.good) A.layout core.now) view.now) × (s.held ≡ words.now) }
+    ensures { IfSome result (SeenWaiting (shard_at (tables A.table W.table) core.now) words.now view.now) }
 {
-    words.value(word) == value
+    let CardState::Free = view.side.card else {
+        return None;
+    };
+    match core.algo.plan(view.side.view) {
+        Some(Act::Load { word }) => lock_waits(core, view, words, word),
+        Some(_) => None,
+        None => work_waits(core, view, words),
+    }
 }

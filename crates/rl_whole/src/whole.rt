@@ -1,72 +1,72 @@
-//! A rank's whole machine over any lock.
+//! A rank's whole machine over any lock and any way of working.
 
-ghost use Rattle.std.specs.Prelude.{◌≡◌, ◌↔◌, ◌∷◌, ◌+◌, ◌<◌, ◌≤◌, ℕ, [], false, None, Some, length, sum, IfOk};
+ghost use Rattle.std.specs.Prelude.{◌≡◌, ◌↔◌, ◌++◌, ◌+◌, ◌<◌, ◌≤◌, ℕ, [], false, None, Some, length, sum, IfOk};
 ghost use Rattle.rl_model.specs.Geom.{GeomFits};
 ghost use Rattle.rl_word.specs.Shapes.{IsProper, layout_of};
 ghost use Rattle.rl_step.specs.Core.{MayBe};
 ghost use Rattle.rl_step.specs.Lock.{HandsOn};
-ghost use Rattle.rl_step.specs.declared.events.Event.TheVariants.{Touch as touched_by};
+ghost use Rattle.rl_work.specs.Ways.{AsksOut};
 ghost use Rattle.rl_whole.specs.Domains.{KeepsToCards, KeepsToLocals};
 ghost use Rattle.rl_whole.specs.Opening.{first_view, opened_in};
-ghost use Rattle.rl_whole.specs.Running.{lock_at};
-ghost use Rattle.rl_whole.specs.Split.{asked_act, card_word, word_home};
-ghost use Rattle.rl_whole.specs.Start.{lock_with, site_with};
-ghost use Rattle.rl_whole.specs.Whole.{whole_table, planned_in, next_of, is_at_work, is_open, mode_of, rule_of, departure_if};
+ghost use Rattle.rl_whole.specs.Running.{lock_at, tables, goods, good_at, lock_with, kinds};
+ghost use Rattle.rl_whole.specs.Split.{asked_act, card_of, card_word, word_home};
+ghost use Rattle.rl_asks.specs.ShardTables.{site_with};
+ghost use Rattle.rl_whole.specs.Whole.{whole_table, planned_in, next_of, is_at_work, is_open, rule_of, touch_by, departure_by, followed};
 ghost use Rattle.rl_whole.specs.WholeLaws.{whole_laws};
 
 use crate::card_state::CardState;
 use crate::effect::Effect;
 use crate::shift::{shift, shift_answer};
 use crate::side::Side;
-use crate::split::{answer, card_word, effect, next_atom};
+use crate::split::{answer, card_word, effect, next_atom, word_planned};
 use arrayvec::ArrayVec;
-use rl_model::{Call, Entry, Geom};
+use rl_model::{Call, Geom};
 use rl_step::{Algo, Core, Event, Plan, Standing, Stepped};
-use rl_word::{Act, Atom, Knobs, Mode, Shape};
-use rl_work::{Work, journal_base};
+use rl_word::{Act, Atom, Knobs, Shape};
+use rl_work::{Follow, Work, journal_base};
 use std::alloc::{AllocError as OutOfMemory, Global};
 
 /// What a rank knows between two of its atoms.
 #[derive(Drop)]
-pub struct WholeView<V: Copy> {
+pub struct WholeView<V: Copy, K: Drop> {
     /// The lock's side of it.
     pub side: Side<V>,
     /// The rank's number.
     pub rank: u32,
     /// Its side of the work of its calls, with its transcript.
-    pub work: Work,
+    pub work: K,
 }
 
 /// A rank's machine for one shard: the lock, whose words stand in the window from `base` on, and the work of a block.
 #[derive(Drop)]
-pub struct Whole<A: Algo> {
+pub struct Whole<A: Algo, W: Work> {
     /// The shard's lock.
     pub algo: A,
+    /// How its blocks are done.
+    pub work: W,
     /// The window's number of the lock's first word.
     pub base: u32,
     /// The node that the words before the lock's live on.
     pub home: u32,
-    /// The size of the table.
-    pub geom: Geom,
-    /// The shard's number.
-    pub shard: u32,
-    /// How many updates each rank may make on the shard.
-    pub rooms: Vec<u32>,
 }
 
-/// Tells the events of an atom of the work: the touch, and the holder's leave where the work is over with it. None was told before.
+/// Tells the events of an atom of the work: the touch, if it is one, and the holder's leave where the block is over with it. None was told
+/// before.
+#[inline(always)]
 fn tell_work(
     rank: u32,
     standing: Standing,
-    write: bool,
-    over: bool,
+    touch: Option<bool>,
+    follow: Follow,
     events: &mut ArrayVec<Event, 8>,
 )
     requires { events.old.items ≡ [] }
-    ensures { events.new.items ≡ touched_by rank write ∷ departure_if rank standing over }
+    ensures { events.new.items ≡ touch_by rank touch ++ departure_by rank standing follow }
 {
-    events.push(Event::Touch { rank, write });
-    if over {
+    if let Some(write) = touch {
+        events.push(Event::Touch { rank, write });
+    }
+    if let Follow::Over = follow {
         match standing {
             Standing::Writer => events.push(Event::LeaveW { rank }),
             Standing::Reader => events.push(Event::LeaveR { rank }),
@@ -88,17 +88,7 @@ fn at_work(standing: Standing, card: CardState) -> bool
     }
 }
 
-/// The mode in which a block asks for the lock: to read for a get alone, and else to write.
-fn mode(calls: &[Call]) -> Mode
-    ensures { result ≡ mode_of calls.now }
-{
-    match calls.first() {
-        Some(call) if call.reads() => Mode::Read,
-        _ => Mode::Write,
-    }
-}
-
-impl<A: Algo> Whole<A> {
+impl<A: Algo, W: Work> Whole<A, W> {
     /// The home of a planned act's word, where the card state asks for it, and else 0.
     #[inline(always)]
     fn plan_home(&self, plan: Option<Act>, card: CardState) -> u32
@@ -113,8 +103,8 @@ impl<A: Algo> Whole<A> {
 
     /// The act that a view plans, where the card state asks for it.
     #[inline(always)]
-    fn asked_act(&self, view: &WholeView<A::View>) -> Option<Act>
-        requires { MayBe (rule_of A.table A.good A.layout self.now) view.now }
+    fn asked_act(&self, view: &WholeView<A::View, W::Side>) -> Option<Act>
+        requires { MayBe (rule_of (tables A.table W.table) (goods A.good W.good) A.layout self.now) view.now }
         ensures { result ≡ asked_act ((A.table self.now.algo).plan view.now.side.view) view.now.side.card }
     {
         match view.side.card {
@@ -125,11 +115,28 @@ impl<A: Algo> Whole<A> {
         }
     }
 
+    /// The lock's view behind an atom of the work, of a rank that stands so.
+    #[inline(always)]
+    fn followed(&self, view: A::View, standing: Standing, follow: Follow) -> A::View
+        requires stands { standing ≡ (A.table self.now.algo).standing view }
+        requires asks { AsksOut follow standing }
+        ensures { result ≡ followed (A.table self.now.algo) view follow }
+    {
+        match follow {
+            Follow::On => view,
+            Follow::Ask(mode) => self.algo.ask(view, mode),
+            Follow::Over => match standing {
+                Standing::Writer | Standing::Reader => self.algo.leave(view),
+                _ => view,
+            },
+        }
+    }
+
     /// The act that a view plans and the home of its word, each where the card state asks for it.
     #[inline(always)]
-    fn planned(&self, view: &WholeView<A::View>) -> Plan
-        requires { MayBe (rule_of A.table A.good A.layout self.now) view.now }
-        ensures { result ≡ planned_in (lock_at A.table self.now).table view.now }
+    fn planned(&self, view: &WholeView<A::View, W::Side>) -> Plan
+        requires { MayBe (rule_of (tables A.table W.table) (goods A.good W.good) A.layout self.now) view.now }
+        ensures { result ≡ planned_in (lock_at (tables A.table W.table) self.now).table view.now }
     {
         let act = self.asked_act(view);
         let home = self.plan_home(act, view.side.card);
@@ -137,23 +144,25 @@ impl<A: Algo> Whole<A> {
     }
 }
 
-impl<A: Algo> Core for Whole<A> {
-    type View = WholeView<A::View>;
+impl<A: Algo, W: Work> Core for Whole<A, W> {
+    type View = WholeView<A::View, W::Side>;
 
-    ghost table = { λ c. whole_table (lock_at A.table c) c.home };
+    ghost table = { λ c. whole_table (lock_at (tables A.table W.table) c) c.home };
 
-    ghost plan_of = { λ c. planned_in (lock_at A.table c).table };
+    ghost plan_of = { λ c. planned_in (lock_at (tables A.table W.table) c).table };
 
-    ghost rule = { rule_of A.table A.good A.layout };
+    ghost rule = { rule_of (tables A.table W.table) (goods A.good W.good) A.layout };
 
     #[inline(always)]
-    fn next(&self, view: &WholeView<A::View>) -> Option<(Atom, Plan)> {
+    fn next(&self, view: &WholeView<A::View, W::Side>) -> Option<(Atom, Plan)> {
         let plan = self.planned(view);
         match next_atom(plan.home, plan.act, view.side.card) {
             Some(atom) => Some((shift(self.base, atom), plan)),
             None => match self.algo.standing(view.side.view) {
-                Standing::Writer | Standing::Reader => Some((view.work.next(self.geom)?, plan)),
-                _ => None,
+                Standing::Out | Standing::Writer | Standing::Reader => {
+                    Some((self.work.next(view.rank, &view.work)?, plan))
+                }
+                Standing::Asking | Standing::Leaving => None,
             },
         }
     }
@@ -161,7 +170,7 @@ impl<A: Algo> Core for Whole<A> {
     #[inline(always)]
     fn after(
         &self,
-        view: &mut WholeView<A::View>,
+        view: &mut WholeView<A::View, W::Side>,
         plan: Plan,
         got: u64,
         events: &mut ArrayVec<Event, 8>,
@@ -170,14 +179,12 @@ impl<A: Algo> Core for Whole<A> {
             Effect::Work => {
                 let rank = view.rank;
                 let standing = self.algo.standing(view.side.view);
-                let write = view.work.stores();
-                let over = view.work.turn(self.geom, self.shard, rank, got);
-                tell_work(rank, standing, write, over, events);
+                let touch = self.work.touch(&view.work);
+                let step = self.work.after(rank, &mut view.work, got);
+                tell_work(rank, standing, touch, step.follow, events);
                 view.side.card = CardState::Free;
-                if over {
-                    view.side.view = self.algo.leave(view.side.view);
-                }
-                Stepped::Moved
+                view.side.view = self.followed(view.side.view, standing, step.follow);
+                step.stepped
             }
             Effect::Stay { card, stepped } => {
                 view.side.card = card;
@@ -194,12 +201,14 @@ impl<A: Algo> Core for Whole<A> {
     fn home(&self, word: u32) -> u32 {
         if word < self.base {
             self.home
-        } else {
+        } else if word - self.base < self.algo.words() {
             self.algo.spot(word - self.base).home
+        } else {
+            self.work.home(word - self.base - self.algo.words())
         }
     }
 
-    ghost laws = { λ c. whole_laws _ (lock_at A.table c) (A.good c.algo) (A.further c.algo) (A.layout c.algo) (A.laws c.algo) c.home };
+    ghost laws = { λ c. whole_laws _ _ (lock_at (tables A.table W.table) c) (good_at (goods A.good W.good) c) (A.further c.algo) (A.layout c.algo) (record { lock = A.laws c.algo; work = W.laws c.work }) c.home };
 }
 
 /// How many words an entry of a journal takes.
@@ -213,7 +222,7 @@ fn places(rooms: &[u32]) -> u32
     rooms.iter().sum()
 }
 
-impl<A: Algo> Whole<A> {
+impl<A: Algo, W: Work> Whole<A, W> {
     /// The machine of a shard whose home is this node of a proper shape, over the lock that the settings make: its number, the
     /// size of its table, and how many updates each rank may make on it, at most 20,000 in all. Refused only for want of memory.
     pub fn new(
@@ -224,36 +233,39 @@ impl<A: Algo> Whole<A> {
         geom: Geom,
         shard: u32,
         rooms: Vec<u32>,
-    ) -> Result<Whole<A>, OutOfMemory>
+    ) -> Result<Whole<A, W>, OutOfMemory>
         requires proper { IsProper shape.now }
         requires knobs { A.suits_knobs shape.now knobs }
         requires home { home < shape.now.nodes }
         requires fits { GeomFits geom }
         requires few { sum rooms.items ≤ 20000 }
-        ensures lock { IfOk result (λ c. lock_at A.table c ≡ lock_with (A.defined shape.now home knobs) (site_with geom shard rooms.items)) }
+        requires ranks { length rooms.items ≡ length shape.now.node_of }
+        ensures lock { IfOk result (λ c. lock_at (tables A.table W.table) c ≡ lock_with (kinds A.defined W.defined shape.now home knobs) (site_with geom shard rooms.items)) }
         ensures promised { IfOk result (λ c. HandsOn (A.further c.algo) (A.promised shape.now home knobs)) }
         ensures layout { IfOk result (λ c. A.layout c.algo ≡ layout_of shape.now) }
+        ensures home { IfOk result (λ c. c.home ≡ home) }
     {
+        let algo = A::make(alloc, shape, home, knobs)?;
+        let base = journal_base(geom) + ENTRY_WORDS * places(rooms.as_slice());
+        let behind = base + algo.words();
         Ok(Whole {
-            algo: A::make(alloc, shape, home, knobs)?,
-            base: journal_base(geom) + ENTRY_WORDS * places(rooms.as_slice()),
+            work: W::make(alloc, shape, home, geom, shard, rooms, behind)?,
+            algo,
+            base,
             home,
-            geom,
-            shard,
-            rooms,
         })
     }
 
     /// A rank's view before its first call, with room for so many entries in its transcript. Refused only for want of memory.
-    pub fn first(
+    pub fn first_view(
         &self,
         alloc: Global,
         rank: u32,
         room: u32,
-    ) -> Result<WholeView<A::View>, OutOfMemory>
-        requires fits { GeomFits self.now.geom }
+    ) -> Result<WholeView<A::View, W::Side>, OutOfMemory>
+        requires fits { GeomFits (W.table self.now.work).site.geom }
         requires there { rank < length (A.layout self.now.algo).node_of }
-        ensures { IfOk result (λ x. x ≡ first_view (lock_at A.table self.now) room rank) }
+        ensures { IfOk result (λ x. x ≡ first_view (lock_at (tables A.table W.table) self.now) room rank) }
     {
         Ok(WholeView {
             side: Side {
@@ -261,46 +273,61 @@ impl<A: Algo> Whole<A> {
                 card: CardState::Free,
             },
             rank,
-            work: Work::new(alloc, self.geom, room)?,
+            work: self.work.first(alloc, rank, room)?,
         })
     }
 
     /// Whether a call of the view is open: it is until its last atom was made, a card's Leave among them.
-    pub fn is_open(&self, view: &WholeView<A::View>) -> bool
-        requires { MayBe (rule_of A.table A.good A.layout self.now) view.now }
-        ensures open { result ≡ is_open (lock_at A.table self.now) view.now }
-        ensures atoms { (result ≡ false) ↔ (next_of (lock_at A.table self.now) view.now ≡ None) }
+    #[inline(always)]
+    pub fn has_open(&self, view: &WholeView<A::View, W::Side>) -> bool
+        requires { MayBe (rule_of (tables A.table W.table) (goods A.good W.good) A.layout self.now) view.now }
+        ensures open { result ≡ is_open (lock_at (tables A.table W.table) self.now) view.now }
+        ensures atoms { (result ≡ false) ↔ (next_of (lock_at (tables A.table W.table) self.now) view.now ≡ None) }
     {
-        at_work(self.algo.standing(view.side.view), view.side.card)
+        at_work(self.algo.standing(view.side.view), view.side.card) || self.work.is_open(&view.work)
     }
 
     /// Opens a block, where none is open: a call alone, or the calls of a batch. `seq` is the number of its first call. The
     /// lock is asked for in the block's mode. Takes no memory.
-    pub fn open_block(&self, view: &mut WholeView<A::View>, calls: &[Call], seq: u32)
+    #[inline(always)]
+    pub fn ask_for(&self, view: &mut WholeView<A::View, W::Side>, calls: &[Call], seq: u32)
         requires few { length calls.now ≤ 8 }
-        requires closed { next_of (lock_at A.table self.now) view.old ≡ None }
-        requires possible { MayBe (rule_of A.table A.good A.layout self.now) view.old }
-        ensures { view.new ≡ opened_in (A.table self.now.algo) calls.now seq view.old }
+        requires closed { next_of (lock_at (tables A.table W.table) self.now) view.old ≡ None }
+        requires possible { MayBe (rule_of (tables A.table W.table) (goods A.good W.good) A.layout self.now) view.old }
+        ensures { view.new ≡ opened_in (lock_at (tables A.table W.table) self.now) calls.now seq view.old }
     {
-        view.side.view = self.algo.ask(view.side.view, mode(calls));
-        view.work.open(calls, seq);
+        if let Some(mode) = self.work.asks(calls) {
+            view.side.view = self.algo.ask(view.side.view, mode);
+        }
+        self.work.open(view.rank, &mut view.work, calls, seq);
     }
 }
 
-impl<V: Copy> WholeView<V> {
-    /// The rank's entries on the shard, in the order in which they were done.
-    pub fn transcript(&self) -> &[Entry]
-        ensures { result.now ≡ self.now.work.transcript.items }
+impl<A: Algo, W: Work> Whole<A, W> {
+    /// The node of the card that a rank with this view is in.
+    pub fn card_node(&self, view: &WholeView<A::View, W::Side>) -> Option<u32>
+        requires { MayBe (rule_of (tables A.table W.table) (goods A.good W.good) A.layout self.now) view.now }
+        ensures { result ≡ card_of (A.table self.now.algo) view.now.side }
     {
-        self.work.transcript()
+        match view.side.card {
+            CardState::Free => None,
+            CardState::ToLeave { node } => Some(node),
+            CardState::InCard | CardState::Loaded { .. } => {
+                let plan = self.algo.plan(view.side.view);
+                match word_planned(plan) {
+                    Some(word) => Some(self.algo.spot(word).home),
+                    None => None,
+                }
+            }
+        }
     }
 }
 
 /// Two domains: a rank's next atom is one of a card only where the lock lets the rank make acts through cards, and a local
 /// compare-and-swap only where it lets the rank make one. There is nothing to run.
-pub fn domains<A: Algo>(core: &Whole<A>)
-    ensures cards { KeepsToCards (lock_at A.table core.now) (rule_of A.table A.good A.layout core.now) }
-    ensures locals { KeepsToLocals (lock_at A.table core.now) (rule_of A.table A.good A.layout core.now) }
+pub fn domains<A: Algo, W: Work>(core: &Whole<A, W>)
+    ensures cards { KeepsToCards (lock_at (tables A.table W.table) core.now) (rule_of (tables A.table W.table) (goods A.good W.good) A.layout core.now) }
+    ensures locals { KeepsToLocals (lock_at (tables A.table W.table) core.now) (rule_of (tables A.table W.table) (goods A.good W.good) A.layout core.now) }
 {
     let _ = &core.algo;
 }

@@ -23,6 +23,7 @@ use Rattle.rl_journal.specs.Blocks.{calls_of, undone, batch_of, AreParts}
 use Rattle.rl_journal.specs.Ranks.{IsOwn}
 use Rattle.rl_model.specs.Asked.{asks_update}
 use Rattle.rl_work.specs.TurnLaws.{entries_calls}
+pub use Rattle.rl_work.specs.Opens.{Tells}
 use Rattle.rl_work.specs.Work.{TheWork, TheTranscript, WorkTurned, stage_atom, write_atom, stage_after, with_seen, with_stop, with_call, batch_in, entries_of, block_close_by, block_close, stops_block, read_next, read_on, left_of, written_on, journal_on, to_stage}
 
 abbrev pub IsPlain : Atom → Type 0
@@ -49,12 +50,6 @@ plain_atom geom x (Volume made) a e = subst IsPlain (same_Some _ _ e) (plain_wri
 abbrev pub Rises : ℕ → List Entry → Type 0
 Rises n [] = Unit {0}
 Rises n (e ∷ es) = (e.part ≡ n) × Rises (n + 1) es
-
--- the entries are a rank's on a shard, of one batch, with numbers and parts that rise by one
-abbrev pub Tells : ℕ → ℕ → ℕ → ℕ → ℕ → List Entry → Type 0
-Tells shard rank batch seq part [] = Unit {0}
-Tells shard rank batch seq part (e ∷ es) =
-    ((e.shard ≡ shard) × (e.rank ≡ rank) × (e.batch ≡ batch) × (e.seq ≡ seq) × (e.part ≡ part)) × Tells shard rank batch (seq + 1) (part + 1) es
 
 pub tells_rise : (shard rank batch seq part : ℕ) (b : List Entry) → Tells shard rank batch seq part b → Rises part b
 tells_rise shard rank batch seq part [] t = tt

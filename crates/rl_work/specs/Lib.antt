@@ -1,9 +1,16 @@
--- to be believed, in reading order
+-- to be believed, in reading order: what a way of working is
 pub mod Site
 pub mod Transcript
+pub mod Opens
+pub mod Ways
+-- and each block under its lock
 pub mod Work
+pub mod Locked
 pub mod WorkGood
 pub mod Rule
+-- for ways of working that read without a lock
+pub mod Unlocked
+-- for tests
 pub mod OneRank
 -- proved; skip at first
 pub mod OpeningLaws
@@ -14,3 +21,4 @@ pub mod WorkLaws
 pub mod AtomLaws
 pub mod RuleLaws
 pub mod EndLaws
+pub mod LockedLaws

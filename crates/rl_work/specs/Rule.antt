@@ -1,9 +1,8 @@
 -- What is promised of the rule, as statements: it holds at the start, is kept by all that happens, and says what the words and
 -- transcripts are.
-use Rattle.std.specs.Prelude.{◌≡◌, ℕ, ◌^◌, ◌<◌, List, length, slice_get, slice_index, slice_set, Some, IsSome}
+use Rattle.std.specs.Prelude.{◌≡◌, ℕ, ◌^◌, ◌<◌, List, length, slice_get, slice_set, Some, IsSome}
 use Rattle.rl_word.specs.declared.acts.Atom.{Atom}
 use Rattle.rl_model.specs.declared.call.Call.{Call}
-use Rattle.rl_model.specs.declared.entry.Entry.{Entry}
 use Rattle.rl_model.specs.Geom.{GeomFits}
 use Rattle.rl_step.specs.declared.events.Event.{Event}
 use Rattle.rl_step.specs.declared.events.Standing.{Standing}
@@ -11,16 +10,12 @@ use Rattle.rl_step.specs.declared.events.Standing.TheVariants.{Out, Asking}
 use Rattle.rl_step.specs.Lock.{IsHolder, Shift}
 use Rattle.rl_step.specs.Core.{home_at}
 use Rattle.rl_step.specs.Do.{CanDo, do_got, do_words}
-use Rattle.rl_journal.specs.Journal.{journal_in}
 use Rattle.rl_journal.specs.Legal.{IsLegal}
 use Rattle.rl_journal.specs.History.{history, IsSorted}
-use Rattle.rl_work.specs.Site.{Site, count_word, journal_base, lock_base}
+pub use Rattle.rl_work.specs.Ways.{journal_of}
+use Rattle.rl_work.specs.Site.{Site, lock_base}
 use Rattle.rl_work.specs.Work.{work_atom, with_block, CanName, CanTurn}
 use Rattle.rl_work.specs.WorkGood.{WorkSide, WorkGood, IsApart, IsOpen, IsFirst, opening_words, transcripts, side_after}
-
--- the journal of a site, as its words say: the entries of the places below the count
-abbrev pub journal_of : Site → List ℕ → List Entry
-journal_of site words = journal_in site.shard words (journal_base site.geom) (slice_index words count_word)
 
 -- the side of a rank in a state that meets the rule
 pub record IsSide (site : Site) (words : List ℕ) (sides : List WorkSide) (rank : ℕ) (x : WorkSide) : Type 0 where

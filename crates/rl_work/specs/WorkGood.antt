@@ -1,34 +1,34 @@
 -- The work's part of the rule of a window: of the words before the lock's, and of each rank's standing and side of the work.
-use Rattle.std.specs.Prelude.{◌≡◌, ℕ, ◌+◌, ◌*◌, ◌^◌, ◌<◌, ◌≤◌, Bool, true, false, List, [], ◌∷◌, ◌++◌, All, length, map, replicate, count_by, take, slice_get, slice_index, Some, None}
+use Rattle.std.specs.Prelude.{◌≡◌, ℕ, ◌+◌, ◌*◌, ◌<◌, ◌≤◌, Bool, true, false, List, [], ◌∷◌, ◌++◌, All, length, map, take, slice_get, slice_index, Some, None}
 use Rattle.std.specs.FinMap as finite
 use Rattle.rl_model.specs.declared.call.Call.{Call}
 use Rattle.rl_model.specs.declared.entry.Entry.{Entry}
 use Rattle.rl_model.specs.declared.entry.Reply.{Reply}
 use Rattle.rl_model.specs.declared.geom.Geom.{Geom}
 use Rattle.rl_model.specs.Geom.{GeomFits}
-use Rattle.rl_model.specs.Call.{shard_of}
 use Rattle.rl_step.specs.declared.events.Standing.{Standing}
 use Rattle.rl_step.specs.declared.events.Standing.TheVariants.{Out, Asking, Writer, Reader, Leaving}
 use Rattle.rl_step.specs.Lock.{IsHolder}
 use Rattle.rl_volume.specs.declared.write.Write.{Write}
 use Rattle.rl_volume.specs.Words.{volume_words}
-use Rattle.rl_volume.specs.Volume.{IsVolume, start_words}
+use Rattle.rl_volume.specs.Volume.{IsVolume}
 use Rattle.rl_volume.specs.Seen.{AgreesWith, value_of, next_word}
 use Rattle.rl_volume.specs.Decision.{written}
 use Rattle.rl_work.specs.declared.stage.Stage.{Stage}
 use Rattle.rl_work.specs.declared.stage.Stage.TheVariants.{Rest, Begin, Read, Journal, Volume}
 use Rattle.rl_journal.specs.Journal.{Agrees, spelled}
 use Rattle.rl_journal.specs.Blocks.{in_turn, any_stops, calls_of}
-use Rattle.rl_journal.specs.Legal.{table_after, updates, IsLegal, IsLegalBlock}
-use Rattle.rl_journal.specs.Ranks.{IsInOrder, IsOwn}
-use Rattle.rl_model.specs.Asked.{IsAsked, asks_update}
-use Rattle.rl_work.specs.Site.{Site, places, count_word, journal_base, lock_base, volume_of}
-use Rattle.rl_work.specs.Work.{TheWork, TheTranscript, WorkTurned, work_after}
+use Rattle.rl_journal.specs.Legal.{table_after, IsLegal, IsLegalBlock}
+use Rattle.rl_journal.specs.Ranks.{IsOwn}
+use Rattle.rl_model.specs.Asked.{asks_update}
+use Rattle.rl_work.specs.Site.{Site, count_word, journal_base, lock_base, volume_of}
+use Rattle.rl_work.specs.Work.{TheWork, WorkTurned, work_after}
+use Rattle.rl_work.specs.Ways.{WorkSide as SideOf}
+pub use Rattle.rl_work.specs.Opens.{IsOpen, IsOwnTranscript, places_needed, opening_words}
 
 -- how a rank stands, and its side of the work
-pub record WorkSide : Type 0 where
-  pub standing : Standing
-  pub work : TheWork
+abbrev pub WorkSide : Type 0
+WorkSide = SideOf TheWork
 
 -- What the work needs of the lock: a writer has nobody beside it who holds the lock, and a reader's call is a get.
 pub record IsApart (sides : List WorkSide) : Type 0 where
@@ -56,20 +56,6 @@ IsInCall Asking = Unit {0}
 IsInCall Writer = Unit {0}
 IsInCall Reader = Unit {0}
 IsInCall Leaving = ⊥
-
--- the places that so many calls need in the journal
-abbrev pub places_needed : Bool → ℕ → ℕ
-places_needed true n = n
-places_needed false n = 0
-
--- the open block is one of the shard, its numbers are greater than those of the rank's entries, and there is room for it
-pub record IsOpen (site : Site) (rank : ℕ) (calls : List Call) (seq : ℕ) (transcript : TheTranscript) : Type 0 where
-  pub is_block : IsAsked calls
-  pub of_shard : All (λ c. shard_of site.geom c ≡ site.shard) calls
-  pub fresh : All (λ e. e.seq < seq) transcript.items
-  pub small : seq + length calls ≤ 2 ^ 32
-  pub room : length transcript.items + length calls ≤ transcript.room
-  pub place : count_by updates transcript.items + places_needed (asks_update calls) (length calls) ≤ slice_index site.rooms rank
 
 abbrev pub HasOpen : Site → ℕ → TheWork → Type 0
 HasOpen site rank x = IsOpen site rank x.calls x.seq x.transcript
@@ -146,12 +132,6 @@ is_writing (Read count word) = false
 is_writing (Journal made) = false
 is_writing (Volume made) = true
 
--- a rank's transcript: its own entries, in order, and no more updates than it has room for
-pub record IsOwnTranscript (site : Site) (rank : ℕ) (t : List Entry) : Type 0 where
-  pub own : All (IsOwn site.shard rank) t
-  pub in_order : IsInOrder t
-  pub place : count_by updates t ≤ slice_index site.rooms rank
-
 -- The rule. `journal` is the updates so far, and `before` is the volume as it was when the last of them was done.
 pub record WorkGood (site : Site) (words : List ℕ) (sides : List WorkSide) : Type 0 where
   pub journal : List Entry
@@ -185,10 +165,6 @@ side_turned st t = record { standing = standing_after t.over st; work = t.work }
 -- what an atom of the work that gave got leaves of rank's side
 abbrev pub side_after : Site → ℕ → WorkSide → ℕ → WorkSide
 side_after site rank x got = side_turned x.standing (work_after site.geom site.shard rank x.work got)
-
--- the words before the lock's at the start
-abbrev pub opening_words : Site → List ℕ
-opening_words site = 1 ∷ 0 ∷ start_words site.geom ++ replicate (6 * places site) 0
 
 -- a rank at the start
 pub record IsFirst (geom : Geom) (x : WorkSide) : Type 0 where

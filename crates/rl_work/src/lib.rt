@@ -1,31 +1,40 @@
-//! The work of a block inside its lock: what a rank that holds the lock reads and writes there, atom by atom.
+//! What a way of working is: how a rank does its blocks on one shard, in the words beside the lock's; and the way of the five locks.
 //!
 //! - A **site** is one shard's place in its window: word 0, the **count** of its updates, the volume, the journal, and the
 //!   lock's words behind them.
 //! - A **block** is a call alone, or the 2 to 8 updates of a batch, which are done all or none.
-//! - The **work** of a block ([`Work`]): the count is loaded; the volume is read for one call after the other, until each is
-//!   decided; updates then write their entries to the journal, make their writes to the volume, and store the count.
-//! - A **stage** ([`Stage`]) is where a rank stands in it.
+//! - A **way of working** ([`Work`]) says in which mode a block asks for the lock, if it does; which atom a rank makes where the lock
+//!   plans none; and what follows it ([`Follow`]): the block goes on, now the lock is asked for, or the block is over. It may have words
+//!   of its own behind the lock's. A rank's **side** is what it knows of its work.
+//! - [`LockedWork`] does each block under its lock, with the side [`LockedSide`]: the count is loaded; the volume is read for one call
+//!   after the other, until each is decided; updates then write their entries to the journal, make their writes to the volume, and store
+//!   the count. A **stage** ([`Stage`]) is where a rank stands in it.
 //! - A **transcript** ([`Transcript`]) is the entries of one rank on the shard, in the order in which they were done.
 //!
-//! Promise: a rule of words and sides (`specs/WorkGood`) that each atom of the work keeps, whatever the lock above is, where
-//! the lock gives a writer alone and readers for gets alone ([`work_laws`]). Under it the journal's words are read back as the
-//! journal, journal and transcripts are legal, the history is in order, and no rank runs out of room. The code does what
-//! the definitions say, and takes no memory after the start.
+//! Promise: `LockedWork` keeps the laws of a way of working (`specs/Ways`), whatever the lock is that gives a writer alone and readers for
+//! gets alone. Beneath it is a rule of words and sides (`specs/WorkGood`) that each atom keeps ([`work_laws`]): under it the journal's words
+//! are read back as the journal, journal and transcripts are legal, the history is in order, and no rank runs out of room. The code
+//! does what the definitions say, and takes no memory after the start.
 //! Not said here: how a rank comes to hold the lock, and that its work ever ends.
 #![tactic(auto)]
 
+mod follow;
 mod laws;
+mod locked;
 mod site;
 mod stage;
 mod transcript;
+mod way;
 mod work;
 
+pub use follow::{Follow, WorkStep};
 pub use laws::work_laws;
+pub use locked::LockedWork;
 pub use site::{COUNT_WORD, VOLUME_BASE, journal_base, opening_word};
 pub use stage::Stage;
 pub use transcript::Transcript;
-pub use work::Work;
+pub use way::{KeepsOwn, Work};
+pub use work::LockedSide;
 
 #[cfg(test)]
 mod tests;

@@ -12,7 +12,7 @@ ghost use Rattle.rl_work.specs.EndLaws.{IsPlain};
 ghost use Rattle.rl_work.specs.OneRank.{one_site, IsAlone};
 ghost use Rattle.rl_work.specs.WorkGood.{opening_words, standing_after};
 
-use crate::{Work, journal_base, opening_word};
+use crate::{LockedSide, journal_base, opening_word};
 use rl_model::{Call, Entry, Geom, Reply};
 use rl_word::Atom;
 use std::alloc::Global;
@@ -33,13 +33,13 @@ fn opening(alloc: Global, geom: Geom, room: u32) -> Result<Vec<u64>, Fail>
 }
 
 // Words before the first block, and the rank with no block yet, with room for so many entries.
-fn fresh(alloc: Global, geom: Geom, room: u32) -> Result<(Vec<u64>, Work), Fail>
+fn fresh(alloc: Global, geom: Geom, room: u32) -> Result<(Vec<u64>, LockedSide), Fail>
     requires fits { GeomFits geom }
     requires few { room ≤ 1000 }
     ensures { IfOk result (λ fresh. IsAlone geom room fresh.0.items Out fresh.1) }
 {
     let words = opening(alloc, geom, room)?;
-    let work = Work::new(alloc, geom, room)?;
+    let work = LockedSide::new(alloc, geom, room)?;
     Ok((words, work))
 }
 
@@ -61,7 +61,7 @@ fn made(words: &mut [u64], atom: Atom) -> u64
 }
 
 // Makes the next atom of the work. Whether the work is over with it.
-fn step(geom: Geom, room: u32, words: &mut [u64], work: &mut Work) -> bool
+fn step(geom: Geom, room: u32, words: &mut [u64], work: &mut LockedSide) -> bool
     requires fits { GeomFits geom }
     requires few { room ≤ 1000 }
     requires alone { IsAlone geom room words.old Writer work.old }
@@ -87,7 +87,7 @@ fn begin(
     geom: Geom,
     room: u32,
     words: &[u64],
-    work: &mut Work,
+    work: &mut LockedSide,
     calls: &[Call],
     seq: u32,
 )
@@ -116,7 +116,7 @@ fn done(
     geom: Geom,
     room: u32,
     words: &mut [u64],
-    work: &mut Work,
+    work: &mut LockedSide,
     calls: &[Call],
     seq: u32,
 ) -> u32

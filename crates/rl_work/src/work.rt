@@ -1,11 +1,13 @@
 // The work of a rank's blocks.
-ghost use Rattle.std.specs.Prelude.{◌≡◌, ◌<◌, ◌≤◌, ◌^◌, ◌+◌, ◌*◌, ◌∷◌, ◌++◌, drop, length, replicate, slice_get, slice_index, IfOk, IfSome};
+ghost use Rattle.std.specs.Prelude.{◌≡◌, ◌<◌, ◌≤◌, ◌^◌, ◌+◌, ◌*◌, ◌∷◌, ◌++◌, drop, length, replicate, slice_get, slice_index, IfOk, IfSome, None, []};
 ghost use Rattle.std.specs.List.{All};
+ghost use Rattle.rl_volume.specs.Seen.{value_of};
 ghost use Rattle.rl_volume.specs.Words.{volume_words};
 ghost use Rattle.rl_model.specs.declared.entry.Reply.TheVariants.{Undone as is_undone};
 ghost use Rattle.rl_journal.specs.Blocks.{stops};
 ghost use Rattle.rl_model.specs.Geom.{GeomFits};
 ghost use Rattle.rl_work.specs.Work as model;
+ghost use Rattle.rl_work.specs.Unlocked as unlocked;
 ghost use Rattle.rl_journal.specs.Journal.{spelled};
 ghost use Rattle.rl_model.specs.Asked.{asks_update};
 
@@ -24,7 +26,7 @@ use std::marker::Model;
 ///
 /// It is made once, with room for all that it keeps, and takes no memory after that.
 #[derive(Drop)]
-pub struct Work {
+pub struct LockedSide {
     stage: Stage,
     // The open block, and the number of its first call.
     calls: ArrayVec<Call, 8>,
@@ -39,7 +41,7 @@ pub struct Work {
     transcript: Transcript,
 }
 
-impl Model for Work {
+impl Model for LockedSide {
     ghost use Rattle.std.specs.Prelude.{◌≤◌, ◌*◌, length};
     ghost use Rattle.rl_work.specs.Work as model;
 
@@ -50,17 +52,17 @@ impl Model for Work {
     ghost invariant = { λ w. (length w.replies.items ≤ length w.calls.items) × (length w.writes.items ≤ 5 * length w.replies.items) };
 }
 
-impl Work {
+impl LockedSide {
     /// No block yet, and room for so many entries.
     ///
     /// # Errors
     ///
     /// Want of memory.
-    pub fn new(alloc: Global, geom: Geom, room: u32) -> Result<Work, OutOfMemory>
+    pub fn new(alloc: Global, geom: Geom, room: u32) -> Result<LockedSide, OutOfMemory>
         requires { GeomFits geom }
         ensures { IfOk result (λ w. w ≡ model.first_work geom room) }
     {
-        Ok(Work {
+        Ok(LockedSide {
             stage: Stage::Rest,
             calls: ArrayVec::new(),
             seq: 0,
@@ -204,8 +206,37 @@ impl Work {
         };
     }
 
-    // Having seen what it has, it reads the next word for a call, or decides all calls that are left.
-    fn read_on(&mut self, geom: Geom, shard: u32, rank: u32, count: u32) -> bool
+    /// The word of the volume that the first call of the open block reads next, by what was seen: of a get, while it reads
+    /// outside of the lock. None where it has read all that it needs.
+    pub fn wanted(&self, geom: Geom) -> Option<u32>
+        requires { GeomFits geom }
+        ensures { result ≡ unlocked.wanted geom self.now }
+    {
+        match self.calls.as_slice().first() {
+            Some(call) => next_read(geom, *call, &self.seen),
+            None => None,
+        }
+    }
+
+    /// Keeps what a word of the volume gave, which wasn't seen yet.
+    pub fn see(&mut self, word: u32, got: u64)
+        requires in_volume { word < self.old.seen.room }
+        requires unseen { value_of self.old.seen.pairs word ≡ None }
+        ensures { self.new ≡ unlocked.with_word self.old word got }
+    {
+        self.seen.add(word, got);
+    }
+
+    /// Forgets all that was seen: the block is read for from the beginning.
+    pub fn forget(&mut self)
+        ensures { self.new ≡ model.with_seen self.old [] }
+    {
+        Seen::clear(&mut self.seen);
+    }
+
+    /// Having seen what it has, a rank that found this count reads the next word for a call, or decides all calls that are
+    /// left. Whether the work is over with it, as for [`Work::turn`].
+    pub fn read_on(&mut self, geom: Geom, shard: u32, rank: u32, count: u32) -> bool
         requires fits { GeomFits geom }
         requires can { model.CanDecide geom self.old count }
         ensures work { self.new ≡ (model.seen_on geom shard rank self.old count).work }

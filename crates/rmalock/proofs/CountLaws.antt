@@ -15,14 +15,16 @@ use Rattle.rl_step.specs.declared.events.Event.{Event}
 use Rattle.rl_step.specs.declared.events.Event.TheVariants.{Join, Announce, Pass, Settle, Touch, EnterW, EnterR, LeaveW, LeaveR}
 use Rattle.rl_step.specs.declared.tallies.Steps.{Steps}
 use Rattle.rl_history.specs.Spelling.{is_printed}
-use Rattle.rl_whole.specs.declared.whole.WholeView.{WholeView}
-use Rattle.rl_whole.specs.Running.{ShardRun, Running}
-use Rattle.rl_whole.specs.Whole.{kept_of}
-use Rattle.rl_whole.specs.ShardSteps.{kept_at, kept_on, entries_in}
-use Rattle.rl_whole.specs.Run.{on_shard, kept_by, trace_of}
-use Rattle.rl_whole.specs.Records.{journal_at, transcripts_at}
-use Rattle.rl_whole.specs.StateLaws.{few_calls}
-use Rattle.rl_whole.specs.Promises.{journal_on, history_on, IsSound}
+use Rattle.rl_asks.specs.Desks.{entries_of}
+use Rattle.rl_asks.specs.ShardTables.{ShardTable, kept_in}
+use Rattle.rl_machine.specs.Running.{ShardRun, Running}
+use Rattle.rl_machine.specs.ShardSteps.{desk_at, kept_on}
+use Rattle.rl_asks.specs.RankGood.{entries_in}
+use Rattle.rl_machine.specs.Run.{on_shard, kept_by, trace_of}
+use Rattle.rl_machine.specs.Records.{journal_at, transcripts_at}
+use Rattle.rl_machine.specs.RecordLaws.{kept_long}
+use Rattle.rl_asks.specs.AskLaws.{few_calls}
+use Rattle.rl_machine.specs.Promises.{journal_on, transcripts_on, history_on, IsSound}
 use Rattle.rmalock.specs.declared.counts.ShardCounts.{ShardCounts}
 use Rattle.rmalock.specs.Replay.{part_of, dones_from, report_in}
 use Rattle.rmalock.specs.Summary.{TheCounts, is_get, is_settle, is_pass, counts_of, counts_in, all_done}
@@ -63,14 +65,14 @@ same_counts u v r q s t p o a b c d = ap (λ (n : ℕ). tells n r s p) a ∙ ap 
 
 module _ {V : Type 0} where
   -- what a summary tells of a shard is what is counted of it
-  counted : (geom : Geom) (queues : ℕ) (S : ShardRun V) → IsLegal geom (journal_on S) (kept_of S.views) → counts_on S ≡ counts_of (part_of queues S)
+  counted : (geom : Geom) (queues : ℕ) (S : ShardRun V) → IsLegal geom (journal_on S) (transcripts_on S) → counts_on S ≡ counts_of (part_of queues S)
   counted geom queues S legal =
       let is_read : Entry → Bool = λ entry. is_get entry.call in
       let settles : ℕ × Event → Bool = λ event. is_settle event.1 in
       let passes : ℕ × Event → Bool = λ event. is_pass event.1 in
       let printed : ℕ × Event → Bool = λ event. is_printed event.1 in
-      let reads : length (filter is_read (history_on S)) ≡ count_in is_read (kept_of S.views) =
-      length-filter is_read (history_on S) ∙ same_entries is_read geom (journal_on S) (kept_of S.views) legal in
+      let reads : length (filter is_read (history_on S)) ≡ count_in is_read (transcripts_on S) =
+      length-filter is_read (history_on S) ∙ same_entries is_read geom (journal_on S) (transcripts_on S) legal in
       let settled : length (filter settles (filter printed S.trace)) ≡ count_by settles S.trace =
       length-filter settles (filter printed S.trace) ∙ all_kept settles printed (λ e touch. (unprinted e.1 touch).0) S.trace in
       let passed : length (filter passes (filter printed S.trace)) ≡ count_by passes S.trace =
@@ -78,7 +80,7 @@ module _ {V : Type 0} where
       same_counts (length (journal_on S)) (length (journal_on S)) _ _ _ _ _ _ refl (sym reads) (sym settled) (sym passed)
 
   -- and so of all shards
-  pub all_counted : (geom : Geom) (queues : ℕ) (shards : List (ShardRun V)) → ((s : ℕ) (S : ShardRun V) → slice_get shards s ≡ Some S → IsLegal geom (journal_on S) (kept_of S.views)) →
+  pub all_counted : (geom : Geom) (queues : ℕ) (shards : List (ShardRun V)) → ((s : ℕ) (S : ShardRun V) → slice_get shards s ≡ Some S → IsLegal geom (journal_on S) (transcripts_on S)) →
       map counts_on shards ≡ map counts_of (map (part_of queues) shards)
   all_counted geom queues [] legal = refl
   all_counted geom queues (S ∷ shards) legal =
@@ -102,16 +104,21 @@ among (t ∷ ts) zero = omega arith
 among (t ∷ ts) (suc k) = omega (arith, among ts k)
 
 module _ {V : Type 0} where
-  kept_is : (views : List (WholeView V)) (k : ℕ) → kept_at (slice_get views k) ≡ get_or (kept_of views) k []
-  kept_is [] k = refl
-  kept_is (x ∷ views) zero = refl
-  kept_is (x ∷ views) (suc k) = kept_is views k
+  kept_is : (T : ShardTable V) (words : List ℕ) (from : ℕ) (views : List V) (k : ℕ) → entries_of (desk_at T words (from + k) (slice_get views k)) ≡ get_or (kept_in T words from views) k []
+  kept_is T words from [] k = refl
+  kept_is T words from (x ∷ views) zero =
+      let at : from + 0 ≡ from = omega arith in
+      ap (λ n. entries_of (T.desk words n x)) at
+  kept_is T words from (x ∷ views) (suc k) =
+      let at : from + suc k ≡ (from + 1) + k = omega arith in
+      ap (λ n. entries_of (desk_at T words n (slice_get views k))) at ∙ kept_is T words (from + 1) views k
 
   module _ (m : Running V) (s : ℕ) where
     -- what a rank did on a shard is among the shard's transcripts
     kept_there : (S : ShardRun V) → slice_get m.shards s ≡ Some S → (k : ℕ) → get_or (kept_by m k) s [] ≡ get_or (transcripts_at m s) k []
-    kept_there S has k = get_or_from_slice_get (kept_by m k) s (kept_on k S) [] (get_map (kept_on k) m.shards s S has) ∙ kept_is S.views k
-        ∙ ap (λ found. get_or (on_shard [] (λ T. kept_of T.views) found) k []) (sym has)
+    kept_there S has k = get_or_from_slice_get (kept_by m k) s (kept_on k S) [] (get_map (kept_on k) m.shards s S has)
+        ∙ (let at : k ≡ 0 + k = omega arith in ap (λ n. entries_of (desk_at S.table S.held.words n (slice_get S.views k))) at) ∙ kept_is S.table S.held.words 0 S.views k
+        ∙ ap (λ found. get_or (on_shard [] transcripts_on found) k []) (sym has)
 
     -- a rank has few
     pub few_gets : (test : Entry → Bool) (k : ℕ) → k < length m.calls → IsSound m → IsSmall m → count_by test (get_or (kept_by m k) s []) ≤ 20000
@@ -133,8 +140,8 @@ module _ {V : Type 0} where
       pub gets_of_all : (test : Entry → Bool) (ranks : ℕ) → ranks ≡ length m.calls → IsSmall m → count_in test (take ranks (transcripts_at m s)) ≡ count_in test (transcripts_at m s)
       gets_of_all test ranks each small =
           let has = there.1 in
-          let are : length (transcripts_at m s) ≡ length (kept_of there.0.views) = ap (λ found. length (on_shard [] (λ T. kept_of T.views) found)) has in
-          let many : length (kept_of there.0.views) ≡ length m.calls = length-map there.0.views (λ x. x.work.transcript.items) ∙ small.views s there.0 has in
+          let are : length (transcripts_at m s) ≡ length (transcripts_on there.0) = ap (λ found. length (on_shard [] transcripts_on found)) has in
+          let many : length (transcripts_on there.0) ≡ length m.calls = kept_long there.0.table there.0.held.words 0 there.0.views ∙ small.views s there.0 has in
           let all : length (transcripts_at m s) ≤ ranks = omega (arith, are, many, each) in
           ap (count_in test) (take_all ranks (transcripts_at m s) all)
 
@@ -146,7 +153,7 @@ module _ {V : Type 0} where
           let S = there.0 in
           let has = there.1 in
           let us : updates ≡ length (journal_on S) = u ∙ ap (λ found. length (on_shard [] journal_on found)) has in
-          let rs : reads ≡ count_in (λ entry. is_get entry.call) (kept_of S.views) = r ∙ ap (λ found. count_in (λ entry. is_get entry.call) (on_shard [] (λ T. kept_of T.views) found)) has in
+          let rs : reads ≡ count_in (λ entry. is_get entry.call) (transcripts_on S) = r ∙ ap (λ found. count_in (λ entry. is_get entry.call) (on_shard [] transcripts_on found)) has in
           let ts : settled ≡ count_by (λ event. is_settle event.1) S.trace = t ∙ ap (λ found. count_by (λ event. is_settle event.1) (on_shard [] (λ T. T.trace) found)) has in
           let ps : passed ≡ count_by (λ event. is_pass event.1) S.trace = p ∙ ap (λ found. count_by (λ event. is_pass event.1) (on_shard [] (λ T. T.trace) found)) has in
           get_map counts_on m.shards s S has ∙ ap (λ (n : ShardCounts). Some n) (sym (same_counts _ _ _ _ _ _ _ _ us rs ts ps))

@@ -4,8 +4,6 @@ use Rattle.std.proofs.lemmas.List.{length-map}
 use Rattle.rl_word.specs.Shapes.{TheShape}
 use Rattle.rl_word.specs.declared.shapes.Knobs.{Knobs}
 use Rattle.rl_word.specs.declared.locks.LockName.{LockName}
-use Rattle.rl_step.specs.declared.events.Event.{Event}
-use Rattle.rl_step.specs.Lock.{LockTable, Deed}
 use Rattle.rl_model.specs.declared.geom.Geom.{Geom}
 use Rattle.rl_journal.specs.Legal.{IsLegal}
 use Rattle.rl_journal.specs.History.{IsReplay}
@@ -17,20 +15,22 @@ use Rattle.rl_ops.specs.declared.ops.Ops.{Ops}
 use Rattle.rl_ops.specs.declared.schedule.Schedule.{Schedule}
 use Rattle.rl_ops.specs.declared.schedule.Turn.{Turn}
 use Rattle.std.specs.FinMap as finite
-use Rattle.rl_whole.specs.Running.{LockAt, ShardRun, Running}
-use Rattle.rl_whole.specs.Whole.{kept_of}
-use Rattle.rl_whole.specs.Asks.{asked_of}
-use Rattle.rl_whole.specs.Start.{start_of}
-use Rattle.rl_whole.specs.StartLaws.{shards_length}
-use Rattle.rl_whole.specs.Run.{calls_by, run_of, ranks_of, done_of, kept_by}
-use Rattle.rl_whole.specs.RunActs.{EachSays}
-use Rattle.rl_whole.specs.Promises.{journal_on, history_on, IsSound, EachKeepsQueues}
+use Rattle.rl_work.specs.Site.{Site}
+use Rattle.rl_asks.specs.ShardTables.{ShardTable}
+use Rattle.rl_machine.specs.Running.{ShardRun, Running}
+use Rattle.rl_asks.specs.Asks.{asked_of}
+use Rattle.rl_machine.specs.Start.{start_of}
+use Rattle.rl_machine.specs.StartLaws.{shards_length}
+use Rattle.rl_machine.specs.Run.{calls_by, run_of, ranks_of, done_of, kept_by}
+use Rattle.rl_machine.specs.RunActs.{EachSays}
+use Rattle.rl_machine.specs.Promises.{journal_on, transcripts_on, history_on, IsSound, EachKeepsQueues}
+use Rattle.rl_cores.specs.Kinds.{Defined, Promised}
 use Rattle.rmalock.specs.Replay.{start_with, run_with}
 use Rattle.rmalock.specs.Headline.{IsKept}
-use Rattle.rmalock.proofs.RunLaws.{IsAlike, run_alike}
+use Rattle.rmalock.proofs.RunLaws.{table_in, IsAlike, run_alike}
 
 -- What a machine is made from, by the parts of a placement and a schedule.
-module _ {V : Type 0} (defined : TheShape → ℕ → Knobs → LockTable V) (place : ThePlace) (ops : Ops) (schedule : Schedule) (shape : TheShape) (knobs : Knobs) (geom : Geom) (homes : List ℕ) (turns : List Turn)
+module _ {V : Type 0} (defined : Defined V) (place : ThePlace) (ops : Ops) (schedule : Schedule) (shape : TheShape) (knobs : Knobs) (geom : Geom) (homes : List ℕ) (turns : List Turn)
     (shape_is : shape ≡ shape_of place) (knobs_is : knobs ≡ knobs_of place.lock) (geom_is : geom ≡ place.geom) (homes_are : homes ≡ place.homes) (turns_are : turns ≡ schedule.turns) where
   -- the run is that of the placement and the schedule
   pub run_is : run_of (start_of defined shape knobs geom homes ops) (ranks_of turns) ≡ run_with defined place ops schedule
@@ -40,7 +40,7 @@ module _ {V : Type 0} (defined : TheShape → ℕ → Knobs → LockTable V) (pl
       ∙ ap (λ hs. at (shape_of place) (knobs_of place.lock) place.geom hs turns) homes_are ∙ ap (λ ts. at (shape_of place) (knobs_of place.lock) place.geom place.homes ts) turns_are
 
   -- and what a kind of lock says of it
-  pub says_is : (promised : TheShape → ℕ → Knobs → List Event → List Deed → Type 0) → EachSays promised shape knobs homes (start_of defined shape knobs geom homes ops) (ranks_of turns) →
+  pub says_is : (promised : Promised) → EachSays promised shape knobs homes (start_of defined shape knobs geom homes ops) (ranks_of turns) →
       EachSays promised (shape_of place) (knobs_of place.lock) place.homes (start_with defined place ops) (ranks_of schedule.turns)
   says_is promised says =
       let at : TheShape → Knobs → Geom → List ℕ → List Turn → Type 0 = λ s k g hs ts. EachSays promised s k hs (start_of defined s k g hs ops) (ranks_of ts) in
@@ -50,7 +50,7 @@ module _ {V : Type 0} (defined : TheShape → ℕ → Knobs → LockTable V) (pl
       (subst (λ k. at (shape_of place) k geom homes turns) knobs_is (subst (λ s. at s knobs geom homes turns) shape_is says))))
 
 -- A run of a machine that was made from the parts of a placement and a schedule.
-pub ran : {V : Type 0} (defined : TheShape → ℕ → Knobs → LockTable V) (place : ThePlace) (ops : Ops) (schedule : Schedule) (inside : ThePlace) (shape : TheShape) (knobs : Knobs) (homes : List ℕ) (turns : List Turn) (end : Running V) →
+pub ran : {V : Type 0} (defined : Defined V) (place : ThePlace) (ops : Ops) (schedule : Schedule) (inside : ThePlace) (shape : TheShape) (knobs : Knobs) (homes : List ℕ) (turns : List Turn) (end : Running V) →
     inside ≡ place → shape ≡ shape_of place → knobs ≡ knobs_of place.lock → homes ≡ inside.homes → turns ≡ schedule.turns → end ≡ run_of (start_of defined shape knobs inside.geom homes ops) (ranks_of turns) → end ≡ run_with defined place ops schedule
 ran defined place ops schedule inside shape knobs homes turns end same shape_is knobs_is homes_are turns_are run =
     run ∙ run_is defined place ops schedule shape knobs inside.geom homes turns shape_is knobs_is (ap (λ (p : ThePlace). p.geom) same) (homes_are ∙ ap (λ (p : ThePlace). p.homes) same) turns_are
@@ -64,15 +64,15 @@ keeps_is name place shape knobs homes m n named shape_is knobs_is homes_are same
     (subst (λ k. EachKeepsQueues (name_of place.lock) (shape_of place) k homes m) knobs_is
     (subst (λ s. EachKeepsQueues (name_of place.lock) s knobs homes m) shape_is (subst (λ z. EachKeepsQueues z shape knobs homes m) named keep))))
 
-module _ {V : Type 0} (defined : TheShape → ℕ → Knobs → LockTable V) (place : ThePlace) (ops : Ops) (schedule : Schedule) where
+module _ {V : Type 0} (defined : Defined V) (place : ThePlace) (ops : Ops) (schedule : Schedule) where
   abbrev first : Running V
   first = start_with defined place ops
 
   abbrev last : Running V
   last = run_with defined place ops schedule
 
-  abbrev lock_of : ℕ → LockTable V
-  lock_of home = defined (shape_of place) home (knobs_of place.lock)
+  abbrev table_of : ℕ → Site → ShardTable V
+  table_of home = defined (shape_of place) home (knobs_of place.lock)
 
   alike : IsAlike last first
   alike = run_alike first (ranks_of schedule.turns)
@@ -84,10 +84,9 @@ module _ {V : Type 0} (defined : TheShape → ℕ → Knobs → LockTable V) (pl
   -- there are as many shards as homes
   pub each_shard : length last.shards ≡ length place.homes
   each_shard =
-      let locked : ShardRun V → LockAt V = λ S. S.lock in
-      sym (length-map last.shards locked) ∙ ap length alike.locks ∙ length-map first.shards locked ∙ shards_length lock_of (shape_of place).nodes place.geom ops.by_rank 0 place.homes
+      sym (length-map last.shards table_in) ∙ ap length alike.tables ∙ length-map first.shards table_in ∙ shards_length table_of (shape_of place).nodes place.geom ops.by_rank 0 place.homes
 
-  pub is_kept : (promised : TheShape → ℕ → Knobs → List Event → List Deed → Type 0) → IsSound last → EachKeepsQueues (name_of place.lock) (shape_of place) (knobs_of place.lock) place.homes last →
+  pub is_kept : (promised : Promised) → IsSound last → EachKeepsQueues (name_of place.lock) (shape_of place) (knobs_of place.lock) place.homes last →
       EachSays promised (shape_of place) (knobs_of place.lock) place.homes first (ranks_of schedule.turns) → IsKept defined promised place ops schedule
   is_kept promised sound queues further =
       let in_order : (k : ℕ) → k < length ops.by_rank → IsRankInOrder place.geom k (asked_of (get_or ops.by_rank k []) (get_or ops.sizes k [])) (done_of last k) (kept_by last k) = λ k low.
@@ -100,7 +99,7 @@ module _ {V : Type 0} (defined : TheShape → ℕ → Knobs → LockTable V) (pl
         queues = queues;
         further = further;
         replies = λ s S has. subst (λ geom. IsReplay geom finite.empty 0 (history_on S)) alike.geom (sound.shards s S has).replayed;
-        legal = λ s S has. subst (λ geom. IsLegal geom (journal_on S) (kept_of S.views)) alike.geom (sound.shards s S has).legal;
+        legal = λ s S has. subst (λ geom. IsLegal geom (journal_on S) (transcripts_on S)) alike.geom (sound.shards s S has).legal;
         sorted = λ s S has. (sound.shards s S has).sorted;
         calls = in_order;
       }

@@ -9,8 +9,9 @@ mod AnswerLemmas
 mod DrawLaws
 mod DealtLaws
 mod MadePlaceLaws
-mod RoundLaws
+mod LapLaws
 mod CountLaws
 mod SummaryLaws
 mod MakeLaws
 mod SeatLists
+mod CheckLaws

@@ -2,8 +2,8 @@
 use Rattle.std.proofs.Common.{◌≡◌, ℕ, zero, suc, ◌+◌, ◌<◌, List, [], ◌∷◌, ◌++◌, length, get_or, take, slice_get, Some, ap, ◌∙◌, arith, add-one}
 use Rattle.std.proofs.lemmas.Option.{same_Some, slice_get-get_or}
 use Rattle.rl_model.specs.declared.call.Call.{Call}
-use Rattle.rl_whole.specs.Running.{Running}
-use Rattle.rl_whole.specs.Run.{done_of}
+use Rattle.rl_machine.specs.Running.{Running}
+use Rattle.rl_machine.specs.Run.{done_of}
 use Rattle.rmalock.specs.Replay.{dones_from}
 
 -- the line of one rank more

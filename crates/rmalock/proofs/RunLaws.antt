@@ -1,18 +1,16 @@
--- What no run changes: the locks of the shards, how many views each has, the size of the table, and what the ranks ask for.
-use Rattle.std.proofs.Common.{◌≡◌, ℕ, ◌+◌, List, [], ◌∷◌, length, length-set, map, sum_by, Result, Ok, Err, IfOk, slice_get, slice_set, Bool, true, false, Option, Some, None, refl, ap, sym, ◌∙◌}
+-- What no run changes: the tables of the shards, how many views each has, the size of the table, and what the ranks ask for.
+use Rattle.std.proofs.Common.{◌≡◌, ◌≤◌, ℕ, ◌+◌, get_or, slice_index, List, [], ◌∷◌, length, length-set, map, sum_by, Result, Ok, Err, IfOk, slice_get, slice_set, Bool, true, false, Option, Some, None, refl, ap, sym, ◌∙◌}
 use Rattle.std.proofs.lemmas.List.Sums.{sum_by-cons}
 use Rattle.rl_word.specs.Places.{map_set, set_same_get, get_map}
 use Rattle.rl_word.specs.declared.acts.Atom.{Atom}
 use Rattle.rl_model.specs.declared.call.Call.{Call}
 use Rattle.rl_ops.specs.declared.schedule.Turn.{Turn}
 use Rattle.rl_ops.specs.Schedule.{steps_of}
-use Rattle.rl_whole.specs.declared.whole.WholeView.{WholeView}
-use Rattle.rl_whole.specs.Running.{LockAt, ShardRun, Running}
+use Rattle.rl_asks.specs.ShardTables.{ShardTable}
+use Rattle.rl_machine.specs.Running.{ShardRun, Running}
 use Rattle.rl_step.specs.Do.{do_got}
-use Rattle.rl_whole.specs.Opening.{opened_in}
-use Rattle.rl_whole.specs.Whole.{next_of, after_of}
-use Rattle.rl_whole.specs.ShardSteps.{opened_at, makes, made_at}
-use Rattle.rl_whole.specs.Run.{changed_if, opens, opened_if, block_opened, atom_made, stepped, run_of, steps_in}
+use Rattle.rl_machine.specs.ShardSteps.{opened_at, makes, made_at}
+use Rattle.rl_machine.specs.Run.{changed_if, opens, opened_if, block_opened, atom_made, stepped, run_of, steps_in}
 
 module _ {V : Type 0} where
   -- a change that leaves what is told of a shard leaves what is told of all
@@ -22,53 +20,53 @@ module _ {V : Type 0} where
   same_told told shards s f (Some S) e keeps =
       map_set told shards s (f S) ∙ ap (slice_set (map told shards) s) (keeps S) ∙ set_same_get (map told shards) s (told S) (get_map told shards s S e)
 
-  -- a shard's lock, and how many views it has
-  abbrev pub lock_in : ShardRun V → LockAt V
-  lock_in S = S.lock
+  -- a shard's table, and how many views it has
+  abbrev pub table_in : ShardRun V → ShardTable V
+  table_in S = S.table
 
   abbrev pub views_in : ShardRun V → ℕ
   views_in S = length S.views
 
-  opened_lock : (k : ℕ) (block : List Call) (seq : ℕ) (S : ShardRun V) (x : Option (WholeView V)) → (opened_at S k block seq x).lock ≡ S.lock
-  opened_lock k block seq S None = refl
-  opened_lock k block seq S (Some x) = refl
+  opened_table : (k : ℕ) (block : List Call) (seq : ℕ) (S : ShardRun V) (x : Option V) → (opened_at S k block seq x).table ≡ S.table
+  opened_table k block seq S None = refl
+  opened_table k block seq S (Some x) = refl
 
-  makes_lock : (k step : ℕ) (S : ShardRun V) (x : WholeView V) (at : Option Atom) → (makes S k step x at).lock ≡ S.lock
-  makes_lock k step S x None = refl
-  makes_lock k step S x (Some at) = refl
+  makes_table : (k step : ℕ) (S : ShardRun V) (x : V) (at : Option Atom) → (makes S k step x at).table ≡ S.table
+  makes_table k step S x None = refl
+  makes_table k step S x (Some at) = refl
 
-  made_lock : (k step : ℕ) (S : ShardRun V) (x : Option (WholeView V)) → (made_at S k step x).lock ≡ S.lock
-  made_lock k step S None = refl
-  made_lock k step S (Some x) = makes_lock k step S x (next_of S.lock x)
+  made_table : (k step : ℕ) (S : ShardRun V) (x : Option V) → (made_at S k step x).table ≡ S.table
+  made_table k step S None = refl
+  made_table k step S (Some x) = makes_table k step S x (S.table.core.next x)
 
-  opened_views : (k : ℕ) (block : List Call) (seq : ℕ) (S : ShardRun V) (x : Option (WholeView V)) → views_in (opened_at S k block seq x) ≡ views_in S
+  opened_views : (k : ℕ) (block : List Call) (seq : ℕ) (S : ShardRun V) (x : Option V) → views_in (opened_at S k block seq x) ≡ views_in S
   opened_views k block seq S None = refl
-  opened_views k block seq S (Some x) = length-set S.views k (opened_in S.lock.table block seq x)
+  opened_views k block seq S (Some x) = length-set S.views k (S.table.opened block seq x)
 
-  makes_views : (k step : ℕ) (S : ShardRun V) (x : WholeView V) (at : Option Atom) → views_in (makes S k step x at) ≡ views_in S
+  makes_views : (k step : ℕ) (S : ShardRun V) (x : V) (at : Option Atom) → views_in (makes S k step x at) ≡ views_in S
   makes_views k step S x None = refl
-  makes_views k step S x (Some at) = length-set S.views k (after_of S.lock x (do_got at S.held.words S.held.cards)).view
+  makes_views k step S x (Some at) = length-set S.views k (S.table.core.after x (do_got at S.held.words S.held.cards)).view
 
-  made_views : (k step : ℕ) (S : ShardRun V) (x : Option (WholeView V)) → views_in (made_at S k step x) ≡ views_in S
+  made_views : (k step : ℕ) (S : ShardRun V) (x : Option V) → views_in (made_at S k step x) ≡ views_in S
   made_views k step S None = refl
-  made_views k step S (Some x) = makes_views k step S x (next_of S.lock x)
+  made_views k step S (Some x) = makes_views k step S x (S.table.core.next x)
 
   -- what two machines have in common
   pub record IsAlike (m n : Running V) : Type 0 where
-    pub locks : map lock_in m.shards ≡ map lock_in n.shards
+    pub tables : map table_in m.shards ≡ map table_in n.shards
     pub views : map views_in m.shards ≡ map views_in n.shards
     pub geom : m.geom ≡ n.geom
     pub calls : m.calls ≡ n.calls
     pub sizes : m.sizes ≡ n.sizes
 
   pub alike_then : (l m n : Running V) → IsAlike l m → IsAlike m n → IsAlike l n
-  alike_then l m n a b = record { locks = a.locks ∙ b.locks; views = a.views ∙ b.views; geom = a.geom ∙ b.geom; calls = a.calls ∙ b.calls; sizes = a.sizes ∙ b.sizes }
+  alike_then l m n a b = record { tables = a.tables ∙ b.tables; views = a.views ∙ b.views; geom = a.geom ∙ b.geom; calls = a.calls ∙ b.calls; sizes = a.sizes ∙ b.sizes }
 
   opened_alike : (m : Running V) (k : ℕ) (b : Bool) → IsAlike (opened_if m k b) m
-  opened_alike m k false = record { locks = refl; views = refl; geom = refl; calls = refl; sizes = refl }
+  opened_alike m k false = record { tables = refl; views = refl; geom = refl; calls = refl; sizes = refl }
   opened_alike m k true =
       record {
-        locks = same_told lock_in m.shards _ _ _ refl (λ S. opened_lock k _ _ S (slice_get S.views k));
+        tables = same_told table_in m.shards _ _ _ refl (λ S. opened_table k _ _ S (slice_get S.views k));
         views = same_told views_in m.shards _ _ _ refl (λ S. opened_views k _ _ S (slice_get S.views k));
         geom = refl;
         calls = refl;
@@ -78,7 +76,7 @@ module _ {V : Type 0} where
   made_alike : (m : Running V) (k : ℕ) → IsAlike (atom_made m k) m
   made_alike m k =
       record {
-        locks = same_told lock_in m.shards _ _ _ refl (λ S. made_lock k _ S (slice_get S.views k));
+        tables = same_told table_in m.shards _ _ _ refl (λ S. made_table k _ S (slice_get S.views k));
         views = same_told views_in m.shards _ _ _ refl (λ S. made_views k _ S (slice_get S.views k));
         geom = refl;
         calls = refl;
@@ -89,7 +87,7 @@ module _ {V : Type 0} where
   stepped_alike m k = alike_then (stepped m k) (block_opened m k) m (made_alike (block_opened m k) k) (opened_alike m k (opens m k))
 
   pub run_alike : (m : Running V) (ks : List ℕ) → IsAlike (run_of m ks) m
-  run_alike m [] = record { locks = refl; views = refl; geom = refl; calls = refl; sizes = refl }
+  run_alike m [] = record { tables = refl; views = refl; geom = refl; calls = refl; sizes = refl }
   run_alike m (k ∷ ks) = alike_then (run_of (stepped m k) ks) (stepped m k) m (run_alike (stepped m k) ks) (stepped_alike m k)
 
 -- the steps of a schedule, counted turn by turn
@@ -101,3 +99,7 @@ steps_are (t ∷ ts) = ap (λ n. steps_of t + n) (steps_are ts) ∙ sym (sum_by-
 pub where_ok : {X E : Type 0} {P : Type 0} (result : Result X E) → P → IfOk result (λ _. P)
 where_ok (Ok x) p = p
 where_ok (Err e) p = tt
+
+-- where batches are done blocks may have any sizes
+pub any_sizes : (batches : Bool) (sizes : List (List ℕ)) → batches ≡ true → batches ≡ false → (k i : ℕ) → slice_index (get_or sizes k []) i ≤ 1
+any_sizes batches sizes on off k i = absurd (let both : true ≡ false = sym on ∙ off in cc)

@@ -8,10 +8,12 @@ use Rattle.rl_journal.specs.History.{IsReplay as IsReplayedByOneThread}
 use Rattle.rl_journal.specs.HistoryLaws.{replayed}
 use Rattle.rl_place.specs.Places.{ThePlace, IsProper}
 use Rattle.rl_ops.specs.declared.ops.Ops.{Ops}
+use Rattle.rl_ops.specs.Ops.{OpsFit}
 use Rattle.rl_history.specs.Naming.{naming_of}
 use Rattle.rl_history.specs.Reports.{TheShard, TheReport}
 use Rattle.rl_history.specs.Spelling.{report_spelling}
 use Rattle.rl_history.specs.Lawful.{IsLawful, journal_in, transcripts_in}
+use Rattle.rl_check.specs.Legal.{LegalIsLawful}
 use Rattle.rl_replay.specs.declared.complaint.Stop.{Stop}
 use Rattle.rl_replay.specs.declared.complaint.Stop.TheVariants as stop
 use Rattle.rmalock.specs.Command.{RunNames}
@@ -33,8 +35,8 @@ replies_are place ops report proper lawful s S has =
     let part = lawful.shards s home.0 S home.1 has in
     subst (λ es. IsReplayedByOneThread place.geom map.empty 0 es) (sym part.in_order) (replayed place.geom (journal_in S.entries) (transcripts_in S.entries 0 (length place.paths)) part.legal)
 
-is_run : (texts : Texts) (place : ThePlace) (ops : Ops) (report : TheReport) (text : List ℕ) → placed texts.place ≡ Ok place → called place texts.calls ≡ Ok ops → text ≡ report_spelling (naming_of place) report → IsLawful place ops report → IsRun texts text
-is_run texts place ops report text p c is lawful =
+is_run : LegalIsLawful → (texts : Texts) (place : ThePlace) (ops : Ops) (report : TheReport) (text : List ℕ) → OpsFit (length place.paths) place.geom.shards ops → placed texts.place ≡ Ok place → called place texts.calls ≡ Ok ops → text ≡ report_spelling (naming_of place) report → IsLawful place ops report → IsRun texts text
+is_run laws texts place ops report text fit p c is lawful =
     let read : PlaceRead texts.place place = place_read texts.place place p in
     let most = read.proper.most_ranks in
     let ranks : length place.paths < 2 ^ 32 = omega (arith, most) in
@@ -49,6 +51,7 @@ is_run texts place ops report text p c is lawful =
       calls_spelled = calls_read place texts.calls ops ranks shards c;
       bytes = is;
       lawful = lawful;
+      legal = (laws place ops report read.proper fit lawful.fits lawful.of_run).1 lawful;
       replies = replies_are place ops report read.proper lawful;
     }
 
@@ -72,14 +75,14 @@ module _ (file : List ℕ → Option (List ℕ)) (names : RunNames) where
   memory_stops place ops r c = record { texts = texts_of r.bytes c.bytes; are = (r.fits, c.fits); read = tt; run = tt }
 
   -- both files were read, and this is the text of a report
-  pub was_run : (place : ThePlace) (ops : Ops) (report : TheReport) (text : Vec ℕ Global) → WasRead {X = ThePlace} (file names.place) (λ place. place) placed (Ok place) →
+  pub was_run : LegalIsLawful → (place : ThePlace) (ops : Ops) (report : TheReport) (text : Vec ℕ Global) → OpsFit (length place.paths) place.geom.shards ops → WasRead {X = ThePlace} (file names.place) (λ place. place) placed (Ok place) →
       WasRead {X = Ops} (file names.calls) (λ ops. ops) (called place) (Ok ops) →
       text.items ≡ report_spelling (naming_of place) report → IsLawful place ops report → WasRun file names (Ok text)
   unfolding run_read
-  was_run place ops report text r c is lawful =
+  was_run laws place ops report text fit r c is lawful =
       record {
         texts = texts_of r.bytes c.bytes;
         are = (r.fits, c.fits);
         read = ((place, ops), rw (r.ends, c.ends) refl);
-        run = is_run (texts_of r.bytes c.bytes) place ops report text.items r.ends c.ends is lawful;
+        run = is_run laws (texts_of r.bytes c.bytes) place ops report text.items fit r.ends c.ends is lawful;
       }

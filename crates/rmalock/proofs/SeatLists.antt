@@ -8,16 +8,15 @@ use Rattle.rl_word.specs.Shapes.{TheShape, IsProper}
 use Rattle.rl_word.specs.Places.{get_set_cases, some_at}
 use Rattle.rl_word.specs.declared.locks.LockName.{LockName}
 use Rattle.rl_word.specs.declared.shapes.Knobs.{Knobs}
-use Rattle.rl_step.specs.Lock.{LockTable, LockState}
 use Rattle.rl_step.specs.LockQueues.{queues_of}
 use Rattle.rl_place.specs.LockWords.{name_of}
 use Rattle.rl_place.specs.Places.{ThePlace}
 use Rattle.rl_place.specs.Shapes.{shape_of, knobs_of}
 use Rattle.rl_history.specs.Naming.{naming_of}
 use Rattle.rl_run.specs.ReportLaws.{queues_long}
-use Rattle.rl_whole.specs.Running.{LockAt}
-use Rattle.rl_whole.specs.Opening.{first_views}
-use Rattle.rl_whole.specs.StartLaws.{first_length}
+use Rattle.rl_asks.specs.ShardTables.{ShardTable, first_views}
+use Rattle.rl_asks.specs.ShardLaws.{GoodOf}
+use Rattle.rl_asks.specs.Filling.{first_length}
 use Rattle.rl_shard.specs.declared.shard.Shard.{Shard}
 use Rattle.rl_shard.specs.declared.seat.Seat.{Seat}
 use Rattle.rl_shard.specs.Counting.{first_counted}
@@ -48,15 +47,15 @@ room_long place shape ranks room exact there ones =
 pub sum_ones : (n : ℕ) → sum (replicate n 1) ≡ n
 sum_ones n = let all : sum (replicate n 1) ≡ n * 1 = sum_by-replicate (λ (x : ℕ). x) n 1 in omega arith
 
-module _ {A V : Type 0} where
+module _ {C V : Type 0} where
   -- a new shard has a seat for each rank
-  pub new_long : (L : LockAt V) (queues ranks : ℕ) (seats : List (Seat A V)) → map counted_at seats ≡ first_counted L queues (replicate ranks 1) → length seats ≡ ranks
-  new_long L queues ranks seats views =
-      sym (length-map seats counted_at) ∙ ap length views ∙ length-map (first_views L 0 (replicate ranks 1)) _ ∙ first_length L 0 (replicate ranks 1) ∙ length-replicate ranks 1
+  pub new_long : (T : ShardTable V) (queues ranks : ℕ) (seats : List (Seat C V)) → map counted_at seats ≡ first_counted T queues (replicate ranks 1) → length seats ≡ ranks
+  new_long T queues ranks seats views =
+      sym (length-map seats counted_at) ∙ ap length views ∙ length-map (first_views T 0 (replicate ranks 1)) _ ∙ first_length T 0 (replicate ranks 1) ∙ length-replicate ranks 1
 
-  module _ (table : A → LockTable V) (good : A → LockState V → Type 0) (layout : A → Layout) (shard : Shard A V) where
+  module _ (table : C → ShardTable V) (good : GoodOf C V) (layout : C → Layout) (shard : Shard C V) where
     -- one seat is changed, and is still its rank's
-    pub one_changed : (seats : List (Seat A V)) (r : ℕ) (s t : Seat A V) → AreOf table good layout shard seats → slice_get seats r ≡ Some s → rank_at t ≡ rank_at s → IsOf table good layout shard t → AreOf table good layout shard (slice_set seats r t)
+    pub one_changed : (seats : List (Seat C V)) (r : ℕ) (s t : Seat C V) → AreOf table good layout shard seats → slice_get seats r ≡ Some s → rank_at t ≡ rank_at s → IsOf table good layout shard t → AreOf table good layout shard (slice_set seats r t)
     one_changed seats r s t are get same is k u e =
         ⊎_elim
         (λ (p : (k ≡ r) × (u ≡ t)). subst (λ z. (rank_at z ≡ k) × IsOf table good layout shard z) (sym p.1) (same ∙ (are r s get).0 ∙ sym p.0, is))
@@ -64,12 +63,12 @@ module _ {A V : Type 0} where
         (get_set_cases seats r k t u e)
 
     -- each of the shard's seats
-    pub each_of : (seats : List (Seat A V)) → AreOf table good layout shard seats → (i : ℕ) (d : Seat A V) → i < length seats → (rank_at (get_or seats i d) ≡ i) × IsOf table good layout shard (get_or seats i d)
+    pub each_of : (seats : List (Seat C V)) → AreOf table good layout shard seats → (i : ℕ) (d : Seat C V) → i < length seats → (rank_at (get_or seats i d) ≡ i) × IsOf table good layout shard (get_or seats i d)
     each_of seats are i d low = are i (get_or seats i d) (slice_get-get_or seats i d low)
 
     -- all seats are changed, and each is still its rank's
-    pub all_changed : (old new : List (Seat A V)) → AreOf table good layout shard old → length new ≡ length old →
-        ((i : ℕ) (d : Seat A V) → i < length old → IsOf table good layout shard (get_or new i d) × (rank_at (get_or new i d) ≡ rank_at (get_or old i d))) → AreOf table good layout shard new
+    pub all_changed : (old new : List (Seat C V)) → AreOf table good layout shard old → length new ≡ length old →
+        ((i : ℕ) (d : Seat C V) → i < length old → IsOf table good layout shard (get_or new i d) × (rank_at (get_or new i d) ≡ rank_at (get_or old i d))) → AreOf table good layout shard new
     all_changed old new are long each r s get =
         let there : r < length new = slice_get_within new r s get in
         let low : r < length old = omega arith in

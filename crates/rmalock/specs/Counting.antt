@@ -3,9 +3,8 @@ use Rattle.std.specs.Prelude.{◌≡◌, ◌≤◌, ℕ, length, count_by, slice
 use Rattle.rl_ops.specs.declared.ops.TheConstants.{MOST_CALLS}
 use Rattle.rl_ops.specs.Ops.{total_calls}
 use Rattle.rl_journal.specs.Ranks.{count_in}
-use Rattle.rl_whole.specs.Running.{ShardRun, Running}
-use Rattle.rl_whole.specs.Whole.{kept_of}
-use Rattle.rl_whole.specs.Promises.{journal_on}
+use Rattle.rl_machine.specs.Running.{ShardRun, Running}
+use Rattle.rl_machine.specs.Promises.{journal_on, transcripts_on}
 use Rattle.rmalock.specs.declared.counts.ShardCounts.{ShardCounts}
 use Rattle.rmalock.specs.Summary.{is_get, is_settle, is_pass}
 
@@ -15,7 +14,7 @@ module _ {V : Type 0} where
   counts_on S =
       record {
         updates = length (journal_on S);
-        reads = count_in (λ entry. is_get entry.call) (kept_of S.views);
+        reads = count_in (λ entry. is_get entry.call) (transcripts_on S);
         settled = count_by (λ event. is_settle event.1) S.trace;
         passed = count_by (λ event. is_pass event.1) S.trace;
       }

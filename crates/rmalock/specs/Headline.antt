@@ -1,10 +1,6 @@
 -- The headline of a replay: what is true of the texts that are replayed, of the run, and of the report that is written.
 use Rattle.std.specs.Prelude.{◌≡◌, ◌<◌, ℕ, List, [], length, get_or, slice_get, Some}
 use Rattle.std.specs.FinMap as map
-use Rattle.rl_word.specs.Shapes.{TheShape}
-use Rattle.rl_word.specs.declared.shapes.Knobs.{Knobs}
-use Rattle.rl_step.specs.declared.events.Event.{Event}
-use Rattle.rl_step.specs.Lock.{LockTable, Deed}
 use Rattle.rl_step.specs.Exclusion.{IsExclusive}
 use Rattle.rl_journal.specs.Legal.{IsLegal}
 use Rattle.rl_journal.specs.History.{IsReplay as IsReplayedByOneThread, IsSorted}
@@ -20,21 +16,20 @@ use Rattle.rl_ops.specs.Schedule.{ScheduleFits, schedule_spelling}
 use Rattle.rl_replay.specs.Files.{Texts}
 use Rattle.rl_history.specs.Naming.{naming_of}
 use Rattle.rl_history.specs.Spelling.{report_spelling}
-use Rattle.rl_whole.specs.Running.{ShardRun, Running}
-use Rattle.rl_whole.specs.ShardSteps.{events_of}
-use Rattle.rl_whole.specs.Whole.{kept_of}
-use Rattle.rl_whole.specs.Asks.{asked_of}
-use Rattle.rl_whole.specs.Run.{ranks_of, done_of, kept_by}
-use Rattle.rl_whole.specs.RunActs.{EachSays}
-use Rattle.rl_whole.specs.Promises.{journal_on, history_on, EachKeepsQueues}
-use Rattle.rmalock.specs.Locks.{kind_of}
+use Rattle.rl_machine.specs.Running.{ShardRun, Running}
+use Rattle.rl_machine.specs.ShardSteps.{events_of}
+use Rattle.rl_asks.specs.Asks.{asked_of}
+use Rattle.rl_machine.specs.Run.{ranks_of, done_of, kept_by}
+use Rattle.rl_machine.specs.RunActs.{EachSays}
+use Rattle.rl_machine.specs.Promises.{journal_on, transcripts_on, history_on, EachKeepsQueues}
+use Rattle.rl_cores.specs.Kinds.{Defined, Promised, kind_of}
 use Rattle.rmalock.specs.Replay.{start_with, run_with, report_of}
 
 -- of each shard of a machine
 abbrev pub OnShards : {V : Type 0} → Running V → (ShardRun V → Type 0) → Type 0
 OnShards m P = (s : ℕ) (S : ShardRun _) → slice_get m.shards s ≡ Some S → P S
 
-module _ {V : Type 0} (defined : TheShape → ℕ → Knobs → LockTable V) (promised : TheShape → ℕ → Knobs → List Event → List Deed → Type 0) (place : ThePlace) (ops : Ops) (schedule : Schedule) where
+module _ {V : Type 0} (defined : Defined V) (promised : Promised) (place : ThePlace) (ops : Ops) (schedule : Schedule) where
   abbrev m : Running V
   m = run_with defined place ops schedule
 
@@ -53,7 +48,7 @@ module _ {V : Type 0} (defined : TheShape → ℕ → Knobs → LockTable V) (pr
     pub replies : OnShards m (λ S. IsReplayedByOneThread place.geom map.empty 0 (history_on S))
     -- journal and transcripts: a batch is done as a whole or undone as a whole, nothing stands within it, and each rank's updates are
     -- those that the journal has of it
-    pub legal : OnShards m (λ S. IsLegal place.geom (journal_on S) (kept_of S.views))
+    pub legal : OnShards m (λ S. IsLegal place.geom (journal_on S) (transcripts_on S))
     -- the history is in order: by place, gets and holds before the update, and of these by rank and number
     pub sorted : OnShards m (λ S. IsSorted (history_on S))
     -- each rank's entries on all shards are its first n calls, each once and in its order, and n is told as what it has done

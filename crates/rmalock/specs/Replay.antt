@@ -1,9 +1,6 @@
 -- The run of a placement, calls and a schedule, and the report of it.
 use Rattle.std.specs.Prelude.{ℕ, ◌+◌, List, [], ◌∷◌, filter, length, map, Some}
-use Rattle.rl_word.specs.Shapes.{TheShape}
-use Rattle.rl_word.specs.declared.shapes.Knobs.{Knobs}
 use Rattle.rl_model.specs.declared.call.Call.{Call}
-use Rattle.rl_step.specs.Lock.{LockTable}
 use Rattle.rl_place.specs.Places.{ThePlace}
 use Rattle.rl_place.specs.Shapes.{shape_of, knobs_of}
 use Rattle.rl_ops.specs.declared.ops.Ops.{Ops}
@@ -13,21 +10,21 @@ use Rattle.rl_history.specs.Naming.{naming_of}
 use Rattle.rl_history.specs.Reports.{TheShard, TheReport}
 use Rattle.rl_history.specs.Spelling.{is_printed}
 use Rattle.rl_history.specs.Tallies.{tallies_from}
-use Rattle.rl_whole.specs.Running.{ShardRun, Running}
-use Rattle.rl_whole.specs.ShardSteps.{events_of}
-use Rattle.rl_whole.specs.Start.{start_of}
-use Rattle.rl_whole.specs.Run.{done_of, run_of, ranks_of}
-use Rattle.rl_whole.specs.Promises.{journal_on, history_on}
-use Rattle.rmalock.specs.Locks.{kind_of}
+use Rattle.rl_machine.specs.Running.{ShardRun, Running}
+use Rattle.rl_machine.specs.ShardSteps.{events_of}
+use Rattle.rl_machine.specs.Start.{start_of}
+use Rattle.rl_machine.specs.Run.{done_of, run_of, ranks_of}
+use Rattle.rl_machine.specs.Promises.{journal_on, history_on}
+use Rattle.rl_cores.specs.Kinds.{Defined, kind_of}
 
 -- ---- the run
 
--- the machine at its start, and at the end of a schedule, for a kind of lock by shape, home and settings
+-- the machine at its start, and at the end of a schedule, for a rank's machine as it is defined
 module _ {V : Type 0} where
-  abbrev pub start_with : (TheShape → ℕ → Knobs → LockTable V) → ThePlace → Ops → Running V
+  abbrev pub start_with : Defined V → ThePlace → Ops → Running V
   start_with defined place ops = start_of defined (shape_of place) (knobs_of place.lock) place.geom place.homes ops
 
-  abbrev pub run_with : (TheShape → ℕ → Knobs → LockTable V) → ThePlace → Ops → Schedule → Running V
+  abbrev pub run_with : Defined V → ThePlace → Ops → Schedule → Running V
   run_with defined place ops schedule = run_of (start_with defined place ops) (ranks_of schedule.turns)
 
 -- for the kind of the placement's lock

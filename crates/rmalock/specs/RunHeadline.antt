@@ -10,6 +10,7 @@ use Rattle.rl_history.specs.Naming.{naming_of}
 use Rattle.rl_history.specs.Reports.{TheShard, TheReport}
 use Rattle.rl_history.specs.Spelling.{report_spelling}
 use Rattle.rl_history.specs.Lawful.{IsLawful}
+use Rattle.rl_check.specs.Legal.{IsLegalReport}
 use Rattle.rl_replay.specs.Files.{Texts}
 
 -- These texts are run: they spell a placement and calls, and this text is a report of all these calls that is lawful for them.
@@ -25,6 +26,8 @@ pub record IsRun (texts : Texts) (text : List ℕ) : Type 0 where
   -- order; the pairs are the table after them; and no queue with a budget was passed more often, in all, than that for each settlement,
   -- and each was settled and passed as often as it was had
   pub lawful : IsLawful place ops report
+  -- so a check finds the report legal
+  pub legal : IsLegalReport place ops report
   -- so one thread that makes the calls of a shard's entries in order, from the empty table, gets the replies that are written, `full`
   -- exactly where a new key finds its bucket taken and no overflow cell left
   pub replies : (s : ℕ) (S : TheShard) → slice_get report.shards s ≡ Some S → IsReplayedByOneThread place.geom map.empty 0 S.entries

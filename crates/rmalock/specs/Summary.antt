@@ -1,4 +1,4 @@
--- The summary of a machine that made the calls of a generator in rounds.
+-- The summary of a machine that made the calls of a generator in laps.
 use Rattle.std.specs.Prelude.{ℕ, List, [], ◌∷◌, ◌++◌, length, map, filter, codes, decimal, Bool, true, false, Option, sum_by}
 use Rattle.std.specs.List.{enumerate_from}
 use Rattle.rl_text.specs.Spelling.{text_of}
@@ -10,18 +10,18 @@ use Rattle.rl_history.specs.declared.report.Done.{Done}
 use Rattle.rl_history.specs.Reports.{TheShard, TheReport}
 use Rattle.rl_history.specs.Spelling.{steps_lines}
 use Rattle.rl_step.specs.declared.tallies.Steps.{Steps}
-use Rattle.rl_whole.specs.Running.{Running}
+use Rattle.rl_machine.specs.Running.{Running}
 use Rattle.rmalock.specs.declared.counts.ShardCounts.{ShardCounts}
-use Rattle.rmalock.specs.Locks.{alock}
+use Rattle.rl_cores.specs.Kinds.{alock}
 use Rattle.rmalock.specs.Replay.{start_with, queue_count, report_in}
 use Rattle.rmalock.specs.Generate.{made_place, made_ops}
-use Rattle.rmalock.specs.Rounds.{all_rounds}
+use Rattle.rmalock.specs.Laps.{all_laps}
 
 -- ---- the run
 
--- the machine over the placement and the calls that are made from a number, after rounds of at most 2,000,000 steps
+-- the machine over the placement and the calls that are made from a number, after laps of at most 2,000,000 steps
 abbrev pub made_run : ℕ → ℕ → ℕ → Running alock.View
-made_run number ranks calls = all_rounds 2000000 (start_with alock.defined (made_place ranks) (made_ops number ranks calls))
+made_run number ranks calls = all_laps 2000000 (start_with alock.defined (made_place ranks) (made_ops number ranks calls))
 
 -- what is reported of it
 abbrev pub made_report : ℕ → ℕ → ℕ → TheReport

@@ -3,6 +3,7 @@ ghost use Rattle.std.specs.Prelude.{◌≡◌, map, string_bytes, IfSome};
 ghost use Rattle.std.specs.Option.{option_map};
 ghost use Rattle.rl_text.specs.Number.{number_of};
 ghost use Rattle.rmalock.specs.Command.{AskFits, asked, run_named, run_of, run_of_two, make_of, form_of, form_of_one as form_of_one_at, form_of_three as form_of_three_at};
+ghost use Rattle.rmalock.specs.CheckAnswer.{check_named, check_of, check_of_three};
 
 use rl_ops::MOST_CALLS;
 use rl_place::MOST_RANKS;
@@ -111,6 +112,48 @@ pub fn run_files(words: &[String]) -> Option<RunFiles<'_>>
 {
     match words {
         [verb, place, calls] => run_files_of(verb.as_str(), place.as_str(), calls.as_str()),
+        _ => None,
+    }
+}
+
+/// The files that a check names, in the order in which they are read.
+#[derive(Clone, Copy)]
+pub struct CheckFiles<'a> {
+    pub place: &'a str,
+    pub calls: &'a str,
+    pub report: &'a str,
+}
+
+/// The files of a check, where the verb asks for one.
+fn check_files_of<'a>(
+    verb: &str,
+    place: &'a str,
+    calls: &'a str,
+    report: &'a str,
+) -> Option<CheckFiles<'a>>
+    ensures { option_map check_named result ≡ check_of_three verb.now place.now calls.now report.now }
+{
+    match verb {
+        "check" => Some(CheckFiles {
+            place,
+            calls,
+            report,
+        }),
+        _ => None,
+    }
+}
+
+/// The files that `check PLACE CALLS REPORT` names. Nothing where the words ask for no check.
+pub fn check_files(words: &[String]) -> Option<CheckFiles<'_>>
+    ensures { option_map check_named result ≡ check_of (map string_bytes words.now) }
+{
+    match words {
+        [verb, place, calls, report] => check_files_of(
+            verb.as_str(),
+            place.as_str(),
+            calls.as_str(),
+            report.as_str(),
+        ),
         _ => None,
     }
 }

@@ -3,18 +3,19 @@ ghost use Rattle.std.specs.Prelude.{◌≡◌, ◌≤◌, ◌<◌, length, count
 ghost use Rattle.rl_place.specs.declared.limits.TheConstants.{MOST_RANKS};
 ghost use Rattle.rl_place.specs.Places.{IsProper};
 ghost use Rattle.rl_journal.specs.Ranks.{count_in};
-ghost use Rattle.rl_whole.specs.Running.{running};
-ghost use Rattle.rl_whole.specs.Records.{transcripts_at};
+ghost use Rattle.rl_machine.specs.Running.{running};
+ghost use Rattle.rl_machine.specs.Records.{transcripts_at};
 ghost use Rattle.rmalock.specs.Replay.{queue_count, report_in};
 ghost use Rattle.rmalock.specs.Summary.{is_get as is_get_at, is_settle as is_settle_at, is_pass as is_pass_at, all_done as all_done_at, counts_in};
 ghost use Rattle.rmalock.specs.Counting.{counts_on, IsSmall};
 
 use crate::reporting::dones_of;
+use rl_asks::TellsAll;
 use rl_history::Done;
+use rl_machine::{Machine, soundness};
 use rl_model::{Call, Entry};
 use rl_place::Place;
-use rl_step::{Algo, Event, Steps};
-use rl_whole::{Machine, soundness};
+use rl_step::{Event, Steps};
 use std::alloc::{AllocError as OutOfMemory, Global};
 use std::marker::Model;
 
@@ -91,11 +92,11 @@ fn passed_of(events: &[(u32, Event)]) -> usize
 }
 
 /// How many gets so many ranks, which are all, have done on a shard.
-fn reads_of<A: Algo>(machine: &Machine<A>, shard: u32, ranks: u32) -> usize
+fn reads_of<C: TellsAll>(machine: &Machine<C>, shard: u32, ranks: u32) -> usize
     requires there { shard < length machine.now.shards }
     requires ranks { ranks ≡ length machine.now.calls }
-    requires small { IsSmall (running A.table machine.now) }
-    ensures { result ≡ count_in (λ entry. is_get_at entry.call) (transcripts_at (running A.table machine.now) shard) }
+    requires small { IsSmall (running C.shard_table machine.now) }
+    ensures { result ≡ count_in (λ entry. is_get_at entry.call) (transcripts_at (running C.shard_table machine.now) shard) }
 {
     soundness(machine);
     let mut reads = 0;
@@ -106,11 +107,11 @@ fn reads_of<A: Algo>(machine: &Machine<A>, shard: u32, ranks: u32) -> usize
 }
 
 /// What is counted of a shard, on which so many ranks work.
-fn shard_counts<A: Algo>(machine: &Machine<A>, shard: u32, ranks: u32) -> ShardCounts
+fn shard_counts<C: TellsAll>(machine: &Machine<C>, shard: u32, ranks: u32) -> ShardCounts
     requires there { shard < length machine.now.shards }
     requires ranks { ranks ≡ length machine.now.calls }
-    requires small { IsSmall (running A.table machine.now) }
-    ensures { slice_get (map counts_on (running A.table machine.now).shards) shard ≡ Some result }
+    requires small { IsSmall (running C.shard_table machine.now) }
+    ensures { slice_get (map counts_on (running C.shard_table machine.now).shards) shard ≡ Some result }
 {
     let events = machine.events(shard);
     ShardCounts {
@@ -122,16 +123,16 @@ fn shard_counts<A: Algo>(machine: &Machine<A>, shard: u32, ranks: u32) -> ShardC
 }
 
 /// What is counted of so many shards, which are all.
-fn all_shards<A: Algo>(
+fn all_shards<C: TellsAll>(
     alloc: Global,
-    machine: &Machine<A>,
+    machine: &Machine<C>,
     shards: u32,
     ranks: u32,
 ) -> Result<Vec<ShardCounts>, OutOfMemory>
     requires shards { shards ≡ length machine.now.shards }
     requires ranks { ranks ≡ length machine.now.calls }
-    requires small { IsSmall (running A.table machine.now) }
-    ensures { IfOk result (λ counts. counts.items ≡ map counts_on (running A.table machine.now).shards) }
+    requires small { IsSmall (running C.shard_table machine.now) }
+    ensures { IfOk result (λ counts. counts.items ≡ map counts_on (running C.shard_table machine.now).shards) }
 {
     let mut counts = Vec::new(alloc);
     for shard in 0..shards {
@@ -154,16 +155,16 @@ fn all_done(done: &[Done]) -> u64
 
 /// What the summary of the run that a machine made tells, where its shards and ranks are those of a placement: what it
 /// would tell of the report of the machine. Refused only for want of memory.
-pub fn counts_of_machine<A: Algo>(
+pub fn counts_of_machine<C: TellsAll>(
     alloc: Global,
     place: &Place,
-    machine: &Machine<A>,
+    machine: &Machine<C>,
 ) -> Result<RunCounts, OutOfMemory>
     requires proper { IsProper place.now }
     requires shards { length machine.now.shards ≡ place.now.geom.shards }
     requires ranks { length machine.now.calls ≡ length place.now.paths }
-    requires small { IsSmall (running A.table machine.now) }
-    ensures { IfOk result (λ counts. counts ≡ counts_in (report_in (queue_count place.now) (running A.table machine.now))) }
+    requires small { IsSmall (running C.shard_table machine.now) }
+    ensures { IfOk result (λ counts. counts ≡ counts_in (report_in (queue_count place.now) (running C.shard_table machine.now))) }
 {
     soundness(machine);
     let ranks = place.paths.len() as u32;

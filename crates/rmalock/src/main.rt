@@ -2,12 +2,16 @@
 #![tactic(auto)]
 
 mod answer;
+#[cfg(test)]
+mod check_tests;
+mod checking;
 mod command;
 mod complaint;
 mod counts;
 mod generating;
 #[cfg(test)]
 mod generating_tests;
+mod laps;
 #[cfg(test)]
 mod lock_tests;
 mod making;
@@ -17,7 +21,6 @@ mod replaying;
 mod reporting;
 #[cfg(test)]
 mod robust_tests;
-mod rounds;
 #[cfg(test)]
 mod run_tests;
 mod running;

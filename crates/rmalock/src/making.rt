@@ -6,39 +6,40 @@ ghost use Rattle.rl_place.specs.Shapes.{shape_of, knobs_of};
 ghost use Rattle.rl_ops.specs.declared.ops.TheConstants.{MOST_CALLS};
 ghost use Rattle.rl_ops.specs.Ops.{OpsFit};
 ghost use Rattle.rmalock.specs.Replay.{start_with, report_in, queue_count};
-ghost use Rattle.rmalock.specs.Rounds.{all_rounds};
+ghost use Rattle.rmalock.specs.Laps.{all_laps};
 ghost use Rattle.rmalock.specs.Summary.{counts_in, made_summary};
 
 use crate::counts::{RunCounts, counts_of_machine};
 use crate::generating::generate;
-use crate::rounds::make_rounds;
+use crate::laps::make_laps;
 use crate::summary::summary_text;
-use rl_alock::Alock;
+use rl_asks::{Resting, TellsAll};
+use rl_cores::AlockCore;
+use rl_machine::Machine;
 use rl_ops::Ops;
 use rl_place::Place;
-use rl_step::Algo;
-use rl_whole::Machine;
 use std::alloc::{AllocError as OutOfMemory, Global};
 
-/// A run of rounds has at most so many steps.
+/// A run of laps has at most so many steps.
 const MOST_STEPS: u32 = 2_000_000;
 
-/// What is counted of a run of rounds, of at most so many steps, with this kind of lock.
-fn counts_of_rounds<A: Algo>(
+/// What is counted of a run of laps, of at most so many steps, with this kind of lock.
+fn counts_of_laps<C: Resting + TellsAll>(
     alloc: Global,
     place: &Place,
     ops: Ops,
     most: u32,
 ) -> Result<RunCounts, OutOfMemory>
     requires proper { IsProper place.now }
-    requires knobs { A.suits_knobs (shape_of place.now) (knobs_of place.now.lock) }
+    requires knobs { C.suits_knobs (shape_of place.now) (knobs_of place.now.lock) }
     requires calls { OpsFit (length place.now.paths) place.now.geom.shards ops }
-    ensures { IfOk result (λ counts. counts ≡ counts_in (report_in (queue_count place.now) (all_rounds most (start_with A.defined place.now ops)))) }
+    requires batches { C.batches ≡ true }
+    ensures { IfOk result (λ counts. counts ≡ counts_in (report_in (queue_count place.now) (all_laps most (start_with C.defined place.now ops)))) }
 {
     let shape = place.shape(alloc)?;
     let homes = place.homes.as_slice();
     let ranks = place.paths.len() as u32;
-    let mut machine: Machine<A> = Machine::new(
+    let mut machine: Machine<C> = Machine::new(
         alloc,
         &shape,
         place.knobs(),
@@ -46,11 +47,11 @@ fn counts_of_rounds<A: Algo>(
         homes,
         ops,
     )?;
-    make_rounds(alloc, &mut machine, ranks, most)?;
+    make_laps(alloc, &mut machine, ranks, most)?;
     counts_of_machine(alloc, place, &machine)
 }
 
-/// The summary of a run of so many calls of so many ranks, all made from a number: rounds of the machine under ALock, until no
+/// The summary of a run of so many calls of so many ranks, all made from a number: laps of the machine under ALock, until no
 /// call is open or left, or 2,000,000 steps were made. Refused only for want of memory.
 pub fn made_summary(
     alloc: Global,
@@ -64,6 +65,6 @@ pub fn made_summary(
     ensures { IfOk result (λ text. text.items ≡ made_summary number ranks calls) }
 {
     let (place, ops) = generate(alloc, number, ranks, calls)?;
-    let counts = counts_of_rounds::<Alock>(alloc, &place, ops, MOST_STEPS)?;
+    let counts = counts_of_laps::<AlockCore>(alloc, &place, ops, MOST_STEPS)?;
     summary_text(alloc, ranks, calls, &counts)
 }

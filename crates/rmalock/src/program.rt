@@ -2,10 +2,12 @@
 ghost use Rattle.std.specs.Prelude.{◌≡◌, ◌≢◌, ◌≤◌, ◌<◌, map, string_bytes, Some, None};
 ghost use Rattle.rmalock.specs.Command.{form_of, run_of, run_named};
 ghost use Rattle.rmalock.specs.Answer.{MayRead, NamesNoFile, IsDone, StillTells, RisesWithFault};
+ghost use Rattle.rmalock.specs.CheckAnswer.{MayReadCheck, IsCheckDone, check_of};
 ghost use Rattle.rmalock.specs.RunAnswer.{MayReadRun, WasRunAnswered, IsRunDone, run_name};
 
 use crate::answer::{Answer, refused};
-use crate::command::{RunFiles, run_files};
+use crate::checking::{answer_check_in_threads, done};
+use crate::command::{RunFiles, check_files, run_files};
 use crate::complaint::Quit;
 use crate::offline::offline;
 use crate::running::run_text;
@@ -92,19 +94,25 @@ pub fn rmalock<S: Source, K: Sink, G: Gate, R: Threads + Wait + Sync>(
 ) -> u8
     requires may_read { MayRead (S.may_open source.old) (form_of (map string_bytes words.now)) }
     requires may_read_run { MayReadRun (S.may_open source.old) (run_of (map string_bytes words.now)) }
+    requires may_read_check { MayReadCheck (S.may_open source.old) (check_of (map string_bytes words.now)) }
+    ensures check { (names : _) → check_of (map string_bytes words.now) ≡ Some names →
+        IsCheckDone K.tells_on out.old out.new (K.written out.old) (K.written out.new) (S.file source.old) names result }
     ensures run { (names : _) → run_of (map string_bytes words.now) ≡ Some names →
         IsRunDone K.tells_on out.old out.new (K.written out.old) (K.written out.new) (S.file source.old) names result }
-    ensures done { run_of (map string_bytes words.now) ≡ None → IsDone (S.file source.old) (form_of (map string_bytes words.now)) result (K.written out.old) (K.written out.new) }
-    ensures goes_on { run_of (map string_bytes words.now) ≡ None → StillTells K.tells_on (S.file source.old) (form_of (map string_bytes words.now)) out.old out.new }
-    ensures unread { run_of (map string_bytes words.now) ≡ None → NamesNoFile (form_of (map string_bytes words.now)) → source.new ≡ source.old }
-    ensures status { result ≤ 5 }
+    ensures done { run_of (map string_bytes words.now) ≡ None → check_of (map string_bytes words.now) ≡ None → IsDone (S.file source.old) (form_of (map string_bytes words.now)) result (K.written out.old) (K.written out.new) }
+    ensures goes_on { run_of (map string_bytes words.now) ≡ None → check_of (map string_bytes words.now) ≡ None → StillTells K.tells_on (S.file source.old) (form_of (map string_bytes words.now)) out.old out.new }
+    ensures unread { run_of (map string_bytes words.now) ≡ None → check_of (map string_bytes words.now) ≡ None → NamesNoFile (form_of (map string_bytes words.now)) → source.new ≡ source.old }
+    ensures status { result ≤ 6 }
     ensures read_fault { result ≡ 3 → S.faults source.old < S.faults source.new }
     ensures read_quiet { result ≢ 3 → S.faults source.new ≡ S.faults source.old }
     ensures write_fault { result ≡ 4 → K.faults out.old < K.faults out.new }
     ensures write_quiet { result ≢ 4 → K.faults out.new ≡ K.faults out.old }
 {
-    match run_files(words) {
-        Some(files) => done_run(rt, alloc, files, source, out, gate),
+    if let Some(files) = run_files(words) {
+        return done_run(rt, alloc, files, source, out, gate);
+    }
+    match check_files(words) {
+        Some(files) => done(answer_check_in_threads(rt, alloc, source, files), out),
         None => offline(alloc, words, source, out),
     }
 }

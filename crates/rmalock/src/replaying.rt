@@ -13,45 +13,63 @@ ghost use Rattle.rl_replay.specs.Reading.{RisesWithFault};
 ghost use Rattle.rmalock.specs.Answer.{MayRead, WasReplayed};
 
 use crate::reporting::report_of_machine;
-use rl_alock::Alock;
+use rl_asks::{Resting, TellsAll};
+use rl_cores::{CoreTask, over_lock};
 use rl_history::{Report, report_text};
 use rl_io::Source;
-use rl_mcs::Mcs;
 use rl_ops::{Ops, Schedule};
-use rl_place::{Lock, Place};
-use rl_queue::Dmcs;
+use rl_place::Place;
 use rl_replay::{Files, Stop, read_called, read_placed, read_scheduled};
-use rl_rw::Rw;
-use rl_spin::Spin;
-use rl_step::Algo;
-use rl_whole::replay;
+use rl_rests::replay;
 use std::alloc::{AllocError as OutOfMemory, Global};
 
-/// The report of a replay with this kind of lock, which is that of the placement's lock.
-fn report_with<A: Algo>(
+/// The report of a replay with this core, which is that of the placement's lock and does batches.
+fn report_with<C: Resting + TellsAll>(
     alloc: Global,
     place: &Place,
     ops: Ops,
     schedule: &Schedule,
 ) -> Result<Report, OutOfMemory>
     requires proper { IsProper place.now }
-    requires knobs { A.suits_knobs (shape_of place.now) (knobs_of place.now.lock) }
-    requires kind { A.name ≡ name_of place.now.lock }
+    requires knobs { C.suits_knobs (shape_of place.now) (knobs_of place.now.lock) }
+    requires kind { C.name ≡ name_of place.now.lock }
+    requires batches { C.batches ≡ true }
     requires calls { OpsFit (length place.now.paths) place.now.geom.shards ops }
     requires schedule { ScheduleFits (length place.now.paths) schedule.now }
-    ensures report { IfOk result (λ report. report ≡ report_in (queue_count place.now) (run_with A.defined place.now ops schedule.now)) }
-    ensures kept { IfOk result (λ _. IsKept A.defined A.promised place.now ops schedule.now) }
+    ensures report { IfOk result (λ report. report ≡ report_in (queue_count place.now) (run_with C.defined place.now ops schedule.now)) }
+    ensures kept { IfOk result (λ _. IsKept C.defined C.promised place.now ops schedule.now) }
 {
     let shape = place.shape(alloc)?;
     let knobs = place.knobs();
     let homes = place.homes.as_slice();
     let turns = schedule.turns.as_slice();
-    let machine = replay::<A>(alloc, &shape, knobs, place.geom, homes, ops, turns)?;
+    let machine = replay::<C>(alloc, &shape, knobs, place.geom, homes, ops, turns)?;
     report_of_machine(alloc, place, &machine)
 }
 
-/// The report of a replay, exactly the schedule's steps; the calls and the schedule are of the placement's ranks. The one
-/// place in which the lock is chosen.
+/// A replay, with the core of whichever lock the placement has.
+#[derive(Drop)]
+struct ReplayTask<'a> {
+    alloc: Global,
+    ops: Ops,
+    schedule: &'a Schedule,
+}
+
+impl CoreTask for ReplayTask<'_> {
+    type Out = Result<Report, OutOfMemory>;
+
+    ghost takes = { λ r place. OpsFit (length place.paths) place.geom.shards r.ops × ScheduleFits (length place.paths) r.schedule.now };
+
+    ghost gives = { λ r place kind result.
+        IfOk result (λ report. report ≡ report_in (queue_count place) (run_with kind.defined place r.ops r.schedule.now))
+        × IfOk result (λ _. IsKept kind.defined kind.promised place r.ops r.schedule.now) };
+
+    fn over<C: Resting + TellsAll>(self, place: &Place) -> Result<Report, OutOfMemory> {
+        report_with::<C>(self.alloc, place, self.ops, self.schedule)
+    }
+}
+
+/// The report of a replay, exactly the schedule's steps; the calls and the schedule are of the placement's ranks.
 pub fn replay_report(
     alloc: Global,
     place: &Place,
@@ -64,13 +82,14 @@ pub fn replay_report(
     ensures report { IfOk result (λ report. report ≡ report_of place.now ops schedule.now) }
     ensures kept { IfOk result (λ _. KeepsPromises place.now ops schedule.now) }
 {
-    match &place.lock {
-        Lock::Spin => report_with::<Spin>(alloc, place, ops, schedule),
-        Lock::Dmcs => report_with::<Dmcs>(alloc, place, ops, schedule),
-        Lock::Alock { .. } => report_with::<Alock>(alloc, place, ops, schedule),
-        Lock::Mcs { .. } => report_with::<Mcs>(alloc, place, ops, schedule),
-        Lock::Rw { .. } => report_with::<Rw>(alloc, place, ops, schedule),
-    }
+    over_lock(
+        place,
+        ReplayTask {
+            alloc,
+            ops,
+            schedule,
+        },
+    )
 }
 
 /// The text of the report of a replay of these files.

@@ -2,13 +2,14 @@
 ghost use Rattle.std.specs.Prelude.{◌≡◌, ◌↔◌, ◌<◌, length, filter, map, slice_get, false, IsTrue, IfOk, Some};
 ghost use Rattle.rl_place.specs.Places.{IsProper};
 ghost use Rattle.rl_history.specs.Spelling.{is_printed};
-ghost use Rattle.rl_whole.specs.Running.{running};
+ghost use Rattle.rl_machine.specs.Running.{running};
 ghost use Rattle.rmalock.specs.Replay.{queue_count, part_of, dones_from, report_in};
 
+use rl_asks::TellsAll;
 use rl_history::{Done, Report, ShardReport, merge_lent, tallies};
+use rl_machine::Machine;
 use rl_place::{Lock, Place};
-use rl_step::{Algo, Event};
-use rl_whole::Machine;
+use rl_step::Event;
 use std::alloc::{AllocError as OutOfMemory, Global};
 
 /// How many queues the lock of a placement has.
@@ -45,14 +46,14 @@ fn without_touches(alloc: Global, events: &[(u32, Event)]) -> Result<Vec<(u32, E
 }
 
 /// The part of one shard, whose lock has so many queues.
-fn part_of<A: Algo>(
+fn part_of<C: TellsAll>(
     alloc: Global,
-    machine: &Machine<A>,
+    machine: &Machine<C>,
     queues: u32,
     shard: u32,
 ) -> Result<ShardReport, OutOfMemory>
     requires { shard < length machine.now.shards }
-    ensures { IfOk result (λ part. slice_get (map (part_of queues) (running A.table machine.now).shards) shard ≡ Some part) }
+    ensures { IfOk result (λ part. slice_get (map (part_of queues) (running C.shard_table machine.now).shards) shard ≡ Some part) }
 {
     let journal = machine.journal(alloc, shard)?;
     let transcripts = machine.lent_transcripts(alloc, shard)?;
@@ -67,14 +68,14 @@ fn part_of<A: Algo>(
 }
 
 /// The parts of all shards.
-fn parts_of<A: Algo>(
+fn parts_of<C: TellsAll>(
     alloc: Global,
-    machine: &Machine<A>,
+    machine: &Machine<C>,
     queues: u32,
     shards: u32,
 ) -> Result<Vec<ShardReport>, OutOfMemory>
     requires { shards ≡ length machine.now.shards }
-    ensures { IfOk result (λ parts. parts.items ≡ map (part_of queues) (running A.table machine.now).shards) }
+    ensures { IfOk result (λ parts. parts.items ≡ map (part_of queues) (running C.shard_table machine.now).shards) }
 {
     let mut parts = Vec::new(alloc);
     for shard in 0..shards {
@@ -84,13 +85,13 @@ fn parts_of<A: Algo>(
 }
 
 /// What each of so many ranks has done of the calls that it was given.
-pub fn dones_of<A: Algo>(
+pub fn dones_of<C: TellsAll>(
     alloc: Global,
-    machine: &Machine<A>,
+    machine: &Machine<C>,
     ranks: u32,
 ) -> Result<Vec<Done>, OutOfMemory>
     requires { ranks ≡ length machine.now.calls }
-    ensures { IfOk result (λ dones. dones.items ≡ dones_from (running A.table machine.now) 0 machine.now.calls) }
+    ensures { IfOk result (λ dones. dones.items ≡ dones_from (running C.shard_table machine.now) 0 machine.now.calls) }
 {
     let mut dones = Vec::new(alloc);
     for rank in 0..ranks {
@@ -103,15 +104,15 @@ pub fn dones_of<A: Algo>(
 }
 
 /// The report of a machine whose shards and ranks are those of a placement.
-pub fn report_of_machine<A: Algo>(
+pub fn report_of_machine<C: TellsAll>(
     alloc: Global,
     place: &Place,
-    machine: &Machine<A>,
+    machine: &Machine<C>,
 ) -> Result<Report, OutOfMemory>
     requires proper { IsProper place.now }
     requires shards { length machine.now.shards ≡ place.now.geom.shards }
     requires ranks { length machine.now.calls ≡ length place.now.paths }
-    ensures { IfOk result (λ report. report ≡ report_in (queue_count place.now) (running A.table machine.now)) }
+    ensures { IfOk result (λ report. report ≡ report_in (queue_count place.now) (running C.shard_table machine.now)) }
 {
     let queues = queue_count(alloc, place)?;
     let ranks = place.paths.len() as u32;

@@ -6,7 +6,7 @@ use crate::tests::{
     FAR_RANK, HELD_ONCE, NINE_STEPS, ONE_HOLD, ONE_RANK, files, look, named, replay_held,
     replay_of, run_through, words,
 };
-use rl_io::{FixedSink, MemFiles, MemSink, SureFiles};
+use rl_io::{FixedSink, MemFiles, MemSink, OpenGate, SureFiles};
 use std::alloc::AllocError as OutOfMemory;
 use std::sync::Wait;
 use std::test::*;
@@ -42,7 +42,7 @@ fn run_over<R: Threads + Wait + Sync + AllocGlobal>(
     let failing = Vec::from_slice(rt.alloc(), failing)?;
     let mut source = MemFiles::new(held, 4096, failing);
     let mut out = FixedSink::new(rt.alloc(), 4096)?;
-    let status = run_through(rt, &mut source, &mut out)?;
+    let status = run_through(rt, &mut source, &mut out, &OpenGate)?;
     Ok((status, Vec::from_slice(rt.alloc(), out.bytes())?))
 }
 
@@ -94,7 +94,7 @@ fn run_into<R: Threads + Wait + Sync + AllocGlobal>(
     let mut source = SureFiles::new(files(rt, ONE_RANK, ONE_HOLD, "")?);
     let failing = Vec::from_slice(rt.alloc(), &[number])?;
     let mut out = MemSink::new(rt.alloc(), 4096, 4, failing)?;
-    let status = run_through(rt, &mut source, &mut out)?;
+    let status = run_through(rt, &mut source, &mut out, &OpenGate)?;
     Ok((status, Vec::from_slice(rt.alloc(), out.bytes())?))
 }
 

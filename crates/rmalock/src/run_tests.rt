@@ -1,13 +1,11 @@
 //! Worked cases of runs by threads, with values from their definition, and gates that lead the ranks.
 
-use crate::running::run_report;
 use crate::tests::{look, named, run_through};
 use crate::trials::trial;
 use crossbeam_utils::Backoff;
-use rl_history::Report;
+use rl_history::{Report, read_report};
 use rl_io::{FixedSink, Gate, OpenGate, SureFiles};
 use rl_model::Reply;
-use rl_ops::read_ops;
 use rl_place::read_place;
 use rl_text::{TEXT_LIMIT, TextErr};
 use std::alloc::AllocError as OutOfMemory;
@@ -107,35 +105,36 @@ impl Gate for Both {
     fn after(&self, _rank: u32, _answer: u32) {}
 }
 
-/// The status and the text of `run p c`, over files and a sink that never fail, with a gate that is always open.
-fn run_of<R: Threads + Wait + Sync + AllocGlobal>(
+/// The status and the text of `run p c`, over files and a sink that never fail, with a gate.
+fn run_with<G: Gate, R: Threads + Wait + Sync + AllocGlobal>(
     rt: &R,
     place: &str,
     calls: &str,
+    gate: &G,
 ) -> Result<(u8, Vec<u8>), OutOfMemory> {
     let mut held = Vec::new(rt.alloc());
     held.push(named(rt, "p", place)?)?;
     held.push(named(rt, "c", calls)?)?;
     let mut source = SureFiles::new(held);
     let mut out = FixedSink::new(rt.alloc(), 65_536)?;
-    let status = run_through(rt, &mut source, &mut out)?;
+    let status = run_through(rt, &mut source, &mut out, gate)?;
     Ok((status, Vec::from_slice(rt.alloc(), out.bytes())?))
 }
 
-/// The report of a run of these texts, with a gate.
-fn report_of<G: Gate, R: Threads + Wait + Sync + AllocGlobal>(
+/// The report of a run of these texts, with a gate, read back from what the program wrote.
+fn report_of<G: Gate, R: Threads + Wait + Sync + AllocGlobal + Abort>(
     rt: &R,
     place: &str,
     calls: &str,
     gate: &G,
 ) -> Result<Report, Fail> {
-    if place.len() >= TEXT_LIMIT as usize || calls.len() >= TEXT_LIMIT as usize {
+    let (status, text) = run_with(rt, place, calls, gate)?;
+    assert_eq!(rt; status, 0);
+    if place.len() >= TEXT_LIMIT as usize || text.len() >= TEXT_LIMIT as usize {
         return Err(TextErr::Memory.into());
     }
     let place = read_place(rt.alloc(), place.as_bytes())?;
-    let ranks = place.paths.len() as u32;
-    let ops = read_ops(rt.alloc(), ranks, place.geom.shards, calls.as_bytes())?;
-    Ok(run_report(rt, rt.alloc(), &place, ops, gate)?)
+    Ok(read_report(rt.alloc(), &place, text.as_slice())?)
 }
 
 const SMALL: &str = "buckets 1\noverflow 0";
@@ -200,7 +199,7 @@ fn one_rank_runs(rt: HostRuntime) -> Result<(), Fail> {
         let report = format!(in rt.alloc();
             "rmalock-report 2\nrun spin\nranks 1 shards 1\n{want}end\n"
         )?;
-        look(&rt, run_of(&rt, &place, calls)?, 0, &report);
+        look(&rt, run_with(&rt, &place, calls, &OpenGate)?, 0, &report);
     }
     Ok(())
 }

@@ -8,17 +8,14 @@ ghost use Rattle.rmalock.specs.Command.{run_named};
 ghost use Rattle.rmalock.specs.RunAnswer.{MayReadRun, WasRun};
 
 use crate::command::RunFiles;
-use rl_alock::Alock;
+use rl_check::report_laws;
+use rl_cores::{AlockCore, DmcsCore, McsCore, RwCore, SpinCore};
 use rl_history::{Report, report_text};
 use rl_io::{Gate, Source};
-use rl_mcs::Mcs;
 use rl_ops::Ops;
 use rl_place::{Lock, Place};
-use rl_queue::Dmcs;
 use rl_replay::{Stop, read_called, read_placed};
 use rl_run::run_all;
-use rl_rw::Rw;
-use rl_spin::Spin;
 use std::alloc::{AllocError as OutOfMemory, Global};
 use std::sync::Wait;
 use std::thread::Threads;
@@ -37,11 +34,11 @@ pub fn run_report<G: Gate, R: Threads + Wait + Sync>(
     ensures lawful { IfOk result (λ report. IsLawful place.now ops report) }
 {
     match &place.lock {
-        Lock::Spin => run_all::<Spin, G, R>(rt, alloc, place, ops, gate),
-        Lock::Dmcs => run_all::<Dmcs, G, R>(rt, alloc, place, ops, gate),
-        Lock::Alock { .. } => run_all::<Alock, G, R>(rt, alloc, place, ops, gate),
-        Lock::Mcs { .. } => run_all::<Mcs, G, R>(rt, alloc, place, ops, gate),
-        Lock::Rw { .. } => run_all::<Rw, G, R>(rt, alloc, place, ops, gate),
+        Lock::Spin => run_all::<SpinCore, G, R>(rt, alloc, place, ops, gate),
+        Lock::Dmcs => run_all::<DmcsCore, G, R>(rt, alloc, place, ops, gate),
+        Lock::Alock { .. } => run_all::<AlockCore, G, R>(rt, alloc, place, ops, gate),
+        Lock::Mcs { .. } => run_all::<McsCore, G, R>(rt, alloc, place, ops, gate),
+        Lock::Rw { .. } => run_all::<RwCore, G, R>(rt, alloc, place, ops, gate),
     }
 }
 
@@ -61,5 +58,6 @@ pub fn run_text<S: Source, G: Gate, R: Threads + Wait + Sync>(
     let place = read_placed(alloc, source, files.place)?;
     let ops = read_called(alloc, source, files.calls, &place)?;
     let report = run_report(rt, alloc, &place, ops, gate)?;
+    report_laws();
     Ok(report_text(alloc, &place, &report)?)
 }

@@ -7,21 +7,18 @@ ghost use Rattle.rl_model.specs.Geom.{GeomFits};
 ghost use Rattle.rl_place.specs.LockWords.{name_of};
 ghost use Rattle.rl_place.specs.Places.{IsProper};
 ghost use Rattle.rl_place.specs.Shapes.{shape_of, knobs_of};
-ghost use Rattle.rl_shard.specs.Fresh.{IsFresh};
+ghost use Rattle.rl_cores.specs.Fresh.{IsFresh};
 ghost use Rattle.rl_shard.specs.Shards.{IsOf, IsShardOf, AreOf, AreClosed, rank_at};
 
 use crate::trials::{answer_sign, trial};
-use rl_alock::Alock;
+use rl_asks::{Resting, ShardCore, TellsAll};
+use rl_cores::{AlockCore, CoreTask, DmcsCore, McsCore, RwCore, SpinCore, over_lock};
 use rl_history::Naming;
-use rl_mcs::Mcs;
 use rl_model::{Call, Entry, Geom, Reply};
 use rl_ops::{Room, read_ops};
 use rl_place::{Lock, Place, read_place};
-use rl_queue::Dmcs;
-use rl_rw::Rw;
 use rl_shard::{Closed, Seat, Shard};
-use rl_spin::Spin;
-use rl_step::{Algo, Stepped};
+use rl_step::Stepped;
 use rl_text::{TEXT_LIMIT, TextErr};
 use std::alloc::{AllocError as OutOfMemory, Global};
 use std::process::Abort;
@@ -40,13 +37,16 @@ fn room_for_one(alloc: Global, ranks: usize) -> Result<Room, OutOfMemory>
 }
 
 /// Shard 0 of a placement, on node 0, with room for one call of each rank, and the ranks' seats.
-fn opened<A: Algo>(alloc: Global, place: &Place) -> Result<(Shard<A>, Vec<Seat<A>>), OutOfMemory>
+fn opened<C: ShardCore>(
+    alloc: Global,
+    place: &Place,
+) -> Result<(Shard<C>, Vec<Seat<C>>), OutOfMemory>
     requires proper { IsProper place.now }
-    requires knobs { A.suits_knobs (shape_of place.now) (knobs_of place.now.lock) }
-    requires kind { A.name ≡ name_of place.now.lock }
-    ensures shard { IfOk result (λ p. IsShardOf (vec_len p.1) p.0) }
-    ensures seats { IfOk result (λ p. AreOf A.table A.good A.layout p.0 p.1.items) }
-    ensures fresh { IfOk result (λ p. (r : ℕ) (s : _) → slice_get p.1.items r ≡ Some s → IsFresh A.table A.good A.layout place.now.geom 0 p.0 s) }
+    requires knobs { C.suits_knobs (shape_of place.now) (knobs_of place.now.lock) }
+    requires kind { C.name ≡ name_of place.now.lock }
+    ensures shard { IfOk result (λ p. IsShardOf C.shard_table (vec_len p.1) p.0) }
+    ensures seats { IfOk result (λ p. AreOf C.shard_table C.good C.layout p.0 p.1.items) }
+    ensures fresh { IfOk result (λ p. (r : ℕ) (s : _) → slice_get p.1.items r ≡ Some s → IsFresh C.shard_table C.good C.layout place.now.geom 0 1 p.0 s) }
 {
     let shape = place.shape(alloc)?;
     let naming = Naming::of(alloc, place)?;
@@ -71,18 +71,18 @@ fn first_call(geom: Geom, calls: &[Vec<Call>], rank: usize) -> Option<Call>
 }
 
 /// Begins the call of a rank that has made none.
-fn begin_one<A: Algo>(
-    shard: &Shard<A>,
+fn begin_one<C: ShardCore>(
+    shard: &Shard<C>,
     geom: Geom,
-    seats: &mut Vec<Seat<A>>,
+    seats: &mut Vec<Seat<C>>,
     rank: usize,
     call: Call,
 )
-    requires seats { AreOf A.table A.good A.layout shard.now seats.old.items }
+    requires seats { AreOf C.shard_table C.good C.layout shard.now seats.old.items }
     requires there { rank < vec_len seats.old }
-    requires fresh { (s : _) → slice_get seats.old.items rank ≡ Some s → IsFresh A.table A.good A.layout geom 0 shard.now s }
+    requires fresh { (s : _) → slice_get seats.old.items rank ≡ Some s → IsFresh C.shard_table C.good C.layout geom 0 1 shard.now s }
     requires here { shard_of geom call ≡ 0 }
-    ensures seats { AreOf A.table A.good A.layout shard.now seats.new.items }
+    ensures seats { AreOf C.shard_table C.good C.layout shard.now seats.new.items }
     ensures long { vec_len seats.new ≡ vec_len seats.old }
     ensures others { (r : ℕ) → rank < r → slice_get seats.new.items r ≡ slice_get seats.old.items r }
 {
@@ -91,11 +91,16 @@ fn begin_one<A: Algo>(
 }
 
 /// Begins the first call of each rank that has one.
-fn begin_all<A: Algo>(shard: &Shard<A>, geom: Geom, seats: &mut Vec<Seat<A>>, calls: &[Vec<Call>])
+fn begin_all<C: ShardCore>(
+    shard: &Shard<C>,
+    geom: Geom,
+    seats: &mut Vec<Seat<C>>,
+    calls: &[Vec<Call>],
+)
     requires fits { GeomFits geom }
-    requires seats { AreOf A.table A.good A.layout shard.now seats.old.items }
-    requires fresh { (r : ℕ) (s : _) → slice_get seats.old.items r ≡ Some s → IsFresh A.table A.good A.layout geom 0 shard.now s }
-    ensures seats { AreOf A.table A.good A.layout shard.now seats.new.items }
+    requires seats { AreOf C.shard_table C.good C.layout shard.now seats.old.items }
+    requires fresh { (r : ℕ) (s : _) → slice_get seats.old.items r ≡ Some s → IsFresh C.shard_table C.good C.layout geom 0 1 shard.now s }
+    ensures seats { AreOf C.shard_table C.good C.layout shard.now seats.new.items }
     ensures long { vec_len seats.new ≡ vec_len seats.old }
 {
     for rank in 0..seats.len() {
@@ -106,10 +111,10 @@ fn begin_all<A: Algo>(shard: &Shard<A>, geom: Geom, seats: &mut Vec<Seat<A>>, ca
 }
 
 /// One step of a rank's seat.
-fn step_of<A: Algo>(shard: &Shard<A>, seats: &mut Vec<Seat<A>>, rank: usize) -> Stepped
-    requires seats { AreOf A.table A.good A.layout shard.now seats.old.items }
+fn step_of<C: ShardCore>(shard: &Shard<C>, seats: &mut Vec<Seat<C>>, rank: usize) -> Stepped
+    requires seats { AreOf C.shard_table C.good C.layout shard.now seats.old.items }
     requires there { rank < vec_len seats.old }
-    ensures seats { AreOf A.table A.good A.layout shard.now seats.new.items }
+    ensures seats { AreOf C.shard_table C.good C.layout shard.now seats.new.items }
     ensures long { vec_len seats.new ≡ vec_len seats.old }
 {
     let seat = &mut seats[rank];
@@ -117,7 +122,7 @@ fn step_of<A: Algo>(shard: &Shard<A>, seats: &mut Vec<Seat<A>>, rank: usize) -> 
 }
 
 /// How often the seats together settled and passed each queue, of the first ten that were: ` 0:2.1` is queue 0, settled twice and passed once.
-fn tallies_told<A: Algo>(alloc: Global, seats: &[Seat<A>]) -> Result<String, OutOfMemory> {
+fn tallies_told<C: ShardCore>(alloc: Global, seats: &[Seat<C>]) -> Result<String, OutOfMemory> {
     let mut text = String::new(alloc);
     for queue in 0..10usize {
         let mut settled = 0u64;
@@ -146,17 +151,17 @@ fn without_room(answer: Stepped, ranks: u32) -> Stepped {
 }
 
 /// What the seats answer in these turns, each rank with its first call, and the tallies after them.
-fn seats_told<A: Algo>(
+fn seats_told<C: ShardCore>(
     alloc: Global,
     place: &Place,
     calls: &[Vec<Call>],
     turns: &[u8],
 ) -> Result<String, OutOfMemory>
     requires proper { IsProper place.now }
-    requires knobs { A.suits_knobs (shape_of place.now) (knobs_of place.now.lock) }
-    requires kind { A.name ≡ name_of place.now.lock }
+    requires knobs { C.suits_knobs (shape_of place.now) (knobs_of place.now.lock) }
+    requires kind { C.name ≡ name_of place.now.lock }
 {
-    let (shard, mut seats) = opened::<A>(alloc, place)?;
+    let (shard, mut seats) = opened::<C>(alloc, place)?;
     begin_all(&shard, place.geom, &mut seats, calls);
     let ranks = place.paths.len() as u32;
     let mut text = String::new(alloc);
@@ -170,6 +175,26 @@ fn seats_told<A: Algo>(
     }
     text.push_str(&tallies_told(alloc, seats.as_slice())?)?;
     Ok(text)
+}
+
+/// What seats answer, with the core of whichever lock the placement has.
+#[derive(Drop)]
+struct SeatsTask<'a> {
+    alloc: Global,
+    calls: &'a [Vec<Call>],
+    turns: &'a [u8],
+}
+
+impl CoreTask for SeatsTask<'_> {
+    type Out = Result<String, OutOfMemory>;
+
+    ghost takes = { λ b place. Unit {0} };
+
+    ghost gives = { λ b place kind told. Unit {0} };
+
+    fn over<C: Resting + TellsAll>(self, place: &Place) -> Result<String, OutOfMemory> {
+        seats_told::<C>(self.alloc, place, self.calls, self.turns)
+    }
 }
 
 /// The same of what a trial tells: its answers without the events, and how often the events settle and pass each queue.
@@ -225,21 +250,22 @@ pub(crate) fn trial_and_seats<R: AllocGlobal + Abort>(
         }
     }
     let turns = ranks.as_bytes();
-    let seats = match &place.lock {
-        Lock::Spin => seats_told::<Spin>(alloc, &place, calls, turns)?,
-        Lock::Dmcs => seats_told::<Dmcs>(alloc, &place, calls, turns)?,
-        Lock::Alock { .. } => seats_told::<Alock>(alloc, &place, calls, turns)?,
-        Lock::Mcs { .. } => seats_told::<Mcs>(alloc, &place, calls, turns)?,
-        Lock::Rw { .. } => seats_told::<Rw>(alloc, &place, calls, turns)?,
-    };
+    let seats = over_lock(
+        &place,
+        SeatsTask {
+            alloc,
+            calls,
+            turns,
+        },
+    )?;
     assert_eq!(rt; seats, answers_told(alloc, &told)?);
     Ok(told)
 }
 
 /// Makes so many steps.
-fn go<A: Algo>(shard: &Shard<A>, seat: &mut Seat<A>, steps: u32)
-    requires { IsOf A.table A.good A.layout shard.now seat.old }
-    ensures { IsOf A.table A.good A.layout shard.now seat.new × (rank_at seat.new ≡ rank_at seat.old) }
+fn go<C: ShardCore>(shard: &Shard<C>, seat: &mut Seat<C>, steps: u32)
+    requires { IsOf C.shard_table C.good C.layout shard.now seat.old }
+    ensures { IsOf C.shard_table C.good C.layout shard.now seat.new × (rank_at seat.new ≡ rank_at seat.old) }
 {
     for _ in 0..steps {
         seat.step(shard);
@@ -247,16 +273,16 @@ fn go<A: Algo>(shard: &Shard<A>, seat: &mut Seat<A>, steps: u32)
 }
 
 /// Makes so many steps with each seat, each in a thread of its own.
-fn go_in_threads<A: Algo + Send + Sync, R: Threads + Sync>(
+fn go_in_threads<C: ShardCore + Send + Sync, R: Threads + Sync>(
     rt: &R,
-    shard: &Shard<A>,
-    seats: &mut Vec<Seat<A>>,
+    shard: &Shard<C>,
+    seats: &mut Vec<Seat<C>>,
     steps: u32,
 )
 where
-    A::View: Send + Sync,
-    requires { AreOf A.table A.good A.layout shard.now seats.old.items }
-    ensures seats { AreOf A.table A.good A.layout shard.now seats.new.items }
+    C::View: Send + Sync,
+    requires { AreOf C.shard_table C.good C.layout shard.now seats.old.items }
+    ensures seats { AreOf C.shard_table C.good C.layout shard.now seats.new.items }
     ensures long { vec_len seats.new ≡ vec_len seats.old }
 {
     let threads = seats.len().max(1);
@@ -264,17 +290,17 @@ where
         rt,
         seats.as_mut_slice(),
         threads,
-        &|_rank: usize, seat: &mut Seat<A>|
-            requires { IsOf A.table A.good A.layout shard.now seat.old }
-            ensures { IsOf A.table A.good A.layout shard.entry.now seat.new × (rank_at seat.new ≡ rank_at seat.old) }
+        &|_rank: usize, seat: &mut Seat<C>|
+            requires { IsOf C.shard_table C.good C.layout shard.now seat.old }
+            ensures { IsOf C.shard_table C.good C.layout shard.entry.now seat.new × (rank_at seat.new ≡ rank_at seat.old) }
         { go(shard, seat, steps) },
     );
 }
 
 /// Makes one step with each seat, one after the other.
-fn go_round<A: Algo>(shard: &Shard<A>, seats: &mut Vec<Seat<A>>)
-    requires { AreOf A.table A.good A.layout shard.now seats.old.items }
-    ensures seats { AreOf A.table A.good A.layout shard.now seats.new.items }
+fn go_lap<C: ShardCore>(shard: &Shard<C>, seats: &mut Vec<Seat<C>>)
+    requires { AreOf C.shard_table C.good C.layout shard.now seats.old.items }
+    ensures seats { AreOf C.shard_table C.good C.layout shard.now seats.new.items }
     ensures long { vec_len seats.new ≡ vec_len seats.old }
 {
     for rank in 0..seats.len() {
@@ -283,20 +309,20 @@ fn go_round<A: Algo>(shard: &Shard<A>, seats: &mut Vec<Seat<A>>)
 }
 
 /// Makes so many steps with each seat, by turns.
-fn go_by_turns<A: Algo>(shard: &Shard<A>, seats: &mut Vec<Seat<A>>, turns: u32)
-    requires { AreOf A.table A.good A.layout shard.now seats.old.items }
-    ensures seats { AreOf A.table A.good A.layout shard.now seats.new.items }
+fn go_by_turns<C: ShardCore>(shard: &Shard<C>, seats: &mut Vec<Seat<C>>, turns: u32)
+    requires { AreOf C.shard_table C.good C.layout shard.now seats.old.items }
+    ensures seats { AreOf C.shard_table C.good C.layout shard.now seats.new.items }
     ensures long { vec_len seats.new ≡ vec_len seats.old }
 {
     for _ in 0..turns {
-        go_round(shard, seats);
+        go_lap(shard, seats);
     }
 }
 
 /// Whether no block is open.
-fn all_closed<A: Algo>(shard: &Shard<A>, seats: &[Seat<A>]) -> bool
-    requires { AreOf A.table A.good A.layout shard.now seats.now }
-    ensures { result ≡ true → AreClosed A.table shard.now seats.now }
+fn all_closed<C: ShardCore>(shard: &Shard<C>, seats: &[Seat<C>]) -> bool
+    requires { AreOf C.shard_table C.good C.layout shard.now seats.now }
+    ensures { result ≡ true → AreClosed C.shard_table shard.now seats.now }
 {
     for seat in seats {
         if seat.is_open(shard) {
@@ -308,19 +334,19 @@ fn all_closed<A: Algo>(shard: &Shard<A>, seats: &[Seat<A>]) -> bool
 
 /// Opens the shard, begins the first call of each rank, steps the seats in threads, and then by turns as long as a call may still be open;
 /// and closes the shard.
-fn closed_by_threads<A: Algo + Send + Sync, R: Threads + Sync>(
+fn closed_by_threads<C: ShardCore + Send + Sync, R: Threads + Sync>(
     rt: &R,
     alloc: Global,
     place: &Place,
     calls: &[Vec<Call>],
 ) -> Result<Option<Closed>, OutOfMemory>
 where
-    A::View: Send + Sync,
+    C::View: Send + Sync,
     requires proper { IsProper place.now }
-    requires knobs { A.suits_knobs (shape_of place.now) (knobs_of place.now.lock) }
-    requires kind { A.name ≡ name_of place.now.lock }
+    requires knobs { C.suits_knobs (shape_of place.now) (knobs_of place.now.lock) }
+    requires kind { C.name ≡ name_of place.now.lock }
 {
-    let (shard, mut seats) = opened::<A>(alloc, place)?;
+    let (shard, mut seats) = opened::<C>(alloc, place)?;
     begin_all(&shard, place.geom, &mut seats, calls);
     go_in_threads(rt, &shard, &mut seats, 400);
     go_by_turns(&shard, &mut seats, 400);
@@ -348,11 +374,11 @@ fn closed_of<R: Threads + Sync + AllocGlobal>(
     let ops = read_ops(alloc, count, place.geom.shards, calls.as_bytes())?;
     let calls = ops.by_rank.as_slice();
     let closed = match &place.lock {
-        Lock::Spin => closed_by_threads::<Spin, R>(rt, alloc, &place, calls)?,
-        Lock::Dmcs => closed_by_threads::<Dmcs, R>(rt, alloc, &place, calls)?,
-        Lock::Alock { .. } => closed_by_threads::<Alock, R>(rt, alloc, &place, calls)?,
-        Lock::Mcs { .. } => closed_by_threads::<Mcs, R>(rt, alloc, &place, calls)?,
-        Lock::Rw { .. } => closed_by_threads::<Rw, R>(rt, alloc, &place, calls)?,
+        Lock::Spin => closed_by_threads::<SpinCore, R>(rt, alloc, &place, calls)?,
+        Lock::Dmcs => closed_by_threads::<DmcsCore, R>(rt, alloc, &place, calls)?,
+        Lock::Alock { .. } => closed_by_threads::<AlockCore, R>(rt, alloc, &place, calls)?,
+        Lock::Mcs { .. } => closed_by_threads::<McsCore, R>(rt, alloc, &place, calls)?,
+        Lock::Rw { .. } => closed_by_threads::<RwCore, R>(rt, alloc, &place, calls)?,
     };
     Ok(closed)
 }

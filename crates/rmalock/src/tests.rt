@@ -3,7 +3,7 @@ ghost use Rattle.std.specs.Prelude.{IsTrue};
 
 use crate::offline::offline;
 use crate::program::rmalock;
-use rl_io::{FixedSink, OpenGate, Sink, Source, SureFiles};
+use rl_io::{FixedSink, Gate, Sink, Source, SureFiles};
 use std::alloc::AllocError as OutOfMemory;
 use std::process::Abort;
 use std::sync::Wait;
@@ -105,16 +105,17 @@ pub(crate) fn replay_of(
     replay_held(rt, files(rt, place, calls, &schedule)?)
 }
 
-/// The status of `run p c` over these files and this sink, with a gate that is always open.
-pub(crate) fn run_through<S: Source, K: Sink, R: Threads + Wait + Sync + AllocGlobal>(
+/// The status of `run p c` over these files and this sink, with a gate.
+pub(crate) fn run_through<S: Source, K: Sink, G: Gate, R: Threads + Wait + Sync + AllocGlobal>(
     rt: &R,
     source: &mut S,
     out: &mut K,
+    gate: &G,
 ) -> Result<u8, OutOfMemory>
     requires { (name : _) → IsTrue (S.may_open source.old name) }
 {
     let line = words(rt, &["run", "p", "c"])?;
-    Ok(rmalock(rt, rt.alloc(), line.as_slice(), source, out, &OpenGate))
+    Ok(rmalock(rt, rt.alloc(), line.as_slice(), source, out, gate))
 }
 
 /// Looks that an answer has this status and this text.

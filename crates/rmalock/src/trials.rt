@@ -6,16 +6,13 @@ ghost use Rattle.rl_place.specs.Shapes.{shape_of, knobs_of};
 ghost use Rattle.rl_ops.specs.Ops.{OpsFit};
 ghost use Rattle.rl_step.specs.Answers.{steps_made};
 
-use rl_alock::Alock;
-use rl_mcs::Mcs;
+use rl_asks::{Resting, ShardCore, TellsAll};
+use rl_cores::{CoreTask, over_lock};
+use rl_machine::Machine;
 use rl_ops::{Ops, read_ops};
-use rl_place::{Lock, Place, read_place};
-use rl_queue::Dmcs;
-use rl_rw::Rw;
-use rl_spin::Spin;
-use rl_step::{Algo, Event, Stepped, Steps};
+use rl_place::{Place, read_place};
+use rl_step::{Event, Stepped, Steps};
 use rl_text::{TEXT_LIMIT, TextErr};
-use rl_whole::Machine;
 use std::alloc::{AllocError as OutOfMemory, Global};
 
 /// Whether so few steps were made that one more can be.
@@ -77,9 +74,9 @@ fn told(
 }
 
 /// What the steps of these ranks tell, one after the other: the answers, and the events of shard 0.
-fn steps_of<A: Algo>(
+fn steps_of<C: ShardCore>(
     alloc: Global,
-    mut machine: Machine<A>,
+    mut machine: Machine<C>,
     ranks: &[u8],
 ) -> Result<String, OutOfMemory>
     requires some { 0 < length machine.shards }
@@ -101,15 +98,41 @@ fn steps_of<A: Algo>(
     Ok(text)
 }
 
-fn run<A: Algo>(alloc: Global, place: &Place, ops: Ops, ranks: &[u8]) -> Result<String, OutOfMemory>
+fn run<C: ShardCore>(
+    alloc: Global,
+    place: &Place,
+    ops: Ops,
+    ranks: &[u8],
+) -> Result<String, OutOfMemory>
     requires proper { IsProper place.now }
-    requires knobs { A.suits_knobs (shape_of place.now) (knobs_of place.now.lock) }
+    requires knobs { C.suits_knobs (shape_of place.now) (knobs_of place.now.lock) }
+    requires batches { C.batches ≡ true }
     requires calls { OpsFit (length place.now.paths) place.now.geom.shards ops }
 {
     let shape = place.shape(alloc)?;
     let homes = place.homes.as_slice();
-    let machine: Machine<A> = Machine::new(alloc, &shape, place.knobs(), place.geom, homes, ops)?;
+    let machine: Machine<C> = Machine::new(alloc, &shape, place.knobs(), place.geom, homes, ops)?;
     steps_of(alloc, machine, ranks)
+}
+
+/// What the steps of these ranks tell, with the core of whichever lock the placement has.
+#[derive(Drop)]
+struct TrialTask<'a> {
+    alloc: Global,
+    ops: Ops,
+    ranks: &'a [u8],
+}
+
+impl CoreTask for TrialTask<'_> {
+    type Out = Result<String, OutOfMemory>;
+
+    ghost takes = { λ t place. OpsFit (length place.paths) place.geom.shards t.ops };
+
+    ghost gives = { λ t place kind told. Unit {0} };
+
+    fn over<C: Resting + TellsAll>(self, place: &Place) -> Result<String, OutOfMemory> {
+        run::<C>(self.alloc, place, self.ops, self.ranks)
+    }
 }
 
 /// What the steps of these ranks tell, over the placement and the calls of these texts.
@@ -129,12 +152,6 @@ pub(crate) fn trial(
         place.geom.shards,
         calls.as_bytes(),
     )?;
-    let text = match &place.lock {
-        Lock::Spin => run::<Spin>(alloc, &place, ops, ranks.as_bytes())?,
-        Lock::Dmcs => run::<Dmcs>(alloc, &place, ops, ranks.as_bytes())?,
-        Lock::Alock { .. } => run::<Alock>(alloc, &place, ops, ranks.as_bytes())?,
-        Lock::Mcs { .. } => run::<Mcs>(alloc, &place, ops, ranks.as_bytes())?,
-        Lock::Rw { .. } => run::<Rw>(alloc, &place, ops, ranks.as_bytes())?,
-    };
-    Ok(text)
+    let ranks = ranks.as_bytes();
+    Ok(over_lock(&place, TrialTask { alloc, ops, ranks })?)
 }

@@ -12,16 +12,10 @@ ghost use Rattle.rmalock_picture.specs.Answer.{MayRead, WasDrawn, IsDone};
 use crate::asking::{Asked, Window, asked_in};
 use crate::drawing::{Scene, draw};
 use crate::recording::record;
-use rl_alock::Alock;
 use rl_history::Naming;
 use rl_io::{Failed, Sink, Source, write_all};
-use rl_mcs::Mcs;
 use rl_ops::Schedule;
-use rl_place::Lock;
-use rl_queue::Dmcs;
 use rl_replay::{Replay, Stop, read_replay, refusal_line};
-use rl_rw::Rw;
-use rl_spin::Spin;
 use std::alloc::{AllocError as OutOfMemory, Global};
 
 /// The most steps that a picture shows.
@@ -51,7 +45,7 @@ fn steps_of(schedule: &Schedule) -> u32 {
     steps
 }
 
-/// The picture of a replay: its machine is made, with the lock of the placement, and makes its steps.
+/// The picture of a replay: its machine is made, over the lock of the placement, and makes its steps.
 fn picture_of(alloc: Global, replay: Replay, window: Window) -> Result<Vec<u8>, OutOfMemory>
     requires proper { IsProper replay.place }
     requires calls { OpsFit (length replay.place.paths) replay.place.geom.shards replay.ops }
@@ -63,13 +57,7 @@ fn picture_of(alloc: Global, replay: Replay, window: Window) -> Result<Vec<u8>, 
         ops,
         schedule,
     } = replay;
-    let lanes = match &place.lock {
-        Lock::Spin => record::<Spin>(alloc, &place, ops, &schedule, window)?,
-        Lock::Dmcs => record::<Dmcs>(alloc, &place, ops, &schedule, window)?,
-        Lock::Alock { .. } => record::<Alock>(alloc, &place, ops, &schedule, window)?,
-        Lock::Mcs { .. } => record::<Mcs>(alloc, &place, ops, &schedule, window)?,
-        Lock::Rw { .. } => record::<Rw>(alloc, &place, ops, &schedule, window)?,
-    };
+    let lanes = record(alloc, &place, ops, &schedule, window)?;
     let shape = place.shape(alloc)?;
     let naming = Naming::of(alloc, &place)?;
     let scene = Scene {

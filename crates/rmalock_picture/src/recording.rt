@@ -1,5 +1,5 @@
 //! A machine is made, makes the steps of a schedule, and each step is taken down.
-ghost use Rattle.std.specs.Prelude.{◌≡◌, ◌+◌, ◌-◌, ◌<◌, ◌≤◌, ◌^◌, length, vec_len, IfOk};
+ghost use Rattle.std.specs.Prelude.{◌≡◌, ◌+◌, ◌-◌, ◌<◌, ◌≤◌, ◌^◌, true, length, vec_len, IfOk};
 ghost use Rattle.rl_place.specs.Places.{IsProper};
 ghost use Rattle.rl_place.specs.Shapes.{shape_of, knobs_of};
 ghost use Rattle.rl_ops.specs.Ops.{OpsFit};
@@ -8,10 +8,12 @@ ghost use Rattle.rl_step.specs.Answers.{steps_made};
 
 use crate::asking::Window;
 use crate::lanes::{Cell, Lane, Moment};
+use rl_asks::{Resting, ShardCore, TellsAll};
+use rl_cores::{CoreTask, over_lock};
+use rl_machine::Machine;
 use rl_ops::{Ops, Schedule, Turn};
 use rl_place::Place;
-use rl_step::{Algo, Event};
-use rl_whole::Machine;
+use rl_step::Event;
 use std::alloc::{AllocError as OutOfMemory, Global};
 
 /// A lane for each of so many ranks.
@@ -35,8 +37,8 @@ fn events_of_step(events: &[(u32, Event)], step: u32) -> &[(u32, Event)] {
 }
 
 /// Makes one step of a rank, the step with this number, and takes it down.
-fn make_step<A: Algo>(
-    machine: &mut Machine<A>,
+fn make_step<C: ShardCore>(
+    machine: &mut Machine<C>,
     lane: &mut Lane,
     rank: u32,
     step: u32,
@@ -59,8 +61,8 @@ fn make_step<A: Algo>(
 }
 
 /// Makes so many steps of a rank, as far as the window goes; the first has this number. Gives the number of the next one.
-fn make_steps<A: Algo>(
-    machine: &mut Machine<A>,
+fn make_steps<C: ShardCore>(
+    machine: &mut Machine<C>,
     lanes: &mut Vec<Lane>,
     rank: u32,
     count: u32,
@@ -87,8 +89,8 @@ fn make_steps<A: Algo>(
 }
 
 /// Makes the steps of a turn, as far as the window goes. A stop has none.
-fn make_turn<A: Algo>(
-    machine: &mut Machine<A>,
+fn make_turn<C: ShardCore>(
+    machine: &mut Machine<C>,
     lanes: &mut Vec<Lane>,
     turn: Turn,
     step: u32,
@@ -110,9 +112,8 @@ fn make_turn<A: Algo>(
     }
 }
 
-/// What is seen of the replay of a placement, calls and a schedule in a window of its steps: a lane for each rank. Refused
-/// only for want of memory.
-pub fn record<A: Algo>(
+/// What is seen of a replay with this core, which is that of the placement's lock and does batches.
+fn record_with<C: ShardCore>(
     alloc: Global,
     place: &Place,
     ops: Ops,
@@ -120,16 +121,18 @@ pub fn record<A: Algo>(
     window: Window,
 ) -> Result<Vec<Lane>, OutOfMemory>
     requires proper { IsProper place.now }
-    requires knobs { A.suits_knobs (shape_of place.now) (knobs_of place.now.lock) }
+    requires knobs { C.suits_knobs (shape_of place.now) (knobs_of place.now.lock) }
+    requires batches { C.batches ≡ true }
     requires calls { OpsFit (length place.now.paths) place.now.geom.shards ops }
     requires schedule { ScheduleFits (length place.now.paths) schedule.now }
     requires few { window.to ≤ 2000000 }
+    ensures lanes { IfOk result (λ lanes. vec_len lanes ≡ length place.now.paths) }
 {
     let shape = place.shape(alloc)?;
     let homes = place.homes.as_slice();
     let ranks = place.paths.len() as u32;
     let mut lanes = first_lanes(alloc, ranks, window.from)?;
-    let mut machine: Machine<A> = Machine::new(
+    let mut machine: Machine<C> = Machine::new(
         alloc,
         &shape,
         place.knobs(),
@@ -145,4 +148,51 @@ pub fn record<A: Algo>(
         lane.end(step)?;
     }
     Ok(lanes)
+}
+
+/// What is seen of a replay, with the core of whichever lock the placement has.
+#[derive(Drop)]
+struct RecordTask<'a> {
+    alloc: Global,
+    ops: Ops,
+    schedule: &'a Schedule,
+    window: Window,
+}
+
+impl CoreTask for RecordTask<'_> {
+    type Out = Result<Vec<Lane>, OutOfMemory>;
+
+    ghost takes = { λ r place. OpsFit (length place.paths) place.geom.shards r.ops × ScheduleFits (length place.paths) r.schedule.now × (r.window.to ≤ 2000000) };
+
+    ghost gives = { λ r place kind result. IfOk result (λ lanes. vec_len lanes ≡ length place.paths) };
+
+    fn over<C: Resting + TellsAll>(self, place: &Place) -> Result<Vec<Lane>, OutOfMemory> {
+        record_with::<C>(self.alloc, place, self.ops, self.schedule, self.window)
+    }
+}
+
+/// What is seen of the replay of a placement, calls and a schedule in a window of its steps: a lane for each rank. Refused
+/// only for want of memory.
+pub fn record(
+    alloc: Global,
+    place: &Place,
+    ops: Ops,
+    schedule: &Schedule,
+    window: Window,
+) -> Result<Vec<Lane>, OutOfMemory>
+    requires proper { IsProper place.now }
+    requires calls { OpsFit (length place.now.paths) place.now.geom.shards ops }
+    requires schedule { ScheduleFits (length place.now.paths) schedule.now }
+    requires few { window.to ≤ 2000000 }
+    ensures lanes { IfOk result (λ lanes. vec_len lanes ≡ length place.now.paths) }
+{
+    over_lock(
+        place,
+        RecordTask {
+            alloc,
+            ops,
+            schedule,
+            window,
+        },
+    )
 }

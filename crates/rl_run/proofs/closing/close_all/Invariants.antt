@@ -8,8 +8,8 @@ use Rattle.rl_run.proofs.closing.close_all.Given as goal
 
 abbrev pub invariant-loop-alloc : goal.invariant-loop-alloc
 invariant-loop-alloc g l =
-    All (IsShardOf (vec_len l.rows)) l.shards.items × IsGrid (IsShutSeat g.A.Algo.table g.A.Algo.good g.A.Algo.layout) l.shards.items (map vec_items l.rows.items)
-    × GoesOn (IsEnd g.A.Algo.table) l.fn.shards.items (map vec_items l.fn.rows.items) l.shards.items (map vec_items l.rows.items) l.ends.items
+    All (IsShardOf g.C.ShardCore.shard_table (vec_len l.rows)) l.shards.items × IsGrid (IsShutSeat g.C.ShardCore.shard_table g.C.ShardCore.good g.C.ShardCore.layout) l.shards.items (map vec_items l.rows.items)
+    × GoesOn (IsEnd g.C.ShardCore.shard_table) l.fn.shards.items (map vec_items l.fn.rows.items) l.shards.items (map vec_items l.rows.items) l.ends.items
     × (vec_len l.shards + vec_len l.ends ≤ vec_capacity l.ends)
 
 abbrev pub decreases-loop-alloc : goal.decreases-loop-alloc

@@ -1,14 +1,12 @@
 -- One shard more.
-use Rattle.std.proofs.Common.{◌≡◌, ◌≤◌, ◌<◌, ◌+◌, ◌++◌, ◌∷◌, [], length, map, slice_index, sum, vec_items, ap, sym, subst, ◌∙◌, arith}
+use Rattle.std.proofs.Common.{◌≡◌, ◌≤◌, ◌<◌, ◌+◌, ◌++◌, ◌∷◌, [], length, map, slice_index, sum, vec_items, ap, sym, subst, ◌∙◌, arith, length-append}
 use Rattle.std.proofs.lemmas.List.{length-map}
 use Rattle.rl_ops.specs.Room.{calls_on, updates_on, AreRooms}
 use Rattle.rl_ops.specs.RoomLaws.{first_room}
 use Rattle.rl_shard.specs.Counting.{first_counted}
-use Rattle.rl_shard.specs.Shards.{core_at, IsShardOf}
-use Rattle.rl_whole.specs.CoreLaws.{length_more}
-use Rattle.rl_whole.specs.OpsBridge.{few_updates}
-use Rattle.rl_whole.specs.Running.{lock_at}
-use Rattle.rl_whole.specs.Start.{lock_with, site_with}
+use Rattle.rl_shard.specs.Shards.{core_at, table_at, IsShardOf}
+use Rattle.rl_asks.specs.OpsBridge.{few_updates}
+use Rattle.rl_asks.specs.ShardTables.{site_with}
 use Rattle.rl_run.specs.RunLaws.{new_none, new_more, column_long}
 use Rattle.rl_run.specs.Runs.{AreNew}
 use Rattle.rl_run.proofs.opening.open_all.Goals as goal
@@ -17,8 +15,8 @@ pub loop-number-init : goal.loop-number-init
 loop-number-init g c =
     let none : length c.new-shards.result.items ≡ 0 = ap length c.new-shards.ensures.items in (
       none,
-      subst (λ l. AreNew g.A.Algo.defined g.A.Algo.table g.A.Algo.good g.A.Algo.layout c.args.shape.now c.args.knobs c.args.geom c.args.homes.now c.args.ops.now.by_rank l (map vec_items c.in_ok-rows.rows.items)) (sym c.new-shards.ensures.items)
-          (new_none g.A.Algo.defined g.A.Algo.table g.A.Algo.good g.A.Algo.layout c.args.shape.now c.args.knobs c.args.geom c.args.homes.now c.args.ops.now.by_rank (map vec_items c.in_ok-rows.rows.items) (length c.as_slice.result.now) c.in_ok-rows.ensures
+      subst (λ l. AreNew g.C.ShardCore.defined g.C.ShardCore.shard_table g.C.ShardCore.good g.C.ShardCore.layout c.args.shape.now c.args.knobs c.args.geom c.args.homes.now c.args.ops.now.by_rank l (map vec_items c.in_ok-rows.rows.items)) (sym c.new-shards.ensures.items)
+          (new_none g.C.ShardCore.defined g.C.ShardCore.shard_table g.C.ShardCore.good g.C.ShardCore.layout c.args.shape.now c.args.knobs c.args.geom c.args.homes.now c.args.ops.now.by_rank (map vec_items c.in_ok-rows.rows.items) (length c.as_slice.result.now) c.in_ok-rows.ensures
           (sym (length-map c.as_slice.result.now _) ∙ ap length c.as_slice.ensures)),
       omega (arith, c.in_ok-rooms.ensures.all),
       c.in_ok-rooms.ensures.each,
@@ -46,7 +44,7 @@ pub deal_seats-requires : goal.deal_seats-requires
 deal_seats-requires g c =
     let inv = c.loop-number.invariant in
     let taken = first_room c.args.geom c.args.ops.now.by_rank c.loop-number.number c.loop-number.rooms.items c.remove-room.result inv.3 inv.2 c.loop-number-test.true c.remove-room.ensures.value in
-    let column = column_long (lock_at g.A.Algo.table (core_at c.in_ok-shard.shard)) c.args.queues c.remove-room.result.calls.items c.in_ok-shard.seats.items c.in_ok-shard.ensures.views in
+    let column = column_long (table_at g.C.ShardCore.shard_table c.in_ok-shard.shard) c.args.queues c.remove-room.result.calls.items c.in_ok-shard.seats.items c.in_ok-shard.ensures.views in
     let calls : length c.remove-room.result.calls.items ≡ length c.args.ops.now.by_rank = ap length taken.0.calls ∙ length-map c.args.ops.now.by_rank (calls_on c.args.geom c.loop-number.number) in
     let rows = sym (length-map c.loop-number.rows.items vec_items) ∙ c.loop-number.invariant.1.ranks in
     let ok = c.in_ok-shard.seats.ok.0 in
@@ -62,13 +60,14 @@ loop-number-preserved g c =
     let low : i < length homes = (let many = c.requires.many in let h = c.loop-number-test.true in omega arith) in
     let made = c.in_ok-shard.ensures in
     let ranks : length c.args.shape.now.node_of ≡ length c.args.ops.now.by_rank = sym c.requires.ranks in
-    let lock = made.lock ∙ ap (λ l. lock_with (g.A.Algo.defined c.args.shape.now (slice_index homes i) c.args.knobs) (site_with c.args.geom i l)) taken.0.updates in
-    let views = made.views ∙ ap (first_counted (lock_at g.A.Algo.table (core_at c.in_ok-shard.shard)) c.args.queues) taken.0.calls in
-    let more = new_more g.A.Algo.defined g.A.Algo.table g.A.Algo.good g.A.Algo.layout c.args.shape.now c.args.knobs c.args.geom homes c.args.ops.now.by_rank c.loop-number.shards.items (map vec_items c.loop-number.rows.items) c.in_ok-shard.shard c.in_ok-shard.seats.items i c.args.queues c.loop-number.invariant.1 c.loop-number.invariant.0
-    lock (subst (λ n. IsShardOf n c.in_ok-shard.shard) ranks made.shard) made.seats views made.closed in (
-      ap length c.in_ok-push.ensures.items ∙ length_more c.loop-number.shards.items c.in_ok-shard.shard ∙ ap (λ n. n + 1) c.loop-number.invariant.0,
-      subst (λ l. AreNew g.A.Algo.defined g.A.Algo.table g.A.Algo.good g.A.Algo.layout c.args.shape.now c.args.knobs c.args.geom homes c.args.ops.now.by_rank l (map vec_items c.in_ok-rows-2.rows.items)) (sym c.in_ok-push.ensures.items)
-          (subst (λ l. AreNew g.A.Algo.defined g.A.Algo.table g.A.Algo.good g.A.Algo.layout c.args.shape.now c.args.knobs c.args.geom homes c.args.ops.now.by_rank (c.loop-number.shards.items ++ c.in_ok-shard.shard ∷ []) l) (sym c.in_ok-rows-2.ensures) more),
+    let table_is = made.core ∙ ap (λ l. g.C.ShardCore.defined c.args.shape.now (slice_index homes i) c.args.knobs (site_with c.args.geom i l)) taken.0.updates in
+    let site_is = ap (λ T. T.site) table_is ∙ (g.met.C.ShardCore.laid c.args.shape.now (slice_index homes i) c.args.knobs (site_with c.args.geom i (map (updates_on c.args.geom i) c.args.ops.now.by_rank))).site_is in
+    let views = made.views ∙ ap (first_counted (table_at g.C.ShardCore.shard_table c.in_ok-shard.shard) c.args.queues) taken.0.calls in
+    let more = new_more g.C.ShardCore.defined g.C.ShardCore.shard_table g.C.ShardCore.good g.C.ShardCore.layout c.args.shape.now c.args.knobs c.args.geom homes c.args.ops.now.by_rank c.loop-number.shards.items (map vec_items c.loop-number.rows.items) c.in_ok-shard.shard c.in_ok-shard.seats.items i c.args.queues c.loop-number.invariant.1 c.loop-number.invariant.0
+    table_is site_is (g.met.C.ShardCore.shard_laws (core_at c.in_ok-shard.shard)).first_desk (subst (λ n. IsShardOf g.C.ShardCore.shard_table n c.in_ok-shard.shard) ranks made.shard) made.seats views made.closed in (
+      ap length c.in_ok-push.ensures.items ∙ length-append c.loop-number.shards.items (c.in_ok-shard.shard ∷ []) ∙ ap (λ n. n + 1) c.loop-number.invariant.0,
+      subst (λ l. AreNew g.C.ShardCore.defined g.C.ShardCore.shard_table g.C.ShardCore.good g.C.ShardCore.layout c.args.shape.now c.args.knobs c.args.geom homes c.args.ops.now.by_rank l (map vec_items c.in_ok-rows-2.rows.items)) (sym c.in_ok-push.ensures.items)
+          (subst (λ l. AreNew g.C.ShardCore.defined g.C.ShardCore.shard_table g.C.ShardCore.good g.C.ShardCore.layout c.args.shape.now c.args.knobs c.args.geom homes c.args.ops.now.by_rank (c.loop-number.shards.items ++ c.in_ok-shard.shard ∷ []) l) (sym c.in_ok-rows-2.ensures) more),
       ap (λ l. length l + (i + 1)) c.remove-room.ensures.items ∙ taken.2,
       subst (AreRooms c.args.geom c.args.ops.now.by_rank (i + 1)) (sym c.remove-room.ensures.items) taken.1,
     )

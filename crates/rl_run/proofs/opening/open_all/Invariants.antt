@@ -7,6 +7,6 @@ use Rattle.rl_run.proofs.opening.open_all.Given as goal
 abbrev pub invariant-loop-number : goal.invariant-loop-number
 invariant-loop-number g l =
     (length l.shards.items ≡ l.number)
-    × AreNew g.A.Algo.defined g.A.Algo.table g.A.Algo.good g.A.Algo.layout l.shape l.knobs l.geom l.homes l.ops.by_rank l.shards.items (map vec_items l.rows.items)
+    × AreNew g.C.ShardCore.defined g.C.ShardCore.shard_table g.C.ShardCore.good g.C.ShardCore.layout l.shape l.knobs l.geom l.homes l.ops.by_rank l.shards.items (map vec_items l.rows.items)
     × (length l.rooms.items + l.number ≡ l.geom.shards)
     × AreRooms l.geom l.ops.by_rank l.number l.rooms.items

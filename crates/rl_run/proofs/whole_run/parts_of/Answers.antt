@@ -1,4 +1,4 @@
-use Rattle.std.proofs.Common.{rules, ◌≡◌, ◌<◌, ◌^◌, ◌++◌, All, map, vec_len, ap, ◌∙◌}
+use Rattle.std.proofs.Common.{rules}
 use Rattle.rl_run.specs.RowLaws.{first_is}
 use Rattle.rl_run.proofs.WholeRun.{next_part, none_left}
 use Rattle.rl_run.proofs.whole_run.parts_of.Goals as goal

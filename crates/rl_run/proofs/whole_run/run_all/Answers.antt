@@ -1,6 +1,5 @@
-use Rattle.std.proofs.Common.{rules, ◌≡◌, ◌≤◌, ◌<◌, ◌^◌, ◌∙◌, All, IfOk, length, map, vec_len, vec_items, ap, sym, subst, arith}
+use Rattle.std.proofs.Common.{rules, ◌≡◌, ◌≤◌, ◌∙◌, All, length, map, vec_len, vec_items, ap, sym, subst, arith}
 use Rattle.std.proofs.lemmas.List.{length-map}
-use Rattle.rl_place.specs.Places.{ThePlace}
 use Rattle.rl_shard.specs.Shards.{IsShardOf}
 use Rattle.rl_run.specs.Runs.{wanted, made_of}
 use Rattle.rl_run.proofs.WholeRun as whole
@@ -8,7 +7,7 @@ use Rattle.rl_run.proofs.whole_run.run_all.Goals as goal
 
 pub open_all-requires-clause-queues : goal.open_all-requires-clause-queues
 open_all-requires-clause-queues g c =
-    whole.queue_count_is c.args.place.now g.A.Algo.name c.in_ok-shape.shape c.knobs.result (length c.as_slice.result.now) c.requires.kind c.in_ok-shape.ensures.exact c.knobs.ensures
+    whole.queue_count_is c.args.place.now g.C.ShardCore.name c.in_ok-shape.shape c.knobs.result (length c.as_slice.result.now) c.requires.kind c.in_ok-shape.ensures.exact c.knobs.ensures
     (ap length (c.as_slice.ensures.value ∙ ap (λ n. n.queues) c.naming.view_is ∙ ap (λ n. n.queues) c.in_ok-naming.ensures))
 
 pub callers_of-requires-clause-sizes : goal.callers_of-requires-clause-sizes
@@ -40,7 +39,7 @@ run_callers-requires-clause-rooted g c κs within =
     c.in_ok-callers.ensures.made ∙ ap (λ l. wanted c.place.inside.geom 0 l (map vec_items c.into_vec-2.result.items) rows) c.into_vec.ensures
     ∙ ap (λ l. wanted c.place.inside.geom 0 c.args.ops.by_rank l rows) c.into_vec-2.ensures ∙ ap (λ g. wanted g 0 c.args.ops.by_rank c.args.ops.sizes rows) geom in
     let n : vec_len c.in_ok-callers.callers ≡ length c.in_ok-callers.callers.items = search rules in
-    subst (λ k. All (IsShardOf k) c.in_ok-shards.shards.items) (sym n) (whole.rooted g.A.Algo.defined g.A.Algo.table g.A.Algo.good g.A.Algo.layout c.args.place.now c.args.ops c.requires.proper c.requires.calls c.in_ok-shape.shape c.knobs.result c.place.inside.geom c.as_slice-homes.result.now c.in_ok-shape.ensures.exact c.knobs.ensures geom homes c.in_ok-shards.shards.items rows c.in_ok-shards.ensures.made c.in_ok-shards.ensures.all c.in_ok-callers.callers.items made)
+    subst (λ k. All (IsShardOf g.C.ShardCore.shard_table k) c.in_ok-shards.shards.items) (sym n) (whole.rooted g.C.ShardCore.defined g.C.ShardCore.shard_table g.C.ShardCore.good g.C.ShardCore.layout c.args.place.now c.args.ops c.requires.proper c.requires.calls c.in_ok-shape.shape c.knobs.result c.place.inside.geom c.as_slice-homes.result.now c.in_ok-shape.ensures.exact c.knobs.ensures geom homes c.in_ok-shards.shards.items rows c.in_ok-shards.ensures.made c.in_ok-shards.ensures.all g.C.ShardCore.batches (g.met.C.ShardCore g.world.𝓛 g.world.𝓜 g.world.𝓡 ((λ s x. x), (λ x. x), (λ x. x), λ x. x)).has_batches c.requires.batches c.in_ok-callers.callers.items made)
 
 pub run_callers-requires-clause-callers : goal.run_callers-requires-clause-callers
 run_callers-requires-clause-callers g c κs within =
@@ -50,7 +49,7 @@ run_callers-requires-clause-callers g c κs within =
     let made : map made_of c.in_ok-callers.callers.items ≡ wanted c.args.place.now.geom 0 c.args.ops.by_rank c.args.ops.sizes rows =
     c.in_ok-callers.ensures.made ∙ ap (λ l. wanted c.place.inside.geom 0 l (map vec_items c.into_vec-2.result.items) rows) c.into_vec.ensures
     ∙ ap (λ l. wanted c.place.inside.geom 0 c.args.ops.by_rank l rows) c.into_vec-2.ensures ∙ ap (λ g. wanted g 0 c.args.ops.by_rank c.args.ops.sizes rows) geom in
-    whole.are_callers_of g.A.Algo.defined g.A.Algo.table g.A.Algo.good g.A.Algo.layout c.args.place.now c.args.ops c.requires.proper c.requires.calls c.in_ok-shape.shape c.knobs.result c.place.inside.geom c.as_slice-homes.result.now c.in_ok-shape.ensures.exact c.knobs.ensures geom homes c.in_ok-shards.shards.items rows c.in_ok-shards.ensures.made c.in_ok-shards.ensures.all c.in_ok-callers.callers.items made c.in_ok-callers.ensures.may
+    whole.are_callers_of g.C.ShardCore.defined g.C.ShardCore.shard_table g.C.ShardCore.good g.C.ShardCore.layout c.args.place.now c.args.ops c.requires.proper c.requires.calls c.in_ok-shape.shape c.knobs.result c.place.inside.geom c.as_slice-homes.result.now c.in_ok-shape.ensures.exact c.knobs.ensures geom homes c.in_ok-shards.shards.items rows c.in_ok-shards.ensures.made c.in_ok-shards.ensures.all g.C.ShardCore.batches (g.met.C.ShardCore g.world.𝓛 g.world.𝓜 g.world.𝓡 ((λ s x. x), (λ x. x), (λ x. x), λ x. x)).has_batches c.requires.batches c.in_ok-callers.callers.items made c.in_ok-callers.ensures.may
 
 pub parts_of-requires : goal.parts_of-requires
 parts_of-requires g c =
@@ -60,7 +59,7 @@ parts_of-requires g c =
     let made : map made_of c.in_ok-callers.callers.items ≡ wanted c.args.place.now.geom 0 c.args.ops.by_rank c.args.ops.sizes rows =
     c.in_ok-callers.ensures.made ∙ ap (λ l. wanted c.place.inside.geom 0 l (map vec_items c.into_vec-2.result.items) rows) c.into_vec.ensures
     ∙ ap (λ l. wanted c.place.inside.geom 0 c.args.ops.by_rank l rows) c.into_vec-2.ensures ∙ ap (λ g. wanted g 0 c.args.ops.by_rank c.args.ops.sizes rows) geom in
-    whole.short g.A.Algo.defined g.A.Algo.table g.A.Algo.good g.A.Algo.layout c.args.place.now c.args.ops c.requires.proper c.requires.calls c.in_ok-shape.shape c.knobs.result c.place.inside.geom c.as_slice-homes.result.now c.in_ok-shape.ensures.exact c.knobs.ensures geom homes c.in_ok-shards.shards.items rows c.in_ok-shards.ensures.made c.in_ok-shards.ensures.all c.in_ok-callers.callers.items made g.A.Algo.name c.requires.kind g.A.Algo.has_queues g.A.Algo.has_shares c.in_ok-ends.ends.items c.in_ok-ends.ensures
+    whole.short g.C.ShardCore.defined g.C.ShardCore.shard_table g.C.ShardCore.good g.C.ShardCore.layout c.args.place.now c.args.ops c.requires.proper c.requires.calls c.in_ok-shape.shape c.knobs.result c.place.inside.geom c.as_slice-homes.result.now c.in_ok-shape.ensures.exact c.knobs.ensures geom homes c.in_ok-shards.shards.items rows c.in_ok-shards.ensures.made c.in_ok-shards.ensures.all g.C.ShardCore.batches (g.met.C.ShardCore g.world.𝓛 g.world.𝓜 g.world.𝓡 ((λ s x. x), (λ x. x), (λ x. x), λ x. x)).has_batches c.requires.batches c.in_ok-callers.callers.items made g.C.ShardCore.name c.requires.kind (g.met.C.ShardCore g.world.𝓛 g.world.𝓜 g.world.𝓡 ((λ s x. x), (λ x. x), (λ x. x), λ x. x)).has_queues g.C.ShardCore.spares (g.met.C.ShardCore g.world.𝓛 g.world.𝓜 g.world.𝓡 ((λ s x. x), (λ x. x), (λ x. x), λ x. x)).has_tenures c.requires.readers c.in_ok-ends.ends.items c.in_ok-ends.ensures
 
 pub returns : goal.returns
 returns g c =
@@ -71,6 +70,6 @@ returns g c =
     c.in_ok-callers.ensures.made ∙ ap (λ l. wanted c.place.inside.geom 0 l (map vec_items c.into_vec-2.result.items) rows) c.into_vec.ensures
     ∙ ap (λ l. wanted c.place.inside.geom 0 c.args.ops.by_rank l rows) c.into_vec-2.ensures ∙ ap (λ g. wanted g 0 c.args.ops.by_rank c.args.ops.sizes rows) geom in
     record {
-      lawful = whole.run_lawful g.A.Algo.defined g.A.Algo.table g.A.Algo.good g.A.Algo.layout c.args.place.now c.args.ops c.requires.proper c.requires.calls c.in_ok-shape.shape c.knobs.result c.place.inside.geom c.as_slice-homes.result.now c.in_ok-shape.ensures.exact c.knobs.ensures geom homes c.in_ok-shards.shards.items rows c.in_ok-shards.ensures.made c.in_ok-shards.ensures.all c.in_ok-callers.callers.items made g.A.Algo.name c.requires.kind g.A.Algo.has_queues g.A.Algo.has_shares c.in_ok-ends.ends.items c.in_ok-ends.ensures
+      lawful = whole.run_lawful g.C.ShardCore.defined g.C.ShardCore.shard_table g.C.ShardCore.good g.C.ShardCore.layout c.args.place.now c.args.ops c.requires.proper c.requires.calls c.in_ok-shape.shape c.knobs.result c.place.inside.geom c.as_slice-homes.result.now c.in_ok-shape.ensures.exact c.knobs.ensures geom homes c.in_ok-shards.shards.items rows c.in_ok-shards.ensures.made c.in_ok-shards.ensures.all g.C.ShardCore.batches (g.met.C.ShardCore g.world.𝓛 g.world.𝓜 g.world.𝓡 ((λ s x. x), (λ x. x), (λ x. x), λ x. x)).has_batches c.requires.batches c.in_ok-callers.callers.items made g.C.ShardCore.name c.requires.kind (g.met.C.ShardCore g.world.𝓛 g.world.𝓜 g.world.𝓡 ((λ s x. x), (λ x. x), (λ x. x), λ x. x)).has_queues g.C.ShardCore.spares (g.met.C.ShardCore g.world.𝓛 g.world.𝓜 g.world.𝓡 ((λ s x. x), (λ x. x), (λ x. x), λ x. x)).has_tenures c.requires.readers c.in_ok-ends.ends.items c.in_ok-ends.ensures
           c.in_ok-parts.parts.items c.in_ok-done.done.items c.in_ok-parts.ensures.parts c.in_ok-done.ensures c.in_ok-parts.ensures.numbers;
     }

@@ -1,14 +1,13 @@
 -- One rank's view more.
 use Rattle.std.proofs.Common.{◌≡◌, ◌∷◌, [], ◌++◌, length, take, ap, sym, ◌∙◌, arith}
-use Rattle.rl_whole.specs.Running.{lock_at}
-use Rattle.rl_whole.specs.Filling.{take_whole}
+use Rattle.std.proofs.Math.Seq.{take-length}
 use Rattle.rl_shard.specs.Counting.{first_counted}
 use Rattle.rl_shard.proofs.OpeningLaws.{fresh, first_more}
 use Rattle.rl_shard.proofs.opening.first_views.Goals as goal
 
 pub loop-rank-preserved : goal.loop-rank-preserved
 loop-rank-preserved g c =
-    let L = lock_at g.A.Algo.table c.args.core.now in
+    let L = g.C.ShardCore.shard_table c.args.core.now in
     let rooms = c.args.rooms.now in
     let rank = c.loop-rank.rank in
     let so_far = first_counted L c.args.queues (take rank rooms) in
@@ -20,7 +19,7 @@ loop-rank-preserved g c =
 
 pub returns : goal.returns
 returns g c =
-    let L = lock_at g.A.Algo.table c.args.core.now in
+    let L = g.C.ShardCore.shard_table c.args.core.now in
     let rooms = c.args.rooms.now in
     let all : c.loop-rank.rank ≡ length rooms = omega arith in
-    c.loop-rank.invariant ∙ ap (λ n. first_counted L c.args.queues (take n rooms)) all ∙ ap (first_counted L c.args.queues) (take_whole rooms)
+    c.loop-rank.invariant ∙ ap (λ n. first_counted L c.args.queues (take n rooms)) all ∙ ap (first_counted L c.args.queues) (take-length rooms)

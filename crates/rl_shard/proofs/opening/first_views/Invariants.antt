@@ -1,8 +1,7 @@
 -- The views so far are those of the ranks so far.
 use Rattle.std.proofs.Common.{◌≡◌, take}
-use Rattle.rl_whole.specs.Running.{lock_at}
 use Rattle.rl_shard.specs.Counting.{first_counted}
 use Rattle.rl_shard.proofs.opening.first_views.Given as goal
 
 abbrev pub invariant-loop-rank : goal.invariant-loop-rank
-invariant-loop-rank g l = l.views.items ≡ first_counted (lock_at g.A.Algo.table l.core) l.queues (take l.rank l.rooms)
+invariant-loop-rank g l = l.views.items ≡ first_counted (g.C.ShardCore.shard_table l.core) l.queues (take l.rank l.rooms)

@@ -1,43 +1,28 @@
 -- One word more.
-use Rattle.std.proofs.Common.{◌≡◌, ◌+◌, ◌-◌, ◌<◌, ◌++◌, suc, length, slice_index, slice_set, replicate, ap, sym, ◌∙◌, arith, refl, rules}
+use Rattle.std.proofs.Common.{◌≡◌, ◌+◌, ◌<◌, slice_index, slice_set, replicate, ap, sym, ◌∙◌, arith, rules}
+use Rattle.rl_work.specs.Site.{lock_base}
 use Rattle.rl_work.specs.WorkGood.{opening_words}
-use Rattle.rl_work.specs.OpeningLaws.{opening_size}
-use Rattle.rl_whole.specs.Filling.{filled, filled_next, take_whole}
-use Rattle.rl_whole.specs.Running.{lock_at}
+use Rattle.rl_asks.specs.Filling.{opened_none, opened_next, opened_all}
 use Rattle.rl_shard.proofs.opening.first_words.Goals as goal
 
 pub loop-word-init : goal.loop-word-init
 loop-word-init g c =
-    let core = c.args.core.now in
-    let same : core.base + c.words.result ≡ core.base - 0 + (g.A.Algo.table core.algo).size = (let e = c.words.ensures in omega arith) in
-    let zeros : c.in_ok-words.words.items ≡ replicate (core.base + c.words.result) 0 = search rules in
-    zeros ∙ ap (λ n. replicate n 0) same
+    let T = g.C.ShardCore.shard_table c.args.core.now in
+    let zeros : c.in_ok-words.words.items ≡ replicate (c.lock_base-base.result + c.words.result) 0 = search rules in
+    zeros ∙ opened_none T.site T.behind (c.lock_base-base.result + c.words.result) (let b = c.lock_base-base.ensures in let e = c.words.ensures in omega arith)
 
 pub loop-word-preserved : goal.loop-word-preserved
 loop-word-preserved g c =
-    let core = c.args.core.now in
-    let site = (lock_at g.A.Algo.table core).site in
-    let size = (g.A.Algo.table core.algo).size in
+    let T = g.C.ShardCore.shard_table c.args.core.now in
     let word = c.loop-word.word in
-    let O = opening_words site in
-    let low : word < core.base = c.loop-word-test.true in
-    let all : length O ≡ core.base = opening_size site ∙ sym c.requires.base in
-    let less : core.base - word + size ≡ suc (core.base - (word + 1) + size) = omega arith in
-    let more : suc word ≡ word + 1 = omega arith in
-    let value : c.opening_word.result ≡ slice_index O word = c.opening_word.ensures site refl in
-    ap (λ w. slice_set w word c.opening_word.result) c.loop-word.invariant
-    ∙ ap (λ v. slice_set (filled O word (core.base - word + size)) word v) value
-    ∙ ap (λ n. slice_set (filled O word n) word (slice_index O word)) less
-    ∙ filled_next O word (core.base - (word + 1) + size) (omega arith)
-    ∙ ap (λ n. filled O n (core.base - (word + 1) + size)) more
+    let b = c.lock_base-base.ensures in
+    let test = c.loop-word-test.true in
+    let low : word < lock_base T.site = omega arith in
+    let value : c.opening_word.result ≡ slice_index (opening_words T.site) word = c.opening_word.ensures T.site (sym c.geom-geom.ensures) in
+    ap (λ w. slice_set w word c.opening_word.result) c.loop-word.invariant ∙ opened_next T.site T.behind word c.opening_word.result low value
 
 pub returns : goal.returns
 returns g c =
-    let core = c.args.core.now in
-    let site = (lock_at g.A.Algo.table core).site in
-    let size = (g.A.Algo.table core.algo).size in
-    let O = opening_words site in
-    let all : length O ≡ core.base = opening_size site ∙ sym c.requires.base in
-    let at : c.loop-word.word ≡ length O = omega arith in
-    let zeros : core.base - c.loop-word.word + size ≡ size = omega arith in
-    c.loop-word.invariant ∙ ap (filled O c.loop-word.word) zeros ∙ ap (λ n. filled O n size) at ∙ ap (λ t. t ++ replicate size 0) (take_whole O)
+    let T = g.C.ShardCore.shard_table c.args.core.now in
+    let b = c.lock_base-base.ensures in
+    c.loop-word.invariant ∙ opened_all T.site T.behind c.loop-word.word (omega arith)

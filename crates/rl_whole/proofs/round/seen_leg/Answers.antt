@@ -2,7 +2,7 @@
 use Rattle.std.proofs.Common.{rules, ◌≡◌, ◌+◌, ◌<◌, ◌^◌, length, slice_index, Some, refl, ap, sym, ◌∙◌, subst, arith}
 use Rattle.rl_word.specs.declared.acts.Act.TheVariants as act
 use Rattle.rl_step.specs.Lock.{MayStep, MayLearn}
-use Rattle.rl_whole.specs.Running.{lock_at}
+use Rattle.rl_whole.specs.Running.{lock_at, good_at, tables, goods}
 use Rattle.rl_whole.specs.WholeOwes.{may_step}
 use Rattle.rl_whole.specs.IdleLaws.{load_there, load_fits, load_learns}
 use Rattle.rl_whole.specs.RoundLaws.{none_there}
@@ -14,7 +14,7 @@ pub plan-requires : goal.plan-requires
 plan-requires g c =
     let core = c.args.core.now in
     subst (MayStep (g.A.Algo.good core.algo)) c.requires.is
-    (may_step _ (lock_at g.A.Algo.table core) (g.A.Algo.good core.algo) (g.A.Algo.further core.algo) (g.A.Algo.layout core.algo) (g.met.A.Algo.laws core.algo) core.home c.requires.view c.requires.may)
+    (may_step _ _ (lock_at (tables g.A.Algo.table g.W.Work.table) core) (good_at (goods g.A.Algo.good g.W.Work.good) core) (g.A.Algo.further core.algo) (g.A.Algo.layout core.algo) (record { lock = g.met.A.Algo.laws core.algo; work = g.met.W.Work.laws core.work }) core.home c.requires.view c.requires.may)
 
 -- the load is what the lock plans
 planned : (g : Over) (c : In-Load g) → (g.A.Algo.table c.args.core.now.algo).plan c.args.view ≡ Some (act.Load c.in-Load.word)
@@ -27,8 +27,8 @@ pub overflow_add-at : goal.overflow_add-at
 overflow_add-at g c =
     let core = c.args.core.now in
     let fits : core.base + c.in-Load.word < 2 ^ 32 =
-    load_fits (lock_at g.A.Algo.table core) c.requires.view c.in-Load.word (planned_there g c) c.requires.free
-    (g.A.Algo.good core.algo) (g.A.Algo.further core.algo) (g.A.Algo.layout core.algo) (g.met.A.Algo.laws core.algo) core.home c.requires.may in
+    load_fits (lock_at (tables g.A.Algo.table g.W.Work.table) core) c.requires.view c.in-Load.word (planned_there g c) c.requires.free
+    (good_at (goods g.A.Algo.good g.W.Work.good) core) (g.A.Algo.further core.algo) (g.A.Algo.layout core.algo) (record { lock = g.met.A.Algo.laws core.algo; work = g.met.W.Work.laws core.work }) core.home c.requires.may in
     omega arith
 
 -- the word is there
@@ -36,8 +36,8 @@ there : (g : Over) (c : In-Load g) → c.args.core.now.base + c.in-Load.word < l
 there g c =
     let core = c.args.core.now in
     subst (λ h. core.base + c.in-Load.word < length h.words) c.requires.held
-    (load_there (lock_at g.A.Algo.table core) c.requires.view c.in-Load.word (planned_there g c) c.requires.free
-    (g.A.Algo.good core.algo) (g.A.Algo.further core.algo) (g.A.Algo.layout core.algo) (g.met.A.Algo.laws core.algo) core.home c.requires.may)
+    (load_there (lock_at (tables g.A.Algo.table g.W.Work.table) core) c.requires.view c.in-Load.word (planned_there g c) c.requires.free
+    (good_at (goods g.A.Algo.good g.W.Work.good) core) (g.A.Algo.further core.algo) (g.A.Algo.layout core.algo) (record { lock = g.met.A.Algo.laws core.algo; work = g.met.W.Work.laws core.work }) core.home c.requires.may)
 
 pub value-value-requires : goal.value-value-requires
 value-value-requires g c = there g (goal.at.value-value-requires g c).In-Load
@@ -49,8 +49,8 @@ learn-waits-requires-clause-may g c =
     let at = core.base + c.in-Load.word in
     subst (λ v. MayLearn T (g.A.Algo.good core.algo) v c.value-value.result) c.requires.is
     (subst (MayLearn T (g.A.Algo.good core.algo) c.requires.view.side.view) (ap (λ h. slice_index h.words at) c.requires.held ∙ sym c.value-value.ensures)
-    (load_learns (lock_at g.A.Algo.table core) c.requires.view c.in-Load.word (planned_there g (goal.at.learn-waits-requires-clause-may g c).In-Load) c.requires.free
-    (g.A.Algo.good core.algo) (g.A.Algo.further core.algo) (g.A.Algo.layout core.algo) (g.met.A.Algo.laws core.algo) core.home c.requires.may))
+    (load_learns (lock_at (tables g.A.Algo.table g.W.Work.table) core) c.requires.view c.in-Load.word (planned_there g (goal.at.learn-waits-requires-clause-may g c).In-Load) c.requires.free
+    (good_at (goods g.A.Algo.good g.W.Work.good) core) (g.A.Algo.further core.algo) (g.A.Algo.layout core.algo) (record { lock = g.met.A.Algo.laws core.algo; work = g.met.W.Work.laws core.work }) core.home c.requires.may))
 
 pub returns-then-is_empty : goal.returns-then-is_empty
 returns-then-is_empty g c =

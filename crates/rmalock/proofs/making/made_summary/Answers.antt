@@ -4,8 +4,8 @@ use Rattle.rl_ops.specs.Ops.{OpsFit}
 use Rattle.rmalock.proofs.MakeLaws.{as_many_paths, summary_is}
 use Rattle.rmalock.proofs.making.made_summary.Goals as goal
 
-pub counts_of_rounds-requires-clause-calls : goal.counts_of_rounds-requires-clause-calls
-counts_of_rounds-requires-clause-calls c =
+pub counts_of_laps-requires-clause-calls : goal.counts_of_laps-requires-clause-calls
+counts_of_laps-requires-clause-calls c =
     let made = c.in_ok-place.ensures in
     let ops = c.in_ok-place.ops in
     let shards = ap (λ (p : ThePlace). p.geom.shards) made.place in

@@ -1,10 +1,10 @@
 use Rattle.std.proofs.Common.{◌≡◌, ◌≤◌, length, sum_by, IfOk, ap, sym, subst, ◌∙◌, arith}
 use Rattle.std.proofs.lemmas.List.{length-map}
 use Rattle.rl_ops.specs.Schedule.{steps_of}
-use Rattle.rl_whole.specs.Running.{running, shard_run}
-use Rattle.rl_whole.specs.Promises.{IsSound}
+use Rattle.rl_machine.specs.Running.{running, shard_run}
+use Rattle.rl_machine.specs.Promises.{IsSound}
 use Rattle.rmalock.specs.Replay.{report_in, queue_count}
-use Rattle.rmalock.proofs.RunLaws.{steps_are, where_ok}
+use Rattle.rmalock.proofs.RunLaws.{steps_are, where_ok, any_sizes}
 use Rattle.rmalock.proofs.KeptLaws.{ran, says_is, keeps_is, same_calls, each_shard, is_kept}
 use Rattle.rmalock.proofs.replaying.report_with.Goals as goal
 
@@ -15,24 +15,27 @@ replay-requires-clause-few g c =
     let same = steps_are turns in
     omega (arith, few, same)
 
+pub replay-requires-clause-batches : goal.replay-requires-clause-batches
+replay-requires-clause-batches g c = any_sizes g.C.ShardCore.batches c.args.ops.sizes c.requires.batches
+
 pub report_of_machine-requires-clause-shards : goal.report_of_machine-requires-clause-shards
 report_of_machine-requires-clause-shards g c =
     let place = c.args.place.now in
-    let run = ran g.A.Algo.defined place c.args.ops c.args.schedule.now _ _ _ _ _ (running g.A.Algo.table c.in_ok-machine.machine)
+    let run = ran g.C.ShardCore.defined place c.args.ops c.args.schedule.now _ _ _ _ _ (running g.C.ShardCore.shard_table c.in_ok-machine.machine)
     c.place.view_is c.in_ok-shape.ensures.exact c.knobs-knobs.ensures c.as_slice-homes.ensures.value c.as_slice-turns.ensures c.in_ok-machine.ensures.run in
-    sym (length-map c.in_ok-machine.machine.shards (shard_run g.A.Algo.table)) ∙ ap (λ m. length m.shards) run ∙ each_shard g.A.Algo.defined place c.args.ops c.args.schedule.now ∙ c.requires.proper.each_shard
+    sym (length-map c.in_ok-machine.machine.shards (shard_run g.C.ShardCore.shard_table)) ∙ ap (λ m. length m.shards) run ∙ each_shard g.C.ShardCore.defined place c.args.ops c.args.schedule.now ∙ c.requires.proper.each_shard
 
 pub report_of_machine-requires-clause-ranks : goal.report_of_machine-requires-clause-ranks
 report_of_machine-requires-clause-ranks g c =
     let place = c.args.place.now in
-    let run = ran g.A.Algo.defined place c.args.ops c.args.schedule.now _ _ _ _ _ (running g.A.Algo.table c.in_ok-machine.machine)
+    let run = ran g.C.ShardCore.defined place c.args.ops c.args.schedule.now _ _ _ _ _ (running g.C.ShardCore.shard_table c.in_ok-machine.machine)
     c.place.view_is c.in_ok-shape.ensures.exact c.knobs-knobs.ensures c.as_slice-homes.ensures.value c.as_slice-turns.ensures c.in_ok-machine.ensures.run in
-    ap (λ m. length m.calls) run ∙ ap length (same_calls g.A.Algo.defined place c.args.ops c.args.schedule.now) ∙ c.requires.calls.ranks_there
+    ap (λ m. length m.calls) run ∙ ap length (same_calls g.C.ShardCore.defined place c.args.ops c.args.schedule.now) ∙ c.requires.calls.ranks_there
 
 pub returns-clause-report : goal.returns-clause-report
 returns-clause-report g c =
     let place = c.args.place.now in
-    let run = ran g.A.Algo.defined place c.args.ops c.args.schedule.now _ _ _ _ _ (running g.A.Algo.table c.in_ok-machine.machine)
+    let run = ran g.C.ShardCore.defined place c.args.ops c.args.schedule.now _ _ _ _ _ (running g.C.ShardCore.shard_table c.in_ok-machine.machine)
     c.place.view_is c.in_ok-shape.ensures.exact c.knobs-knobs.ensures c.as_slice-homes.ensures.value c.as_slice-turns.ensures c.in_ok-machine.ensures.run in
     subst (λ m. IfOk c.report_of_machine.result (λ report. report ≡ report_in (queue_count place) m)) run c.report_of_machine.ensures
 
@@ -40,10 +43,10 @@ pub returns-clause-kept : goal.returns-clause-kept
 returns-clause-kept g c =
     let place = c.args.place.now in
     let schedule = c.args.schedule.now in
-    let run = ran g.A.Algo.defined place c.args.ops c.args.schedule.now _ _ _ _ _ (running g.A.Algo.table c.in_ok-machine.machine)
+    let run = ran g.C.ShardCore.defined place c.args.ops c.args.schedule.now _ _ _ _ _ (running g.C.ShardCore.shard_table c.in_ok-machine.machine)
     c.place.view_is c.in_ok-shape.ensures.exact c.knobs-knobs.ensures c.as_slice-homes.ensures.value c.as_slice-turns.ensures c.in_ok-machine.ensures.run in
     let geom = ap (λ p. p.geom) c.place.view_is in
     let homes = c.as_slice-homes.ensures.value ∙ ap (λ p. p.homes) c.place.view_is in
-    let says = says_is g.A.Algo.defined place c.args.ops schedule _ _ _ _ _ c.in_ok-shape.ensures.exact c.knobs-knobs.ensures geom homes c.as_slice-turns.ensures g.A.Algo.promised c.in_ok-machine.ensures.further in
-    let queues = keeps_is g.A.Algo.name place _ _ _ _ _ c.requires.kind c.in_ok-shape.ensures.exact c.knobs-knobs.ensures homes run c.in_ok-machine.ensures.queues in
-    where_ok c.report_of_machine.result (is_kept g.A.Algo.defined place c.args.ops schedule g.A.Algo.promised (subst IsSound run c.in_ok-machine.ensures.sound) queues says)
+    let says = says_is g.C.ShardCore.defined place c.args.ops schedule _ _ _ _ _ c.in_ok-shape.ensures.exact c.knobs-knobs.ensures geom homes c.as_slice-turns.ensures g.C.ShardCore.promised c.in_ok-machine.ensures.further in
+    let queues = keeps_is g.C.ShardCore.name place _ _ _ _ _ c.requires.kind c.in_ok-shape.ensures.exact c.knobs-knobs.ensures homes run c.in_ok-machine.ensures.queues in
+    where_ok c.report_of_machine.result (is_kept g.C.ShardCore.defined place c.args.ops schedule g.C.ShardCore.promised (subst IsSound run c.in_ok-machine.ensures.sound) queues says)

@@ -1,14 +1,14 @@
 use Rattle.std.proofs.Common.{◌<◌, [], ◌∷◌, ◌++◌, length, take, ap, sym, ◌∙◌, arith}
 use Rattle.rl_history.specs.declared.report.Done.{Done}
-use Rattle.rl_whole.specs.Running.{running}
-use Rattle.rl_whole.specs.Run.{done_of}
+use Rattle.rl_machine.specs.Running.{running}
+use Rattle.rl_machine.specs.Run.{done_of}
 use Rattle.rmalock.specs.Replay.{dones_from}
 use Rattle.rmalock.proofs.ReportLaws.{dones-more}
 use Rattle.rmalock.proofs.reporting.dones_of.Goals as goal
 
 pub loop-rank-preserved : goal.loop-rank-preserved
 loop-rank-preserved g c =
-    let m = running g.A.Algo.table c.args.machine.now in
+    let m = running g.C.ShardCore.shard_table c.args.machine.now in
     let calls = c.args.machine.now.calls in
     let i = c.loop-rank.rank in
     let low = c.loop-rank-test.true in

@@ -2,7 +2,7 @@ use Rattle.std.proofs.Common.{ap, sym, ◌∙◌, rules}
 use Rattle.rl_tree.specs.TreeShape.{IsBudgeted}
 use Rattle.rl_rw.specs.Rw.{SuitsRw}
 use Rattle.rl_place.specs.Shapes.{shape_of, knobs_of}
-use Rattle.rl_replay.proofs.BudgetLaws.{budgeted, suits_rw}
+use Rattle.rl_cores.proofs.BudgetLaws.{budgeted, suits_rw}
 use Rattle.rmalock.proofs.running.run_report.Goals as goal
 
 pub run_all-requires-in-Mcs-clause-knobs : goal.run_all-requires-in-Mcs-clause-knobs

@@ -1,5 +1,5 @@
 -- One seat more.
-use Rattle.std.proofs.Common.{◌≡◌, ◌≢◌, ◌<◌, length, slice_get, Some, ap, sym, subst, ◌∙◌, ⊎_elim, arith, rules}
+use Rattle.std.proofs.Common.{◌≡◌, ◌≢◌, false, ◌<◌, length, slice_get, Some, ap, sym, subst, ◌∙◌, ⊎_elim, arith, rules}
 use Rattle.std.proofs.lemmas.Option.{slice_get-get_or, slice_get_within}
 use Rattle.rl_word.specs.Places.{same_or_not, one_at}
 use Rattle.rl_shard.specs.Shards.{IsClosed}
@@ -18,9 +18,10 @@ loop-seat-preserved g c = λ r s h has.
     let seat = c.seat-item.result in
     let low : i < length seats = omega arith in
     let get : slice_get seats i ≡ Some seat = slice_get-get_or seats i seat low ∙ ap Some (sym c.seat-item.is) in
-    let closed : IsClosed g.A.Algo.table c.args.shard.now seat = c.is_open.ensures.0 (search rules) in
+    let off : c.is_open.result ≡ false = search rules in
+    let closed : IsClosed g.C.ShardCore.shard_table c.args.shard.now seat = sym c.is_open.ensures ∙ off in
     ⊎_elim
-    (λ (e : r ≡ i). subst (IsClosed g.A.Algo.table c.args.shard.now) (one_at seats i seat s get (subst (λ k. slice_get seats k ≡ Some s) e has)) closed)
+    (λ (e : r ≡ i). subst (IsClosed g.C.ShardCore.shard_table c.args.shard.now) (one_at seats i seat s get (subst (λ k. slice_get seats k ≡ Some s) e has)) closed)
     (λ (ne : r ≢ i). let below : r < i = grind arith in c.loop-seat.invariant r s below has)
     (same_or_not r i)
 

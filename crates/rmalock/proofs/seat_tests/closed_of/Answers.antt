@@ -1,6 +1,6 @@
 -- The settings of a lock that was read suit it.
 use Rattle.std.proofs.Common.{ap, sym, ◌∙◌}
-use Rattle.rl_replay.proofs.BudgetLaws.{budgeted, suits_rw}
+use Rattle.rl_cores.proofs.BudgetLaws.{budgeted, suits_rw}
 use Rattle.rmalock.proofs.seat_tests.closed_of.Goals as goal
 
 pub closed_by_threads-requires-in-Mcs-clause-knobs : goal.closed_by_threads-requires-in-Mcs-clause-knobs

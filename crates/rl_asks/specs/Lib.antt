@@ -1,0 +1,18 @@
+-- to be believed, in reading order: what a rank asks for, and how far it is with that
+pub mod Asks
+pub mod Desks
+pub mod RankGood
+-- and what a shard's core is
+pub mod Standings
+pub mod Domains
+pub mod ShardTables
+pub mod Idle
+pub mod Rounds
+pub mod ShardLaws
+pub mod GoodStates
+-- proved; skip at first
+pub mod AskLaws
+pub mod RankLaws
+pub mod OpsBridge
+pub mod JournalLaws
+pub mod Filling

@@ -1,0 +1,110 @@
+-- A lawful shard passes its tests.
+use Rattle.std.proofs.Common.{◌≡◌, ℕ, zero, suc, ◌+◌, ◌<◌, ◌≤◌, true, false, not, cond, List, [], ◌∷◌, length, take, Option, Some, None, refl, sym, ap, subst, ◌∙◌, inl, inr, ⊎_elim, arith}
+use Rattle.std.specs.Prelude.{slice_get}
+use Rattle.std.specs.List.{count_by}
+use Rattle.std.specs.FinMap as finite
+use Rattle.std.proofs.lemmas.Bool.Decides.{nat_tests}
+use Rattle.std.proofs.lemmas.List.Sums.{length-filter}
+use Rattle.std.proofs.lemmas.Option.{same_Some}
+use Rattle.rl_model.specs.declared.entry.Entry.{Entry}
+use Rattle.rl_model.specs.Call.{shard_of}
+use Rattle.rl_journal.specs.Blocks.{is_last}
+use Rattle.rl_journal.specs.Legal.{updates, is_of, table_after}
+use Rattle.rl_journal.specs.History.{Precedes, Each, IsSorted, AreOwn, IsReplay, TellsUpdatesBefore}
+use Rattle.rl_journal.specs.HistoryLaws.{replayed}
+use Rattle.rl_journal.specs.HistoryPlaces.{places_told}
+use Rattle.rl_journal.specs.HistorySorted.{history_sorted}
+use Rattle.rl_journal.specs.Ranks.{IsInOrder}
+use Rattle.rl_place.specs.Places.{ThePlace}
+use Rattle.rl_history.specs.Reports.{TheShard}
+use Rattle.rl_history.specs.Lawful.{journal_in, transcript_in, transcripts_in, IsLawfulShard}
+use Rattle.rl_check.specs.declared.illegal.Test.{Test}
+use Rattle.rl_check.specs.declared.illegal.Test.TheVariants as test
+use Rattle.rl_check.specs.Entries.{before, StandsBefore}
+use Rattle.rl_check.specs.OneThread.{is_begun}
+use Rattle.rl_check.specs.Shards.{ShardPasses}
+use Rattle.rl_check.proofs.Replays.{IsPlaced, replay_placed, placed_fits, placed_answered}
+
+-- ---- lists
+
+pub take_whole : {X : Type 0} (xs : List X) (n : ℕ) → n ≡ length xs → take n xs ≡ xs
+take_whole [] zero e = refl
+take_whole [] (suc n) e = absurd (omega arith)
+take_whole (x ∷ xs) zero e = absurd (omega arith)
+take_whole (x ∷ xs) (suc n) e = ap (λ z. x ∷ z) (take_whole xs n (omega arith))
+
+-- transcripts of some entries are their ranks' own
+own_rank : (k : ℕ) (es : List Entry) → Each (λ e. e.rank ≡ k) (transcript_in es k)
+own_rank k [] = tt
+own_rank k (e ∷ es) =
+    elim (is_of k e) as (λ b. is_of k e ≡ b → Each (λ e. e.rank ≡ k) (cond b (e ∷ transcript_in es k) (transcript_in es k))) [
+      | true ↦ λ h. (grind (arith, nat_tests), own_rank k es)
+      | false ↦ λ h. own_rank k es
+    ] refl
+
+pub own_from : (es : List Entry) (r n : ℕ) → ((k : ℕ) → r ≤ k → k < r + n → IsInOrder (transcript_in es k)) → AreOwn r (transcripts_in es r n)
+own_from es r zero order = tt
+own_from es r (suc n) order = ((own_rank r es, order r (omega arith) (omega arith)), own_from es (r + 1) n (λ k low high. order k (omega arith) (omega arith)))
+
+next_after : (d : Entry) (es : List Entry) (P : Entry → Type 0) → Each P es → (e : Entry) → slice_get es 0 ≡ Some e → P e
+next_after d [] P each e get = absurd (cc)
+next_after d (x ∷ es) P each e get = subst P (same_Some _ _ get) each.0
+
+sorted_next : (es : List Entry) (p : ℕ) (d e : Entry) → IsSorted es → slice_get es p ≡ Some d → slice_get es (suc p) ≡ Some e → Precedes d e
+sorted_next [] p d e sorted gd ge = absurd (cc)
+sorted_next (x ∷ es) zero d e sorted gd ge = subst (λ z. Precedes z e) (same_Some _ _ gd) (next_after x es (Precedes x) sorted.0 e ge)
+sorted_next (x ∷ es) (suc p) d e sorted gd ge = sorted_next es p d e sorted.1 gd ge
+
+pub stands_first : (d e : Entry) → Precedes d e → StandsBefore d e
+stands_first d e h =
+    ⊎_elim (λ low. inl low) (λ q. inr (q.0, ⊎_elim (λ up. inl (q.1, up)) (λ r. inr (q.1 ∙ sym r.0, r.1)) q.2)) h
+
+none_left : (o : Option Entry) (d : Entry) → is_begun o ≡ false → o ≡ Some d → is_last d ≡ true
+none_left None d none is = absurd (cc)
+none_left (Some x) d none is = subst (λ z. is_last z ≡ true) (same_Some _ _ is) (elim (is_last x) as (λ b. not b ≡ false → b ≡ true) [ true ↦ λ _. refl | false ↦ λ z. absurd (cc) ] none)
+
+-- ---- the tests
+
+module _ (place : ThePlace) (s home : ℕ) (S : TheShard) (L : IsLawfulShard place home S) (order : (k : ℕ) → k < length place.paths → IsInOrder (transcript_in S.entries k))
+    (alone : (p : ℕ) (e : Entry) → slice_get S.entries p ≡ Some e → updates e ≡ false → e.batch ≡ 0) (of_shard : (p : ℕ) (e : Entry) → slice_get S.entries p ≡ Some e → shard_of place.geom e.call ≡ s) (quiet : S.events ≡ []) where
+  abbrev es : List Entry
+  es = S.entries
+
+  abbrev ts : List (List Entry)
+  ts = transcripts_in S.entries 0 (length place.paths)
+
+  sorted : IsSorted es
+  sorted = subst IsSorted (sym L.in_order) (history_sorted place.geom (journal_in es) ts L.legal (own_from es 0 (length place.paths) (λ k low high. order k (omega arith))))
+
+  told : TellsUpdatesBefore es
+  told = subst TellsUpdatesBefore (sym L.in_order) (places_told place.geom (journal_in es) ts L.legal)
+
+  replay : IsReplay place.geom finite.empty 0 es
+  replay = subst (IsReplay place.geom finite.empty 0) (sym L.in_order) (replayed place.geom (journal_in es) ts L.legal)
+
+  placed : ((k : ℕ) (e : Entry) → slice_get es k ≡ Some e → IsPlaced place.geom es alone k e) × (is_begun (before es (length es)) ≡ false)
+  placed = replay_placed place.geom es alone 0 replay.blocks replay.split replay.replayed
+
+  in_order : (p : ℕ) (d e : Entry) → before es p ≡ Some d → slice_get es p ≡ Some e → StandsBefore d e
+  in_order zero d e gd ge = absurd (cc)
+  in_order (suc p) d e gd ge = stands_first d e (sorted_next es p d e sorted gd ge)
+
+  journal_whole : (p : ℕ) → p ≡ length es → journal_in (take p es) ≡ journal_in es
+  journal_whole p end = ap journal_in (take_whole es p end)
+
+  pub shard_passes : (p : ℕ) (t : Test) → ShardPasses place false s home S p t
+  shard_passes p test.Shard = λ e get. of_shard p e get
+  shard_passes p test.Order = in_order p
+  shard_passes p test.Batch = (
+    (λ e get. placed_fits place.geom es alone p e get (placed.0 p e get) e get),
+    (λ end d get. none_left (before es (length es)) d placed.1 get),
+  )
+  shard_passes p test.At = λ e get. told p e get
+  shard_passes p test.Reply = λ e get. placed_answered place.geom es alone p e get (placed.0 p e get) e get
+  shard_passes p test.Updates = λ end. L.told ∙ length-filter updates es ∙ ap (count_by updates) (sym (take_whole es p end))
+  shard_passes p test.Tally = λ end. L.tallied
+  shard_passes p test.Pairs = λ end. L.table ∙ ap (λ z. finite.entries (table_after place.geom finite.empty z)) (sym (journal_whole (length es) refl))
+  shard_passes p test.Events = λ low. absurd (let none : length S.events ≡ 0 = ap length quiet in omega arith)
+  shard_passes p test.Calls = tt
+  shard_passes p test.Fresh = tt
+  shard_passes p test.Done = tt

@@ -1,0 +1,114 @@
+//! The tests of a whole report, in threads.
+ghost use Rattle.std.specs.Prelude.{◌≡◌, ◌↔◌, ◌<◌, ◌≤◌, length, IsTrue, Ok, None, IfOk};
+ghost use Rattle.std.specs.List.{AllZip, range_with_len};
+ghost use Rattle.rl_place.specs.Places.{IsProper};
+ghost use Rattle.rl_ops.specs.Ops.{OpsFit};
+ghost use Rattle.rl_history.specs.Naming.{naming_of};
+ghost use Rattle.rl_history.specs.Reports.{ReportFits};
+ghost use Rattle.rl_check.specs.Faults.{IsFirst, IsFirstIn};
+ghost use Rattle.rl_check.specs.Legal.{Passes, PassesOn, PassesBy, AreOfSomePlace};
+ghost use Rattle.rl_check.specs.Threads.{IsFirstOf};
+ghost use Rattle.rl_check.specs.declared.illegal.Group.TheVariants as group;
+
+use crate::illegal::Illegal;
+use crate::ranks::check_rank;
+use crate::shards::check_shard;
+use rayon::prelude::*;
+use rl_history::Report;
+use rl_ops::Ops;
+use rl_place::Place;
+use std::alloc::{AllocError as OutOfMemory, Global};
+use std::thread::Threads;
+
+// What is found of one shard or rank.
+type Found = Result<Option<Illegal>, OutOfMemory>;
+
+// Whether nothing was found.
+fn is_nothing(found: &Found) -> bool
+    ensures { IsTrue result ↔ (found.now ≡ Ok None) }
+{
+    matches!(found, Ok(None))
+}
+
+// The first that isn't nothing, a fault or want of memory; nothing where all are.
+fn first(all: &[Found]) -> Found
+    ensures { IsFirstOf all.now result }
+{
+    for place in 0..all.len() {
+        if !is_nothing(&all[place]) {
+            return all[place];
+        }
+    }
+    Ok(None)
+}
+
+// What is found of each shard, from as many threads as there are processors. Only the list can be wanting for memory here.
+fn of_shards(
+    rt: &(impl Threads + Sync),
+    alloc: Global,
+    place: &Place,
+    report: &Report,
+) -> Result<Vec<Found>, OutOfMemory>
+    requires proper { IsProper place.now }
+    requires fits { ReportFits (naming_of place.now) report.now }
+    ensures { IfOk result (λ all. AllZip (λ s found. IfOk found (IsFirstIn (PassesOn place.now report.now s) (group.Shard s))) (range_with_len 0 place.now.geom.shards) all.items) }
+{
+    (0..place.geom.shards)
+        .into_par_iter()
+        .map(
+            |shard: u32| -> Found
+                requires { IsProper place.now × ReportFits (naming_of place.now) report.now × (shard < place.now.geom.shards) }
+                ensures { IfOk result (IsFirstIn (PassesOn place.entry.now report.entry.now shard) (group.Shard shard)) }
+            { check_shard(alloc, place, report, shard) },
+        )
+        .collect(rt, alloc)
+}
+
+// What is found of each of the first ranks.
+fn of_ranks(
+    rt: &(impl Threads + Sync),
+    alloc: Global,
+    ops: &Ops,
+    report: &Report,
+    ranks: u32,
+) -> Result<Vec<Found>, OutOfMemory>
+    requires fit { AreOfSomePlace ops.now report.now }
+    requires there { ranks ≤ length report.now.done }
+    ensures { IfOk result (λ all. AllZip (λ k found. IfOk found (IsFirstIn (PassesBy ops.now report.now k) (group.Rank k))) (range_with_len 0 ranks) all.items) }
+{
+    (0..ranks)
+        .into_par_iter()
+        .map(
+            |rank: u32| -> Found
+                requires { AreOfSomePlace ops.now report.now × (rank < length report.now.done) }
+                ensures { IfOk result (IsFirstIn (PassesBy ops.entry.now report.entry.now rank) (group.Rank rank)) }
+            { check_rank(alloc, ops, report, rank) },
+        )
+        .collect(rt, alloc)
+}
+
+/// The same as [`check_one`](crate::check_one), from as many threads as there are processors: the shards side by side, and
+/// then the ranks.
+///
+/// # Errors
+///
+/// Want of memory. It is told too where the fault is an event whose number has no place in 32 bits.
+pub fn check_all(
+    rt: &(impl Threads + Sync),
+    alloc: Global,
+    place: &Place,
+    ops: &Ops,
+    report: &Report,
+) -> Result<Option<Illegal>, OutOfMemory>
+    requires proper { IsProper place.now }
+    requires calls { OpsFit (length place.now.paths) place.now.geom.shards ops.now }
+    requires fits { ReportFits (naming_of place.now) report.now }
+    ensures { IfOk result (λ found. IsFirst (Passes place.now ops.now report.now) found) }
+{
+    let shards = of_shards(rt, alloc, place, report)?;
+    if let Some(fault) = first(shards.as_slice())? {
+        return Ok(Some(fault));
+    }
+    let ranks = of_ranks(rt, alloc, ops, report, place.paths.len() as u32)?;
+    first(ranks.as_slice())
+}

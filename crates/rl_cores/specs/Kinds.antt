@@ -1,0 +1,97 @@
+-- The kinds of locks, each with the blocks done under it. One place says which kind guards the shards of a placement: for the run, for its
+-- report and for what is promised.
+use Rattle.std.specs.Prelude.{ℕ, List}
+use Rattle.rl_word.specs.Shapes.{TheShape}
+use Rattle.rl_word.specs.declared.shapes.Knobs.{Knobs}
+use Rattle.rl_step.specs.declared.events.Event.{Event}
+use Rattle.rl_step.specs.Lock.{LockTable, Deed, no_more}
+use Rattle.rl_spin.specs.declared.view.SpinView.{SpinView}
+use Rattle.rl_spin.specs.Spin.{spin_table}
+use Rattle.rl_queue.specs.declared.view.QueueView.{QueueView}
+use Rattle.rl_queue.specs.Dmcs.{dmcs_table}
+use Rattle.rl_alock.specs.declared.view.AlockView.{AlockView}
+use Rattle.rl_alock.specs.Alock.{Cohorts, alock_table, BoundsOvertaking}
+use Rattle.rl_tree.specs.declared.view.TreeView.{TreeView}
+use Rattle.rl_mcs.specs.Mcs.{mcs_table, mcs_tree}
+use Rattle.rl_rw.specs.declared.view.RwView.{RwView}
+use Rattle.rl_rw.specs.Rw.{shared_in, rw_table, BoundsBatches}
+use Rattle.rl_work.specs.Site.{Site}
+use Rattle.rl_work.specs.Work.{TheWork}
+use Rattle.rl_work.specs.Locked.{locked_table}
+use Rattle.rl_asks.specs.ShardTables.{ShardTable}
+use Rattle.rl_whole.specs.declared.whole.WholeView.{WholeView}
+use Rattle.rl_whole.specs.Running.{lock_with}
+use Rattle.rl_whole.specs.WholeShards.{whole_shard}
+use Rattle.rl_place.specs.declared.lock.Lock.{Lock}
+use Rattle.rl_place.specs.declared.lock.Lock.TheVariants as lock
+
+-- a rank's machine on a shard, by the shape, the shard's home, the settings and the site
+abbrev pub Defined : Type 0 → Type 0
+Defined V = TheShape → ℕ → Knobs → Site → ShardTable V
+
+-- by the first three, what is promised of the events and acts on the shard
+abbrev pub Promised : Type 1
+Promised = TheShape → ℕ → Knobs → List Event → List Deed → Type 0
+
+-- A kind of lock: what a rank knows on one shard; the rank's machine there; and what the kind promises beyond what every lock promises.
+pub record Kind : Type 1 where
+  pub View : Type 0
+  pub defined : Defined View
+  pub promised : Promised
+
+-- the machine that does each block under the lock which is defined so
+abbrev pub under : {V : Type 0} → (TheShape → ℕ → Knobs → LockTable V) → Defined (WholeView V TheWork)
+under defined shape home knobs site = whole_shard (lock_with (record { lock = defined shape home knobs; work = locked_table }) site) home
+
+abbrev pub spin : Kind
+spin =
+    record {
+      View = WholeView SpinView TheWork;
+      defined = under (λ shape home knobs. spin_table home);
+      promised = λ shape home knobs. no_more;
+    }
+
+abbrev pub dmcs : Kind
+dmcs =
+    record {
+      View = WholeView QueueView TheWork;
+      defined = under (λ shape home knobs. dmcs_table home shape.node_of);
+      promised = λ shape home knobs. no_more;
+    }
+
+abbrev pub cohorts : TheShape → ℕ → Knobs → Cohorts
+cohorts shape home knobs = record { home = home; node_of = shape.node_of; local = knobs.local; remote = knobs.remote }
+
+-- after each announcement of a cohort, and until it enters, the other enters at most as often as its budget and once more
+abbrev pub alock : Kind
+alock =
+    record {
+      View = WholeView AlockView TheWork;
+      defined = under (λ shape home knobs. alock_table (cohorts shape home knobs));
+      promised = λ shape home knobs. BoundsOvertaking (cohorts shape home knobs);
+    }
+
+abbrev pub mcs : Kind
+mcs =
+    record {
+      View = WholeView TreeView TheWork;
+      defined = under (λ shape home knobs. mcs_table (mcs_tree home shape));
+      promised = λ shape home knobs. no_more;
+    }
+
+-- between two acts that lower the arrive word of a group at most as many readers of the group enter as the settings say
+abbrev pub rw : Kind
+rw =
+    record {
+      View = WholeView RwView TheWork;
+      defined = under (λ shape home knobs. rw_table (shared_in home shape knobs));
+      promised = λ shape home knobs. BoundsBatches (shared_in home shape knobs);
+    }
+
+-- the kind of a placement's lock
+abbrev pub kind_of : Lock → Kind
+kind_of lock.Spin = spin
+kind_of lock.Dmcs = dmcs
+kind_of (lock.Alock local remote) = alock
+kind_of (lock.Mcs budgets) = mcs
+kind_of (lock.Rw budgets writers readers group) = rw

@@ -1,0 +1,4 @@
+-- to be believed
+pub mod Kinds
+-- for tests
+pub mod Fresh

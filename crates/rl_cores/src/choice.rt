@@ -1,0 +1,47 @@
+//! The core of a placement's lock: where it is chosen for all that makes no threads.
+
+ghost use Rattle.std.specs.Prelude.{◌≡◌, true};
+ghost use Rattle.rl_place.specs.LockWords.{name_of};
+ghost use Rattle.rl_place.specs.Places.{ThePlace, IsProper};
+ghost use Rattle.rl_place.specs.Shapes.{shape_of, knobs_of};
+ghost use Rattle.rl_cores.specs.Kinds.{Kind, kind_of};
+
+use crate::{AlockCore, DmcsCore, McsCore, RwCore, SpinCore};
+use rl_asks::{Resting, TellsAll};
+use rl_place::{Lock, Place};
+
+/// What is done with the core of a placement's lock, whichever it is.
+pub trait CoreTask {
+    /// What comes of it.
+    type Out;
+
+    /// What must hold of the placement.
+    ghost takes: { Self → ThePlace → Type 0 };
+
+    /// What holds of what comes of it, by the placement and the kind of its lock.
+    ghost gives: { Self → ThePlace → Kind → Self.Out → Type 0 };
+
+    /// Does it with this core, which is that of the placement's lock: the settings suit it, and it does batches.
+    fn over<C: Resting + TellsAll>(self, place: &Place) -> Self::Out
+        requires proper { IsProper place.now }
+        requires takes { takes self place.now }
+        requires knobs { C.suits_knobs (shape_of place.now) (knobs_of place.now.lock) }
+        requires name { C.name ≡ name_of place.now.lock }
+        requires batches { C.batches ≡ true }
+        ensures { gives self place.now (record { View = C.View; defined = C.defined; promised = C.promised }) result };
+}
+
+/// Does a task with the core of a placement's lock.
+pub fn over_lock<T: CoreTask>(place: &Place, task: T) -> T::Out
+    requires proper { IsProper place.now }
+    requires takes { T.takes task place.now }
+    ensures { T.gives task place.now (kind_of place.now.lock) result }
+{
+    match &place.lock {
+        Lock::Spin => task.over::<SpinCore>(place),
+        Lock::Dmcs => task.over::<DmcsCore>(place),
+        Lock::Alock { .. } => task.over::<AlockCore>(place),
+        Lock::Mcs { .. } => task.over::<McsCore>(place),
+        Lock::Rw { .. } => task.over::<RwCore>(place),
+    }
+}

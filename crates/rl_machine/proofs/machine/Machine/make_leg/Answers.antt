@@ -1,0 +1,17 @@
+-- A step keeps all that is true of a machine.
+use Rattle.std.proofs.Common.{◌<◌, length, sym, subst}
+use Rattle.rl_machine.specs.Rested.{GoesRound}
+use Rattle.rl_machine.specs.Running.{running}
+use Rattle.rl_machine.specs.State.{machine_view}
+use Rattle.rl_machine.specs.StateSteps.{step_keeps}
+use Rattle.rl_machine.proofs.machine.Machine.make_leg.Goals as goal
+
+pub make_leg-requires-clause-shows : goal.make_leg-requires-clause-shows
+make_leg-requires-clause-shows g c =
+    subst (λ m. GoesRound g.C.Resting.with_sight (running g.C.ShardCore.shard_table m) c.args.rank c.args.shard c.args.round 1) (sym c.self.view_is) c.requires.shows
+
+pub invariant_of-self : goal.invariant_of-self
+invariant_of-self g c =
+    let low = subst (λ m. c.args.rank < length m.calls) (sym c.self.view_is) c.requires.there in
+    step_keeps _ _ g.C.ShardCore.shard_table g.C.ShardCore.good g.C.ShardCore.cause g.C.ShardCore.further g.C.ShardCore.layout g.met.C.ShardCore.shard_laws (machine_view c.self.inside.state) (machine_view c.make_leg.new.state) c.args.rank
+    c.self.invariant low c.make_leg.ensures.made c.make_leg.ensures.cores

@@ -1,0 +1,40 @@
+-- to be believed, in reading order
+pub mod Running
+pub mod Start
+pub mod ShardSteps
+pub mod Run
+pub mod Rest
+pub mod RunActs
+pub mod Cores
+pub mod Causes
+pub mod Told
+pub mod Rested
+pub mod EventOrder
+pub mod Promises
+pub mod Records
+pub mod Whereabouts
+pub mod State
+-- what is true of a machine at every moment
+pub mod MachineGood
+-- proved; skip at first
+pub mod EventOrderLaws
+pub mod MachineLaws
+pub mod SoundLaws
+pub mod StepLaws
+pub mod StartLaws
+pub mod CoreLaws
+pub mod StepCauses
+pub mod StepEnds
+pub mod MachineSteps
+pub mod StateLaws
+pub mod StateSteps
+pub mod Stands
+pub mod OpenSteps
+pub mod ShardsMore
+pub mod RecordLaws
+pub mod JournalAt
+pub mod ReplayLaws
+pub mod RestLaws
+pub mod IdleLaws
+pub mod TurnRests
+pub mod RoundSteps

@@ -1,0 +1,82 @@
+-- What is promised of every state of a machine, and so at every moment of every run.
+use Rattle.std.specs.Prelude.{◌≡◌, ◌<◌, ◌≤◌, ℕ, List, length, slice_get, slice_index, Some}
+use Rattle.std.specs.FinMap as map
+use Rattle.rl_model.specs.declared.geom.Geom.{Geom}
+use Rattle.rl_journal.specs.Legal.{IsLegal}
+use Rattle.rl_journal.specs.History.{history, IsReplay, IsSorted}
+use Rattle.rl_journal.specs.Ranks.{IsRankInOrder}
+use Rattle.rl_word.specs.Shapes.{TheShape}
+use Rattle.rl_word.specs.declared.locks.LockName.{LockName}
+use Rattle.rl_word.specs.declared.shapes.Knobs.{Knobs}
+use Rattle.rl_step.specs.Exclusion.{IsExclusive}
+use Rattle.rl_word.specs.declared.acts.Atom.{Atom}
+use Rattle.rl_step.specs.Lock.{AllNamed}
+use Rattle.rl_step.specs.Queues.{QueueOf}
+use Rattle.rl_step.specs.LockQueues.{queues_of}
+use Rattle.rl_step.specs.QueuePromises.{KeepQueues, CountTenures}
+use Rattle.rl_model.specs.declared.entry.Entry.{Entry}
+use Rattle.rl_asks.specs.ShardTables.{journal_at, kept_in}
+use Rattle.rl_asks.specs.Domains.{IsCardAtom, IsLocalAtom, UsesCards, UsesLocals}
+use Rattle.rl_machine.specs.Running.{ShardRun, Running}
+use Rattle.rl_machine.specs.ShardSteps.{events_of}
+use Rattle.rl_machine.specs.EventOrder.{AreOrdered}
+use Rattle.rl_asks.specs.Asks.{asked_of}
+use Rattle.rl_machine.specs.Run.{calls_by, sizes_by, trace_of, kept_by, done_of, run_of, AreThere, IsAllClosed}
+
+module _ {V : Type 0} where
+  -- the journal of a shard, as its words say, and the history that it and the ranks' transcripts make
+  abbrev pub journal_on : ShardRun V → List Entry
+  journal_on S = journal_at S.table S.held.words
+
+  abbrev pub transcripts_on : ShardRun V → List (List Entry)
+  transcripts_on S = kept_in S.table S.held.words 0 S.views
+
+  abbrev pub history_on : ShardRun V → List Entry
+  history_on S = history (journal_on S) (transcripts_on S)
+
+  -- whichever atom a rank comes to make on a shard: it is one of a card, or a local compare-and-swap, only where the lock lets it make one
+  pub record KeepsDomains (S : ShardRun V) : Type 0 where
+    pub cards : (k : ℕ) (x : V) (at : Atom) → slice_get S.views k ≡ Some x → S.table.core.next x ≡ Some at → IsCardAtom at → UsesCards S.table.may_make k
+    pub locals : (k : ℕ) (x : V) (at : Atom) → slice_get S.views k ≡ Some x → S.table.core.next x ≡ Some at → IsLocalAtom at → UsesLocals S.table.may_make k
+
+  -- of a shard
+  pub record IsShardSound (geom : Geom) (S : ShardRun V) : Type 0 where
+    -- at most one rank writes at any moment, none reads beside it, and who touches what the lock guards holds the lock
+    pub exclusive : IsExclusive (events_of S.trace)
+    -- each queue of the lock keeps its budget, and serves first who came first
+    pub queues : KeepQueues S.table.queues (events_of S.trace)
+    -- the events name queues, members and cohorts that the lock has
+    pub named : AllNamed S.table.queues S.table.cohort (events_of S.trace)
+    -- they stand in the order of their steps, and those of one step in that of their kinds
+    pub ordered : AreOrdered S.trace
+    -- a rank makes atoms of cards, and local compare-and-swaps, only where its lock lets it
+    pub domains : KeepsDomains S
+    -- journal and transcripts are legal: a batch all or nothing, each reply that of a one-thread table at its place
+    pub legal : IsLegal geom (journal_on S) (transcripts_on S)
+    -- so from the empty table the calls of the history, in order, give every entry its reply, and `full` exactly where a new key
+    -- finds its bucket taken and no overflow cell left
+    pub replayed : IsReplay geom map.empty 0 (history_on S)
+    pub sorted : IsSorted (history_on S)
+
+  -- of a machine: each shard is sound, and each rank's entries on all shards are its first calls, each once, in its order
+  pub record IsSound (m : Running V) : Type 0 where
+    pub shards : (s : ℕ) (S : ShardRun V) → slice_get m.shards s ≡ Some S → IsShardSound m.geom S
+    pub order : (k : ℕ) → k < length m.calls → IsRankInOrder m.geom k (asked_of (calls_by m k) (sizes_by m k)) (done_of m k) (kept_by m k)
+    -- those that it has opened, less the block that it is at work on
+    pub done : (k : ℕ) → k < length m.calls → done_of m k ≤ slice_index m.opened k
+    pub given : (k : ℕ) → k < length m.calls → slice_index m.opened k ≤ length (calls_by m k)
+    -- while no call is open each queue was settled and passed as often as it was had
+    pub counted : IsAllClosed m → (s : ℕ) (S : ShardRun V) → slice_get m.shards s ≡ Some S → CountTenures S.table.queues (events_of S.trace)
+
+  -- queues of shard s keep their promises; and while no call is open each was settled and passed as often as it was had
+  pub record KeepsQueues (queues : List QueueOf) (m : Running V) (s : ℕ) : Type 0 where
+    pub keep : KeepQueues queues (events_of (trace_of m s))
+    pub count : IsAllClosed m → CountTenures queues (events_of (trace_of m s))
+
+  -- so on each shard do those of the lock of this name: its members and budgets are the placement's
+  abbrev pub EachKeepsQueues : LockName → TheShape → Knobs → List ℕ → Running V → Type 0
+  EachKeepsQueues name shape knobs homes m = (s home : ℕ) → slice_get homes s ≡ Some home → KeepsQueues (queues_of name shape home knobs) m s
+
+  -- whatever steps of its ranks follow
+  abbrev pub StaysSound : Running V → Type 0
+  StaysSound m = (ks : List ℕ) → AreThere (length m.calls) ks → IsSound (run_of m ks)

@@ -1,0 +1,112 @@
+//! One shard in plain vectors, and what a step does on it.
+
+ghost use Rattle.std.specs.Prelude.{◌≡◌, ◌+◌, ◌<◌, ◌≤◌, ◌++◌, List, length, slice_set, vec_len, vec_capacity, false, IfOk, OnErr};
+ghost use Rattle.rl_step.specs.declared.events.Event.{Event as TheEvent};
+ghost use Rattle.rl_step.specs.Lock.{Deed};
+ghost use Rattle.rl_asks.specs.ShardLaws.{MayOpen};
+ghost use Rattle.rl_machine.specs.ShardSteps.{numbered, opened_on, atom_on, answer_on};
+ghost use Rattle.rl_machine.specs.State.{shard_view, running_shard, IsGood, IsGoodFlat, OfView};
+
+use arrayvec::ArrayVec;
+use rl_asks::ShardCore;
+use rl_model::Call;
+use rl_step::{Event, Flat, Stepped, advance_flat};
+use std::alloc::AllocError as OutOfMemory;
+
+/// How many events one atom can have.
+pub const EVENTS: usize = 8;
+
+/// One shard of a machine.
+#[derive(Drop)]
+pub struct ShardState<C: ShardCore> {
+    /// A rank's machine for the shard.
+    pub core: C,
+    /// The words, the cards and the ranks' views.
+    pub flat: Flat<C>,
+    /// The events, each with the number of its step.
+    pub events: Vec<(u32, Event)>,
+}
+
+/// Opens a block of the rank, where none is open.
+fn open_in<C: ShardCore>(core: &C, flat: &mut Flat<C>, rank: u32, calls: &[Call], seq: u32)
+    requires good { IsGoodFlat C.good core.now flat.old }
+    requires few { length calls.now ≤ 8 }
+    requires there { rank < length flat.old.views.items }
+    requires closed { OfView flat.old.views.items rank (λ x. ((C.shard_table core.now).own x).is_open ≡ false) }
+    requires fits { OfView flat.old.views.items rank (λ x. MayOpen (C.shard_table core.now) rank x calls.now seq) }
+    ensures keeps { (t : List TheEvent) (ds : List Deed) → C.good core.now flat.old.words flat.old.views.items t ds → C.good core.now flat.new.words flat.new.views.items t ds }
+    ensures words { flat.new.words ≡ flat.old.words }
+    ensures there { rank < length flat.new.views.items }
+    ensures views { OfView flat.old.views.items rank (λ x. flat.new.views.items ≡ slice_set flat.old.views.items rank ((C.shard_table core.now).opened calls.now seq x)) }
+{
+    core.open_block(flat.view_mut(rank), calls, seq);
+}
+
+/// Appends an atom's events with the number of its step.
+fn note(events: &mut Vec<(u32, Event)>, step: u32, noted: &[Event])
+    requires room { vec_len events.old + length noted.now ≤ vec_capacity events.old }
+    ensures { events.new.items ≡ events.old.items ++ numbered step noted.now }
+{
+    for event in noted {
+        events.push_reserved((step, *event));
+    }
+}
+
+/// Makes the next atom of the rank, if it has one, in the step with this number. There is room for its events.
+#[inline(always)]
+fn atom_on<C: ShardCore>(shard: &mut ShardState<C>, rank: u32, step: u32) -> Stepped
+    requires there { rank < length shard.old.flat.views.items }
+    requires good { IsGood C.good shard.old }
+    requires room { vec_len shard.old.events + 8 ≤ vec_capacity shard.old.events }
+    ensures made { running_shard C.shard_table shard.new ≡ atom_on rank step (running_shard C.shard_table shard.old) }
+    ensures answer { result ≡ answer_on rank (running_shard C.shard_table shard.old) }
+    ensures core { shard.new.core ≡ shard.old.core }
+{
+    let mut events = ArrayVec::new();
+    let stepped = advance_flat(&shard.core, &mut shard.flat, rank, &mut events);
+    note(&mut shard.events, step, events.as_slice());
+    stepped
+}
+
+/// Makes room for events, and then the rank's next atom. After want of memory nothing has changed.
+#[inline(always)]
+pub fn atom_at<C: ShardCore>(
+    shard: &mut ShardState<C>,
+    rank: u32,
+    step: u32,
+) -> Result<Stepped, OutOfMemory>
+    requires there { rank < length shard.old.flat.views.items }
+    requires good { IsGood C.good shard.old }
+    ensures made { IfOk result (λ _. running_shard C.shard_table shard.new ≡ atom_on rank step (running_shard C.shard_table shard.old)) }
+    ensures answer { IfOk result (λ answer. answer ≡ answer_on rank (running_shard C.shard_table shard.old)) }
+    ensures core { shard.new.core ≡ shard.old.core }
+    ensures kept { OnErr result (shard_view shard.new ≡ shard_view shard.old) }
+{
+    if shard.events.capacity() - shard.events.len() < EVENTS {
+        shard.events.reserve(EVENTS)?;
+    }
+    Ok(atom_on(shard, rank, step))
+}
+
+/// The same, with a block opened before the atom.
+pub fn block_at<C: ShardCore>(
+    shard: &mut ShardState<C>,
+    rank: u32,
+    step: u32,
+    calls: &[Call],
+    seq: u32,
+) -> Result<Stepped, OutOfMemory>
+    requires there { rank < length shard.old.flat.views.items }
+    requires good { IsGood C.good shard.old }
+    requires few { length calls.now ≤ 8 }
+    requires closed { OfView shard.old.flat.views.items rank (λ x. ((C.shard_table shard.old.core).own x).is_open ≡ false) }
+    requires fits { OfView shard.old.flat.views.items rank (λ x. MayOpen (C.shard_table shard.old.core) rank x calls.now seq) }
+    ensures made { IfOk result (λ _. running_shard C.shard_table shard.new ≡ atom_on rank step (opened_on rank calls.now seq (running_shard C.shard_table shard.old))) }
+    ensures answer { IfOk result (λ answer. answer ≡ answer_on rank (opened_on rank calls.now seq (running_shard C.shard_table shard.old))) }
+    ensures core { shard.new.core ≡ shard.old.core }
+    ensures kept { OnErr result (shard_view shard.new ≡ shard_view shard.old) }
+{
+    shard.events.reserve(EVENTS)?;
+    open_in(&shard.core, &mut shard.flat, rank, calls, seq);
+    Ok(atom_on(shard, rank, step))
+}

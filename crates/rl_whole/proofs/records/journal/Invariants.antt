@@ -1,9 +1,0 @@
--- The entries so far are the first of the journal.
-use Rattle.std.proofs.Common.{◌≡◌, take}
-use Rattle.rl_whole.specs.Promises.{journal_on}
-use Rattle.rl_whole.specs.Running.{shard_run}
-use Rattle.rl_whole.specs.State.{shard_view}
-use Rattle.rl_whole.proofs.records.journal.Given as goal
-
-abbrev pub invariant-loop-at : goal.invariant-loop-at
-invariant-loop-at g l = l.entries.items ≡ take l.at (journal_on (shard_run g.A.Algo.table (shard_view l.shard)))

@@ -1,8 +1,0 @@
--- The entries on the shards so far are counted.
-use Rattle.std.proofs.Common.{◌≡◌, map, take}
-use Rattle.rl_whole.specs.ShardSteps.{entries_in}
-use Rattle.rl_whole.specs.RecordLaws.{kept_in}
-use Rattle.rl_whole.proofs.state.MachineState.done.Given as goal
-
-abbrev pub invariant-loop-shard : goal.invariant-loop-shard
-invariant-loop-shard g l = l.done ≡ entries_in (map (kept_in g.A.Algo.table l.rank) (take l.shard-index l.self.shards.items))

@@ -1,0 +1,58 @@
+-- A rank's machine over any lock and any way of working, as machines, shards, seats and callers see it; and what is good of its words,
+-- cards and views by a trace and by acts.
+use Rattle.std.specs.Prelude.{◌≡◌, ℕ, ◌+◌, List, map}
+use Rattle.rl_word.specs.Acts.{Layout}
+use Rattle.rl_step.specs.declared.events.Event.{Event}
+use Rattle.rl_step.specs.declared.events.Standing.{Standing}
+use Rattle.rl_step.specs.Lock.{LockTable, Deed, AllNamed}
+use Rattle.rl_step.specs.Do.{TheWindow}
+use Rattle.rl_step.specs.Exclusion.{ExclusiveFrom, writers_of, readers_of, nobody}
+use Rattle.rl_asks.specs.ShardTables.{ShardTable}
+use Rattle.rl_whole.specs.declared.whole.Whole.{Whole}
+use Rattle.rl_whole.specs.declared.whole.WholeView.{WholeView}
+use Rattle.rl_whole.specs.Running.{LockAt, Tables, Goods, lock_at}
+use Rattle.rl_whole.specs.Opening.{first_view, opened_in}
+use Rattle.rl_whole.specs.Split.{card_of}
+use Rattle.rl_whole.specs.Changes.{Match}
+use Rattle.rl_whole.specs.Whole.{Good, counts, own_desk, told_desk, whole_table, made_deeds}
+
+-- how a rank with this view stands
+abbrev pub stand : {V K : Type 0} → LockTable V → WholeView V K → Standing
+stand T x = T.standing x.side.view
+
+-- the machine over the lock and the work of L, the words of whose site live on this home
+abbrev pub whole_shard : {V K : Type 0} → LockAt V K → ℕ → ShardTable (WholeView V K)
+whole_shard L home =
+    record {
+      core = whole_table L home;
+      site = L.work.site;
+      behind = L.table.size + L.work.size;
+      own_at = L.work.behind;
+      own_words = L.work.size;
+      first = first_view L;
+      opened = opened_in L;
+      deeds = made_deeds L.table;
+      standing = stand L.table;
+      card = λ x. card_of L.table x.side;
+      own = own_desk L;
+      desk = told_desk L;
+      queues = L.table.queues;
+      cohort = L.table.cohort;
+      tenure = counts L;
+      may_make = L.table.may_make;
+      batches = L.work.batches;
+    }
+
+-- the machine of a core
+abbrev pub shard_at : {A W V K : Type 0} → Tables A W V K → Whole A W V K → ShardTable (WholeView V K)
+shard_at table core = whole_shard (lock_at table core) core.home
+
+-- the rule holds, by this very trace and by these acts; the ranks that the trace tells of as writers and readers stand so; the trace is
+-- exclusive; and its events name what the lock has
+pub record WholeGood {V K : Type 0} (L : LockAt V K) (good : Goods V K) (layout : Layout) (h : TheWindow) (vs : List (WholeView V K)) (t : List Event) (ds : List Deed) : Type 0 where
+  pub rule : Good L good layout h vs
+  pub same : rule.past.trace ≡ t
+  pub made : rule.past.deeds ≡ ds
+  pub match : Match (writers_of nobody t) (readers_of nobody t) (map (stand L.table) vs)
+  pub exclusive : ExclusiveFrom nobody nobody t
+  pub named : AllNamed L.table.queues L.table.cohort t
