@@ -23,6 +23,3 @@ pub use alock::Alock;
 pub use cohort::Cohort;
 pub use laws::two_domains;
 pub use view::{AlockView, Entry};
-
-#[cfg(test)]
-mod tests;

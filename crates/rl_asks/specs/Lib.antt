@@ -4,6 +4,7 @@ pub mod Desks
 pub mod RankGood
 -- and what a shard's core is
 pub mod Standings
+pub mod EventRanks
 pub mod Domains
 pub mod ShardTables
 pub mod Idle

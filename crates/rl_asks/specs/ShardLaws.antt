@@ -20,6 +20,7 @@ use Rattle.rl_volume.specs.Volume.{IsVolume}
 use Rattle.rl_work.specs.Site.{Site, lock_base, places, volume_of}
 use Rattle.rl_work.specs.WorkGood.{IsOpen, IsOwnTranscript}
 use Rattle.rl_asks.specs.Domains.{IsCardAtom, IsLocalAtom, UsesCards, UsesLocals}
+use Rattle.rl_asks.specs.EventRanks.{AreByRanks}
 use Rattle.rl_asks.specs.Standings.{AloneIn, leaves, IsUnhindered}
 use Rattle.rl_asks.specs.Desks.{Desk, OpensBlock, Turns, entries_of}
 use Rattle.rl_asks.specs.ShardTables.{ShardTable, opening_held, first_views, journal_at, kept_in}
@@ -119,8 +120,10 @@ module _ {V : Type 0} (T : ShardTable V) (good : TheWindow → List V → List E
     pub queues : (h : TheWindow) (vs : List V) (t : List Event) (ds : List Deed) → good h vs t ds → KeepQueues T.queues t
     pub counted : (h : TheWindow) (vs : List V) (t : List Event) (ds : List Deed) → good h vs t ds → AllShut vs → CountTenures T.queues t
     pub left_as : (h : TheWindow) (vs : List V) (t : List Event) (ds : List Deed) (r : ℕ) (v : V) → IsSeated h vs t ds r v → (T.own v).is_open ≡ false → leaves r t ≡ count_by T.tenure (entries_of (T.own v))
-    -- the events name queues, members and cohorts that the lock has; those of one atom stand in the order of their kinds
+    -- the events name queues, members and cohorts that the lock has, and ranks that there are; those of one atom stand in the order of
+    -- their kinds
     pub named : (h : TheWindow) (vs : List V) (t : List Event) (ds : List Deed) → good h vs t ds → AllNamed T.queues T.cohort t
+    pub by_ranks : (h : TheWindow) (vs : List V) (t : List Event) (ds : List Deed) → good h vs t ds → AreByRanks (length vs) t
     pub orders : (h : TheWindow) (vs : List V) (t : List Event) (ds : List Deed) (r : ℕ) (v : V) (at : Atom) → IsSeated h vs t ds r v → T.core.next v ≡ Some at → InOrder (turned_by h v at).events × (length (turned_by h v at).events ≤ 8)
     -- a rank makes atoms of cards, and local compare-and-swaps, only where it may
     pub cards : (h : TheWindow) (vs : List V) (t : List Event) (ds : List Deed) (r : ℕ) (v : V) (at : Atom) → IsSeated h vs t ds r v → T.core.next v ≡ Some at → IsCardAtom at → UsesCards T.may_make r

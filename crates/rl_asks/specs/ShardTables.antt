@@ -30,7 +30,7 @@ pub record ShardTable (V : Type 0) : Type 0 where
   pub opened : List Call → ℕ → V → V
   -- the acts of the lock that an atom decides which found this number
   pub deeds : V → ℕ → List Deed
-  -- how a rank with this view stands at the lock, and the node whose card it is in
+  -- how a rank with this view stands on the shard, asking while a block of it is open that isn't at the lock; and the node whose card it is in
   pub standing : V → Standing
   pub card : V → Option ℕ
   -- the rank's desk as its view alone tells it, and as the words tell it too, which may hold entries that the rank hasn't taken in yet: of

@@ -138,7 +138,7 @@ pub trait ShardCore: Core {
         requires journal { journal.now ≡ journal_at (shard_table self.now) words.now.words }
         ensures { IfOk result (λ t. t.items ≡ entries_of ((shard_table self.now).desk words.now.words rank view.now)) };
 
-    /// How a rank with this view stands at the lock.
+    /// How a rank with this view stands on the shard: at the lock, and asking while a block of it is open that isn't there.
     fn standing(&self, view: &Self::View) -> Standing
         ensures { result ≡ (shard_table self.now).standing view.now };
 

@@ -1,5 +1,5 @@
--- A rank of a lawful report passes its tests.
-use Rattle.std.proofs.Common.{◌≡◌, ◌⊎◌, ℕ, zero, suc, ◌+◌, ◌<◌, false, List, length, Some, refl, sym, ap, ◌∙◌, inl, inr, ⊎_elim, arith}
+-- A rank whose entries are its first calls in order passes its tests.
+use Rattle.std.proofs.Common.{◌≡◌, ◌⊎◌, ℕ, zero, suc, ◌+◌, ◌<◌, Bool, List, length, Some, refl, sym, ap, subst, ◌∙◌, inl, inr, ⊎_elim, arith}
 use Rattle.std.specs.Prelude.{slice_get}
 use Rattle.std.proofs.lemmas.Option.{same_Some, slice_get_within}
 use Rattle.rl_model.specs.declared.call.Call.{Call}
@@ -12,7 +12,7 @@ use Rattle.rl_ops.specs.Asked.{asked_of}
 use Rattle.rl_history.specs.declared.report.Done.{Done}
 use Rattle.rl_check.specs.declared.illegal.Test.{Test}
 use Rattle.rl_check.specs.declared.illegal.Test.TheVariants as test
-use Rattle.rl_check.specs.Ranks.{is_numbered, IsCalled, IsFresh, RankPasses}
+use Rattle.rl_check.specs.Ranks.{is_numbered, IsCalled, IsFresh, EndsWell, RankPasses}
 use Rattle.rl_check.proofs.EntryFacts.{StandsIn, stands_in, count_joined, as_many}
 
 -- ---- entries of a transcript
@@ -51,15 +51,15 @@ follows_by t order i j d e gd ge low =
 
 -- ---- the tests
 
-module _ (geom : Geom) (k : ℕ) (calls : List Call) (sizes : List ℕ) (ts : List (List Entry)) (O : IsRankInOrder geom k (asked_of calls sizes) (length calls) ts) where
+module _ (geom : Geom) (k : ℕ) (calls : List Call) (sizes : List ℕ) (n : ℕ) (ts : List (List Entry)) (O : IsRankInOrder geom k (asked_of calls sizes) n ts) where
   abbrev own : List Entry
   own = joined ts
 
-  entry_is : (e : Entry) (h : StandsIn ts e) → IsEntryOf geom k (asked_of calls sizes) (length calls) h.s e
-  entry_is e h = all_at (IsEntryOf geom k (asked_of calls sizes) (length calls) h.s) h.t h.j e (O.each h.s h.t h.list) h.there
+  entry_is : (e : Entry) (h : StandsIn ts e) → IsEntryOf geom k (asked_of calls sizes) n h.s e
+  entry_is e h = all_at (IsEntryOf geom k (asked_of calls sizes) n h.s) h.t h.j e (O.each h.s h.t h.list) h.there
 
-  pub long : length own ≡ length calls
-  long = as_many (length calls) own (λ e h. (entry_is e (stands_in ts e h)).low) (λ i low. count_joined (is_numbered i) ts ∙ O.once i low)
+  pub long : length own ≡ n
+  long = as_many n own (λ e h. (entry_is e (stands_in ts e h)).low) (λ i low. count_joined (is_numbered i) ts ∙ O.once i low)
 
   called : (i : ℕ) → i < length own → IsCalled (asked_of calls sizes) own i
   called i low =
@@ -77,16 +77,16 @@ module _ (geom : Geom) (k : ℕ) (calls : List Call) (sizes : List ℕ) (ts : Li
       let f : Follows d e = follows_by y.t (O.in_order y.s y.t y.list) x.j y.j d e (ap (λ z. slice_get z x.j) (sym list) ∙ x.there) y.there (let low = latest.low in omega arith) in
       record { place = f.place; beyond = f.beyond }
 
-  pub rank_passes : (d : Done) → d.done ≡ length calls → d.given ≡ length calls → (p : ℕ) (t : Test) → RankPasses false calls sizes own d p t
-  rank_passes d done given p test.Shard = tt
-  rank_passes d done given p test.Order = tt
-  rank_passes d done given p test.Batch = tt
-  rank_passes d done given p test.At = tt
-  rank_passes d done given p test.Reply = tt
-  rank_passes d done given p test.Updates = tt
-  rank_passes d done given p test.Tally = tt
-  rank_passes d done given p test.Pairs = tt
-  rank_passes d done given p test.Events = tt
-  rank_passes d done given p test.Calls = λ low. called p low
-  rank_passes d done given p test.Fresh = λ low. fresh p
-  rank_passes d done given p test.Done = λ end. let all : p ≡ length calls = end ∙ long in record { done = done ∙ sym all; given = given; ends = all }
+  pub rank_passes : (replay : Bool) → EndsWell replay calls sizes n → (d : Done) → d.done ≡ n → d.given ≡ length calls → (p : ℕ) (t : Test) → RankPasses replay calls sizes own d p t
+  rank_passes replay ends d done given p test.Shard = tt
+  rank_passes replay ends d done given p test.Order = tt
+  rank_passes replay ends d done given p test.Batch = tt
+  rank_passes replay ends d done given p test.At = tt
+  rank_passes replay ends d done given p test.Reply = tt
+  rank_passes replay ends d done given p test.Updates = tt
+  rank_passes replay ends d done given p test.Tally = tt
+  rank_passes replay ends d done given p test.Pairs = tt
+  rank_passes replay ends d done given p test.Events = tt
+  rank_passes replay ends d done given p test.Calls = λ low. called p low
+  rank_passes replay ends d done given p test.Fresh = λ low. fresh p
+  rank_passes replay ends d done given p test.Done = λ end. let all : p ≡ n = end ∙ long in record { done = done ∙ sym all; given = given; ends = subst (EndsWell replay calls sizes) (sym all) ends }

@@ -1,5 +1,5 @@
--- A lawful shard passes its tests.
-use Rattle.std.proofs.Common.{◌≡◌, ℕ, zero, suc, ◌+◌, ◌<◌, ◌≤◌, true, false, not, cond, List, [], ◌∷◌, length, take, Option, Some, None, refl, sym, ap, subst, ◌∙◌, inl, inr, ⊎_elim, arith}
+-- A shard whose entries tell a history passes its tests, where its tallies, pairs and events do.
+use Rattle.std.proofs.Common.{◌≡◌, ℕ, zero, suc, ◌+◌, ◌<◌, ◌≤◌, Bool, true, false, not, cond, List, [], ◌∷◌, length, take, Option, Some, None, refl, sym, ap, subst, ◌∙◌, inl, inr, ⊎_elim, arith}
 use Rattle.std.specs.Prelude.{slice_get}
 use Rattle.std.specs.List.{count_by}
 use Rattle.std.specs.FinMap as finite
@@ -9,7 +9,7 @@ use Rattle.std.proofs.lemmas.Option.{same_Some}
 use Rattle.rl_model.specs.declared.entry.Entry.{Entry}
 use Rattle.rl_model.specs.Call.{shard_of}
 use Rattle.rl_journal.specs.Blocks.{is_last}
-use Rattle.rl_journal.specs.Legal.{updates, is_of, table_after}
+use Rattle.rl_journal.specs.Legal.{updates, is_of}
 use Rattle.rl_journal.specs.History.{Precedes, Each, IsSorted, AreOwn, IsReplay, TellsUpdatesBefore}
 use Rattle.rl_journal.specs.HistoryLaws.{replayed}
 use Rattle.rl_journal.specs.HistoryPlaces.{places_told}
@@ -17,12 +17,13 @@ use Rattle.rl_journal.specs.HistorySorted.{history_sorted}
 use Rattle.rl_journal.specs.Ranks.{IsInOrder}
 use Rattle.rl_place.specs.Places.{ThePlace}
 use Rattle.rl_history.specs.Reports.{TheShard}
-use Rattle.rl_history.specs.Lawful.{journal_in, transcript_in, transcripts_in, IsLawfulShard}
+use Rattle.rl_history.specs.Lawful.{journal_in, transcript_in, transcripts_in, queues_at}
 use Rattle.rl_check.specs.declared.illegal.Test.{Test}
 use Rattle.rl_check.specs.declared.illegal.Test.TheVariants as test
 use Rattle.rl_check.specs.Entries.{before, StandsBefore}
 use Rattle.rl_check.specs.OneThread.{is_begun}
-use Rattle.rl_check.specs.Shards.{ShardPasses}
+use Rattle.rl_check.specs.Shards.{TalliesHold, PairsHold, EventsHold, ShardPasses}
+use Rattle.rl_check.specs.LawfulReplays.{TellsHistory}
 use Rattle.rl_check.proofs.Replays.{IsPlaced, replay_placed, placed_fits, placed_answered}
 
 -- ---- lists
@@ -65,8 +66,8 @@ none_left (Some x) d none is = subst (λ z. is_last z ≡ true) (same_Some _ _ i
 
 -- ---- the tests
 
-module _ (place : ThePlace) (s home : ℕ) (S : TheShard) (L : IsLawfulShard place home S) (order : (k : ℕ) → k < length place.paths → IsInOrder (transcript_in S.entries k))
-    (alone : (p : ℕ) (e : Entry) → slice_get S.entries p ≡ Some e → updates e ≡ false → e.batch ≡ 0) (of_shard : (p : ℕ) (e : Entry) → slice_get S.entries p ≡ Some e → shard_of place.geom e.call ≡ s) (quiet : S.events ≡ []) where
+module _ (place : ThePlace) (s home : ℕ) (S : TheShard) (L : TellsHistory place S) (order : (k : ℕ) → k < length place.paths → IsInOrder (transcript_in S.entries k))
+    (alone : (p : ℕ) (e : Entry) → slice_get S.entries p ≡ Some e → updates e ≡ false → e.batch ≡ 0) (of_shard : (p : ℕ) (e : Entry) → slice_get S.entries p ≡ Some e → shard_of place.geom e.call ≡ s) where
   abbrev es : List Entry
   es = S.entries
 
@@ -89,22 +90,22 @@ module _ (place : ThePlace) (s home : ℕ) (S : TheShard) (L : IsLawfulShard pla
   in_order zero d e gd ge = absurd (cc)
   in_order (suc p) d e gd ge = stands_first d e (sorted_next es p d e sorted gd ge)
 
-  journal_whole : (p : ℕ) → p ≡ length es → journal_in (take p es) ≡ journal_in es
+  pub journal_whole : (p : ℕ) → p ≡ length es → journal_in (take p es) ≡ journal_in es
   journal_whole p end = ap journal_in (take_whole es p end)
 
-  pub shard_passes : (p : ℕ) (t : Test) → ShardPasses place false s home S p t
-  shard_passes p test.Shard = λ e get. of_shard p e get
-  shard_passes p test.Order = in_order p
-  shard_passes p test.Batch = (
+  pub shard_passes : (replay : Bool) → TalliesHold place replay home S → PairsHold place replay S → ((p : ℕ) → EventsHold (queues_at place home) S.events p) → (p : ℕ) (t : Test) → ShardPasses place replay s home S p t
+  shard_passes replay tallies pairs events p test.Shard = λ e get. of_shard p e get
+  shard_passes replay tallies pairs events p test.Order = in_order p
+  shard_passes replay tallies pairs events p test.Batch = (
     (λ e get. placed_fits place.geom es alone p e get (placed.0 p e get) e get),
     (λ end d get. none_left (before es (length es)) d placed.1 get),
   )
-  shard_passes p test.At = λ e get. told p e get
-  shard_passes p test.Reply = λ e get. placed_answered place.geom es alone p e get (placed.0 p e get) e get
-  shard_passes p test.Updates = λ end. L.told ∙ length-filter updates es ∙ ap (count_by updates) (sym (take_whole es p end))
-  shard_passes p test.Tally = λ end. L.tallied
-  shard_passes p test.Pairs = λ end. L.table ∙ ap (λ z. finite.entries (table_after place.geom finite.empty z)) (sym (journal_whole (length es) refl))
-  shard_passes p test.Events = λ low. absurd (let none : length S.events ≡ 0 = ap length quiet in omega arith)
-  shard_passes p test.Calls = tt
-  shard_passes p test.Fresh = tt
-  shard_passes p test.Done = tt
+  shard_passes replay tallies pairs events p test.At = λ e get. told p e get
+  shard_passes replay tallies pairs events p test.Reply = λ e get. placed_answered place.geom es alone p e get (placed.0 p e get) e get
+  shard_passes replay tallies pairs events p test.Updates = λ end. L.told ∙ length-filter updates es ∙ ap (count_by updates) (sym (take_whole es p end))
+  shard_passes replay tallies pairs events p test.Tally = λ end. tallies
+  shard_passes replay tallies pairs events p test.Pairs = λ end. pairs
+  shard_passes replay tallies pairs events p test.Events = events p
+  shard_passes replay tallies pairs events p test.Calls = tt
+  shard_passes replay tallies pairs events p test.Fresh = tt
+  shard_passes replay tallies pairs events p test.Done = tt

@@ -21,13 +21,14 @@ use Rattle.rl_journal.specs.Ranks.{IsInOrder}
 use Rattle.rl_place.specs.Places.{ThePlace}
 use Rattle.rl_history.specs.Naming.{naming_of}
 use Rattle.rl_history.specs.Reports.{TheShard, ShardFits}
-use Rattle.rl_history.specs.Lawful.{journal_in, transcript_in, transcripts_in, IsLawfulShard}
+use Rattle.rl_history.specs.Lawful.{journal_in, transcript_in, transcripts_in}
 use Rattle.rl_check.specs.declared.illegal.Test.{Test}
 use Rattle.rl_check.specs.declared.illegal.Test.TheVariants as test
 use Rattle.rl_check.specs.Entries.{updates_before, table_before}
 use Rattle.rl_check.specs.OneThread.{is_begun}
 use Rattle.rl_check.specs.Ranks.{Stands}
 use Rattle.rl_check.specs.Shards.{ShardPasses}
+use Rattle.rl_check.specs.LawfulReplays.{TellsHistory}
 use Rattle.rl_check.proofs.BatchLaws.{is_the_last}
 use Rattle.rl_check.proofs.EntryFacts.{kept_there, was_there}
 use Rattle.rl_check.proofs.LawfulShards.{own_from, take_whole}
@@ -190,7 +191,7 @@ update_at (e ∷ es) m f get = by (updates e) refl m get (λ k g. update_at es k
       let q = later m get in let h : ◌≡◌ {A = ℕ} (cond (updates e) 1 0) 0 = ap (λ b. cond {A = ℕ} b 1 0) miss in
       let n = q.2 in (suc q.0, q.1, omega (arith, count-cons updates e (take q.0 es)))
 
-module _ (place : ThePlace) (s home : ℕ) (S : TheShard) (fit : ShardFits (naming_of place) false s S) (T : (p : ℕ) (t : Test) → ShardPasses place false s home S p t) where
+module _ (place : ThePlace) (replay : Bool) (s home : ℕ) (S : TheShard) (fit : ShardFits (naming_of place) replay s S) (T : (p : ℕ) (t : Test) → ShardPasses place replay s home S p t) where
   abbrev es : List Entry
   es = S.entries
 
@@ -237,8 +238,8 @@ module _ (place : ThePlace) (s home : ℕ) (S : TheShard) (fit : ShardFits (nami
       behind n f gf hit here =
           let d = some_at es (p + n) (let h = slice_get_within es (suc (p + n)) f gf in omega arith) in
           let quiet : updates d.0 ≡ false = by d.0 d.1 (updates d.0) refl in
-          let none : d.0.batch ≡ 0 = read_alone place s home S fit T (p + n) d.0 d.1 quiet in
-          first_part place s home S fit T f (begins_here place s home S fit T (suc (p + n)) f gf (ended (slice_get es (p + n)) d.0 f d.1 none)) (entry_fits place s home S fit T (suc (p + n)) f gf).part
+          let none : d.0.batch ≡ 0 = read_alone place replay s home S fit T (p + n) d.0 d.1 quiet in
+          first_part place replay s home S fit T f (begins_here place replay s home S fit T (suc (p + n)) f gf (ended (slice_get es (p + n)) d.0 f d.1 none)) (entry_fits place replay s home S fit T (suc (p + n)) f gf).part
         where
           by : (d : Entry) → slice_get es (p + n) ≡ Some d → (b : Bool) → updates d ≡ b → updates d ≡ false
           by d gd true h = absurd (let one = up_one es (p + n) d gd h in let far = up_grows es p n in omega arith)
@@ -247,8 +248,8 @@ module _ (place : ThePlace) (s home : ℕ) (S : TheShard) (fit : ShardFits (nami
   read_legal : (e : Entry) → Stands es e → IsLegalRead place.geom journal e
   read_legal e h miss =
       let p : ℕ = h.0 in
-      let at : e.at ≡ up p = at_is place s home S fit T p e h.1 in
-      let none : e.batch ≡ 0 = read_alone place s home S fit T p e h.1 miss in
+      let at : e.at ≡ up p = at_is place replay s home S fit T p e h.1 in
+      let none : e.batch ≡ 0 = read_alone place replay s home S fit T p e h.1 miss in
       let table : map_at place.geom journal e.at ≡ table_before place.geom es p = ap (λ z. table_after place.geom finite.empty (take z journal)) at ∙ ap (table_after place.geom finite.empty) (beginning p) in (
         (let low = low_up p in omega arith),
         (T p test.Reply e h.1).alone none ∙ ap (λ u. (apply place.geom e.call u).1) (sym table),
@@ -258,12 +259,12 @@ module _ (place : ThePlace) (s home : ℕ) (S : TheShard) (fit : ShardFits (nami
   pub shard_legal : IsLegal place.geom journal ts
   shard_legal =
       record {
-        journal_is = journal_legal place s home S fit T;
+        journal_is = journal_legal place replay s home S fit T;
         reads_are = λ k t get. each_part (IsLegalRead place.geom journal) t (λ i e g.
             read_legal e (was (is_of (0 + k)) es e (i, ap (λ z. slice_get z i) (transcript_at es 0 (length place.paths) k t get) ∙ g)).1);
         ranks_are = each_part (λ e. e.rank < length ts) journal (λ i e g.
             let h = (was updates es e (i, g)).1 in
-            let low = (entry_fits place s home S fit T h.0 e h.1).rank_there in
+            let low = (entry_fits place replay s home S fit T h.0 e h.1).rank_there in
             let long = transcripts_long es 0 (length place.paths) in
             omega arith);
         updates_are = λ k t get.
@@ -278,7 +279,7 @@ module _ (place : ThePlace) (s home : ℕ) (S : TheShard) (fit : ShardFits (nami
           | true ↦ λ hit. update_in ts 0 journal e (kept updates es e h hit)
           | false ↦ λ miss.
               let low : e.at ≤ length journal = (read_legal e h miss).0 in
-              let there = (entry_fits place s home S fit T h.0 e h.1).rank_there in
+              let there = (entry_fits place replay s home S fit T h.0 e h.1).rank_there in
               let look : looked_at (0 + e.at) e ≡ true = ap (λ b. not b && (e.at == 0 + e.at)) miss ∙ (let at : 0 + e.at ≡ e.at = omega arith in grind (arith, nat_tests)) in
               read_in ts e.at 0 journal e low (read_there es (0 + e.at) e 0 (length place.paths) (omega arith) (omega arith) h look)
         ] refl
@@ -286,12 +287,10 @@ module _ (place : ThePlace) (s home : ℕ) (S : TheShard) (fit : ShardFits (nami
     back : (e : Entry) → Stands (history journal ts) e → Stands es e
     back e h = ⊎_elim (λ q. (was updates es e q).1) (λ q. read_from es q.0 e 0 (length place.paths) q.1) (out_of ts 0 journal e h)
 
-    pub lawful_shard : IsLawfulShard place home S
-    lawful_shard =
+    pub tells_history : TellsHistory place S
+    tells_history =
         record {
           legal = shard_legal;
-          in_order = same_sorted es (history journal ts) (sorted place s home S fit T) (history_sorted place.geom journal ts shard_legal (own_from es 0 (length place.paths) (λ k low high. order k (omega arith)))) to back;
+          in_order = same_sorted es (history journal ts) (sorted place replay s home S fit T) (history_sorted place.geom journal ts shard_legal (own_from es 0 (length place.paths) (λ k low high. order k (omega arith)))) to back;
           told = T (length es) test.Updates refl ∙ ap (count_by updates) (take_whole es (length es) refl) ∙ sym (length-filter updates es);
-          table = T (length es) test.Pairs refl ∙ ap (λ z. finite.entries (table_after place.geom finite.empty (journal_in z))) (take_whole es (length es) refl);
-          tallied = T (length es) test.Tally refl;
         }

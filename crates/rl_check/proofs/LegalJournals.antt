@@ -64,7 +64,7 @@ sized : (n : ℕ) → 2 ≤ n → size_of n ≡ n
 sized zero h = absurd (omega arith)
 sized (suc n) h = refl
 
-module _ (place : ThePlace) (s home : ℕ) (S : TheShard) (fit : ShardFits (naming_of place) false s S) (T : (p : ℕ) (t : Test) → ShardPasses place false s home S p t) where
+module _ (place : ThePlace) (replay : Bool) (s home : ℕ) (S : TheShard) (fit : ShardFits (naming_of place) replay s S) (T : (p : ℕ) (t : Test) → ShardPasses place replay s home S p t) where
   abbrev es : List Entry
   es = S.entries
 
@@ -75,7 +75,7 @@ module _ (place : ThePlace) (s home : ℕ) (S : TheShard) (fit : ShardFits (nami
   state i = half_after place.geom finite.empty [] (journal_in (take i es))
 
   part_fits : (p : ℕ) (e : Entry) → slice_get es p ≡ Some e → PartFits e.batch e.part
-  part_fits p e get = (entry_fits place s home S fit T p e get).part
+  part_fits p e get = (entry_fits place replay s home S fit T p e get).part
 
   goes_on_from : (p : ℕ) (d f : Entry) → slice_get es p ≡ Some d → slice_get es (suc p) ≡ Some f → is_last d ≡ false → GoesOn d f
   goes_on_from p d f gd gf more = (subst (λ o. MayFollow o f) gd ((T (suc p) test.Batch).0 f gf)).1 more
@@ -101,7 +101,7 @@ module _ (place : ThePlace) (s home : ℕ) (S : TheShard) (fit : ShardFits (nami
       e,
       record {
         there = let at : i ≡ i + 0 = omega arith in ap (slice_get es) (sym at) ∙ get;
-        part_is = first_part place s home S fit T e begins (part_fits i e get);
+        part_is = first_part place replay s home S fit T e begins (part_fits i e get);
         batch_is = refl;
         rank_is = refl;
         seq_is = omega arith;
@@ -143,7 +143,7 @@ module _ (place : ThePlace) (s home : ℕ) (S : TheShard) (fit : ShardFits (nami
           begins = get;
           is_update = is_update;
           batch_is = refl;
-          part_is = first_part place s home S fit T e begins (part_fits i e get);
+          part_is = first_part place replay s home S fit T e begins (part_fits i e get);
           some = omega arith;
           there = let c = chain (e.batch - 1) (omega arith) in let h = slice_get_within es (i + (e.batch - 1)) c.0 c.1.there in omega arith;
           goes_on = λ j d f low high gd gf.
@@ -175,7 +175,7 @@ module _ (place : ThePlace) (s home : ℕ) (S : TheShard) (fit : ShardFits (nami
                 rank_is = l.rank_is;
                 batch_is = l.batch_is;
                 seq_is = l.seq_is;
-                place = at_is place s home S fit T (i + j) d l.there ∙ l.count;
+                place = at_is place replay s home S fit T (i + j) d l.there ∙ l.count;
                 part_is = let x = l.part_is in omega arith;
               });
           whole = long ∙ sym (sized e.batch two);
@@ -251,7 +251,7 @@ module _ (place : ThePlace) (s home : ℕ) (S : TheShard) (fit : ShardFits (nami
     alone_is : updates e ≡ true → IsBlock e.rank 0 e.seq (up i) (e ∷ [])
     alone_is hit =
         record {
-          parts = (record { is_update = hit; rank_is = refl; batch_is = none; seq_is = refl; place = at_is place s home S fit T i e get; part_is = first }, tt);
+          parts = (record { is_update = hit; rank_is = refl; batch_is = none; seq_is = refl; place = at_is place replay s home S fit T i e get; part_is = first }, tt);
           whole = refl;
           few = omega arith;
           not_one = λ one. cc;
@@ -291,7 +291,7 @@ module _ (place : ThePlace) (s home : ℕ) (S : TheShard) (fit : ShardFits (nami
         | true ↦ λ h.
             let low : i < length es = grind (arith, nat_tests) in
             let e = some_at es i low in
-            let begins : Begins e.0 = begins_here place s home S fit T i e.0 e.1 none in
+            let begins : Begins e.0 = begins_here place replay s home S fit T i e.0 e.1 none in
             ⊎_elim
             (λ q.
             one_more i t table e.0 e.1 q.0 q.1

@@ -101,15 +101,15 @@ latest_of (y ∷ ys) s i = by (latest_of ys s i) (y.shard == s) (nat_lt y.seq i)
 
 -- ---- the tests
 
-module _ (calls : List Call) (sizes : List ℕ) (own : List Entry) (d : Done) (T : (p : ℕ) (t : Test) → RankPasses false calls sizes own d p t) where
-  pub done_is : IsDone false calls sizes (length own) d
+module _ (replay : Bool) (calls : List Call) (sizes : List ℕ) (own : List Entry) (d : Done) (T : (p : ℕ) (t : Test) → RankPasses replay calls sizes own d p t) where
+  pub done_is : IsDone replay calls sizes (length own) d
   done_is = T (length own) test.Done refl
 
   called : (i : ℕ) → i < length own → IsCalled (asked_of calls sizes) own i
   called i low = T i test.Calls low
 
-  pub once : (i : ℕ) → i < length calls → count_by (is_numbered i) own ≡ 1
-  once i low = (called i (let n = done_is.ends in omega arith)).once
+  pub once : (i : ℕ) → i < length own → count_by (is_numbered i) own ≡ 1
+  once i low = (called i low).once
 
   pub low_number : (e : Entry) → Stands own e → e.seq < length own
   low_number e h =

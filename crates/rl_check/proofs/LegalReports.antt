@@ -1,51 +1,64 @@
--- A report of a run that passes all tests is lawful.
-use Rattle.std.proofs.Common.{◌≡◌, ℕ, suc, ◌+◌, ◌<◌, ◌≤◌, ◌==◌, Bool, true, false, List, [], length, map, get_or, Some, None, sym, ap, subst, ◌∙◌, ⊎_elim, arith}
+-- A report that passes all tests is lawful: that of a run, and that of a replay.
+use Rattle.std.proofs.Common.{◌≡◌, ℕ, suc, ◌+◌, ◌<◌, ◌≤◌, ◌==◌, Bool, true, false, List, [], ◌∷◌, length, map, get_or, Some, None, refl, sym, ap, subst, ◌∙◌, ⊎_elim, arith}
 use Rattle.std.specs.Prelude.{slice_get, All}
 use Rattle.std.specs.Option.{is_some}
+use Rattle.std.specs.FinMap as finite
 use Rattle.std.proofs.lemmas.Bool.Decides.{nat_tests}
 use Rattle.std.proofs.lemmas.List.{length-map}
 use Rattle.std.proofs.lemmas.Option.{slice_get_within, get_or_from_slice_get}
 use Rattle.rl_word.specs.Places.{get_map_back}
 use Rattle.rl_model.specs.declared.call.Call.{Call}
 use Rattle.rl_model.specs.declared.entry.Entry.{Entry}
-use Rattle.rl_journal.specs.Legal.{is_of, joined}
+use Rattle.rl_step.specs.declared.events.Event.{Event}
+use Rattle.rl_step.specs.ExclusionLaws.{is_exclusive}
+use Rattle.rl_step.specs.Queues.{QueueOf}
+use Rattle.rl_step.specs.QueueLemmas.{is_within}
+use Rattle.rl_journal.specs.Legal.{is_of, joined, table_after}
 use Rattle.rl_journal.specs.LegalLaws.{each_part}
 use Rattle.rl_journal.specs.Lists.{some_at}
 use Rattle.rl_journal.specs.Ranks.{IsInOrder, IsEntryOf, IsRankInOrder}
 use Rattle.rl_place.specs.Places.{ThePlace, IsProper}
 use Rattle.rl_ops.specs.declared.ops.Ops.{Ops}
-use Rattle.rl_ops.specs.Asked.{asked_of}
+use Rattle.rl_ops.specs.Asked.{asked_of, BeginsAt}
 use Rattle.rl_ops.specs.Ops.{OpsFit}
 use Rattle.rl_history.specs.declared.report.Done.{Done}
 use Rattle.rl_history.specs.Naming.{naming_of}
 use Rattle.rl_history.specs.Reports.{TheShard, TheReport, ShardFits, ReportFits}
-use Rattle.rl_history.specs.Lawful.{transcript_in, IsLawful}
+use Rattle.rl_history.specs.Lawful.{journal_in, transcript_in, queues_at, IsLawfulShard, IsLawful}
+use Rattle.rl_history.specs.Tallies.{trace_of}
 use Rattle.rl_check.specs.declared.illegal.Group.TheVariants as group
 use Rattle.rl_check.specs.declared.illegal.Test.{Test}
 use Rattle.rl_check.specs.declared.illegal.Test.TheVariants as test
 use Rattle.rl_check.specs.Entries.{updates_before, StandsBefore}
-use Rattle.rl_check.specs.Shards.{ShardPasses}
-use Rattle.rl_check.specs.Ranks.{entries_by, RankPasses, Stands}
+use Rattle.rl_check.specs.Shards.{KeepsRules, EventsHold, ShardPasses}
+use Rattle.rl_check.specs.LawfulReplays.{TellsHistory, IsReplayedShard, IsLawfulReplay, done_by}
+use Rattle.rl_check.specs.Ranks.{entries_by, IsDone, RankPasses, Stands}
 use Rattle.rl_check.specs.Legal.{IsLegalReport}
 use Rattle.rl_check.proofs.ReportFacts.{shard_fits}
 use Rattle.rl_check.proofs.EntryFacts.{was_there, map_there, flat_joined, count_joined, stands_out}
 use Rattle.rl_check.proofs.LawfulRanks.{apart}
 use Rattle.rl_check.proofs.LegalShards.{up_grows, up_after, at_is, entry_fits, stands, not_before_itself}
-use Rattle.rl_check.proofs.LegalHistories.{lawful_shard}
+use Rattle.rl_check.proofs.LegalHistories.{tells_history}
+use Rattle.rl_check.proofs.LawfulShards.{take_whole}
 use Rattle.rl_check.proofs.LegalJournals.{same_lists}
 use Rattle.rl_check.proofs.LegalRanks.{done_is, once, low_number, asked_is, one_number, fresh_far, next_behind}
 
 same_done : (d : Done) (n m : ℕ) → d.done ≡ n → d.given ≡ m → d ≡ record { done = n; given = m }
 same_done d n m a b = ap (λ z. record { done = z; given = d.given }) a ∙ ap (λ z. record { done = n; given = z }) b
 
+-- the rules hold of all events where they hold so far as each
+rules_of : (queues : List QueueOf) (events : List (ℕ × Event)) → ((p : ℕ) → EventsHold queues events p) → KeepsRules queues (trace_of events)
+rules_of queues [] hold =
+    record {
+      exclusive = is_exclusive [] (record { one = λ i j p q. absurd (cc); none = λ i j p q. absurd (cc) });
+      budgets = λ q budget queue has b. is_within [] q budget tt;
+    }
+rules_of queues (e ∷ events) hold = subst (λ z. KeepsRules queues (trace_of z)) (take_whole (e ∷ events) (length events + 1) (omega arith)) (hold (length events) (omega arith))
+
+-- ---- what is told
+
 module _ (place : ThePlace) (ops : Ops) (report : TheReport) (proper : IsProper place) (calls : OpsFit (length place.paths) place.geom.shards ops) (fits : ReportFits (naming_of place) report)
-    (of_run : report.steps ≡ None) (legal : IsLegalReport place ops report) where
-  abbrev run : Bool
-  run = is_some report.steps
-
-  is_run : run ≡ false
-  is_run = ap is_some of_run
-
+    (replay : Bool) (mode : is_some report.steps ≡ replay) (legal : IsLegalReport place ops report) where
   abbrev calls_by : ℕ → List Call
   calls_by k = get_or ops.by_rank k []
 
@@ -59,23 +72,23 @@ module _ (place : ThePlace) (ops : Ops) (report : TheReport) (proper : IsProper 
   abbrev own : ℕ → List Entry
   own k = joined (map (told_by k) report.shards)
 
-  rank_tests : (k : ℕ) (d : Done) → slice_get report.done k ≡ Some d → (p : ℕ) (t : Test) → RankPasses false (calls_by k) (sizes_by k) (own k) d p t
+  rank_tests : (k : ℕ) (d : Done) → slice_get report.done k ≡ Some d → (p : ℕ) (t : Test) → RankPasses replay (calls_by k) (sizes_by k) (own k) d p t
   rank_tests k d gd p t =
-      subst (λ z. RankPasses false (calls_by k) (sizes_by k) z d p t) (flat_joined (told_by k) report.shards)
-      (subst (λ b. RankPasses b (calls_by k) (sizes_by k) (entries_by report k) d p t) is_run (legal (group.Rank k) p t d gd))
+      subst (λ z. RankPasses replay (calls_by k) (sizes_by k) z d p t) (flat_joined (told_by k) report.shards)
+      (subst (λ b. RankPasses b (calls_by k) (sizes_by k) (entries_by report k) d p t) mode (legal (group.Rank k) p t d gd))
 
   module _ (s home : ℕ) (S : TheShard) (gh : slice_get place.homes s ≡ Some home) (gS : slice_get report.shards s ≡ Some S) where
-    fit : ShardFits (naming_of place) false s S
-    fit = subst (λ b. ShardFits (naming_of place) b s S) is_run (shard_fits (naming_of place) run report.shards fits.shards s S gS)
+    fit : ShardFits (naming_of place) replay s S
+    fit = subst (λ b. ShardFits (naming_of place) b s S) mode (shard_fits (naming_of place) (is_some report.steps) report.shards fits.shards s S gS)
 
-    tests : (p : ℕ) (t : Test) → ShardPasses place false s home S p t
-    tests p t = subst (λ b. ShardPasses place b s home S p t) is_run (legal (group.Shard s) p t home S gh gS)
+    tests : (p : ℕ) (t : Test) → ShardPasses place replay s home S p t
+    tests p t = subst (λ b. ShardPasses place b s home S p t) mode (legal (group.Shard s) p t home S gh gS)
 
     module _ (k : ℕ) (d : Done) (gd : slice_get report.done k ≡ Some d) where
       abbrev t : List Entry
       t = transcript_in S.entries k
 
-      abbrev R : (p : ℕ) (t : Test) → RankPasses false (calls_by k) (sizes_by k) (own k) d p t
+      abbrev R : (p : ℕ) (t : Test) → RankPasses replay (calls_by k) (sizes_by k) (own k) d p t
       R = rank_tests k d gd
 
       in_own : (i : ℕ) (e : Entry) → slice_get t i ≡ Some e → Stands (own k) e
@@ -85,32 +98,32 @@ module _ (place : ThePlace) (ops : Ops) (report : TheReport) (proper : IsProper 
       mine i e get = let hit : is_of k e ≡ true = (was_there (is_of k) S.entries i e get).0 in grind (arith, nat_tests)
 
       on_shard : (i : ℕ) (e : Entry) → slice_get t i ≡ Some e → e.shard ≡ s
-      on_shard i e get = let q = was_there (is_of k) S.entries i e get in (entry_fits place s home S fit tests q.1 e q.2).shard_is
+      on_shard i e get = let q = was_there (is_of k) S.entries i e get in (entry_fits place replay s home S fit tests q.1 e q.2).shard_is
 
-      entry_of : (i : ℕ) (e : Entry) → slice_get t i ≡ Some e → IsEntryOf place.geom k (asked_of (calls_by k) (sizes_by k)) (length (calls_by k)) s e
+      entry_of : (i : ℕ) (e : Entry) → slice_get t i ≡ Some e → IsEntryOf place.geom k (asked_of (calls_by k) (sizes_by k)) (length (own k)) s e
       entry_of i e get =
           let q = was_there (is_of k) S.entries i e get in
-          let f = entry_fits place s home S fit tests q.1 e q.2 in
+          let f = entry_fits place replay s home S fit tests q.1 e q.2 in
           record {
-            low = let low = low_number (calls_by k) (sizes_by k) (own k) d R e (in_own i e get) in let n = (done_is (calls_by k) (sizes_by k) (own k) d R).ends in omega arith;
+            low = low_number replay (calls_by k) (sizes_by k) (own k) d R e (in_own i e get);
             own = record { shard_is = f.shard_is; rank_is = mine i e get; small = let h = f.low_number in omega arith };
-            asked_is = asked_is (calls_by k) (sizes_by k) (own k) d R e (in_own i e get);
+            asked_is = asked_is replay (calls_by k) (sizes_by k) (own k) d R e (in_own i e get);
             place = tests q.1 test.Shard e q.2;
           }
 
       -- of two entries that follow one another in the rank's list the later one has the greater number
       later : (a n : ℕ) (e f : Entry) → slice_get S.entries a ≡ Some e → slice_get S.entries (suc (a + n)) ≡ Some f → Stands (own k) e → Stands (own k) f → e.shard ≡ f.shard → e.rank ≡ f.rank → e.seq < f.seq
       later a n e f ge gf he hf shard rank =
-          let before : StandsBefore e f = stands place s home S fit tests n a e f ge gf in
-          let ae = at_is place s home S fit tests a e ge in
-          let af = at_is place s home S fit tests (suc (a + n)) f gf in
+          let before : StandsBefore e f = stands place replay s home S fit tests n a e f ge gf in
+          let ae = at_is place replay s home S fit tests a e ge in
+          let af = at_is place replay s home S fit tests (suc (a + n)) f gf in
           ⊎_elim
           (λ q. let h = q.1 in omega arith)
           (λ q. ⊎_elim
-          (λ same. absurd (not_before_itself e (subst (StandsBefore e) (sym (one_number (calls_by k) (sizes_by k) (own k) d R e f he hf same)) before)))
+          (λ same. absurd (not_before_itself e (subst (StandsBefore e) (sym (one_number replay (calls_by k) (sizes_by k) (own k) d R e f he hf same)) before)))
           (λ r.
           let low : f.seq < e.seq = let h = r.1 in omega arith in
-          let far = fresh_far (calls_by k) (sizes_by k) (own k) d R (suc e.seq) f e hf he (sym shard) low (omega arith) in
+          let far = fresh_far replay (calls_by k) (sizes_by k) (own k) d R (suc e.seq) f e hf he (sym shard) low (omega arith) in
           let back : f.at ≤ e.at = far.place in
           absurd (⊎_elim
           (λ less. omega arith)
@@ -127,8 +140,8 @@ module _ (place : ThePlace) (ops : Ops) (report : TheReport) (proper : IsProper 
           let q = next_behind (is_of k) S.entries i e f ge gf in
           let a : ℕ = q.0 in
           let n : ℕ = q.1 in
-          let ae : e.at ≡ _ = at_is place s home S fit tests a e q.2 in
-          let af : f.at ≡ _ = at_is place s home S fit tests (suc (a + n)) f q.3 in
+          let ae : e.at ≡ _ = at_is place replay s home S fit tests a e q.2 in
+          let af : f.at ≡ _ = at_is place replay s home S fit tests (suc (a + n)) f q.3 in
           let grows = up_grows S.entries a (suc n) in
           let at : a + suc n ≡ suc (a + n) = omega arith in
           record {
@@ -137,27 +150,44 @@ module _ (place : ThePlace) (ops : Ops) (report : TheReport) (proper : IsProper 
             beyond = λ hit. let far = up_after S.entries a n e q.2 hit in omega arith;
           }
 
-  done_at : (k : ℕ) → k < length ops.by_rank → (d : Done) × (slice_get report.done k ≡ Some d)
+  pub done_at : (k : ℕ) → k < length ops.by_rank → (d : Done) × (slice_get report.done k ≡ Some d)
   done_at k low = some_at report.done k (let a = fits.each_rank in let b = calls.ranks_there in omega arith)
 
   home_at : (s : ℕ) (S : TheShard) → slice_get report.shards s ≡ Some S → (home : ℕ) × (slice_get place.homes s ≡ Some home)
   home_at s S gS = some_at place.homes s (let h = slice_get_within report.shards s S gS in let a = fits.each_shard in let b = proper.each_shard in omega arith)
 
-  rank_lawful : (k : ℕ) → k < length ops.by_rank → IsRankInOrder place.geom k (asked_of (calls_by k) (sizes_by k)) (length (calls_by k)) (map (told_by k) report.shards)
+  pub rank_lawful : (k : ℕ) → k < length ops.by_rank → IsRankInOrder place.geom k (asked_of (calls_by k) (sizes_by k)) (length (own k)) (map (told_by k) report.shards)
   rank_lawful k low =
       let d = done_at k low in
       record {
-        once = λ i less. sym (count_joined (λ e. e.seq == i) (map (told_by k) report.shards)) ∙ once (calls_by k) (sizes_by k) (own k) d.0 (rank_tests k d.0 d.1) i less;
+        once = λ i less. sym (count_joined (λ e. e.seq == i) (map (told_by k) report.shards)) ∙ once replay (calls_by k) (sizes_by k) (own k) d.0 (rank_tests k d.0 d.1) i less;
         each = λ s t get.
             let q = get_map_back (told_by k) report.shards s t get in
             let h = home_at s q.0 q.1 in
-            subst (All (IsEntryOf place.geom k (asked_of (calls_by k) (sizes_by k)) (length (calls_by k)) s)) q.2
-            (each_part (IsEntryOf place.geom k (asked_of (calls_by k) (sizes_by k)) (length (calls_by k)) s) (told_by k q.0) (λ i e g. entry_of s h.0 q.0 h.1 q.1 k d.0 d.1 i e g));
+            subst (All (IsEntryOf place.geom k (asked_of (calls_by k) (sizes_by k)) (length (own k)) s)) q.2
+            (each_part (IsEntryOf place.geom k (asked_of (calls_by k) (sizes_by k)) (length (own k)) s) (told_by k q.0) (λ i e g. entry_of s h.0 q.0 h.1 q.1 k d.0 d.1 i e g));
         in_order = λ s t get.
             let q = get_map_back (told_by k) report.shards s t get in
             let h = home_at s q.0 q.1 in
             subst IsInOrder q.2 (in_order s h.0 q.0 h.1 q.1 k d.0 d.1);
       }
+
+  -- what is told of it
+  pub done_told : (k : ℕ) (d : Done) → slice_get report.done k ≡ Some d → IsDone replay (calls_by k) (sizes_by k) (length (own k)) d
+  done_told k d gd = done_is replay (calls_by k) (sizes_by k) (own k) d (rank_tests k d gd)
+
+  -- and of a shard
+  pub shard_tells : (s home : ℕ) (S : TheShard) → slice_get place.homes s ≡ Some home → slice_get report.shards s ≡ Some S → TellsHistory place S
+  shard_tells s home S gh gS =
+      tells_history place replay s home S (fit s home S gh gS) (tests s home S gh gS) (λ k low.
+      let d = done_at k (let n = calls.ranks_there in omega arith) in in_order s home S gh gS k d.0 d.1)
+
+-- ---- of a run
+
+module _ (place : ThePlace) (ops : Ops) (report : TheReport) (proper : IsProper place) (calls : OpsFit (length place.paths) place.geom.shards ops) (fits : ReportFits (naming_of place) report)
+    (of_run : report.steps ≡ None) (legal : IsLegalReport place ops report) where
+  is_run : is_some report.steps ≡ false
+  is_run = ap is_some of_run
 
   all_done : report.done ≡ map (λ z. record { done = length z; given = length z }) ops.by_rank
   all_done =
@@ -166,18 +196,67 @@ module _ (place : ThePlace) (ops : Ops) (report : TheReport) (proper : IsProper 
       (λ k d gd.
       let low : k < length ops.by_rank = let h = slice_get_within report.done k d gd in let a = fits.each_rank in let b = calls.ranks_there in omega arith in
       let c = some_at ops.by_rank k low in
-      let same : calls_by k ≡ c.0 = get_or_from_slice_get ops.by_rank k c.0 [] c.1 in
-      let is = done_is (calls_by k) (sizes_by k) (own k) d (rank_tests k d gd) in
+      let same : get_or ops.by_rank k [] ≡ c.0 = get_or_from_slice_get ops.by_rank k c.0 [] c.1 in
+      let is = done_told place ops report proper calls fits false is_run legal k d gd in
       map_there (λ (z : List Call). record { done = length z; given = length z }) ops.by_rank k c.0 c.1
       ∙ ap (λ z. Some z) (sym (same_done d (length c.0) (length c.0) (is.done ∙ is.ends ∙ ap length same) (is.given ∙ ap length same))))
+
+  run_shard : (s home : ℕ) (S : TheShard) → slice_get place.homes s ≡ Some home → slice_get report.shards s ≡ Some S → IsLawfulShard place home S
+  run_shard s home S gh gS =
+      let t = shard_tells place ops report proper calls fits false is_run legal s home S gh gS in
+      let T : (p : ℕ) (t : Test) → ShardPasses place false s home S p t = λ p u. subst (λ b. ShardPasses place b s home S p u) is_run (legal (group.Shard s) p u home S gh gS) in
+      record {
+        legal = t.legal;
+        in_order = t.in_order;
+        told = t.told;
+        table = T (length S.entries) test.Pairs refl ∙ ap (λ z. finite.entries (table_after place.geom finite.empty (journal_in z))) (take_whole S.entries (length S.entries) refl);
+        tallied = T (length S.entries) test.Tally refl;
+      }
 
   pub is_lawful : IsLawful place ops report
   is_lawful =
       record {
         fits = fits;
         of_run = of_run;
-        shards = λ s home S gh gS. lawful_shard place s home S (fit s home S gh gS) (tests s home S gh gS) (λ k low.
-            let d = done_at k (let n = calls.ranks_there in omega arith) in in_order s home S gh gS k d.0 d.1);
-        calls = rank_lawful;
+        shards = run_shard;
+        calls = λ k low.
+            let d = done_at place ops report proper calls fits false is_run legal k low in
+            subst (λ n. IsRankInOrder place.geom k (asked_of (get_or ops.by_rank k []) (get_or ops.sizes k [])) n (map (λ (S : TheShard). transcript_in S.entries k) report.shards))
+            (done_told place ops report proper calls fits false is_run legal k d.0 d.1).ends
+            (rank_lawful place ops report proper calls fits false is_run legal k low);
         done = all_done;
+      }
+
+-- ---- of a replay
+
+module _ (place : ThePlace) (ops : Ops) (report : TheReport) (proper : IsProper place) (calls : OpsFit (length place.paths) place.geom.shards ops) (fits : ReportFits (naming_of place) report)
+    (of_replay : is_some report.steps ≡ true) (legal : IsLegalReport place ops report) where
+  replay_shard : (s home : ℕ) (S : TheShard) → slice_get place.homes s ≡ Some home → slice_get report.shards s ≡ Some S → IsReplayedShard place home S
+  replay_shard s home S gh gS =
+      let T : (p : ℕ) (t : Test) → ShardPasses place true s home S p t = λ p u. subst (λ b. ShardPasses place b s home S p u) of_replay (legal (group.Shard s) p u home S gh gS) in
+      record {
+        history_told = shard_tells place ops report proper calls fits true of_replay legal s home S gh gS;
+        tallied = T (length S.entries) test.Tally refl;
+        rules = rules_of (queues_at place home) S.events (λ p. T p test.Events);
+      }
+
+  abbrev entries_of : ℕ → List Entry
+  entries_of k = joined (map (λ (S : TheShard). transcript_in S.entries k) report.shards)
+
+  told : (k : ℕ) → k < length ops.by_rank → (done_by report k ≡ length (entries_of k)) × BeginsAt (get_or ops.by_rank k []) (get_or ops.sizes k []) (length (entries_of k))
+  told k low =
+      let d = done_at place ops report proper calls fits true of_replay legal k low in
+      let is = done_told place ops report proper calls fits true of_replay legal k d.0 d.1 in
+      (ap (λ (z : Done). z.done) (get_or_from_slice_get report.done k d.0 (record { done = 0; given = 0 }) d.1) ∙ is.done, is.ends)
+
+  pub replay_is_lawful : IsLawfulReplay place ops report
+  replay_is_lawful =
+      record {
+        fits = fits;
+        of_replay = of_replay;
+        shards = replay_shard;
+        calls = λ k low. let q = told k low in subst (λ n. IsRankInOrder place.geom k (asked_of (get_or ops.by_rank k []) (get_or ops.sizes k [])) n (map (λ (S : TheShard). transcript_in S.entries k) report.shards)) (sym q.0)
+            (rank_lawful place ops report proper calls fits true of_replay legal k low);
+        whole = λ k low. let q = told k low in subst (BeginsAt (get_or ops.by_rank k []) (get_or ops.sizes k [])) (sym q.0) q.1;
+        given = λ k d gd. (done_told place ops report proper calls fits true of_replay legal k d gd).given;
       }

@@ -1,5 +1,5 @@
 -- What the tests of a shard say of the places and the order of its entries.
-use Rattle.std.proofs.Common.{◌≡◌, ℕ, zero, suc, ◌+◌, ◌<◌, ◌≤◌, true, false, not, cond, List, [], ◌∷◌, take, drop, Option, Some, None, refl, sym, ap, subst, ◌∙◌, inl, inr, ⊎_elim, arith}
+use Rattle.std.proofs.Common.{◌≡◌, ℕ, zero, suc, ◌+◌, ◌<◌, ◌≤◌, Bool, true, false, not, cond, List, [], ◌∷◌, take, drop, Option, Some, None, refl, sym, ap, subst, ◌∙◌, inl, inr, ⊎_elim, arith}
 use Rattle.std.specs.Prelude.{slice_get}
 use Rattle.std.specs.List.{count_by}
 use Rattle.std.proofs.lemmas.Option.{same_Some, slice_get_within}
@@ -99,7 +99,7 @@ sorted_by (x ∷ xs) h = (
   sorted_by xs (λ i n d e gd ge. let at : suc (suc i + n) ≡ suc (suc (i + n)) = omega arith in h (suc i) n d e gd (ap (slice_get (x ∷ xs)) at ∙ ge)),
 )
 
-module _ (place : ThePlace) (s home : ℕ) (S : TheShard) (fit : ShardFits (naming_of place) false s S) (T : (p : ℕ) (t : Test) → ShardPasses place false s home S p t) where
+module _ (place : ThePlace) (replay : Bool) (s home : ℕ) (S : TheShard) (fit : ShardFits (naming_of place) replay s S) (T : (p : ℕ) (t : Test) → ShardPasses place replay s home S p t) where
   abbrev es : List Entry
   es = S.entries
 

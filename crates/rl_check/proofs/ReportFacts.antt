@@ -27,58 +27,6 @@ use Rattle.rl_check.specs.Legal.{PassesOn}
 use Rattle.rl_check.specs.Finding.{IsFirstAt}
 use Rattle.rl_check.specs.Watching.{IsThere}
 
--- ---- how many queues there are
-
-few_after : (seen : List Path) (p : Path) → length (seen_after seen p) ≤ length seen + 1
-few_after seen p = elim (list_any (same_path p) seen) as (λ b. length (cond b seen (seen ++ p ∷ [])) ≤ length seen + 1) [ true ↦ omega arith | false ↦ omega (arith, length-append seen (p ∷ [])) ]
-
-few_groups : (seen : List Path) (ps : List Path) → length (fold seen_after seen ps) ≤ length seen + length ps
-few_groups seen [] = omega arith
-few_groups seen (p ∷ ps) = omega (arith, few_after seen p, few_groups (seen_after seen p) ps)
-
-prefixes_long : (path : Path) (n : ℕ) → length (prefixes_to path n) ≡ n
-prefixes_long path zero = refl
-prefixes_long path (suc n) = length-append (prefixes_to path n) (prefix path (suc n) ∷ []) ∙ ap (λ k. k + 1) (prefixes_long path n) ∙ omega arith
-
-few_elements : (levels : ℕ) (seen : List Path) (paths : List Path) → levels ≤ 3 → AllByRecursion (IsPath levels) paths → length (fold elements_after seen paths) ≤ length seen + 3 * length paths
-few_elements levels seen [] most proper = omega arith
-few_elements levels seen (p ∷ ps) most proper =
-    let whole : IsPath levels p = proper.0 in
-    let same : p.len ≡ levels = ap (λ (q : Path). q.len) whole.is ∙ whole.count in
-    omega (arith, most, same, prefixes_long p p.len, few_groups seen (prefixes_to p p.len), few_elements levels (elements_after seen p) ps most proper.1)
-
-pub few_queues : (place : ThePlace) → IsProper place → length (naming_of place).queues < 2 ^ 32
-unfolding element_paths
-few_queues place proper = by place.lock where
-  few : length (naming.element_queues place.levels (element_paths place.paths)) < 2 ^ 32
-  few =
-      let most : length (element_paths place.paths) ≤ 1 + 3 * length place.paths = few_elements place.levels (root_path ∷ []) place.paths proper.most_levels proper.paths in
-      omega (arith, most, proper.most_ranks, length-map (element_paths place.paths) (naming.element_queue place.levels (element_paths place.paths)))
-
-  by : (l : Lock) → length (queue_names l place.levels place.paths) < 2 ^ 32
-  by lock.Spin = omega arith
-  by lock.Dmcs = omega arith
-  by (lock.Alock local remote) = omega arith
-  by (lock.Mcs budgets) = few
-  by (lock.Rw budgets writers readers group) = few
-
--- ---- as many as are named
-
-elements_long : (shape : TheShape) (root : Option ℕ) (from n : ℕ) → length (element_queues shape root from n) ≡ n
-elements_long shape root from zero = refl
-elements_long shape root from (suc n) = ap suc (elements_long shape root (from + 1) n)
-
-module _ (place : ThePlace) where
-  by_lock : (l : Lock) → place.lock ≡ l → (home : ℕ) → length (queues_of (name_of l) (shape_of place) home (knobs_of l)) ≡ length (queue_names l place.levels place.paths)
-  by_lock lock.Spin e home = refl
-  by_lock lock.Dmcs e home = refl
-  by_lock (lock.Alock local remote) e home = refl
-  by_lock (lock.Mcs budgets) e home = elements_long (shape_of place) None 0 (length (shape_of place).elements) ∙ length-map _ _ ∙ sym (length-map _ _)
-  by_lock (lock.Rw budgets writers readers group) e home = elements_long (shape_of place) (Some writers) 0 (length (shape_of place).elements) ∙ length-map _ _ ∙ sym (length-map _ _)
-
-  pub queues_long : (home : ℕ) → length (queues_at place home) ≡ length (naming_of place).queues
-  queues_long home = by_lock place.lock refl home
-
 -- ---- events
 
 event_fits : (naming : TheNaming) (least : ℕ) (events : List (ℕ × Event)) → EachAfter (StepFits naming) step_of least events → (i : ℕ) (e : ℕ × Event) → slice_get events i ≡ Some e → EventFits naming e.1

@@ -4,16 +4,16 @@ use Rattle.std.proofs.lemmas.Bool.Decides.{nat_tests}
 use Rattle.std.specs.Prelude.{slice_get}
 use Rattle.std.proofs.lemmas.Option.{same_Some, slice_get-get_or, slice_get_within}
 use Rattle.rl_word.specs.declared.locks.LockName.{LockName}
-use Rattle.rl_word.specs.declared.locks.LockName.TheVariants.{Spin, Dmcs, Alock, Mcs, Rw}
+use Rattle.rl_word.specs.declared.locks.LockName.TheVariants.{Spin, Dmcs, Alock, Mcs, Rw, Seq, Combine}
 use Rattle.rl_word.specs.declared.shapes.Knobs.{Knobs}
 use Rattle.rl_word.specs.Shapes.{TheShape}
 use Rattle.rl_model.specs.declared.entry.Entry.{Entry}
 use Rattle.rl_model.specs.Table.{sum_below}
 use Rattle.rl_step.specs.declared.tallies.Tally.{Tally}
 use Rattle.rl_step.specs.Queues.{QueueOf}
-use Rattle.rl_step.specs.LockQueues.{queues_of, element_queue, element_queues}
+use Rattle.rl_step.specs.LockQueues.{queues_of, element_queue, element_queues, cohort_queues}
 use Rattle.rl_journal.specs.Tenures.{AreTallied, tally_at, settled_if, tenures_of}
-use Rattle.rl_check.specs.Tallying.{queue_in, IsTallied}
+use Rattle.rl_check.specs.Tallying.{queue_in, IsTallied, cohort_in}
 
 -- ---- sums
 
@@ -44,13 +44,18 @@ element_at shape root from (suc n) (suc q) d e = let at : from + suc q ≡ (from
 element_there : (shape : TheShape) (root : Option ℕ) (n q : ℕ) (d : QueueOf) → slice_get (element_queues shape root 0 n) q ≡ Some d → element_queue shape root q ≡ d
 element_there shape root n q d e = let at : q ≡ 0 + q = omega arith in ap (element_queue shape root) at ∙ element_at shape root 0 n q d e
 
+cohort_is : (shape : TheShape) (home : ℕ) (knobs : Knobs) (q : ℕ) (d : QueueOf) → slice_get (cohort_queues shape home knobs) q ≡ Some d → cohort_in shape home knobs q ≡ d
+cohort_is shape home knobs zero d e = same_Some _ _ e
+cohort_is shape home knobs (suc zero) d e = same_Some _ _ e
+cohort_is shape home knobs (suc (suc q)) d e = absurd (cc)
+
 pub queue_is : (name : LockName) (shape : TheShape) (home : ℕ) (knobs : Knobs) (q : ℕ) (d : QueueOf) → slice_get (queues_of name shape home knobs) q ≡ Some d → queue_in name shape home knobs q ≡ d
 queue_is Spin shape home knobs q d e = absurd (cc)
 queue_is Dmcs shape home knobs zero d e = same_Some _ _ e
 queue_is Dmcs shape home knobs (suc q) d e = absurd (cc)
-queue_is Alock shape home knobs zero d e = same_Some _ _ e
-queue_is Alock shape home knobs (suc zero) d e = same_Some _ _ e
-queue_is Alock shape home knobs (suc (suc q)) d e = absurd (cc)
+queue_is Alock shape home knobs q d e = cohort_is shape home knobs q d e
+queue_is Seq shape home knobs q d e = cohort_is shape home knobs q d e
+queue_is Combine shape home knobs q d e = cohort_is shape home knobs q d e
 queue_is Mcs shape home knobs q d e = element_there shape None (length shape.elements) q d e
 queue_is Rw shape home knobs q d e = element_there shape (Some knobs.writers) (length shape.elements) q d e
 

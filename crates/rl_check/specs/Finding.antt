@@ -3,7 +3,7 @@ use Rattle.std.specs.Prelude.{◌≡◌, ℕ, ◌<◌, Bool, true, false, List, 
 use Rattle.std.specs.FinMap as finite
 use Rattle.rl_step.specs.declared.events.Event.{Event}
 use Rattle.rl_step.specs.Queues.{QueueOf}
-use Rattle.rl_step.specs.LockQueues.{readers_share}
+use Rattle.rl_step.specs.LockQueues.{spares_gets}
 use Rattle.rl_model.specs.declared.entry.Entry.{Entry}
 use Rattle.rl_model.specs.declared.geom.Geom.{Geom}
 use Rattle.rl_model.specs.Table.{Table}
@@ -77,5 +77,5 @@ FoundOfReplay queues S (Some (p, _)) = ⊥
 -- what is found behind the entries of a shard with this home
 abbrev pub FoundBehind : ThePlace → Bool → ℕ → TheShard → Table → Option (ℕ × Test) → Type 0
 FoundBehind place true home S table found = FoundOfReplay (queues_at place home) S found
-FoundBehind place false home S table None = FoundOfRun (queues_at place home) (readers_share (name_of place.lock)) S table None
-FoundBehind place false home S table (Some f) = (f.0 ≡ length S.entries) × FoundOfRun (queues_at place home) (readers_share (name_of place.lock)) S table (Some f.1)
+FoundBehind place false home S table None = FoundOfRun (queues_at place home) (spares_gets (name_of place.lock)) S table None
+FoundBehind place false home S table (Some f) = (f.0 ≡ length S.entries) × FoundOfRun (queues_at place home) (spares_gets (name_of place.lock)) S table (Some f.1)

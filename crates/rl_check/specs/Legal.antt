@@ -1,5 +1,5 @@
 -- When a report is legal for a placement and calls.
-use Rattle.std.specs.Prelude.{◌≡◌, ◌↔◌, ℕ, [], get_or, length, slice_get, Some, None, is_some}
+use Rattle.std.specs.Prelude.{◌≡◌, ◌↔◌, ℕ, true, [], get_or, length, slice_get, Some, None, is_some}
 use Rattle.rl_place.specs.Places.{ThePlace, IsProper}
 use Rattle.rl_ops.specs.declared.ops.Ops.{Ops}
 use Rattle.rl_ops.specs.Ops.{OpsFit}
@@ -12,6 +12,7 @@ use Rattle.rl_check.specs.declared.illegal.Group.TheVariants as group
 use Rattle.rl_check.specs.declared.illegal.Test.{Test}
 use Rattle.rl_check.specs.Shards.{ShardPasses}
 use Rattle.rl_check.specs.Ranks.{entries_by, RankPasses}
+use Rattle.rl_check.specs.LawfulReplays.{IsLawfulReplay}
 
 -- the shard of this number passes the test at place p, if there is such a shard
 abbrev pub PassesOn : ThePlace → TheReport → ℕ → ℕ → Test → Type 0
@@ -43,3 +44,9 @@ abbrev pub LegalIsLawful : Type 0
 LegalIsLawful =
     (place : ThePlace) (ops : Ops) (report : TheReport) → IsProper place → OpsFit (length place.paths) place.geom.shards ops → ReportFits (naming_of place) report → report.steps ≡ None →
     IsLegalReport place ops report ↔ IsLawful place ops report
+
+-- And of reports of replays, in the same words.
+abbrev pub LegalIsLawfulReplay : Type 0
+LegalIsLawfulReplay =
+    (place : ThePlace) (ops : Ops) (report : TheReport) → IsProper place → OpsFit (length place.paths) place.geom.shards ops → ReportFits (naming_of place) report → is_some report.steps ≡ true →
+    IsLegalReport place ops report ↔ IsLawfulReplay place ops report

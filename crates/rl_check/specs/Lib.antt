@@ -3,6 +3,7 @@ pub mod Faults
 pub mod Entries
 pub mod Shards
 pub mod Ranks
+pub mod LawfulReplays
 pub mod Legal
 -- how far the tests have come; skip at first
 pub mod OneThread

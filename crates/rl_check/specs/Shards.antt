@@ -3,7 +3,7 @@ use Rattle.std.specs.Prelude.{◌≡◌, ℕ, ◌+◌, ◌<◌, Bool, true, fals
 use Rattle.std.specs.FinMap as finite
 use Rattle.rl_step.specs.declared.events.Event.{Event}
 use Rattle.rl_step.specs.Exclusion.{IsExclusive}
-use Rattle.rl_step.specs.LockQueues.{readers_share}
+use Rattle.rl_step.specs.LockQueues.{spares_gets}
 use Rattle.rl_step.specs.QueuePromises.{KeepBudgets}
 use Rattle.rl_step.specs.Queues.{QueueOf}
 use Rattle.rl_journal.specs.Blocks.{is_last}
@@ -24,7 +24,7 @@ NoneIsBegun entries = (d : Entry) → before entries (length entries) ≡ Some d
 
 -- the tallies of a run keep the budgets in all, and count the tenures; those of a replay count its events
 abbrev pub TalliesHold : ThePlace → Bool → ℕ → TheShard → Type 0
-TalliesHold place false home S = AreTallied (queues_at place home) (readers_share (name_of place.lock)) S.entries S.queues
+TalliesHold place false home S = AreTallied (queues_at place home) (spares_gets (name_of place.lock)) S.entries S.queues
 TalliesHold place true home S = S.queues ≡ tallies_from 0 (length S.queues) (trace_of S.events)
 
 -- the pairs of a run are the table after all entries, by rising key; a replay has none

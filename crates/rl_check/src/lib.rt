@@ -8,7 +8,7 @@
 //!
 //! Promise: nothing is told exactly where no test fails, and else the first fault (`specs/Faults.antt`). What each test asks
 //! is said in `specs/Entries.antt`, `Shards.antt` and `Ranks.antt`. A report of a run passes all tests exactly where it is
-//! lawful ([`report_laws`]). Only want of memory is free.
+//! lawful, and so does one of a replay ([`report_laws`]). Only want of memory is free.
 //! Not said here: how the report came about. A report of another program is tested like one of this one.
 #![tactic(auto)]
 
@@ -22,8 +22,6 @@ mod queues;
 mod ranks;
 mod shards;
 mod slots;
-#[cfg(test)]
-mod tests;
 mod threads;
 mod whole;
 

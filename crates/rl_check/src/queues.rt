@@ -2,7 +2,7 @@
 ghost use Rattle.std.specs.Prelude.{◌≡◌, ◌↔◌, ◌<◌, ◌+◌, ◌==◌, ℕ, count_by, length, nat_lt, slice_get, slice_index, Some, None, IsTrue, true, false, if◌then◌else◌, ◌&&◌};
 ghost use Rattle.std.specs.Option.{option_copied};
 ghost use Rattle.rl_word.specs.Shapes.{IsProper};
-ghost use Rattle.rl_step.specs.LockQueues.{queues_of, readers_share, element_budget, is_at, parent_of, leaf_of, stands, same, sits_at};
+ghost use Rattle.rl_step.specs.LockQueues.{queues_of, spares_gets, element_budget, is_at, parent_of, leaf_of, stands, same, sits_at};
 ghost use Rattle.rl_step.specs.Queues.{QueueOf, IsWithinBudget};
 ghost use Rattle.rl_journal.specs.Blocks.{is_tenure};
 ghost use Rattle.rl_journal.specs.Tenures.{AreTallied, is_had_by, settled_if};
@@ -125,7 +125,7 @@ impl Queues<'_> {
     {
         match self.name {
             LockName::Spin | LockName::Dmcs => None,
-            LockName::Alock => {
+            LockName::Alock | LockName::Seq | LockName::Combine => {
                 if queue == 0 {
                     Some(self.knobs.local)
                 } else {
@@ -143,7 +143,8 @@ impl Queues<'_> {
     {
         let shape = self.shape;
         match self.name {
-            LockName::Spin | LockName::Dmcs | LockName::Alock => true,
+            LockName::Spin | LockName::Dmcs | LockName::Alock | LockName::Seq | LockName::Combine =>
+                true,
             LockName::Mcs | LockName::Rw => stands(shape.leaf_of.as_slice(), queue),
         }
     }
@@ -158,7 +159,9 @@ impl Queues<'_> {
         match self.name {
             LockName::Spin => false,
             LockName::Dmcs => (rank as usize) < shape.node_of.len(),
-            LockName::Alock => is_in_cohort(shape, self.home, queue == 0, rank),
+            LockName::Alock | LockName::Seq | LockName::Combine => {
+                is_in_cohort(shape, self.home, queue == 0, rank)
+            }
             LockName::Mcs | LockName::Rw => is_under(shape, queue, rank),
         }
     }
@@ -173,16 +176,17 @@ impl Queues<'_> {
 
     // Whether the entry begins a tenure of the lock by a writer.
     fn is_tenure(&self, entry: &Entry) -> bool
-        ensures { result ≡ is_tenure (readers_share self.now.name) entry.now }
+        ensures { result ≡ is_tenure (spares_gets self.now.name) entry.now }
     {
-        entry.part == 0 && !(matches!(self.name, LockName::Rw) && entry.call.reads())
+        let spared = matches!(self.name, LockName::Rw | LockName::Seq) && entry.call.reads();
+        entry.part == 0 && !spared
     }
 
     // How often a queue of ranks was had: how many of the entries begin a tenure of a member.
     fn had_by_ranks(&self, queue: usize, entries: &[Entry]) -> usize
         requires proper { IsProper self.now.shape.now }
         requires ranks { (queue_of self.now queue).of_ranks ≡ true }
-        ensures { result ≡ count_by (is_had_by (queue_of self.now queue) (readers_share self.now.name)) entries.now }
+        ensures { result ≡ count_by (is_had_by (queue_of self.now queue) (spares_gets self.now.name)) entries.now }
     {
         let mut had = 0;
         for entry in entries {
@@ -224,7 +228,7 @@ impl Queues<'_> {
     fn is_tallied(&self, queue: usize, entries: &[Entry], tallies: &[Tally]) -> bool
         requires proper { IsProper self.now.shape.now }
         requires there { queue < length tallies.now }
-        ensures { IsTrue result ↔ IsTallied (readers_share self.now.name) entries.now tallies.now queue (queue_of self.now queue) }
+        ensures { IsTrue result ↔ IsTallied (spares_gets self.now.name) entries.now tallies.now queue (queue_of self.now queue) }
     {
         let tally = tallies[queue];
         if !self.is_within(queue, tally) {
@@ -244,7 +248,7 @@ impl Queues<'_> {
     pub fn are_tallied(&self, entries: &[Entry], tallies: &[Tally]) -> bool
         requires proper { IsProper self.now.shape.now }
         requires each { length tallies.now ≡ length (queues_all self.now) }
-        ensures { IsTrue result ↔ AreTallied (queues_all self.now) (readers_share self.now.name) entries.now tallies.now }
+        ensures { IsTrue result ↔ AreTallied (queues_all self.now) (spares_gets self.now.name) entries.now tallies.now }
     {
         for queue in 0..tallies.len() {
             if !self.is_tallied(queue, entries, tallies) {

@@ -1,5 +1,5 @@
--- The kinds of locks, each with the blocks done under it. One place says which kind guards the shards of a placement: for the run, for its
--- report and for what is promised.
+-- The kinds of locks, each with the way in which blocks are done under it. One place says which kind guards the shards of a placement: for
+-- the run, for its report and for what is promised.
 use Rattle.std.specs.Prelude.{ℕ, List}
 use Rattle.rl_word.specs.Shapes.{TheShape}
 use Rattle.rl_word.specs.declared.shapes.Knobs.{Knobs}
@@ -17,10 +17,14 @@ use Rattle.rl_rw.specs.declared.view.RwView.{RwView}
 use Rattle.rl_rw.specs.Rw.{shared_in, rw_table, BoundsBatches}
 use Rattle.rl_work.specs.Site.{Site}
 use Rattle.rl_work.specs.Work.{TheWork}
+use Rattle.rl_work.specs.Ways.{WorkTable}
 use Rattle.rl_work.specs.Locked.{locked_table}
+use Rattle.rl_seq.specs.SeqWork.{TheSeqWork, seq_table}
+use Rattle.rl_combine.specs.Posts.{CombineSite, node_in}
+use Rattle.rl_combine.specs.Combine.{TheCombineSide, combine_table}
 use Rattle.rl_asks.specs.ShardTables.{ShardTable}
 use Rattle.rl_whole.specs.declared.whole.WholeView.{WholeView}
-use Rattle.rl_whole.specs.Running.{lock_with}
+use Rattle.rl_whole.specs.Running.{lock_with, kinds}
 use Rattle.rl_whole.specs.WholeShards.{whole_shard}
 use Rattle.rl_place.specs.declared.lock.Lock.{Lock}
 use Rattle.rl_place.specs.declared.lock.Lock.TheVariants as lock
@@ -39,15 +43,33 @@ pub record Kind : Type 1 where
   pub defined : Defined View
   pub promised : Promised
 
--- the machine that does each block under the lock which is defined so
-abbrev pub under : {V : Type 0} → (TheShape → ℕ → Knobs → LockTable V) → Defined (WholeView V TheWork)
-under defined shape home knobs site = whole_shard (lock_with (record { lock = defined shape home knobs; work = locked_table }) site) home
+-- how blocks are done, by the shape, the shard's home, the site, and the number of the first word behind the lock's
+abbrev pub Way : Type 0 → Type 0
+Way K = TheShape → ℕ → Site → ℕ → WorkTable K
+
+-- each block under the lock
+abbrev pub locked : Way TheWork
+locked shape home = locked_table
+
+-- optimistic readers: a get alone without the lock, and any other block under it
+abbrev pub optimistic : Way TheSeqWork
+optimistic shape home site behind = seq_table (record { site = site; behind = behind }) home
+
+-- flat combining: the posted calls of all ranks by whoever has the lock
+abbrev pub combining : Way TheCombineSide
+combining shape home site behind =
+    let here : CombineSite = record { site = site; behind = behind } in
+    combine_table here (node_in (record { here = here; nodes = shape.node_of }))
+
+-- the machine that does blocks in this way under the lock which is defined so
+abbrev pub under : {V K : Type 0} → (TheShape → ℕ → Knobs → LockTable V) → Way K → Defined (WholeView V K)
+under lock way shape home knobs site = whole_shard (lock_with (kinds lock way shape home knobs) site) home
 
 abbrev pub spin : Kind
 spin =
     record {
       View = WholeView SpinView TheWork;
-      defined = under (λ shape home knobs. spin_table home);
+      defined = under (λ shape home knobs. spin_table home) locked;
       promised = λ shape home knobs. no_more;
     }
 
@@ -55,27 +77,33 @@ abbrev pub dmcs : Kind
 dmcs =
     record {
       View = WholeView QueueView TheWork;
-      defined = under (λ shape home knobs. dmcs_table home shape.node_of);
+      defined = under (λ shape home knobs. dmcs_table home shape.node_of) locked;
       promised = λ shape home knobs. no_more;
     }
 
 abbrev pub cohorts : TheShape → ℕ → Knobs → Cohorts
 cohorts shape home knobs = record { home = home; node_of = shape.node_of; local = knobs.local; remote = knobs.remote }
 
+abbrev pub cohort_lock : TheShape → ℕ → Knobs → LockTable AlockView
+cohort_lock shape home knobs = alock_table (cohorts shape home knobs)
+
 -- after each announcement of a cohort, and until it enters, the other enters at most as often as its budget and once more
+abbrev pub bounds_cohorts : Promised
+bounds_cohorts shape home knobs = BoundsOvertaking (cohorts shape home knobs)
+
 abbrev pub alock : Kind
 alock =
     record {
       View = WholeView AlockView TheWork;
-      defined = under (λ shape home knobs. alock_table (cohorts shape home knobs));
-      promised = λ shape home knobs. BoundsOvertaking (cohorts shape home knobs);
+      defined = under cohort_lock locked;
+      promised = bounds_cohorts;
     }
 
 abbrev pub mcs : Kind
 mcs =
     record {
       View = WholeView TreeView TheWork;
-      defined = under (λ shape home knobs. mcs_table (mcs_tree home shape));
+      defined = under (λ shape home knobs. mcs_table (mcs_tree home shape)) locked;
       promised = λ shape home knobs. no_more;
     }
 
@@ -84,8 +112,25 @@ abbrev pub rw : Kind
 rw =
     record {
       View = WholeView RwView TheWork;
-      defined = under (λ shape home knobs. rw_table (shared_in home shape knobs));
+      defined = under (λ shape home knobs. rw_table (shared_in home shape knobs)) locked;
       promised = λ shape home knobs. BoundsBatches (shared_in home shape knobs);
+    }
+
+-- these two stand on ALock, and promise what it does
+abbrev pub seq : Kind
+seq =
+    record {
+      View = WholeView AlockView TheSeqWork;
+      defined = under cohort_lock optimistic;
+      promised = bounds_cohorts;
+    }
+
+abbrev pub combine : Kind
+combine =
+    record {
+      View = WholeView AlockView TheCombineSide;
+      defined = under cohort_lock combining;
+      promised = bounds_cohorts;
     }
 
 -- the kind of a placement's lock
@@ -95,3 +140,5 @@ kind_of lock.Dmcs = dmcs
 kind_of (lock.Alock local remote) = alock
 kind_of (lock.Mcs budgets) = mcs
 kind_of (lock.Rw budgets writers readers group) = rw
+kind_of (lock.Seq local remote) = seq
+kind_of (lock.Combine local remote) = combine

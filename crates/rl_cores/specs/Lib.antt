@@ -1,4 +1,10 @@
 -- to be believed
 pub mod Kinds
+pub mod Loads
+pub mod OnShards
+pub mod Optimistic
+pub mod Combining
+pub mod SweepRuns
+pub mod SeatDomains
 -- for tests
 pub mod Fresh

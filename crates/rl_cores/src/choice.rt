@@ -1,13 +1,14 @@
 //! The core of a placement's lock: where it is chosen for all that makes no threads.
 
-ghost use Rattle.std.specs.Prelude.{◌≡◌, true};
+ghost use Rattle.std.specs.Prelude.{◌≡◌};
+ghost use Rattle.rl_step.specs.LockQueues.{lock_under, does_batches};
 ghost use Rattle.rl_place.specs.LockWords.{name_of};
 ghost use Rattle.rl_place.specs.Places.{ThePlace, IsProper};
 ghost use Rattle.rl_place.specs.Shapes.{shape_of, knobs_of};
 ghost use Rattle.rl_cores.specs.Kinds.{Kind, kind_of};
 
-use crate::{AlockCore, DmcsCore, McsCore, RwCore, SpinCore};
-use rl_asks::{Resting, TellsAll};
+use crate::{AlockCore, CombineCore, DmcsCore, McsCore, RwCore, SeqCore, SpinCore};
+use rl_asks::Resting;
 use rl_place::{Lock, Place};
 
 /// What is done with the core of a placement's lock, whichever it is.
@@ -21,13 +22,14 @@ pub trait CoreTask {
     /// What holds of what comes of it, by the placement and the kind of its lock.
     ghost gives: { Self → ThePlace → Kind → Self.Out → Type 0 };
 
-    /// Does it with this core, which is that of the placement's lock: the settings suit it, and it does batches.
-    fn over<C: Resting + TellsAll>(self, place: &Place) -> Self::Out
+    /// Does it with this core, which is that of the placement's lock: the settings suit it, it asks for the lock on which that one
+    /// stands, and it does batches where that one does them.
+    fn over<C: Resting>(self, place: &Place) -> Self::Out
         requires proper { IsProper place.now }
         requires takes { takes self place.now }
         requires knobs { C.suits_knobs (shape_of place.now) (knobs_of place.now.lock) }
-        requires name { C.name ≡ name_of place.now.lock }
-        requires batches { C.batches ≡ true }
+        requires kind { C.name ≡ lock_under (name_of place.now.lock) }
+        requires batches { C.batches ≡ does_batches (name_of place.now.lock) }
         ensures { gives self place.now (record { View = C.View; defined = C.defined; promised = C.promised }) result };
 }
 
@@ -43,5 +45,7 @@ pub fn over_lock<T: CoreTask>(place: &Place, task: T) -> T::Out
         Lock::Alock { .. } => task.over::<AlockCore>(place),
         Lock::Mcs { .. } => task.over::<McsCore>(place),
         Lock::Rw { .. } => task.over::<RwCore>(place),
+        Lock::Seq { .. } => task.over::<SeqCore>(place),
+        Lock::Combine { .. } => task.over::<CombineCore>(place),
     }
 }

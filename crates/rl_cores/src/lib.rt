@@ -1,26 +1,47 @@
 //! The cores of a table's shards: each lock with the way in which it does blocks; and the choice of one for a placement.
 //!
-//! - Each does a block under its lock: spin, D-MCS, ALock, RMA-MCS and RMA-RW.
+//! - Five do each block under their lock: spin, D-MCS, ALock, RMA-MCS and RMA-RW.
+//! - Two stand on ALock and work in ways of their own: with optimistic readers a get alone takes no lock, and in flat combining whoever
+//!   has the lock does the calls that all ranks have posted.
 //! - A *kind* is such a core as it is defined (`specs/Kinds`).
 //! - A *task* ([`CoreTask`]) is what is done with the core of a placement's lock, whichever it is; [`over_lock`] chooses the core.
 //!
 //! Promise: each is a shard's core (`ShardCore` of `rl_asks`), so machines of all of them keep what a machine promises; and a task is done with
-//! the core that the placement's lock has by its kind, whose settings suit it.
+//! the core that the placement's lock has by its kind, whose settings suit it (`settings_suit`). What optimistic readers and flat combining
+//! promise holds of machines at every moment and of shared shards between any two table steps ([`readers_of_machine`],
+//! [`combiners_of_machine`] and theirs of shards). Over each lock seats keep its two domains apart ([`alock_domains`] and those of the
+//! others), and a seat loads few words of the volume for a call alone ([`few_loads`]).
 //! Not said here: that a rank ever gets the lock.
 #![tactic(auto)]
 
 mod choice;
+mod combiners;
+mod domains;
+mod loads;
+mod readers;
+#[cfg(test)]
+mod seat_tests;
+mod settings;
 #[cfg(test)]
 mod tests;
 
 pub use choice::{CoreTask, over_lock};
+pub use combiners::{combiners_of_machine, combiners_of_shard};
+pub use domains::{alock_domains, dmcs_domains, mcs_domains, rw_domains, spin_domains};
+pub use loads::few_loads;
+pub use readers::{readers_of_machine, readers_of_shard};
 use rl_alock::Alock;
+use rl_combine::CombineWork;
+use rl_machine::Machine;
 use rl_mcs::Mcs;
 use rl_queue::Dmcs;
 use rl_rw::Rw;
+use rl_seq::SeqWork;
+use rl_shard::{Seat, Shard};
 use rl_spin::Spin;
 use rl_whole::Whole;
 use rl_work::LockedWork;
+pub use settings::settings_suit;
 
 /// Each block under a spin lock.
 pub type SpinCore = Whole<Spin, LockedWork>;
@@ -36,3 +57,27 @@ pub type McsCore = Whole<Mcs, LockedWork>;
 
 /// Each block under RMA-RW.
 pub type RwCore = Whole<Rw, LockedWork>;
+
+/// Optimistic readers: a get alone without a lock, and any other block under ALock.
+pub type SeqCore = Whole<Alock, SeqWork>;
+
+/// Flat combining: the posted calls of all ranks by whoever has ALock, each by itself.
+pub type CombineCore = Whole<Alock, CombineWork>;
+
+/// All shards of a table with optimistic readers, stepped one rank after the other.
+pub type SeqMachine = Machine<SeqCore>;
+
+/// A shard with optimistic readers, which threads share.
+pub type SeqShard = Shard<SeqCore>;
+
+/// A rank's seat at such a shard.
+pub type SeqSeat = Seat<SeqCore>;
+
+/// All shards of a table under flat combining, stepped one rank after the other.
+pub type CombineMachine = Machine<CombineCore>;
+
+/// A shard under flat combining, which threads share.
+pub type CombineShard = Shard<CombineCore>;
+
+/// A rank's seat at such a shard.
+pub type CombineSeat = Seat<CombineCore>;

@@ -21,14 +21,14 @@ use std::test::*;
 use std::thread::{Threads, join_mut};
 
 /// One bucket, so that all keys meet in it.
-const GEOM: Geom = Geom {
+pub const GEOM: Geom = Geom {
     shards: 1,
     buckets: 1,
     overflow: 0,
 };
 
 /// Each queue is passed on once before its head settles again.
-const KNOBS: Knobs = Knobs {
+pub const KNOBS: Knobs = Knobs {
     local: 1,
     remote: 1,
     writers: 0,
@@ -63,7 +63,7 @@ fn one_node(alloc: Global, ranks: u32) -> Result<Shape, OutOfMemory>
 }
 
 /// A shard of two ranks on one node, with room for one call each, and for so many updates.
-fn two_ranks<C: ShardCore>(
+pub fn two_ranks<C: ShardCore>(
     alloc: Global,
     knobs: Knobs,
     queues: u32,
@@ -90,7 +90,7 @@ fn two_ranks<C: ShardCore>(
 }
 
 /// Begins the rank's one call, a call of shard 0, where the rank may make so many updates.
-fn begun<C: ShardCore>(shard: &Shard<C>, seat: &mut Seat<C>, updates: u32, call: Call)
+pub fn begun<C: ShardCore>(shard: &Shard<C>, seat: &mut Seat<C>, updates: u32, call: Call)
     requires fresh { IsFresh C.shard_table C.good C.layout GEOM 0 updates shard.now seat.old }
     requires place { places_needed (is_update call) 1 ≤ updates }
     requires here { shard_of GEOM call ≡ 0 }
@@ -101,7 +101,7 @@ fn begun<C: ShardCore>(shard: &Shard<C>, seat: &mut Seat<C>, updates: u32, call:
 }
 
 /// The place of the first turn that isn't answered so. A turn is a step of the second rank where it says `true`, and else of the first.
-fn first_difference<C: ShardCore>(
+pub fn first_difference<C: ShardCore>(
     shard: &Shard<C>,
     first: &mut Seat<C>,
     second: &mut Seat<C>,
@@ -109,6 +109,8 @@ fn first_difference<C: ShardCore>(
 ) -> Option<usize>
     requires first { IsOf C.shard_table C.good C.layout shard.now first.old }
     requires second { IsOf C.shard_table C.good C.layout shard.now second.old }
+    ensures first { IsOf C.shard_table C.good C.layout shard.now first.new × (rank_at first.new ≡ rank_at first.old) }
+    ensures second { IsOf C.shard_table C.good C.layout shard.now second.new × (rank_at second.new ≡ rank_at second.old) }
 {
     for (place, turn) in turns.iter().enumerate() {
         let stepped = if turn.0 {
@@ -247,6 +249,27 @@ fn go_by_turns<C: ShardCore>(
     }
 }
 
+/// What the shard leaves when it is closed, if the calls of both its seats are done.
+pub fn closed<C: ShardCore>(
+    alloc: Global,
+    shard: Shard<C>,
+    first: Seat<C>,
+    second: Seat<C>,
+) -> Result<Option<Closed>, OutOfMemory>
+    requires { AreTwo C.shard_table C.good C.layout shard first second }
+{
+    if first.is_open(&shard) || second.is_open(&shard) {
+        return Ok(None);
+    }
+    let mut seats = Vec::with_capacity(alloc, 2)?;
+    seats.push_reserved(first);
+    seats.push_reserved(second);
+    match shard.close(seats) {
+        Ok(closed) => Ok(Some(closed)),
+        Err(_) => Ok(None),
+    }
+}
+
 /// Two ranks put a value each under key 0, in threads, and the shard is closed.
 fn two_puts<C: ShardCore + Send + Sync, R: Threads>(
     rt: &R,
@@ -266,16 +289,7 @@ where
     begun(&shard, &mut second, 1, Call::Put { key: 0, value: 7 });
     go_both(rt, &shard, &mut first, &mut second, 400);
     go_by_turns(&shard, &mut first, &mut second, 400);
-    if first.is_open(&shard) || second.is_open(&shard) {
-        return Ok(None);
-    }
-    let mut seats = Vec::with_capacity(alloc, 2)?;
-    seats.push_reserved(first);
-    seats.push_reserved(second);
-    match shard.close(seats) {
-        Ok(closed) => Ok(Some(closed)),
-        Err(_) => Ok(None),
-    }
+    closed(alloc, shard, first, second)
 }
 
 /// The value that a put puts.

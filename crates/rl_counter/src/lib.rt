@@ -25,6 +25,3 @@ pub use counter::{counter_begin, counter_busy, counter_idle, counter_learn, coun
 pub use laws::counter_laws;
 pub use names::CounterNames;
 pub use view::{CounterView, Doing, Task};
-
-#[cfg(test)]
-mod tests;

@@ -9,5 +9,7 @@ pub mod EventLaws
 pub mod SectionLaws
 pub mod ShardLaws
 pub mod NamingLaws
+pub mod QueueLaws
+pub mod MemberLaws
 pub mod ReportLaws
 pub mod Loops

@@ -25,7 +25,7 @@ use Rattle.rl_place.specs.Places.{ThePlace, IsProper}
 use Rattle.rl_place.proofs.PathLaws.{all-fit, numbers_in-path, plain-path}
 use Rattle.rl_place.proofs.PrefixLaws.{IsTrim, trim-path}
 use Rattle.rl_place.proofs.NumberingLaws.{IsFrom, ElementsAre, elements-are}
-use Rattle.rl_history.specs.Naming.{TheQueueName, element_word, element_queue, element_queues, lone_queue, queue_names, naming_of}
+use Rattle.rl_history.specs.Naming.{TheQueueName, element_word, element_queue, element_queues, lone_queue, queue_names, cohort_names, naming_of}
 use Rattle.rl_history.proofs.EventLaws.{IsNaming}
 
 -- ---- how many queues there are
@@ -62,6 +62,8 @@ few_queues place proper = by place.lock where
   by (lock.Alock local remote) = omega arith
   by (lock.Mcs budgets) = few
   by (lock.Rw budgets writers readers group) = few
+  by (lock.Seq local remote) = omega arith
+  by (lock.Combine local remote) = omega arith
 
 -- ---- a path's word tells its numbers
 
@@ -130,12 +132,12 @@ front_path ns k h =
     both : (m n : ℕ) (xs ys : List ℕ) → m ≡ n → xs ≡ ys → ◌≡◌ {A = Path} (record { len = m; parts = xs ++ replicate (3 - m) 0 }) (record { len = n; parts = ys ++ replicate (3 - n) 0 })
     both m n xs ys e f = rw (e, f) refl
 
-all_paths : (levels : ℕ) (paths : List Path) (r : ℕ) (p : Path) → AllByRecursion (λ path. IsPath levels path) paths → slice_get paths r ≡ Some p → IsPath levels p
+pub all_paths : (levels : ℕ) (paths : List Path) (r : ℕ) (p : Path) → AllByRecursion (λ path. IsPath levels path) paths → slice_get paths r ≡ Some p → IsPath levels p
 all_paths levels [] r p all get = absurd (cc)
 all_paths levels (q ∷ paths) zero p all get = subst (IsPath levels) (same_Some q p get) all.0
 all_paths levels (q ∷ paths) (suc r) p all get = all_paths levels paths r p all.1 get
 
-all_trim : (levels : ℕ) (paths : List Path) → AllByRecursion (λ path. IsPath levels path) paths → AllByRecursion IsTrim paths
+pub all_trim : (levels : ℕ) (paths : List Path) → AllByRecursion (λ path. IsPath levels path) paths → AllByRecursion IsTrim paths
 all_trim levels [] all = tt
 all_trim levels (p ∷ paths) all = (trim-path levels p all.0, all_trim levels paths all.1)
 
@@ -206,22 +208,29 @@ module _ (place : ThePlace) (proper : IsProper place) where
   queues_plain (lock.Alock local remote) = (refl, (refl, tt))
   queues_plain (lock.Mcs budgets) = elements_plain
   queues_plain (lock.Rw budgets writers readers group) = elements_plain
+  queues_plain (lock.Seq local remote) = (refl, (refl, tt))
+  queues_plain (lock.Combine local remote) = (refl, (refl, tt))
 
   word : (q a : TheQueueName) → Some q ≡ Some a → q.word ≡ a.word
   word q a e = ap (λ (z : TheQueueName). z.word) (same_Some q a e)
+
+  cohorts_apart : (i j : ℕ) (a b : TheQueueName) → slice_get cohort_names i ≡ Some a → slice_get cohort_names j ≡ Some b → a.word ≡ b.word → i ≡ j
+  cohorts_apart zero zero a b get other same = refl
+  cohorts_apart zero (suc zero) a b get other same = absurd (unlike (word (lone_queue (codes "local")) a get ∙ same ∙ sym (word (lone_queue (codes "remote")) b other)))
+  cohorts_apart zero (suc (suc j)) a b get other same = absurd (cc)
+  cohorts_apart (suc zero) zero a b get other same = absurd (unlike (sym (word (lone_queue (codes "remote")) a get ∙ same ∙ sym (word (lone_queue (codes "local")) b other))))
+  cohorts_apart (suc zero) (suc zero) a b get other same = refl
+  cohorts_apart (suc zero) (suc (suc j)) a b get other same = absurd (cc)
+  cohorts_apart (suc (suc i)) j a b get other same = absurd (cc)
 
   queues_apart : (l : Lock) (i j : ℕ) (a b : TheQueueName) → slice_get (queue_names l place.levels place.paths) i ≡ Some a → slice_get (queue_names l place.levels place.paths) j ≡ Some b → a.word ≡ b.word → i ≡ j
   queues_apart lock.Spin i j a b get other same = absurd (cc)
   queues_apart lock.Dmcs zero zero a b get other same = refl
   queues_apart lock.Dmcs zero (suc j) a b get other same = absurd (cc)
   queues_apart lock.Dmcs (suc i) j a b get other same = absurd (cc)
-  queues_apart (lock.Alock local remote) zero zero a b get other same = refl
-  queues_apart (lock.Alock local remote) zero (suc zero) a b get other same = absurd (unlike (word (lone_queue (codes "local")) a get ∙ same ∙ sym (word (lone_queue (codes "remote")) b other)))
-  queues_apart (lock.Alock local remote) zero (suc (suc j)) a b get other same = absurd (cc)
-  queues_apart (lock.Alock local remote) (suc zero) zero a b get other same = absurd (unlike (sym (word (lone_queue (codes "remote")) a get ∙ same ∙ sym (word (lone_queue (codes "local")) b other))))
-  queues_apart (lock.Alock local remote) (suc zero) (suc zero) a b get other same = refl
-  queues_apart (lock.Alock local remote) (suc zero) (suc (suc j)) a b get other same = absurd (cc)
-  queues_apart (lock.Alock local remote) (suc (suc i)) j a b get other same = absurd (cc)
+  queues_apart (lock.Alock local remote) i j a b get other same = cohorts_apart i j a b get other same
+  queues_apart (lock.Seq local remote) i j a b get other same = cohorts_apart i j a b get other same
+  queues_apart (lock.Combine local remote) i j a b get other same = cohorts_apart i j a b get other same
   queues_apart (lock.Mcs budgets) i j a b get other same = elements_apart i j a b get other same
   queues_apart (lock.Rw budgets writers readers group) i j a b get other same = elements_apart i j a b get other same
 
@@ -231,6 +240,8 @@ module _ (place : ThePlace) (proper : IsProper place) where
   lock_plain (lock.Alock local remote) = refl
   lock_plain (lock.Mcs budgets) = refl
   lock_plain (lock.Rw budgets writers readers group) = refl
+  lock_plain (lock.Seq local remote) = refl
+  lock_plain (lock.Combine local remote) = refl
 
   pub is_naming : IsNaming (naming_of place)
   is_naming = record {

@@ -4,7 +4,7 @@ use Rattle.std.specs.Prelude.{◌≡◌, ℕ, zero, suc, ◌+◌, ◌<◌, List,
 use Rattle.std.specs.FinMap as finite
 use Rattle.rl_model.specs.declared.entry.Entry.{Entry}
 use Rattle.rl_step.specs.Queues.{QueueOf}
-use Rattle.rl_step.specs.LockQueues.{queues_of, readers_share}
+use Rattle.rl_step.specs.LockQueues.{queues_of, lock_under, spares_gets}
 use Rattle.rl_journal.specs.Legal.{updates, is_of, table_after, IsLegal}
 use Rattle.rl_journal.specs.History.{history}
 use Rattle.rl_journal.specs.Ranks.{IsRankInOrder}
@@ -38,6 +38,10 @@ transcripts_in entries rank (suc n) = transcript_in entries rank ∷ transcripts
 abbrev pub queues_at : ThePlace → ℕ → List QueueOf
 queues_at place home = queues_of (name_of place.lock) (shape_of place) home (knobs_of place.lock)
 
+-- and of the lock on which that one stands
+abbrev pub queues_under : ThePlace → ℕ → List QueueOf
+queues_under place home = queues_of (lock_under (name_of place.lock)) (shape_of place) home (knobs_of place.lock)
+
 -- the part of a shard with this home
 pub record IsLawfulShard (place : ThePlace) (home : ℕ) (s : TheShard) : Type 0 where
   -- journal and transcripts are legal, and the entries are their history
@@ -48,7 +52,7 @@ pub record IsLawfulShard (place : ThePlace) (home : ℕ) (s : TheShard) : Type 0
   -- the pairs are the table after the journal, by rising key
   pub table : s.pairs ≡ finite.entries (table_after place.geom finite.empty (journal_in s.entries))
   -- the tallies of the queues keep the budgets in all, and are counted
-  pub tallied : AreTallied (queues_at place home) (readers_share (name_of place.lock)) s.entries s.queues
+  pub tallied : AreTallied (queues_at place home) (spares_gets (name_of place.lock)) s.entries s.queues
 
 -- of a run of a placement's ranks over their calls
 pub record IsLawful (place : ThePlace) (ops : Ops) (report : TheReport) : Type 0 where

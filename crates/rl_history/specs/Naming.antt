@@ -27,13 +27,15 @@ pub record TheNaming : Type 0 where
   pub cohorts : Bool
   pub queues : List TheQueueName
 
--- ALock alone has two cohorts
+-- ALock has two cohorts, and what stands on it
 abbrev pub has_cohorts : Lock → Bool
 has_cohorts lock.Spin = false
 has_cohorts lock.Dmcs = false
 has_cohorts (lock.Alock local remote) = true
 has_cohorts (lock.Mcs budgets) = false
 has_cohorts (lock.Rw budgets writers readers group) = false
+has_cohorts (lock.Seq local remote) = true
+has_cohorts (lock.Combine local remote) = true
 
 -- a queue of ranks that stands by itself
 abbrev pub lone_queue : List ℕ → TheQueueName
@@ -50,11 +52,17 @@ element_queue levels elements path =
 abbrev pub element_queues : ℕ → List Path → List TheQueueName
 element_queues levels elements = map (element_queue levels elements) elements
 
+-- the queues of two cohorts
+abbrev pub cohort_names : List TheQueueName
+cohort_names = lone_queue (codes "local") ∷ lone_queue (codes "remote") ∷ []
+
 -- the queues of a lock
 abbrev pub queue_names : Lock → ℕ → List Path → List TheQueueName
 queue_names lock.Spin levels paths = []
 queue_names lock.Dmcs levels paths = lone_queue (codes "all") ∷ []
-queue_names (lock.Alock local remote) levels paths = lone_queue (codes "local") ∷ lone_queue (codes "remote") ∷ []
+queue_names (lock.Alock local remote) levels paths = cohort_names
+queue_names (lock.Seq local remote) levels paths = cohort_names
+queue_names (lock.Combine local remote) levels paths = cohort_names
 queue_names (lock.Mcs budgets) levels paths = element_queues levels (element_paths paths)
 queue_names (lock.Rw budgets writers readers group) levels paths = element_queues levels (element_paths paths)
 

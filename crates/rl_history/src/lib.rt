@@ -25,13 +25,12 @@ mod putting;
 mod reader;
 mod report;
 mod sections;
-#[cfg(test)]
-mod tests;
 mod version;
 
 pub use counting::{tallies, within};
 pub use merging::{merge, merge_lent};
 pub use naming::{Naming, QueueName};
-pub use printer::{put_end, report_text};
+pub use printer::{is_printed, put_end, put_event, report_text};
+pub use putting::{put_value, put_word};
 pub use reader::{no_report_fault, read_report};
 pub use report::{Done, Report, ShardReport};

@@ -1,8 +1,9 @@
 //! How a report names the lock, the queues and their members.
-ghost use Rattle.std.specs.Prelude.{◌≡◌, ◌++◌, ◌∷◌, [], IfOk, OnOk};
+ghost use Rattle.std.specs.Prelude.{◌≡◌, ◌++◌, ◌∷◌, ℕ, [], length, IfOk, OnOk};
 ghost use Rattle.rl_place.specs.Numbering.{element_paths};
 ghost use Rattle.rl_place.specs.Places.{IsProper};
 ghost use Rattle.rl_history.specs.Naming.{has_cohorts, element_word, element_queues, queue_names, naming_of, lone_queue};
+ghost use Rattle.rl_history.specs.Lawful.{queues_at, queues_under};
 
 use rl_place::{Lock, Path, Place, lock_word, path_text};
 use std::alloc::{AllocError as OutOfMemory, Global};
@@ -49,7 +50,10 @@ impl Model for Naming {
 fn has_cohorts(lock: &Lock) -> bool
     ensures { result ≡ has_cohorts lock.now }
 {
-    matches!(lock, Lock::Alock { .. })
+    matches!(
+        lock,
+        Lock::Alock { .. } | Lock::Seq { .. } | Lock::Combine { .. }
+    )
 }
 
 // Appends a queue of ranks that stands by itself.
@@ -104,7 +108,7 @@ fn queue_names(alloc: Global, place: &Place) -> Result<Vec<QueueName>, OutOfMemo
             push_lone(&mut queues, alloc, b"all")?;
             Ok(queues)
         }
-        Lock::Alock { .. } => {
+        Lock::Alock { .. } | Lock::Seq { .. } | Lock::Combine { .. } => {
             push_lone(&mut queues, alloc, b"local")?;
             push_lone(&mut queues, alloc, b"remote")?;
             Ok(queues)
@@ -114,10 +118,13 @@ fn queue_names(alloc: Global, place: &Place) -> Result<Vec<QueueName>, OutOfMemo
 }
 
 impl Naming {
-    /// How a report of this placement names things.
+    /// How a report of this placement names things: as many queues as the placement's lock has, and as the lock on which that one stands,
+    /// whatever a shard's home is.
     pub fn of(alloc: Global, place: &Place) -> Result<Naming, OutOfMemory>
         requires { IsProper place.now }
-        ensures { IfOk result (λ naming. naming ≡ naming_of place.now) }
+        ensures named { IfOk result (λ naming. naming ≡ naming_of place.now) }
+        ensures queues { IfOk result (λ naming. (home : ℕ) → length naming.queues ≡ length (queues_at place.now home)) }
+        ensures under { IfOk result (λ naming. (home : ℕ) → length naming.queues ≡ length (queues_under place.now home)) }
     {
         let queues = queue_names(alloc, place)?;
         Ok(Naming {

@@ -1,5 +1,5 @@
 //! Printing a report.
-ghost use Rattle.std.specs.Prelude.{◌≡◌, ℕ, ◌++◌, ◌∷◌, [], codes, decimal, map, length, slice_get, Ok, IfOk, OnOk};
+ghost use Rattle.std.specs.Prelude.{◌≡◌, ℕ, ◌++◌, ◌∷◌, [], codes, decimal, map, length, slice_get, Ok, IfOk, OnErr, OnOk};
 ghost use Rattle.rl_text.specs.Spelling.{line_text, text_of};
 ghost use Rattle.rl_step.specs.Answers.{steps_made};
 ghost use Rattle.rl_place.specs.Places.{IsProper};
@@ -129,8 +129,8 @@ fn put_announce(out: &mut Vec<u8>, cohort: u32) -> Result<(), OutOfMemory>
     }
 }
 
-// What happened, in words; nothing of a touch.
-fn put_event(out: &mut Vec<u8>, naming: &Naming, event: Event) -> Result<(), OutOfMemory>
+/// Appends what happened, in words, each after a space; nothing of a touch. After want of memory a part of them may stand there.
+pub fn put_event(out: &mut Vec<u8>, naming: &Naming, event: Event) -> Result<(), OutOfMemory>
     ensures { OnOk result (out.new.items ≡ out.old.items ++ spaced (event_words naming.now event)) }
 {
     match event {
@@ -146,7 +146,8 @@ fn put_event(out: &mut Vec<u8>, naming: &Naming, event: Event) -> Result<(), Out
     }
 }
 
-fn is_printed(event: Event) -> bool
+/// Whether a report tells of an event: it tells of all but touches.
+pub fn is_printed(event: Event) -> bool
     ensures { result ≡ is_printed event }
 {
     !matches!(event, Event::Touch { .. })
@@ -270,14 +271,24 @@ fn put_steps(out: &mut Vec<u8>, steps: Steps) -> Result<(), OutOfMemory>
     Ok(())
 }
 
-/// The last lines: the steps of a replay, and `end`. After want of memory a part of them may stand there.
-pub fn put_end(out: &mut Vec<u8>, steps: Option<Steps>) -> Result<(), OutOfMemory>
+// The last lines. After want of memory a part of them may stand there.
+fn put_last(out: &mut Vec<u8>, steps: Option<Steps>) -> Result<(), OutOfMemory>
     ensures { OnOk result (out.new.items ≡ out.old.items ++ text_of (steps_lines steps ++ (codes "end" ∷ []) ∷ [])) }
 {
     if let Some(steps) = steps {
         put_steps(out, steps)?;
     }
     out.extend_from_slice(b"end\n")
+}
+
+/// The last lines: the steps of a replay, and `end`. After want of memory the text is as before.
+pub fn put_end(out: &mut Vec<u8>, steps: Option<Steps>) -> Result<(), OutOfMemory>
+    ensures puts { OnOk result (out.new.items ≡ out.old.items ++ text_of (steps_lines steps ++ (codes "end" ∷ []) ∷ [])) }
+    ensures err { OnErr result (out.new.items ≡ out.old.items) }
+{
+    let mut last = Vec::new(*out.allocator());
+    put_last(&mut last, steps)?;
+    out.extend_from_slice(last.as_slice())
 }
 
 // `replay LOCK` or `run LOCK`.

@@ -13,7 +13,7 @@
 //! many more it goes on telling them, so that who writes less than that knows what the sink then has.
 //!
 //! Not said here: what a real file or a terminal gives or takes. [`RealFiles`] and [`RealOut`] are the
-//! few lines where the program trusts the system.
+//! few lines where the program trusts the system; they keep its last reason for a failure.
 #![tactic(auto)]
 
 mod failing;
@@ -30,6 +30,3 @@ pub use outside::{Failed, Sink, Source};
 pub use real::{RealFiles, RealOut};
 pub use sinks::{FixedSink, MemSink};
 pub use whole::{ReadErr, read_file, write_all};
-
-#[cfg(test)]
-mod tests;

@@ -118,7 +118,7 @@ module _ (C V : Type 0) (table : C → ShardTable V) (good : GoodOf C V) (cause 
         let own : f.shard.table.queues ≡ queues home = ap (λ (z : ShardTable V). z.queues) (f.is.table_is ∙ (are s home f.core getH f.has_core).0) ∙ same home (site_of geom calls s) in
         record {
           keep = subst (λ t. KeepQueues (queues home) (events_of t)) trace (subst (λ q. KeepQueues q (events_of f.shard.trace)) own (sound.shards s f.shard f.has).queues);
-          count = λ shut. subst (λ t. CountTenures (queues home) (events_of t)) trace (subst (λ q. CountTenures q (events_of f.shard.trace)) own (sound.counted shut s f.shard f.has));
+          count = λ shut. subst (λ t. CountTenures (queues home) (events_of t)) trace (subst (λ q. CountTenures q (events_of f.shard.trace)) own (sound.counted s f.shard f.has (shut f.shard f.has)));
         }
 
   -- a machine that is the start keeps all that is true of a machine

@@ -13,13 +13,17 @@ pub mod EventOrder
 pub mod Promises
 pub mod Records
 pub mod Whereabouts
+pub mod NextAtoms
 pub mod State
 -- what is true of a machine at every moment
 pub mod MachineGood
+pub mod Ruled
 -- proved; skip at first
 pub mod EventOrderLaws
 pub mod MachineLaws
+pub mod BlockEnds
 pub mod SoundLaws
+pub mod RuledLaws
 pub mod StepLaws
 pub mod StartLaws
 pub mod CoreLaws

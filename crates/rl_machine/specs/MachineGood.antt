@@ -5,6 +5,7 @@ use Rattle.rl_model.specs.declared.geom.Geom.{Geom}
 use Rattle.rl_step.specs.Lock.{Deed}
 use Rattle.rl_model.specs.Geom.{GeomFits}
 use Rattle.rl_ops.specs.Ops.{total_calls}
+use Rattle.rl_asks.specs.Asks.{AreBlocks}
 use Rattle.rl_asks.specs.ShardLaws.{GoodOf}
 use Rattle.rl_asks.specs.ShardTables.{ShardTable}
 use Rattle.rl_machine.specs.Running.{ShardRun, Running, TheMachine, running, cores_of}
@@ -35,6 +36,8 @@ module _ (C V : Type 0) (table : C → ShardTable V) (good : GoodOf C V) where
     -- the events so far are of steps that were counted
     pub told : (s : ℕ) (S : ShardRun V) → slice_get m.shards s ≡ Some S → AreTold (steps_made m.steps) S.trace
     pub all_opened : length m.opened ≡ length m.calls
+    -- each rank asks for blocks, one after the other
+    pub blocks : (k : ℕ) → AreBlocks m.geom (calls_by m k) (sizes_by m k)
     pub few : (k : ℕ) → length (calls_by m k) ≤ 2 ^ 32
     -- where a core does no batches each block is a call alone
     pub takes : (s : ℕ) (core : C) → slice_get cores s ≡ Some core → (table core).batches ≡ false → (k i : ℕ) → slice_index (sizes_by m k) i ≤ 1

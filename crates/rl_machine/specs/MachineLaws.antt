@@ -136,6 +136,7 @@ module _ (C V : Type 0) (table : C → ShardTable V) (good : GoodOf C V) (cause 
         told = λ i T getT. ⊎_elim (λ q. subst (λ z. AreTold (steps_made steps) z.trace) (sym q.1) told) (λ q. told_more (steps_made m.steps) (steps_made steps) T.trace later (g.told i T q.1)) (get_set_cases m.shards s i S' T getT);
         all_opened = many ∙ g.all_opened;
         few = g.few;
+        blocks = g.blocks;
         takes = g.takes;
         stands = λ k h. subst (λ n. place_after m.geom (calls_by m k) (slice_index opened k) < n) (sym (length-set m.shards s S')) (stands k h);
         ranks = ranks;

@@ -1,13 +1,11 @@
 -- A rank that opens its next block: the block in the code's lists, its shard, and the step.
-use Rattle.std.specs.Prelude.{◌≡◌, ℕ, ◌+◌, ◌≤◌, ◌<◌, true, false, List, [], length, get_or, slice_get, slice_index, slice_set, Some, None}
+use Rattle.std.specs.Prelude.{◌≡◌, ℕ, ◌+◌, ◌≤◌, ◌<◌, true, false, List, [], length, get_or, slice_get, slice_index, slice_set, Some}
 use Rattle.std.proofs.Common.{sym, ◌∙◌, ap, subst, get_or-set_same, arith}
 use Rattle.rl_word.specs.Acts.{Layout}
 use Rattle.rl_word.specs.Places.{one_at}
 use Rattle.rl_model.specs.declared.call.Call.{Call}
-use Rattle.rl_step.specs.declared.events.Event.{Event}
 use Rattle.rl_step.specs.declared.events.Stepped.{Stepped}
 use Rattle.rl_step.specs.Answers.{counted, steps_made}
-use Rattle.rl_step.specs.Lock.{Deed}
 use Rattle.rl_asks.specs.ShardLaws.{MayOpen, GoodOf, CauseOf, FurtherOf, LawsOf}
 use Rattle.rl_asks.specs.ShardTables.{ShardTable}
 use Rattle.rl_machine.specs.declared.shard.ShardState.{ShardState}
@@ -16,7 +14,7 @@ use Rattle.rl_machine.specs.Running.{ShardRun, Running, shard_run, running, core
 use Rattle.rl_asks.specs.Asks.{block_from, block_shard, place_after}
 use Rattle.rl_asks.specs.AskLaws.{size_is, block_is, block_at, stands_at, inside, is_begun, few_calls}
 use Rattle.rl_machine.specs.ShardSteps.{opened_on, atom_on, answer_on}
-use Rattle.rl_machine.specs.Run.{calls_by, sizes_by, opens, next_block, stepped, answer_of_step}
+use Rattle.rl_machine.specs.Run.{changed_if, calls_by, sizes_by, opens, opened_if, next_block, stepped, answer_of_step}
 use Rattle.rl_machine.specs.MachineLaws.{OpensAt, opens_at}
 use Rattle.rl_machine.specs.MachineSteps.{machine_with, step_is}
 use Rattle.rl_machine.specs.MachineGood.{IsMachine}
@@ -131,3 +129,24 @@ module _ (C V : Type 0) (table : C → ShardTable V) (good : GoodOf C V) (cause 
       let same : blk ≡ block = e2 ∙ ap (block_from (get_or m.ops.by_rank k []) (get_or m.ops.sizes k [])) e1 in
       let at : place ≡ block_shard m.geom block = e3 ∙ ap (block_shard m.geom) same in
       subst (λ p. p < length m.shards.items) (sym at) block_there.there
+
+  -- and the machine with the block opened there
+  open_is_there : (item : ShardState C V) → slice_get m.shards.items (block_shard m.geom block) ≡ Some item → (S' : ShardRun V) → S' ≡ opened_on k block n (shard_run table (shard_view item)) →
+      machine_with run (slice_set run.shards (block_shard m.geom block) S') (slice_set m.opened.items k (n + length block)) m.steps ≡ opened_if run k true
+  open_is_there item has S' made =
+      let place : ℕ = block_shard m.geom block in
+      let opened : List ℕ = slice_set m.opened.items k (n + length block) in
+      ap (λ z. machine_with run (slice_set run.shards place z) opened m.steps) made
+      ∙ sym (ap (λ z. machine_with run (changed_if run.shards place (opened_on k block n) z) opened m.steps) (is_there C V table good m is place item has).has)
+
+  pub open_is : (first place : ℕ) (blk : List Call) (item : ShardState C V) → first ≡ n → blk ≡ block_from (get_or m.ops.by_rank k []) (get_or m.ops.sizes k []) first → place ≡ block_shard m.geom blk →
+      slice_get m.shards.items place ≡ Some item → (S' : ShardRun V) → S' ≡ opened_on k blk first (shard_run table (shard_view item)) →
+      machine_with run (slice_set run.shards place S') (slice_set m.opened.items k (first + length blk)) m.steps ≡ opened_if run k true
+  open_is first place blk item e1 e2 e3 has S' made =
+      let same : blk ≡ block = e2 ∙ ap (block_from (get_or m.ops.by_rank k []) (get_or m.ops.sizes k [])) e1 in
+      let at : place ≡ block_shard m.geom block = e3 ∙ ap (block_shard m.geom) same in
+      let S : ShardRun V = shard_run table (shard_view item) in
+      ap (λ p. machine_with run (slice_set run.shards p S') (slice_set m.opened.items k (first + length blk)) m.steps) at
+      ∙ ap (λ f. machine_with run (slice_set run.shards (block_shard m.geom block) S') (slice_set m.opened.items k (f + length blk)) m.steps) e1
+      ∙ ap (λ (b : List Call). machine_with run (slice_set run.shards (block_shard m.geom block) S') (slice_set m.opened.items k (n + length b)) m.steps) same
+      ∙ open_is_there item (ap (slice_get m.shards.items) (sym at) ∙ has) S' (made ∙ ap (λ b. opened_on k b first S) same ∙ ap (λ f. opened_on k block f S) e1)

@@ -10,18 +10,21 @@ use Rattle.rl_word.specs.declared.locks.LockName.{LockName}
 use Rattle.rl_word.specs.declared.shapes.Knobs.{Knobs}
 use Rattle.rl_step.specs.Exclusion.{IsExclusive}
 use Rattle.rl_word.specs.declared.acts.Atom.{Atom}
+use Rattle.rl_step.specs.Answers.{steps_made}
 use Rattle.rl_step.specs.Lock.{AllNamed}
 use Rattle.rl_step.specs.Queues.{QueueOf}
 use Rattle.rl_step.specs.LockQueues.{queues_of}
 use Rattle.rl_step.specs.QueuePromises.{KeepQueues, CountTenures}
 use Rattle.rl_model.specs.declared.entry.Entry.{Entry}
 use Rattle.rl_asks.specs.ShardTables.{journal_at, kept_in}
+use Rattle.rl_asks.specs.EventRanks.{AreByRanks}
 use Rattle.rl_asks.specs.Domains.{IsCardAtom, IsLocalAtom, UsesCards, UsesLocals}
 use Rattle.rl_machine.specs.Running.{ShardRun, Running}
 use Rattle.rl_machine.specs.ShardSteps.{events_of}
-use Rattle.rl_machine.specs.EventOrder.{AreOrdered}
+use Rattle.rl_machine.specs.EventOrder.{AreOrdered, AreBefore}
+use Rattle.rl_ops.specs.Asked.{BeginsAt}
 use Rattle.rl_asks.specs.Asks.{asked_of}
-use Rattle.rl_machine.specs.Run.{calls_by, sizes_by, trace_of, kept_by, done_of, run_of, AreThere, IsAllClosed}
+use Rattle.rl_machine.specs.Run.{calls_by, sizes_by, trace_of, kept_by, done_of, run_of, AreThere, IsAllClosed, IsShut}
 
 module _ {V : Type 0} where
   -- the journal of a shard, as its words say, and the history that it and the ranks' transcripts make
@@ -64,14 +67,23 @@ module _ {V : Type 0} where
     pub order : (k : ℕ) → k < length m.calls → IsRankInOrder m.geom k (asked_of (calls_by m k) (sizes_by m k)) (done_of m k) (kept_by m k)
     -- those that it has opened, less the block that it is at work on
     pub done : (k : ℕ) → k < length m.calls → done_of m k ≤ slice_index m.opened k
+    -- so they are whole blocks
+    pub whole : (k : ℕ) → k < length m.calls → BeginsAt (calls_by m k) (sizes_by m k) (done_of m k)
     pub given : (k : ℕ) → k < length m.calls → slice_index m.opened k ≤ length (calls_by m k)
-    -- while no call is open each queue was settled and passed as often as it was had
-    pub counted : IsAllClosed m → (s : ℕ) (S : ShardRun V) → slice_get m.shards s ≡ Some S → CountTenures S.table.queues (events_of S.trace)
+    -- each rank has a view on each shard, and who enters, leaves or touches is a rank that there is
+    pub views : (s : ℕ) (S : ShardRun V) → slice_get m.shards s ≡ Some S → length S.views ≡ length m.calls
+    pub by_ranks : (s : ℕ) (S : ShardRun V) → slice_get m.shards s ≡ Some S → AreByRanks (length m.calls) (events_of S.trace)
+    -- the events are of steps that were made
+    pub made : (s : ℕ) (S : ShardRun V) → slice_get m.shards s ≡ Some S → AreBefore (steps_made m.steps) S.trace
+    -- while no call is open on a shard each of its queues was settled and passed as often as it was had
+    pub counted : (s : ℕ) (S : ShardRun V) → slice_get m.shards s ≡ Some S → IsShut S → CountTenures S.table.queues (events_of S.trace)
+    -- and while no rank has an open call none is open on any shard
+    pub shut : IsAllClosed m → (s : ℕ) (S : ShardRun V) → slice_get m.shards s ≡ Some S → IsShut S
 
-  -- queues of shard s keep their promises; and while no call is open each was settled and passed as often as it was had
+  -- queues of shard s keep their promises; and while no call is open there each was settled and passed as often as it was had
   pub record KeepsQueues (queues : List QueueOf) (m : Running V) (s : ℕ) : Type 0 where
     pub keep : KeepQueues queues (events_of (trace_of m s))
-    pub count : IsAllClosed m → CountTenures queues (events_of (trace_of m s))
+    pub count : ((S : ShardRun V) → slice_get m.shards s ≡ Some S → IsShut S) → CountTenures queues (events_of (trace_of m s))
 
   -- so on each shard do those of the lock of this name: its members and budgets are the placement's
   abbrev pub EachKeepsQueues : LockName → TheShape → Knobs → List ℕ → Running V → Type 0

@@ -107,6 +107,7 @@ module _ (C V : Type 0) (table : C → ShardTable V) (good : GoodOf C V) where
         told = λ s S has. told_more (steps_made m.steps) (steps_made counts) S.trace later (g.told s S has);
         all_opened = g.all_opened;
         few = g.few;
+        blocks = g.blocks;
         takes = g.takes;
         stands = g.stands;
         ranks = g.ranks;

@@ -129,9 +129,12 @@ abbrev pub ranks_of : List Turn → List ℕ
 ranks_of [] = []
 ranks_of (t ∷ ts) = turn_ranks t ++ ranks_of ts
 
--- no call of any rank is open
+-- no call of any rank is open; and none on this shard
 abbrev pub IsAllClosed : {V : Type 0} → Running V → Type 0
 IsAllClosed m = (rank : ℕ) → rank < length m.calls → has_open_call m rank ≡ false
+
+abbrev pub IsShut : {V : Type 0} → ShardRun V → Type 0
+IsShut S = (rank : ℕ) → rank < length S.views → open_on rank S ≡ false
 
 -- the ranks of a list are there
 abbrev pub AreThere : ℕ → List ℕ → Type 0

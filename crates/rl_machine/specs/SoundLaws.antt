@@ -2,7 +2,7 @@
 use Rattle.std.specs.Prelude.{◌≡◌, ◌≢◌, ℕ, ◌+◌, ◌≤◌, ◌<◌, true, false, List, [], ◌∷◌, length, map, slice_get, slice_index, Some, refl}
 use Rattle.std.proofs.Common.{sym, ◌∙◌, ap, subst, ⊎_elim, arith}
 use Rattle.std.proofs.lemmas.Option.{slice_get_within}
-use Rattle.rl_word.specs.Places.{get_map, same_or_not}
+use Rattle.rl_word.specs.Places.{get_map, same_or_not, some_at}
 use Rattle.rl_word.specs.Acts.{Layout}
 use Rattle.rl_journal.specs.Legal.{IsLegal}
 use Rattle.rl_journal.specs.Ranks.{IsRankInOrder}
@@ -10,13 +10,16 @@ use Rattle.rl_journal.specs.HistoryLaws.{replayed}
 use Rattle.rl_step.specs.Lock.{Deed}
 use Rattle.rl_step.specs.QueuePromises.{CountTenures}
 use Rattle.rl_asks.specs.Asks.{asked_of}
-use Rattle.rl_asks.specs.Desks.{entries_of}
+use Rattle.rl_asks.specs.EventRanks.{AreByRanks}
+use Rattle.rl_ops.specs.Asked.{BeginsAt}
+use Rattle.rl_asks.specs.Desks.{Desk, entries_of}
 use Rattle.rl_asks.specs.RankGood.{entries_in}
 use Rattle.rl_asks.specs.ShardTables.{ShardTable}
 use Rattle.rl_asks.specs.ShardLaws.{GoodOf, CauseOf, FurtherOf, LawsOf}
 use Rattle.rl_machine.specs.Running.{ShardRun, Running}
 use Rattle.rl_machine.specs.ShardSteps.{events_of, desk_at, desk_on, kept_on, open_at, open_on}
-use Rattle.rl_machine.specs.Run.{desks_by, on_shard, calls_by, sizes_by, place_of, kept_by, done_of, IsAllClosed}
+use Rattle.rl_machine.specs.Run.{desks_by, on_shard, calls_by, sizes_by, place_of, kept_by, done_of, IsAllClosed, IsShut}
+use Rattle.rl_machine.specs.BlockEnds.{rest_begins, work_begins}
 use Rattle.rl_machine.specs.MachineGood.{IsShardOf, MachineGood}
 use Rattle.rl_machine.specs.MachineLaws.{Found, found_at, laws_of, seated}
 use Rattle.rl_machine.specs.Promises.{journal_on, transcripts_on, IsShardSound, IsSound}
@@ -73,6 +76,22 @@ module _ (C V : Type 0) (table : C → ShardTable V) (good : GoodOf C V) (cause 
         | false ↦ λ w. let e = o.resting refl w in omega arith
       ] refl
 
+  -- and those are whole blocks
+  rank_whole : (k : ℕ) → k < length m.calls → BeginsAt (calls_by m k) (sizes_by m k) (done_of m k)
+  rank_whole k h =
+      let r = g.ranks k h in
+      let f = found_at C V table good cause further layout laws cores acts m (place_of m k) g (g.stands k h) in
+      let d : Desk = desk_on k f.shard in
+      let o = r.on (place_of m k) d (get_map (desk_on k) m.shards (place_of m k) f.shard f.has) in
+      let total : done_of m k ≡ r.done = sym (ap entries_in (kept_desks k m.shards)) ∙ r.total in
+      let settled : r.done ≡ slice_index m.opened k → BeginsAt (calls_by m k) (sizes_by m k) r.done =
+      λ e. subst (BeginsAt (calls_by m k) (sizes_by m k)) (sym e) (rest_begins m.geom (calls_by m k) (sizes_by m k) (slice_index m.opened k) r.low r.rest) in
+      subst (BeginsAt (calls_by m k) (sizes_by m k)) (sym total)
+      (elim d.owes as (λ b. d.owes ≡ b → BeginsAt (calls_by m k) (sizes_by m k) r.done) [
+        | true ↦ λ w. work_begins m.geom (calls_by m k) (sizes_by m k) r.done (slice_index m.opened k) d.calls (g.blocks k) (o.working w).ends settled (o.working w).next
+        | false ↦ λ w. settled (o.resting refl w)
+      ] refl)
+
   -- while no call is open no view has a block open
   shut_at : IsAllClosed m → (s : ℕ) (S : ShardRun V) (k : ℕ) (x : V) → slice_get m.shards s ≡ Some S → slice_get S.views k ≡ Some x → (S.table.own x).is_open ≡ false
   shut_at shut s S k x has view =
@@ -87,10 +106,13 @@ module _ (C V : Type 0) (table : C → ShardTable V) (good : GoodOf C V) (cause 
       ∙ ((g.ranks k h).on s (S.table.desk S.held.words k x) (get_map (desk_on k) m.shards s S has ∙ ap (λ o. Some (desk_at S.table S.held.words k o)) view)).elsewhere ne)
       (same_or_not s (place_of m k))
 
-  counts : IsAllClosed m → (s : ℕ) (S : ShardRun V) → slice_get m.shards s ≡ Some S → CountTenures S.table.queues (events_of S.trace)
-  counts shut s S has =
+  all_shut : IsAllClosed m → (s : ℕ) (S : ShardRun V) → slice_get m.shards s ≡ Some S → IsShut S
+  all_shut shut s S has k h = let there = some_at S.views k h in ap (open_at S.table) there.1 ∙ shut_at shut s S k there.0 has there.1
+
+  counts : (s : ℕ) (S : ShardRun V) → slice_get m.shards s ≡ Some S → IsShut S → CountTenures S.table.queues (events_of S.trace)
+  counts s S has shut =
       let q = shard_is s S has in
-      (laws_of C V table good cause further layout laws cores q.0 S.table q.2.table_is).counted S.held S.views (events_of S.trace) q.1 q.2.is_good (λ r v e. shut_at shut s S r v has e)
+      (laws_of C V table good cause further layout laws cores q.0 S.table q.2.table_is).counted S.held S.views (events_of S.trace) q.1 q.2.is_good (λ r v e. sym (ap (open_at S.table) e) ∙ shut r (slice_get_within S.views r v e))
 
   pub is_sound : IsSound m
   is_sound =
@@ -98,6 +120,14 @@ module _ (C V : Type 0) (table : C → ShardTable V) (good : GoodOf C V) (cause 
         shards = shard_sound;
         order = rank_order;
         done = rank_done;
+        whole = rank_whole;
         given = λ k h. (g.ranks k h).low;
+        views = λ s S has. (shard_is s S has).2.ranks;
+        made = λ s S has. (g.told s S has).before;
+        by_ranks = λ s S has.
+            let q = shard_is s S has in
+            subst (λ n. AreByRanks n (events_of S.trace)) q.2.ranks
+            ((laws_of C V table good cause further layout laws cores q.0 S.table q.2.table_is).by_ranks S.held S.views (events_of S.trace) q.1 q.2.is_good);
         counted = counts;
+        shut = all_shut;
       }

@@ -152,6 +152,7 @@ module _ (C V : Type 0) (table : C → ShardTable V) (good : GoodOf C V) (cause 
           told = told_first;
           all_opened = length-replicate (length calls) 0;
           few = few;
+          blocks = blocks;
           takes = λ s core get none.
               let q = some_at homes s (let h = slice_get_within cores s core get in omega arith) in
               takes q.0 (site_of geom calls s) (sym (ap (λ (T : ShardTable V). T.batches) (are s q.0 core q.1 get).0) ∙ none);

@@ -1,21 +1,18 @@
 -- What is true of a machine's shards is true of the code's.
-use Rattle.std.specs.Prelude.{◌≡◌, ℕ, zero, suc, ◌-◌, ◌<◌, ◌≤◌, List, [], ◌∷◌, length, map, get_or, slice_get, slice_index, slice_set, Some}
-use Rattle.std.proofs.Common.{sym, ◌∙◌, ap, ⊎_elim, arith}
-use Rattle.std.proofs.lemmas.Bool.{cases_lt}
-use Rattle.std.proofs.lemmas.List.{length-map, get_or_past}
-use Rattle.std.proofs.lemmas.List.Sums.{get_or-le-sum_by}
+use Rattle.std.specs.Prelude.{◌≡◌, ℕ, zero, suc, ◌-◌, ◌<◌, ◌≤◌, List, [], ◌∷◌, length, map, sum, get_or, slice_get, slice_set, Some}
+use Rattle.std.proofs.Common.{sym, ◌∙◌, ap, subst, arith}
+use Rattle.std.proofs.lemmas.List.{length-map}
 use Rattle.std.proofs.lemmas.Option.{slice_get_within}
-use Rattle.rl_word.specs.Acts.{Layout}
 use Rattle.rl_word.specs.Places.{get_map, map_set, set_same_get, some_at}
 use Rattle.rl_model.specs.declared.call.Call.{Call}
 use Rattle.rl_model.specs.declared.geom.Geom.{Geom}
 use Rattle.rl_model.specs.Call.{shard_of}
-use Rattle.rl_ops.specs.Ops.{total_calls}
 use Rattle.rl_asks.specs.ShardLaws.{GoodOf}
 use Rattle.rl_asks.specs.ShardTables.{ShardTable}
 use Rattle.rl_machine.specs.declared.shard.ShardState.{ShardState}
 use Rattle.rl_machine.specs.declared.state.MachineState.{MachineState}
 use Rattle.rl_asks.specs.Asks.{call_shard, place_after}
+use Rattle.rl_asks.specs.OpsBridge.{few_updates}
 use Rattle.rl_machine.specs.Running.{TheShard, shard_run, running, cores_of}
 use Rattle.rl_machine.specs.MachineGood.{IsMachine}
 use Rattle.rl_machine.specs.State.{shard_view, machine_view, IsGood}
@@ -59,6 +56,16 @@ module _ (C V : Type 0) (table : C → ShardTable V) (good : GoodOf C V) (m : Ma
       let deeds = some_at is.acts s (let a = is.is_good.all_acts in let h = slice_get_within (cores_of (machine_view m)) s item.core core in omega arith) in
       let all = is.is_good.shards s (shard_run table (shard_view item)) item.core deeds.0 shard core deeds.1 in
       record { has = shard; ranks = all.ranks; is_good = record { acts = deeds.0; is_good = all.is_good } }
+
+  -- its journal has few places
+  pub few_places : (s : ℕ) (item : ShardState C V) → slice_get m.shards.items s ≡ Some item → sum (table item.core).site.rooms ≤ 20000
+  few_places s item has =
+      let view = get_map shard_view m.shards.items s item has in
+      let shard = get_map (shard_run table) (map shard_view m.shards.items) s (shard_view item) view in
+      let core = get_map (λ (x : TheShard C V). x.core) (map shard_view m.shards.items) s (shard_view item) view in
+      let deeds = some_at is.acts s (let a = is.is_good.all_acts in let h = slice_get_within (cores_of (machine_view m)) s item.core core in omega arith) in
+      let all = is.is_good.shards s (shard_run table (shard_view item)) item.core deeds.0 shard core deeds.1 in
+      subst (λ l. sum l ≤ 20000) (sym all.rooms_are) (few_updates m.geom s 20000 m.ops.by_rank is.few)
 
   pub many : length m.shards.items ≡ m.geom.shards
   many = sym (length_views m.shards.items) ∙ is.is_good.many where

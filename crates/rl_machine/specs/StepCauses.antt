@@ -1,5 +1,5 @@
 -- The causes of a step's answer, and a Take that finds the card held changes nothing.
-use Rattle.std.specs.Prelude.{◌≡◌, ◌↔◌, ℕ, ◌+◌, ◌-◌, ◌<◌, ◌≤◌, ◌==◌, Bool, true, false, not, ◌&&◌, nat_lt, if◌then◌else◌, List, [], drop, length, map, slice_get, slice_index, slice_set, Option, Some, None, refl}
+use Rattle.std.specs.Prelude.{◌≡◌, ◌↔◌, ℕ, ◌+◌, ◌-◌, ◌<◌, ◌≤◌, ◌==◌, Bool, true, false, not, ◌&&◌, nat_lt, if◌then◌else◌, List, drop, length, map, slice_get, slice_index, slice_set, Option, Some, None, refl}
 use Rattle.std.proofs.Common.{sym, ◌∙◌, ap, subst, ⊎_elim, arith, get_or-set_same}
 use Rattle.std.proofs.lemmas.List.{length-drop}
 use Rattle.std.proofs.lemmas.Bool.Decides.{nat_tests, eqb_tells}
@@ -8,7 +8,6 @@ use Rattle.rl_word.specs.Acts.{Layout}
 use Rattle.rl_word.specs.declared.acts.Atom.{Atom}
 use Rattle.rl_word.specs.declared.acts.Atom.TheVariants as atom
 use Rattle.rl_model.specs.declared.call.Call.{Call}
-use Rattle.rl_step.specs.declared.events.Stepped.{Stepped}
 use Rattle.rl_step.specs.declared.events.Stepped.TheVariants.{Busy, Finished}
 use Rattle.rl_step.specs.Answers.{counted, steps_made}
 use Rattle.rl_step.specs.Lock.{Deed}
@@ -213,6 +212,20 @@ module _ (C V : Type 0) (table : C → ShardTable V) (good : GoodOf C V) (cause 
       let now : slice_index (slice_set m.opened k (n + length block)) k ≡ n + length block = get_or-set_same m.opened k (n + length block) 0 (let a = g.all_opened in omega arith) in
       let whole : n ≡ n + length block = sym old ∙ ap entries_in (sym same) ∙ new ∙ now in
       absurd (omega arith)
+
+  -- so its next step opens no other
+  shuts_if : (b left : Bool) → (b ≡ false → ⊥) → (not b && left) ≡ false
+  shuts_if true left is_in = refl
+  shuts_if false left is_in = absurd (is_in refl)
+
+  opens_once_if : (acts : List (List Deed)) (m : Running V) (k : ℕ) → Fine acts m → k < length m.calls → (b : Bool) → opens m k ≡ b → opens (opened_if m k b) k ≡ false
+  opens_once_if acts m k g h false o = o
+  opens_once_if acts m k g h true o =
+      let n : Running V = opened_if m k true in
+      shuts_if (has_open_call n k) (nat_lt (slice_index n.opened k) (length (calls_by n k))) (just_opened acts m k g h o)
+
+  pub opens_once : (acts : List (List Deed)) (m : Running V) (k : ℕ) → Fine acts m → k < length m.calls → opens (block_opened m k) k ≡ false
+  opens_once acts m k g h = opens_once_if acts m k g h (opens m k) refl
 
   module _ (acts : List (List Deed)) (m : Running V) (k : ℕ) (g : Fine acts m) (h : k < length m.calls) where
     pub fine_opened : Fine acts (block_opened m k)

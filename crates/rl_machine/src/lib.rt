@@ -26,5 +26,5 @@ mod start;
 mod state;
 mod step_end;
 
-pub use machine::{Machine, RestAt, RoundAt, soundness};
+pub use machine::{Machine, NextAtom, RestAt, RoundAt, rules, soundness};
 pub use step_end::{StepEnd, Told};

@@ -7,7 +7,7 @@ ghost use Rattle.rl_word.specs.Shapes.{IsProper, layout_of};
 ghost use Rattle.rl_step.specs.Answers.{steps_made};
 ghost use Rattle.rl_ops.specs.Ops.{OpsFit};
 ghost use Rattle.rl_machine.specs.Causes.{StepCause, IsFinished, OnlyCountsBusy};
-ghost use Rattle.rl_machine.specs.Cores.{EachCore, EachHandsOn};
+ghost use Rattle.rl_machine.specs.Cores.{EachCore};
 ghost use Rattle.rl_machine.specs.Promises.{EachKeepsQueues, IsSound, StaysSound};
 ghost use Rattle.rl_machine.specs.Records.{journal_at, transcripts_at, owned_by, window_of};
 ghost use Rattle.rl_machine.specs.Run.{done_of, stepped, answer_of_step, has_open_call, trace_of, kept_by, run_of, AreThere};
@@ -30,9 +30,13 @@ use rl_word::{Knobs, Shape};
 use std::alloc::{AllocError as OutOfMemory, Global};
 use std::marker::Model;
 
+mod next_atoms;
+mod ruled;
 mod waiting;
 mod whereabouts;
 
+pub use next_atoms::NextAtom;
+pub use ruled::rules;
 pub use waiting::{RestAt, RoundAt};
 
 /// All shards of a table, each behind a lock of its own, with the steps of the ranks one after the other.
@@ -78,7 +82,6 @@ impl<C: ShardCore> Machine<C> {
         requires ops { OpsFit (length shape.now.node_of) geom.shards ops }
         requires batches { C.batches ≡ false → (k i : ℕ) → slice_index (get_or ops.sizes k []) i ≤ 1 }
         ensures made { IfOk result (λ m. running C.shard_table m ≡ start_of C.defined shape.now knobs geom homes.now ops) }
-        ensures promised { IfOk result (λ m. EachHandsOn C.further C.promised shape.now knobs homes.now (cores_of m)) }
         ensures layout { IfOk result (λ m. EachCore (λ home core. C.layout core ≡ layout_of shape.now) homes.now (cores_of m)) }
         ensures says { IfOk result (λ m. (ks : List ℕ) → AreThere (length ops.by_rank) ks → EachSays C.promised shape.now knobs homes.now (running C.shard_table m) ks) }
         ensures keeps { IfOk result (λ m. (ks : List ℕ) → AreThere (length ops.by_rank) ks → EachKeepsQueues C.name shape.now knobs homes.now (run_of (running C.shard_table m) ks)) }

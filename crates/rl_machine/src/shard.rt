@@ -42,6 +42,19 @@ fn open_in<C: ShardCore>(core: &C, flat: &mut Flat<C>, rank: u32, calls: &[Call]
     core.open_block(flat.view_mut(rank), calls, seq);
 }
 
+/// The same, on a shard.
+pub fn open_on<C: ShardCore>(shard: &mut ShardState<C>, rank: u32, calls: &[Call], seq: u32)
+    requires there { rank < length shard.old.flat.views.items }
+    requires good { IsGood C.good shard.old }
+    requires few { length calls.now ≤ 8 }
+    requires closed { OfView shard.old.flat.views.items rank (λ x. ((C.shard_table shard.old.core).own x).is_open ≡ false) }
+    requires fits { OfView shard.old.flat.views.items rank (λ x. MayOpen (C.shard_table shard.old.core) rank x calls.now seq) }
+    ensures opened { running_shard C.shard_table shard.new ≡ opened_on rank calls.now seq (running_shard C.shard_table shard.old) }
+    ensures core { shard.new.core ≡ shard.old.core }
+{
+    open_in(&shard.core, &mut shard.flat, rank, calls, seq);
+}
+
 /// Appends an atom's events with the number of its step.
 fn note(events: &mut Vec<(u32, Event)>, step: u32, noted: &[Event])
     requires room { vec_len events.old + length noted.now ≤ vec_capacity events.old }

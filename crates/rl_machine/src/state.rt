@@ -69,7 +69,7 @@ fn sizes_of(ops: &Ops, rank: u32) -> &[u32]
 }
 
 /// The block of a rank that begins with the call of this number.
-fn next_block(ops: &Ops, rank: u32, opened: u32) -> &[Call]
+pub fn next_block(ops: &Ops, rank: u32, opened: u32) -> &[Call]
     requires there { rank < length ops.now.by_rank }
     requires sized { rank < length ops.now.sizes }
     requires begins { opened < length (get_or ops.now.sizes rank []) }
@@ -94,7 +94,7 @@ fn place_after(geom: Geom, calls: &[Call], opened: u32) -> u32
 }
 
 /// Notes where a rank opened its last block.
-fn note_place(seen: &mut Vec<u32>, at: usize, place: u32) {
+pub fn note_place(seen: &mut Vec<u32>, at: usize, place: u32) {
     if let Some(last) = seen.get_mut(at) {
         *last = place;
     }

@@ -12,6 +12,3 @@
 mod mcs;
 
 pub use mcs::Mcs;
-
-#[cfg(test)]
-mod tests;

@@ -6,6 +6,7 @@ pub mod CallLaws
 pub mod LineLaws
 pub mod ShortAsk
 pub mod BlockLaws
+pub mod BatchLaws
 pub mod OpsLaws
 pub mod ScheduleLaws
 pub mod PrintLemmas

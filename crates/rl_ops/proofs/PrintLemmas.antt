@@ -41,11 +41,6 @@ file-text version lines =
     append_assoc (line_text (codes "rmalock-calls" ∷ version_word version ∷ [])) (text_of lines) (codes "end\n")
     ∙ ap (λ (t : List ℕ). line_text (codes "rmalock-calls" ∷ version_word version ∷ []) ++ t) (sym (flat_map-append line_text lines ((codes "end" ∷ []) ∷ [])))
 
--- a batch begins in one of the lists
-pub any-map : {V : Type 0} (items : V → List ℕ) (vs : List V) → list_any (λ v. begins_batch (items v)) vs ≡ list_any begins_batch (map items vs)
-any-map items [] = refl
-any-map items (v ∷ vs) = ap (λ (b : Bool). begins_batch (items v) || b) (any-map items vs)
-
 -- ---- the lines of blocks
 
 zip-append : {X Y : Type 0} (xs more : List X) (ys others : List Y) → length xs ≡ length ys → zip (xs ++ more) (ys ++ others) ≡ zip xs ys ++ zip more others

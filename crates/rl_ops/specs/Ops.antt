@@ -95,9 +95,12 @@ rank_after_rank rank (calls ∷ lists) (sizes ∷ more) = flat_map (sized_lines 
 abbrev pub begins_batch : List ℕ → Bool
 begins_batch sizes = list_any (λ size. nat_lt 1 size) sizes
 
+abbrev pub has_batch : Ops → Bool
+has_batch ops = list_any begins_batch ops.sizes
+
 abbrev pub printed_version : Bool → CallsVersion
 printed_version batches = if batches then Two else One
 
 -- the first version where no batch is there, and rank by rank
 abbrev pub ops_spelling : Ops → List ℕ
-ops_spelling ops = text_of (file_lines (printed_version (list_any begins_batch ops.sizes)) (rank_after_rank 0 ops.by_rank ops.sizes))
+ops_spelling ops = text_of (file_lines (printed_version (has_batch ops)) (rank_after_rank 0 ops.by_rank ops.sizes))

@@ -42,8 +42,3 @@ pub use room::Room;
 pub use schedule::{MOST_STEPS, Schedule, Turn, Turns};
 pub use schedule_printer::schedule_text;
 pub use schedule_reader::read_schedule;
-
-#[cfg(test)]
-mod batch_tests;
-#[cfg(test)]
-mod tests;

@@ -1,5 +1,7 @@
 //! The calls of each rank.
 ghost use Rattle.std.specs.Prelude.{◌≡◌, ◌<◌, [], replicate, length, IfOk, OnOk};
+ghost use Rattle.std.specs.List.{list_any};
+ghost use Rattle.rl_ops.specs.Ops.{begins_batch, has_batch};
 ghost use Rattle.rl_ops.specs.OpsReading.{with_line, IsLineOf};
 
 use crate::by_rank::ByRank;
@@ -26,7 +28,28 @@ pub struct Ops {
     pub sizes: ByRank<u32>,
 }
 
+// Whether one of these sizes is a batch's.
+fn begins_batch(sizes: &[u32]) -> bool
+    ensures { result ≡ begins_batch sizes.now }
+{
+    sizes.iter().any(|size| *size > 1)
+}
+
+// Whether one of these lists has a batch's size.
+fn any_begins_batch(lists: &[Vec<u32>]) -> bool
+    ensures { result ≡ list_any (λ list. begins_batch list.items) lists.now }
+{
+    lists.iter().any(|sizes| begins_batch(sizes))
+}
+
 impl Ops {
+    /// Whether a batch is among the calls.
+    pub fn has_batch(&self) -> bool
+        ensures { result ≡ has_batch self.now }
+    {
+        any_begins_batch(self.sizes.as_slice())
+    }
+
     // No calls yet, of so many ranks.
     pub(crate) fn new(alloc: Global, ranks: u32) -> Result<Ops, OutOfMemory>
         ensures calls { IfOk result (λ ops. ops.by_rank ≡ replicate ranks []) }

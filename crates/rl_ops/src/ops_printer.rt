@@ -1,8 +1,8 @@
 //! Printing a calls file.
 ghost use Rattle.std.specs.Prelude.{◌≡◌, ℕ, ◌++◌, [], ◌∷◌, codes, map, flat_map, IfOk, OnOk};
-ghost use Rattle.std.specs.List.{list_any, zip};
+ghost use Rattle.std.specs.List.{zip};
 ghost use Rattle.rl_text.specs.Spelling.{line_text, text_of};
-ghost use Rattle.rl_ops.specs.Ops.{OpsFit, SpellsOps, batch_words, line_words, sized_lines, rank_after_rank, begins_batch, version_word, printed_version, ops_spelling};
+ghost use Rattle.rl_ops.specs.Ops.{OpsFit, SpellsOps, batch_words, line_words, sized_lines, rank_after_rank, version_word, printed_version, ops_spelling};
 ghost use Rattle.rl_ops.specs.OpsReading.{IsReadAsOps};
 
 use crate::call_printer::call_text;
@@ -62,18 +62,6 @@ fn put_ranks(out: &mut Vec<u8>, calls: &[Vec<Call>], sizes: &[Vec<u32>]) -> Resu
     Ok(())
 }
 
-fn begins_batch(sizes: &[u32]) -> bool
-    ensures { result ≡ begins_batch sizes.now }
-{
-    sizes.iter().any(|size| *size > 1)
-}
-
-fn any_begins_batch(lists: &[Vec<u32>]) -> bool
-    ensures { result ≡ list_any (λ list. begins_batch list.items) lists.now }
-{
-    lists.iter().any(|sizes| begins_batch(sizes))
-}
-
 // The first line of a file that prints batches, or calls alone.
 fn first_line(batches: bool) -> &'static [u8]
     ensures { result.now ≡ line_text (codes "rmalock-calls" ∷ version_word (printed_version batches) ∷ []) }
@@ -88,7 +76,7 @@ fn first_line(batches: bool) -> &'static [u8]
 fn printed(alloc: Global, ops: &Ops) -> Result<Vec<u8>, OutOfMemory>
     ensures { IfOk result (λ text. text.items ≡ ops_spelling ops.now) }
 {
-    let mut out = Vec::from_slice(alloc, first_line(any_begins_batch(ops.sizes.as_slice())))?;
+    let mut out = Vec::from_slice(alloc, first_line(ops.has_batch()))?;
     put_ranks(&mut out, ops.by_rank.as_slice(), ops.sizes.as_slice())?;
     out.extend_from_slice(b"end\n")?;
     Ok(out)

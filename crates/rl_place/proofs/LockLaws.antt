@@ -30,7 +30,9 @@ is_named word name e =
     asked (bytes_eq (lock_word named.Dmcs) word) named.Dmcs name _ e1 (met named.Dmcs) (λ e2.
     asked (bytes_eq (lock_word named.Alock) word) named.Alock name _ e2 (met named.Alock) (λ e3.
     asked (bytes_eq (lock_word named.Mcs) word) named.Mcs name _ e3 (met named.Mcs) (λ e4.
-    asked (bytes_eq (lock_word named.Rw) word) named.Rw name _ e4 (met named.Rw) (λ e5. absurd cc)))))
+    asked (bytes_eq (lock_word named.Rw) word) named.Rw name _ e4 (met named.Rw) (λ e5.
+    asked (bytes_eq (lock_word named.Seq) word) named.Seq name _ e5 (met named.Seq) (λ e6.
+    asked (bytes_eq (lock_word named.Combine) word) named.Combine name _ e6 (met named.Combine) (λ e7. absurd cc)))))))
   where
     met : (x : LockName) → bytes_eq (lock_word x) word ≡ true → x ≡ name → word ≡ lock_word name
     met x is same = sym ((bytes_eq-Decides (lock_word x) word).0 is) ∙ ap lock_word same
@@ -59,6 +61,8 @@ lock_name-again row name e = rw (fixed-again row 1 (codes "lock") Word (rw e ref
     known named.Alock = refl
     known named.Mcs = refl
     known named.Rw = refl
+    known named.Seq = refl
+    known named.Combine = refl
 
 -- ---- budgets
 

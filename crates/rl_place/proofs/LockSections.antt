@@ -2,17 +2,17 @@
 use Rattle.std.proofs.Common.{◌≡◌, ℕ, ◌+◌, ◌≤◌, List, [], ◌∷◌, codes, Result, Ok, refl, sym, ap, subst, ◌∙◌, arith}
 use Rattle.rl_text.specs.declared.causes.Refusal.{Refusal}
 use Rattle.rl_text.specs.Rows.{Row, Left, words}
-use Rattle.rl_text.specs.Reading.{next_left}
+use Rattle.rl_text.specs.Reading.{next_left, ◌>>=◌}
 use Rattle.rl_text.proofs.FromLaws.{from_bind}
 use Rattle.rl_text.proofs.WordLaws.{ok_is}
 use Rattle.rl_text.proofs.SectionLaws.{Followed, Followed-head, Followed-then, Followed-split, line-takes, line-again, one_line, line_then, left_of}
 use Rattle.rl_place.specs.declared.limits.TheConstants.{MOST_BUDGET, MOST_RANKS}
 use Rattle.rl_place.specs.declared.lock.Lock.{Lock}
-use Rattle.rl_place.specs.declared.lock.Lock.TheVariants.{Spin, Dmcs, Alock, Mcs, Rw}
+use Rattle.rl_place.specs.declared.lock.Lock.TheVariants.{Spin, Dmcs, Alock, Mcs, Rw, Seq, Combine}
 use Rattle.rl_word.specs.declared.locks.LockName.{LockName}
 use Rattle.rl_word.specs.declared.locks.LockName.TheVariants as named
 use Rattle.rl_place.specs.Places.{LockFits, BudgetsFit, RwFits}
-use Rattle.rl_place.specs.Reading.{lock_name_at, budgets_at, cohorts_at, setting_next, alock_next, mcs_next, rw_next, settings_next, lock_next}
+use Rattle.rl_place.specs.Reading.{lock_name_at, budgets_at, cohorts_at, cohorts_next, of_cohorts, setting_next, mcs_next, rw_next, settings_next, lock_next}
 use Rattle.rl_place.specs.LockWords.{lock_word, name_of}
 use Rattle.rl_place.specs.Spelling.{setting_words, budget_words, settings_lines, lock_lines}
 use Rattle.rl_place.proofs.SettingLaws.{ReadsTo, setting_next-takes, setting_next-again}
@@ -30,17 +30,38 @@ none-take : (levels : ℕ) (name : LockName) (lock : Lock) (left : Left) (p : Lo
 none-take levels name lock left p is fits none e =
     subst (λ (q : Lock × Left). SettingsTaken levels name left q) (ok_is (lock, left) p e) (record { is = is; fits = fits; lines = rw none refl })
 
-alock-takes : (levels : ℕ) (left : Left) (p : Lock × Left) → alock_next left ≡ Ok p → SettingsTaken levels named.Alock left p
-unfolding alock_next
-alock-takes levels left p e =
-    from_bind (next_left left) _ p e (λ line taken e1.
-    from_bind (cohorts_at line.0) _ p e1 (λ cohorts budgets e2.
+-- a lock with the budgets of two cohorts and no other setting
+pub record IsOfCohorts (levels : ℕ) (name : LockName) (lock : ℕ → ℕ → Lock) : Type 0 where
+  pub is : (local remote : ℕ) → name_of (lock local remote) ≡ name
+  pub fits : (local remote : ℕ) → local ≤ MOST_BUDGET → remote ≤ MOST_BUDGET → LockFits levels (lock local remote)
+  pub lines : (local remote : ℕ) → settings_lines (lock local remote) ≡ budget_words (local ∷ remote ∷ []) ∷ []
+
+pub record CohortsRead (left : Left) (read : (ℕ × ℕ) × Left) : Type 0 where
+  pub local : read.0.0 ≤ MOST_BUDGET
+  pub remote : read.0.1 ≤ MOST_BUDGET
+  pub lines : Followed left.rows (budget_words (read.0.0 ∷ read.0.1 ∷ []) ∷ []) read.1.rows
+
+cohorts-read : (left : Left) (read : (ℕ × ℕ) × Left) → cohorts_next left ≡ Ok read → CohortsRead left read
+unfolding cohorts_next
+cohorts-read left read e =
+    from_bind (next_left left) _ read e (λ line taken e1.
+    from_bind (cohorts_at line.0) _ read e1 (λ cohorts budgets e2.
     let t = cohorts-take line.0 cohorts budgets in
-    subst (λ (q : Lock × Left). SettingsTaken levels named.Alock left q) (ok_is (Alock cohorts.0 cohorts.1, line.1) p e2) (record {
-      is = refl;
-      fits = (t.local, t.remote);
+    subst (CohortsRead left) (ok_is (cohorts, line.1) read e2) (record {
+      local = t.local;
+      remote = t.remote;
       lines = one_line left line _ (line-takes left line taken) t.are;
     })))
+
+cohorts-taken : (levels : ℕ) (name : LockName) (lock : ℕ → ℕ → Lock) (left : Left) (p : Lock × Left) → IsOfCohorts levels name lock → (cohorts_next left >>= of_cohorts lock) ≡ Ok p → SettingsTaken levels name left p
+cohorts-taken levels name lock left p by e =
+    from_bind (cohorts_next left) _ p e (λ read taken e1.
+    let t = cohorts-read left read taken in
+    subst (SettingsTaken levels name left) (ok_is (lock read.0.0 read.0.1, read.1) p e1) (record {
+      is = by.is read.0.0 read.0.1;
+      fits = by.fits read.0.0 read.0.1 t.local t.remote;
+      lines = subst (λ lines. Followed left.rows lines read.1.rows) (sym (by.lines read.0.0 read.0.1)) t.lines;
+    }))
 
 mcs-takes : (levels : ℕ) (left : Left) (p : Lock × Left) → mcs_next levels left ≡ Ok p → SettingsTaken levels named.Mcs left p
 unfolding mcs_next
@@ -81,7 +102,9 @@ settings-take : (levels : ℕ) (name : LockName) (left : Left) (p : Lock × Left
 unfolding settings_next
 settings-take levels named.Spin left p e = none-take levels named.Spin Spin left p refl tt refl e
 settings-take levels named.Dmcs left p e = none-take levels named.Dmcs Dmcs left p refl tt refl e
-settings-take levels named.Alock left p e = alock-takes levels left p e
+settings-take levels named.Alock left p e = cohorts-taken levels named.Alock Alock left p (record { is = λ a b. refl; fits = λ a b few small. (few, small); lines = λ a b. refl }) e
+settings-take levels named.Seq left p e = cohorts-taken levels named.Seq Seq left p (record { is = λ a b. refl; fits = λ a b few small. (few, small); lines = λ a b. refl }) e
+settings-take levels named.Combine left p e = cohorts-taken levels named.Combine Combine left p (record { is = λ a b. refl; fits = λ a b few small. (few, small); lines = λ a b. refl }) e
 settings-take levels named.Mcs left p e = mcs-takes levels left p e
 settings-take levels named.Rw left p e = rw-takes levels left p e
 
@@ -103,9 +126,10 @@ lock-takes levels left p e =
 
 -- ---- what is spelled so is read
 
-alock-again : (local remote : ℕ) (left : Left) (rest : List Row) → local ≤ MOST_BUDGET → remote ≤ MOST_BUDGET → Followed left.rows (budget_words (local ∷ remote ∷ []) ∷ []) rest → ReadsTo (alock_next left) (Alock local remote) rest
-unfolding alock_next
-alock-again local remote left rest few small f =
+cohorts-once-more : (lock : ℕ → ℕ → Lock) (local remote : ℕ) (left : Left) (rest : List Row) → local ≤ MOST_BUDGET → remote ≤ MOST_BUDGET → Followed left.rows (budget_words (local ∷ remote ∷ []) ∷ []) rest
+    → ReadsTo (cohorts_next left >>= of_cohorts lock) (lock local remote) rest
+unfolding cohorts_next
+cohorts-once-more lock local remote left rest few small f =
     let h = Followed-head left.rows (budget_words (local ∷ remote ∷ [])) [] rest f in
     let rows : left.rows ≡ h.row ∷ rest = h.are ∙ ap (λ (more : List Row). h.row ∷ more) h.others in
     (left.read + 1, rw (line-again left h.row rest rows h.line.ended, cohorts-again h.row local remote few small h.line.words) refl)
@@ -135,7 +159,9 @@ settings-again : (levels : ℕ) (lock : Lock) (left : Left) (rest : List Row) �
 unfolding settings_next
 settings-again levels Spin left rest fits f = (left.read, rw (sym f) refl)
 settings-again levels Dmcs left rest fits f = (left.read, rw (sym f) refl)
-settings-again levels (Alock local remote) left rest fits f = alock-again local remote left rest fits.0 fits.1 f
+settings-again levels (Alock local remote) left rest fits f = cohorts-once-more Alock local remote left rest fits.0 fits.1 f
+settings-again levels (Seq local remote) left rest fits f = cohorts-once-more Seq local remote left rest fits.0 fits.1 f
+settings-again levels (Combine local remote) left rest fits f = cohorts-once-more Combine local remote left rest fits.0 fits.1 f
 settings-again levels (Mcs budgets) left rest fits f = mcs-again levels budgets left rest fits f
 settings-again levels (Rw budgets writers readers group) left rest fits f = rw-again levels budgets writers readers group left rest fits f
 

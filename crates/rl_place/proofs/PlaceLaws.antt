@@ -16,7 +16,7 @@ use Rattle.rl_model.specs.Geom.{GeomFits}
 use Rattle.rl_place.specs.declared.limits.TheConstants.{MOST_BUDGET, MOST_RANKS}
 use Rattle.rl_place.specs.declared.path.Path.{Path}
 use Rattle.rl_place.specs.declared.lock.Lock.{Lock}
-use Rattle.rl_place.specs.declared.lock.Lock.TheVariants.{Spin, Dmcs, Alock, Mcs, Rw}
+use Rattle.rl_place.specs.declared.lock.Lock.TheVariants.{Spin, Dmcs, Alock, Mcs, Rw, Seq, Combine}
 use Rattle.rl_place.specs.Paths.{IsPath, root_path}
 use Rattle.rl_place.specs.Numbering.{node_paths}
 use Rattle.rl_place.specs.Places.{ThePlace, IsProper, LockFits}
@@ -135,6 +135,8 @@ plain-lock : (levels : ℕ) (lock : Lock) → LockFits levels lock → AllByRecu
 plain-lock levels Spin fits = ((omega arith, (refl, (refl, tt))), tt)
 plain-lock levels Dmcs fits = ((omega arith, (refl, (refl, tt))), tt)
 plain-lock levels (Alock local remote) fits = ((omega arith, (refl, (refl, tt))), (plain-budgets (local ∷ remote ∷ []) (fits.0, (fits.1, tt)), tt))
+plain-lock levels (Seq local remote) fits = ((omega arith, (refl, (refl, tt))), (plain-budgets (local ∷ remote ∷ []) (fits.0, (fits.1, tt)), tt))
+plain-lock levels (Combine local remote) fits = ((omega arith, (refl, (refl, tt))), (plain-budgets (local ∷ remote ∷ []) (fits.0, (fits.1, tt)), tt))
 plain-lock levels (Mcs budgets) fits = ((omega arith, (refl, (refl, tt))), (plain-budgets budgets fits.small, tt))
 plain-lock levels (Rw budgets writers readers group) fits = (
   (omega arith, (refl, (refl, tt))),

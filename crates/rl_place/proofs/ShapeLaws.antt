@@ -13,7 +13,7 @@ use Rattle.rl_word.specs.Shapes.{TheShape, IsParent, IsUnder, IsLeaf, IsNodeUnde
 use Rattle.rl_place.specs.declared.limits.TheConstants.{MOST_BUDGET, MOST_RANKS}
 use Rattle.rl_place.specs.declared.path.Path.{Path}
 use Rattle.rl_place.specs.declared.lock.Lock.{Lock}
-use Rattle.rl_place.specs.declared.lock.Lock.TheVariants.{Spin, Dmcs, Alock, Mcs, Rw}
+use Rattle.rl_place.specs.declared.lock.Lock.TheVariants.{Spin, Dmcs, Alock, Mcs, Rw, Seq, Combine}
 use Rattle.rl_place.specs.Paths.{IsPath, root_path, prefix}
 use Rattle.rl_place.specs.Numbering.{same_path, node_paths, element_paths}
 use Rattle.rl_place.specs.Places.{ThePlace, IsProper, LockFits}
@@ -311,6 +311,8 @@ module _ (levels : ℕ) (lock : Lock) (paths nodes names : List Path) (s : Setti
   budget-small Spin n b fits h = absurd cc
   budget-small Dmcs n b fits h = absurd cc
   budget-small (Alock local remote) n b fits h = absurd cc
+  budget-small (Seq local remote) n b fits h = absurd cc
+  budget-small (Combine local remote) n b fits h = absurd cc
   budget-small (Mcs budgets) n b fits h = level-small budgets n b fits.small h
   budget-small (Rw budgets writers readers group) n b fits h = by (eqb n 0) h
     where

@@ -5,7 +5,7 @@ use Rattle.rl_model.specs.declared.geom.Geom.{Geom}
 use Rattle.rl_model.specs.Geom.{GeomFits}
 use Rattle.rl_place.specs.declared.path.Path.{Path}
 use Rattle.rl_place.specs.declared.lock.Lock.{Lock}
-use Rattle.rl_place.specs.declared.lock.Lock.TheVariants.{Spin, Dmcs, Alock, Mcs, Rw}
+use Rattle.rl_place.specs.declared.lock.Lock.TheVariants.{Spin, Dmcs, Alock, Mcs, Rw, Seq, Combine}
 use Rattle.rl_place.specs.declared.limits.TheConstants.{MOST_BUDGET, MOST_RANKS}
 use Rattle.rl_place.specs.Paths.{IsPath}
 use Rattle.rl_place.specs.Numbering.{node_paths}
@@ -40,6 +40,8 @@ LockFits levels Dmcs = Unit {0}
 LockFits levels (Alock local remote) = (local ≤ MOST_BUDGET) × (remote ≤ MOST_BUDGET)
 LockFits levels (Mcs budgets) = BudgetsFit levels budgets
 LockFits levels (Rw budgets writers readers group) = RwFits levels budgets writers readers group
+LockFits levels (Seq local remote) = (local ≤ MOST_BUDGET) × (remote ≤ MOST_BUDGET)
+LockFits levels (Combine local remote) = (local ≤ MOST_BUDGET) × (remote ≤ MOST_BUDGET)
 
 -- A placement is proper where its numbers are in their limits, each path has as many numbers as there are levels, and
 -- each shard has a home on which a rank sits.

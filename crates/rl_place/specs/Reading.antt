@@ -7,7 +7,7 @@ use Rattle.rl_text.specs.Reading.{◌>>=◌, refusal_at, needed_at, fixed_at, be
 use Rattle.rl_model.specs.declared.geom.Geom.{Geom}
 use Rattle.rl_place.specs.declared.path.Path.{Path}
 use Rattle.rl_place.specs.declared.lock.Lock.{Lock}
-use Rattle.rl_place.specs.declared.lock.Lock.TheVariants.{Spin, Dmcs, Alock, Mcs, Rw}
+use Rattle.rl_place.specs.declared.lock.Lock.TheVariants.{Spin, Dmcs, Alock, Mcs, Rw, Seq, Combine}
 use Rattle.rl_word.specs.declared.locks.LockName.{LockName}
 use Rattle.rl_word.specs.declared.locks.LockName.TheVariants as named
 use Rattle.rl_place.specs.declared.limits.TheConstants.{MOST_BUDGET, MOST_RANKS, MOST_SHARDS, MOST_BUCKETS, MOST_CELLS}
@@ -81,12 +81,16 @@ cohorts_at row = do
   alone ← no_word_at row 4
   Ok (local, remote)
 
--- the line of budgets of ALock
-unfoldable pub alock_next : Left → Result (Lock × Left) Refusal
-alock_next left = do
+-- the line of budgets of ALock, and of what stands on it
+unfoldable pub cohorts_next : Left → Result ((ℕ × ℕ) × Left) Refusal
+cohorts_next left = do
   line ← next_left left
   cohorts ← cohorts_at line.0
-  Ok (Alock cohorts.0 cohorts.1, line.1)
+  Ok (cohorts, line.1)
+
+-- the lock with these two budgets
+abbrev pub of_cohorts : (ℕ → ℕ → Lock) → (ℕ × ℕ) × Left → Result (Lock × Left) Refusal
+of_cohorts lock read = Ok (lock read.0.0 read.0.1, read.1)
 
 -- the line of budgets of RMA-MCS
 unfoldable pub mcs_next : ℕ → Left → Result (Lock × Left) Refusal
@@ -109,9 +113,11 @@ rw_next levels left = do
 unfoldable pub settings_next : ℕ → LockName → Left → Result (Lock × Left) Refusal
 settings_next levels named.Spin left = Ok (Spin, left)
 settings_next levels named.Dmcs left = Ok (Dmcs, left)
-settings_next levels named.Alock left = alock_next left
+settings_next levels named.Alock left = cohorts_next left >>= of_cohorts Alock
 settings_next levels named.Mcs left = mcs_next levels left
 settings_next levels named.Rw left = rw_next levels left
+settings_next levels named.Seq left = cohorts_next left >>= of_cohorts Seq
+settings_next levels named.Combine left = cohorts_next left >>= of_cohorts Combine
 
 -- lock NAME, and the lines of its settings
 unfoldable pub lock_next : ℕ → Left → Result (Lock × Left) Refusal

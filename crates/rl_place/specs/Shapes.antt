@@ -6,7 +6,7 @@ use Rattle.rl_word.specs.declared.shapes.Knobs.{Knobs}
 use Rattle.rl_word.specs.Shapes.{TheShape}
 use Rattle.rl_place.specs.declared.path.Path.{Path}
 use Rattle.rl_place.specs.declared.lock.Lock.{Lock}
-use Rattle.rl_place.specs.declared.lock.Lock.TheVariants.{Alock, Mcs, Rw}
+use Rattle.rl_place.specs.declared.lock.Lock.TheVariants.{Alock, Mcs, Rw, Seq, Combine}
 use Rattle.rl_place.specs.Paths.{prefix}
 use Rattle.rl_place.specs.Numbering.{same_path, node_paths, element_paths}
 use Rattle.rl_place.specs.Places.{ThePlace}
@@ -53,5 +53,7 @@ shape_of place = record {
 -- the settings that a lock reads, with 0 for those that it doesn't have
 abbrev pub knobs_of : Lock → Knobs
 knobs_of (Alock local remote) = record { local = local; remote = remote; writers = 0; readers = 0; group = 0 }
+knobs_of (Seq local remote) = record { local = local; remote = remote; writers = 0; readers = 0; group = 0 }
+knobs_of (Combine local remote) = record { local = local; remote = remote; writers = 0; readers = 0; group = 0 }
 knobs_of (Rw budgets writers readers group) = record { local = 0; remote = 0; writers = writers; readers = readers; group = group }
 knobs_of _ = record { local = 0; remote = 0; writers = 0; readers = 0; group = 0 }

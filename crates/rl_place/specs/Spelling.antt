@@ -4,7 +4,7 @@ use Rattle.rl_text.specs.Spelling.{text_of}
 use Rattle.rl_model.specs.declared.geom.Geom.{Geom}
 use Rattle.rl_place.specs.declared.path.Path.{Path}
 use Rattle.rl_place.specs.declared.lock.Lock.{Lock}
-use Rattle.rl_place.specs.declared.lock.Lock.TheVariants.{Spin, Dmcs, Alock, Mcs, Rw}
+use Rattle.rl_place.specs.declared.lock.Lock.TheVariants.{Spin, Dmcs, Alock, Mcs, Rw, Seq, Combine}
 use Rattle.rl_place.specs.Paths.{path_word, root_path}
 use Rattle.rl_place.specs.LockWords.{lock_word, name_of}
 use Rattle.rl_place.specs.Numbering.{node_paths}
@@ -23,6 +23,8 @@ abbrev pub settings_lines : Lock → List (List (List ℕ))
 settings_lines Spin = []
 settings_lines Dmcs = []
 settings_lines (Alock local remote) = budget_words (local ∷ remote ∷ []) ∷ []
+settings_lines (Seq local remote) = budget_words (local ∷ remote ∷ []) ∷ []
+settings_lines (Combine local remote) = budget_words (local ∷ remote ∷ []) ∷ []
 settings_lines (Mcs budgets) = budget_words budgets ∷ []
 settings_lines (Rw budgets writers readers group) =
     budget_words budgets

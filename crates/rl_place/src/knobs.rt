@@ -20,7 +20,9 @@ impl Place {
         ensures { result ≡ knobs_of self.now.lock }
     {
         match &self.lock {
-            Lock::Alock { local, remote } => Knobs {
+            Lock::Alock { local, remote }
+            | Lock::Seq { local, remote }
+            | Lock::Combine { local, remote } => Knobs {
                 local: *local,
                 remote: *remote,
                 ..NONE

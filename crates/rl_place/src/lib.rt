@@ -45,6 +45,3 @@ pub use place::Place;
 pub use printer::place_text;
 pub use reader::read_place;
 pub use shape_printer::shape_text;
-
-#[cfg(test)]
-mod tests;

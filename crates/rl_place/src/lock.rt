@@ -91,6 +91,18 @@ pub enum Lock {
         readers: u32,
         group: u32,
     },
+    /// Optimistic readers: a get alone takes no lock, and reads between two looks at a version, as under a sequence lock; all else is done
+    /// under ALock, with its budgets.
+    Seq {
+        local: u32,
+        remote: u32,
+    },
+    /// Flat combining: each rank posts its call, and whoever holds ALock does all calls that it finds posted (after Hendler, Incze, Shavit,
+    /// Tzafrir, SPAA 2010), with ALock's budgets. It does no batches.
+    Combine {
+        local: u32,
+        remote: u32,
+    },
 }
 
 impl Lock {
@@ -106,6 +118,8 @@ impl Lock {
             Lock::Alock { .. } => LockName::Alock,
             Lock::Mcs { .. } => LockName::Mcs,
             Lock::Rw { .. } => LockName::Rw,
+            Lock::Seq { .. } => LockName::Seq,
+            Lock::Combine { .. } => LockName::Combine,
         }
     }
 }

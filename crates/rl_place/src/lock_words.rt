@@ -6,12 +6,14 @@ ghost use Rattle.rl_place.specs.LockWords.{lock_word, lock_named};
 use rl_word::LockName;
 
 // The names of the locks.
-const NAMES: [LockName; 5] = [
+const NAMES: [LockName; 7] = [
     LockName::Spin,
     LockName::Dmcs,
     LockName::Alock,
     LockName::Mcs,
     LockName::Rw,
+    LockName::Seq,
+    LockName::Combine,
 ];
 
 /// The name of a lock in small letters, as files and reports spell it.
@@ -24,6 +26,8 @@ pub fn lock_word(name: LockName) -> &'static str
         LockName::Alock => "alock",
         LockName::Mcs => "mcs",
         LockName::Rw => "rw",
+        LockName::Seq => "seq",
+        LockName::Combine => "combine",
     }
 }
 

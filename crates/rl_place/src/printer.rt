@@ -59,7 +59,9 @@ fn put_settings(out: &mut Vec<u8>, lock: &Lock) -> Result<(), OutOfMemory>
 {
     match lock {
         Lock::Spin | Lock::Dmcs => {}
-        Lock::Alock { local, remote } => put_budgets(out, &[*local, *remote])?,
+        Lock::Alock { local, remote }
+        | Lock::Seq { local, remote }
+        | Lock::Combine { local, remote } => put_budgets(out, &[*local, *remote])?,
         Lock::Mcs { budgets } => put_budgets(out, budgets.as_slice())?,
         Lock::Rw {
             budgets,

@@ -2,7 +2,7 @@
 ghost use Rattle.std.specs.Prelude.{◌≡◌, ◌≤◌, ◌+◌, IfOk, OnOk};
 ghost use Rattle.rl_text.specs.Rows.{row_of};
 ghost use Rattle.rl_text.specs.Reading.{Gives, Leaves, GivesLeaving};
-ghost use Rattle.rl_place.specs.Reading.{setting_at, setting_next, geom_next, lock_name_at, budgets_from, budgets_at, cohorts_at, alock_next, mcs_next, rw_next, settings_next, lock_next};
+ghost use Rattle.rl_place.specs.Reading.{setting_at, setting_next, geom_next, lock_name_at, budgets_from, budgets_at, cohorts_at, cohorts_next, mcs_next, rw_next, settings_next, lock_next};
 
 use crate::limits::{MOST_BUCKETS, MOST_BUDGET, MOST_CELLS, MOST_RANKS, MOST_SHARDS};
 use crate::lock::{Budgets, Lock};
@@ -105,13 +105,13 @@ fn cohorts_of(line: &Line<'_>) -> Result<(u32, u32), Refusal>
     Ok((local as u32, remote as u32))
 }
 
-#[tactic(auto, unfolding(crate::specs::Reading::alock_next))]
-fn alock_of(lines: &mut Lines<'_>) -> Result<Lock, Refusal>
-    ensures { Leaves result lines.new (alock_next lines.old) }
+/// The next line is `budget LOCAL REMOTE`.
+#[tactic(auto, unfolding(crate::specs::Reading::cohorts_next))]
+fn cohorts(lines: &mut Lines<'_>) -> Result<(u32, u32), Refusal>
+    ensures { Leaves result lines.new (cohorts_next lines.old) }
 {
     let line = lines.next_whole()?;
-    let (local, remote) = cohorts_of(&line)?;
-    Ok(Lock::Alock { local, remote })
+    cohorts_of(&line)
 }
 
 #[tactic(auto, unfolding(crate::specs::Reading::mcs_next))]
@@ -156,9 +156,20 @@ fn settings_of(
     match name {
         LockName::Spin => Ok(Lock::Spin),
         LockName::Dmcs => Ok(Lock::Dmcs),
-        LockName::Alock => Ok(alock_of(lines)?),
+        LockName::Alock => {
+            let (local, remote) = cohorts(lines)?;
+            Ok(Lock::Alock { local, remote })
+        }
         LockName::Mcs => mcs_of(alloc, lines, levels),
         LockName::Rw => rw_of(alloc, lines, levels),
+        LockName::Seq => {
+            let (local, remote) = cohorts(lines)?;
+            Ok(Lock::Seq { local, remote })
+        }
+        LockName::Combine => {
+            let (local, remote) = cohorts(lines)?;
+            Ok(Lock::Combine { local, remote })
+        }
     }
 }
 

@@ -41,7 +41,8 @@ fn budget_of(lock: &Lock, n: u32) -> Option<u32>
     ensures { result ≡ budget_of lock.now n }
 {
     match lock {
-        Lock::Spin | Lock::Dmcs | Lock::Alock { .. } => None,
+        Lock::Spin | Lock::Dmcs | Lock::Alock { .. } | Lock::Seq { .. } | Lock::Combine { .. } =>
+            None,
         Lock::Mcs { budgets } => level_budget(budgets.as_slice(), n),
         Lock::Rw {
             budgets,

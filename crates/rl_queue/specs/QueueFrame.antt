@@ -1,6 +1,6 @@
 -- An act of one queue leaves all other queues as they were.
 use Rattle.std.specs.Prelude.{◌≡◌, ◌≢◌, ◌⊎◌, ℕ, zero, suc, ◌+◌, ◌-◌, ◌==◌, List, [], ◌∷◌, ◌++◌, if◌then◌else◌, slice_index, slice_set, Option, Some, None, refl}
-use Rattle.std.proofs.Common.{sym, ap, subst, inl, inr, append_assoc, get_or-set_other}
+use Rattle.std.proofs.Common.{sym, ap, subst, inl, inr, append_assoc, get_or-set_other, arith}
 use Rattle.std.proofs.lemmas.Option.{same_Some}
 use Rattle.rl_word.specs.Acts.{word_of, written, told}
 use Rattle.rl_word.specs.declared.acts.Act.{Act}
@@ -57,6 +57,15 @@ module _ (n : TheNames) (In : ℕ → Type 0) where
   turn_apart o B m (Await left) got ne = choose (λ z. AllApart o B z.events) (got == 0) (waits_at (Await left)) (moves_to (Hand (got - 1) left)) tt tt
   turn_apart o B m (Hand succ left) got ne = hand_apart o B n.queue n.budget succ left ne
   turn_apart o B m _ got ne = tt
+
+  -- before any event a queue that nobody uses is good, where its tail is 0
+  pub begins_good : (ws : List ℕ) → slice_index ws n.tail ≡ 0 → QueueGood n In ws (λ m. Idle) [] [] 0
+  begins_good ws empty =
+      record {
+        inv = record { distinct = tt; listed = λ m h. absurd h; only = λ m h. absurd h; line = empty; own = λ m. tt; inside = λ m b. absurd b };
+        alone = λ m h. tt;
+        says = record { fifo = refl; tenure = refl; within = λ b e. (tt, omega arith) };
+      }
 
   -- so a write elsewhere leaves the queue as it was
   pub elsewhere_keeps : (ws : List ℕ) (ph : ℕ → Phase) (l : List ℕ) (t : List Event) (e w v : ℕ) → QueueGood n In ws ph l t e → (Place n In w → ⊥) → QueueGood n In (slice_set ws w v) ph l t e

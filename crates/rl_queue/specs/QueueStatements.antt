@@ -15,7 +15,7 @@ use Rattle.rl_queue.specs.LaneLaws.{IsFirst}
 use Rattle.rl_queue.specs.TraceLaws.{Apart}
 use Rattle.rl_queue.specs.QueueHeads.{head_in}
 use Rattle.rl_queue.specs.QueueCredit.{Spends}
-use Rattle.rl_queue.specs.QueueFrame.{AreApart}
+use Rattle.rl_queue.specs.QueueFrame.{AreApart, AllApart, Place}
 use Rattle.rl_queue.specs.QueueLaws.{IsNaming, QueueGood, Moves}
 use Rattle.rl_queue.specs.QueueMoves.{ActMoves, ActGoes}
 
@@ -36,6 +36,21 @@ abbrev pub IsGoodQueue : (n : TheNames) (In : ℕ → Type 0) → QueueState →
 IsGoodQueue n In q = QueueGood n In q.words q.phases q.line q.trace q.ended
 
 module _ (n : TheNames) (In : ℕ → Type 0) where
+  -- before any event a queue that nobody uses is good, where its tail is 0
+  abbrev pub BeginsGood : Type 0
+  BeginsGood =
+      (words : List ℕ) → slice_index words n.tail ≡ 0 → IsGoodQueue n In (record { words = words; phases = λ m. Idle; line = []; trace = []; ended = 0 })
+
+  -- events of others leave it good
+  abbrev pub IgnoresEvents : Type 0
+  IgnoresEvents =
+      (q : QueueState) (es : List Event) → IsGoodQueue n In q → AllApart n.queue n.budget es → IsGoodQueue n In (record q { trace = q.trace ++ es })
+
+  -- and so does a write to a word that isn't its own
+  abbrev pub IgnoresWrites : Type 0
+  IgnoresWrites =
+      (q : QueueState) (w v : ℕ) → IsGoodQueue n In q → (Place n In w → ⊥) → IsGoodQueue n In (record q { words = slice_set q.words w v })
+
   -- each planned act keeps a queue good, with a line that changes by a swing or a close alone
   abbrev pub ActsKeep : Type 0
   ActsKeep =

@@ -2,10 +2,13 @@
 
 ghost use Rattle.std.specs.Prelude.{ℕ, Bool};
 ghost use Rattle.rl_queue.specs.Queue.{TheNames};
-ghost use Rattle.rl_queue.specs.QueueStatements.{In, HoldsWhatItWasTold, LeavesOthersGood, ActsKeep, JoinsKeep, SettlesKeep, LeavesKeep, LeavesKeepQuietly, ResumesKeep, HasOneFirst, ServesInOrder, KeepsBudget, CountsTenures, PlansFit, LearnsFit, FindsAlone, MovesOnAlone, WaitsOnLoads, SpendsPasses, ServedCameSo, SettlesFirst};
+ghost use Rattle.rl_queue.specs.QueueStatements.{In, BeginsGood, IgnoresEvents, IgnoresWrites, HoldsWhatItWasTold, LeavesOthersGood, ActsKeep, JoinsKeep, SettlesKeep, LeavesKeep, LeavesKeepQuietly, ResumesKeep, HasOneFirst, ServesInOrder, KeepsBudget, CountsTenures, PlansFit, LearnsFit, FindsAlone, MovesOnAlone, WaitsOnLoads, SpendsPasses, ServedCameSo, SettlesFirst};
 
 /// What is proved of one queue: for any names of its words, any members and any budget. There is nothing to run.
 pub fn queue_laws()
+    ensures begins { (names : TheNames) (members : ℕ → Bool) → BeginsGood names (In members) }
+    ensures beside { (names : TheNames) (members : ℕ → Bool) → IgnoresEvents names (In members) }
+    ensures elsewhere { (names : TheNames) (members : ℕ → Bool) → IgnoresWrites names (In members) }
     ensures acts { (names : TheNames) (members : ℕ → Bool) → ActsKeep names (In members) }
     ensures joins { (names : TheNames) (members : ℕ → Bool) → JoinsKeep names (In members) }
     ensures settles { (names : TheNames) (members : ℕ → Bool) → SettlesKeep names (In members) }

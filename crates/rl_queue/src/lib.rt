@@ -28,6 +28,3 @@ pub use queue::{
 };
 pub use ranks::rank_words;
 pub use view::{Phase, QueueView, Stage};
-
-#[cfg(test)]
-mod tests;

@@ -1,2 +1,3 @@
 pub mod ReadLemmas
 mod ReplayLemmas
+pub mod SuitLaws

@@ -4,7 +4,7 @@ use Rattle.rl_text.specs.Spelling.{line_text, refusal_words}
 use Rattle.rl_replay.specs.declared.complaint.Which.{Which}
 use Rattle.rl_replay.specs.declared.complaint.Which.TheVariants as which
 use Rattle.rl_replay.specs.declared.complaint.Trouble.{Trouble}
-use Rattle.rl_replay.specs.declared.complaint.Trouble.TheVariants.{TooLong, Refused}
+use Rattle.rl_replay.specs.declared.complaint.Trouble.TheVariants.{TooLong, Batch, Refused}
 use Rattle.rl_replay.specs.declared.complaint.Complaint.{Complaint}
 use Rattle.rl_replay.specs.declared.complaint.Stop.{Stop}
 use Rattle.rl_replay.specs.declared.files.Files.{Files}
@@ -57,6 +57,7 @@ pub record WereRead (file : List ℕ → Option (List ℕ)) (names : Names) (res
 -- a place in a file, and a cause
 abbrev pub trouble_words : Trouble → List (List ℕ)
 trouble_words TooLong = codes "0" ∷ codes "0" ∷ codes "toolong" ∷ []
+trouble_words Batch = codes "0" ∷ codes "0" ∷ codes "word" ∷ []
 trouble_words (Refused refusal) = refusal_words refusal
 
 -- `refused NAME LINE WORD WHY`

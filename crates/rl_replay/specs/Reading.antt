@@ -1,17 +1,20 @@
 -- How the files of a replay are read, one after the other: the first that is too long or refused ends it.
-use Rattle.std.specs.Prelude.{◌≡◌, ℕ, ◌<◌, List, length, nat_le, Option, Some, None, Result, Ok, Err, if◌then◌else◌}
+use Rattle.std.specs.Prelude.{◌≡◌, ℕ, ◌<◌, ◌&&◌, not, false, List, length, nat_le, Option, Some, None, Result, Ok, Err, if◌then◌else◌}
 use Rattle.rl_text.specs.declared.causes.Refusal.{Refusal}
 use Rattle.rl_text.specs.declared.failing.TextErr.{TextErr}
 use Rattle.rl_text.specs.declared.failing.TextErr.TheVariants as text
+use Rattle.rl_step.specs.LockQueues.{does_batches}
+use Rattle.rl_place.specs.LockWords.{name_of}
 use Rattle.rl_place.specs.Places.{ThePlace}
 use Rattle.rl_place.specs.Reading.{place_at}
 use Rattle.rl_ops.specs.declared.ops.Ops.{Ops}
 use Rattle.rl_ops.specs.declared.schedule.Schedule.{Schedule}
 use Rattle.rl_ops.specs.ScheduleReading.{schedule_at}
 use Rattle.rl_ops.specs.OpsReading.{ops_at}
+use Rattle.rl_ops.specs.Ops.{has_batch}
 use Rattle.rl_replay.specs.declared.complaint.Which.{Which}
 use Rattle.rl_replay.specs.declared.complaint.Which.TheVariants as which
-use Rattle.rl_replay.specs.declared.complaint.Trouble.TheVariants.{TooLong, Refused}
+use Rattle.rl_replay.specs.declared.complaint.Trouble.TheVariants.{TooLong, Batch, Refused}
 use Rattle.rl_replay.specs.declared.complaint.Complaint.{Complaint}
 use Rattle.rl_replay.specs.declared.complaint.Stop.{Stop}
 use Rattle.rl_replay.specs.declared.complaint.Stop.TheVariants as stop
@@ -31,12 +34,20 @@ abbrev pub refused_in : {X : Type 0} → Which → Result X Refusal → Result X
 refused_in kind (Ok x) = Ok x
 refused_in kind (Err refusal) = Err (record { which = kind; trouble = Refused refusal })
 
+-- calls that the placement's lock can do: flat combining does no batches
+abbrev pub SuitsLock : ThePlace → Ops → Type 0
+SuitsLock place ops = does_batches (name_of place.lock) ≡ false → has_batch ops ≡ false
+
+-- calls with a batch are refused where the lock does none
+abbrev pub as_done : ThePlace → Ops → Result Ops Complaint
+as_done place ops = if not (does_batches (name_of place.lock)) && has_batch ops then Err (record { which = which.Calls; trouble = Batch }) else Ok ops
+
 -- the placement, the calls and the schedule of a replay, each from the bytes of its file
 unfoldable pub placed : List ℕ → Result ThePlace Complaint
 placed bytes = within which.Place 4194304 bytes >>= λ text. refused_in which.Place (place_at text)
 
 unfoldable pub called : ThePlace → List ℕ → Result Ops Complaint
-called place bytes = within which.Calls 4194304 bytes >>= λ text. refused_in which.Calls (ops_at (length place.paths) place.geom.shards text)
+called place bytes = within which.Calls 4194304 bytes >>= λ text. refused_in which.Calls (ops_at (length place.paths) place.geom.shards text) >>= as_done place
 
 unfoldable pub scheduled : ThePlace → List ℕ → Result Schedule Complaint
 scheduled place bytes = within which.Schedule 16777216 bytes >>= λ text. refused_in which.Schedule (schedule_at (length place.paths) text)

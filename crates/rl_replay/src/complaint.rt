@@ -18,6 +18,8 @@ pub enum Which {
 pub enum Trouble {
     /// It has more bytes than a file of its kind may have.
     TooLong,
+    /// It asks for a batch, and the placement's lock does none.
+    Batch,
     /// It isn't a text of its kind.
     Refused(Refusal),
 }

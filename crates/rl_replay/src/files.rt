@@ -28,7 +28,7 @@ impl<'a> Files<'a> {
 }
 
 /// The line that refuses a file: `refused`, its name, the place in it and the cause; for a file that is too long the place is
-/// 0 0, and the cause `toolong`. Refused itself only for want of memory.
+/// 0 0, and the cause `toolong`, and for a batch where the lock does none 0 0 and `word`. Refused itself only for want of memory.
 pub fn refusal_line(alloc: Global, name: &str, trouble: Trouble) -> Result<Vec<u8>, OutOfMemory>
     ensures { IfOk result (λ line. line.items ≡ refused_line name.now trouble) }
 {
@@ -37,6 +37,7 @@ pub fn refusal_line(alloc: Global, name: &str, trouble: Trouble) -> Result<Vec<u
     line.push(b' ')?;
     match trouble {
         Trouble::TooLong => line.extend_from_slice(b"0 0 toolong")?,
+        Trouble::Batch => line.extend_from_slice(b"0 0 word")?,
         Trouble::Refused(refusal) => put_refusal(&mut line, refusal)?,
     }
     line.push(b'\n')?;

@@ -1,16 +1,20 @@
 // How the files of a replay are read.
-ghost use Rattle.std.specs.Prelude.{◌≡◌, ◌≤◌, ◌<◌, IsTrue, IfOk, length, Ok, Err};
+ghost use Rattle.std.specs.Prelude.{◌≡◌, ◌≢◌, ◌≤◌, ◌<◌, IsTrue, IfOk, length, Ok, Err};
 ghost use Rattle.rl_io.specs.Outside.{SameFiles};
+ghost use Rattle.rl_step.specs.LockQueues.{does_batches};
+ghost use Rattle.rl_place.specs.LockWords.{name_of};
 ghost use Rattle.rl_place.specs.Places.{IsProper};
 ghost use Rattle.rl_ops.specs.Ops.{OpsFit};
 ghost use Rattle.rl_ops.specs.Schedule.{ScheduleFits};
-ghost use Rattle.rl_replay.specs.Reading.{WasRead, Ends, RisesWithFault, stopped_in, within, placed, called, scheduled};
+ghost use Rattle.rl_replay.specs.declared.complaint.Stop.TheVariants.{Fault};
+ghost use Rattle.rl_replay.specs.Reading.{WasRead, Ends, RisesWithFault, stopped_in, within, as_done, placed, called, scheduled, SuitsLock};
 
 use crate::complaint::{Complaint, Stop, Trouble, Which};
 use rl_io::{ReadErr, Source, read_file};
 use rl_ops::{Ops, Schedule, read_ops, read_schedule};
 use rl_place::{Place, read_place};
 use rl_text::TextErr;
+use rl_word::LockName;
 use std::alloc::Global;
 
 /// A placement or a calls file has at most this many bytes.
@@ -73,7 +77,30 @@ pub fn read_placed<S: Source>(alloc: Global, source: &mut S, name: &str) -> Resu
     }
 }
 
-/// The calls of a file.
+/// Whether a placement's lock does batches.
+fn does_batches(place: &Place) -> bool
+    ensures { result ≡ does_batches (name_of place.now.lock) }
+{
+    !matches!(place.lock.name(), LockName::Combine)
+}
+
+/// The calls of a file, if the placement's lock can do them.
+fn as_done(place: &Place, ops: Ops) -> Result<Ops, Stop>
+    ensures done { Ends (λ ops. ops) result (as_done place.now ops) }
+    ensures same { IfOk result (λ taken. taken ≡ ops) }
+    ensures no_fault { result ≢ Err Fault }
+    ensures suits { IfOk result (λ ops. SuitsLock place.now ops) }
+{
+    if !does_batches(place) && ops.has_batch() {
+        return Err(Stop::Refused(Complaint {
+            which: Which::Calls,
+            trouble: Trouble::Batch,
+        }));
+    }
+    Ok(ops)
+}
+
+/// The calls of a file. Refused too where they have a batch and the placement's lock does none.
 #[tactic(auto, unfolding(crate::specs::Reading::called))]
 pub fn read_called<S: Source>(
     alloc: Global,
@@ -85,13 +112,14 @@ pub fn read_called<S: Source>(
     requires proper { IsProper place.now }
     ensures read { WasRead (S.file source.old name.now) (λ ops. ops) (called place.now) result }
     ensures fits { IfOk result (λ ops. OpsFit (length place.now.paths) place.now.geom.shards ops) }
+    ensures suits { IfOk result (λ ops. SuitsLock place.now ops) }
     ensures faults { RisesWithFault result (S.faults source.old) (S.faults source.new) }
     ensures same { SameFiles S.file S.may_open source.old source.new }
 {
     let bytes = read_within(alloc, source, name, Which::Calls, MOST_WORDS)?;
     let ranks = place.paths.len() as u32;
     match read_ops(alloc, ranks, place.geom.shards, bytes.as_slice()) {
-        Ok(ops) => Ok(ops),
+        Ok(ops) => as_done(place, ops),
         Err(error) => Err(stopped(Which::Calls, error)),
     }
 }

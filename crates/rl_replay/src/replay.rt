@@ -3,7 +3,7 @@ ghost use Rattle.std.specs.Prelude.{◌≡◌, length, IfOk};
 ghost use Rattle.rl_place.specs.Places.{IsProper};
 ghost use Rattle.rl_ops.specs.Ops.{OpsFit};
 ghost use Rattle.rl_ops.specs.Schedule.{ScheduleFits};
-ghost use Rattle.rl_replay.specs.Reading.{RisesWithFault};
+ghost use Rattle.rl_replay.specs.Reading.{RisesWithFault, SuitsLock};
 ghost use Rattle.rl_replay.specs.Files.{named, MayOpen, WereRead};
 
 use crate::complaint::Stop;
@@ -23,7 +23,7 @@ pub struct Replay {
 }
 
 /// Reads the placement, then the calls, then the schedule; each is parsed before the next is opened. The first that is too
-/// long or refused ends it (`Stop::Refused`); `Stop::Fault` comes exactly where the source's count of faults rose. The calls
+/// long or refused ends it (`Stop::Refused`), as calls with a batch do where the placement's lock does none; `Stop::Fault` comes exactly where the source's count of faults rose. The calls
 /// and the schedule are of the placement's ranks.
 #[tactic(auto, unfolding(crate::specs::Files::spelled))]
 pub fn read_replay<S: Source>(
@@ -35,6 +35,7 @@ pub fn read_replay<S: Source>(
     ensures read { WereRead (S.file source.old) (named files.entry) result }
     ensures proper { IfOk result (λ replay. IsProper replay.place) }
     ensures calls { IfOk result (λ replay. OpsFit (length replay.place.paths) replay.place.geom.shards replay.ops) }
+    ensures suits { IfOk result (λ replay. SuitsLock replay.place replay.ops) }
     ensures schedule { IfOk result (λ replay. ScheduleFits (length replay.place.paths) replay.schedule) }
     ensures faults { RisesWithFault result (S.faults source.old) (S.faults source.new) }
 {

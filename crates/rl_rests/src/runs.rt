@@ -1,6 +1,6 @@
 //! A whole replay: a machine is made and takes the steps of a schedule.
 
-ghost use Rattle.std.specs.Prelude.{ℕ, ◌≡◌, ◌+◌, ◌-◌, ◌<◌, ◌≤◌, ◌^◌, [], false, get_or, length, replicate, slice_index, IfOk};
+ghost use Rattle.std.specs.Prelude.{ℕ, ◌≡◌, ◌+◌, ◌-◌, ◌<◌, ◌≤◌, ◌^◌, [], false, get_or, length, replicate, slice_index, IfOk, OnErr};
 ghost use Rattle.std.specs.List.{AllByRecursion};
 ghost use Rattle.rl_model.specs.Geom.{GeomFits};
 ghost use Rattle.rl_word.specs.Shapes.{IsProper};
@@ -38,6 +38,7 @@ fn step_in_full<C: Resting>(
     ensures stepped { IfOk result (λ _. running C.shard_table machine.new ≡ stepped (running C.shard_table machine.old) rank) }
     ensures many { length rests.new.items ≡ length rests.old.items }
     ensures rested { IfOk result (λ _. AllRested C.with_sight (running C.shard_table machine.new) rests.new.items) }
+    ensures kept { OnErr result (machine.new ≡ machine.old) }
 {
     forget(rests, rank);
     let end = machine.step_told(rank)?;
@@ -53,7 +54,8 @@ fn step_in_full<C: Resting>(
 /// and once all its calls are done, its steps are counted at once, and so are those after it is seen to rest. `rests` begins as
 /// `no_rests` and belongs to this machine, all of whose steps are taken so.
 ///
-/// Fewer than 2^32 steps are made in all. Refused only for want of memory.
+/// Fewer than 2^32 steps are made in all. Refused only for want of memory: then some of the steps were made, fewer than all (`part`), and
+/// `rests` is of no more use.
 #[inline(always)]
 pub fn take_steps<C: Resting>(
     machine: &mut Machine<C>,
@@ -71,6 +73,7 @@ pub fn take_steps<C: Resting>(
     ensures calls { IfOk result (λ _. machine.new.calls ≡ machine.old.calls) }
     ensures many { length rests.new.items ≡ length rests.old.items }
     ensures rested { IfOk result (λ _. AllRested C.with_sight (running C.shard_table machine.new) rests.new.items) }
+    ensures part { OnErr result ((made : ℕ) × (made < count) × (running C.shard_table machine.new ≡ run_of (running C.shard_table machine.old) (replicate made rank))) }
 {
     if take_noted(machine, rests, rank, count) {
         return Ok(());

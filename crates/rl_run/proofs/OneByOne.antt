@@ -3,7 +3,7 @@ use Rattle.std.proofs.Common.{◌≡◌, ℕ, List, [], ◌∷◌, ◌++◌, len
 use Rattle.std.proofs.lemmas.List.{length-map}
 use Rattle.std.proofs.lemmas.List.Elements.{All-head, All-tail}
 use Rattle.rl_run.specs.Rows.{IsGrid, IsColumn, heads, tails, AreEnded}
-use Rattle.rl_run.specs.RowLaws.{GoesOn, first_column, other_columns, goes_next, goes_end, heads_long, rows_some, no_rows}
+use Rattle.rl_run.specs.RowLaws.{EndsSoFar, first_column, other_columns, goes_next, goes_end, heads_long, rows_some, no_rows}
 
 module _ {W T E X : Type 0} (f : X → List T) (P : W → ℕ → T → Type 0) (Root : ℕ → W → Type 0) (Q : W → List T → E → Type 0) (ws rest : List W) (w : W) (rows : List X) where
   pub column_seats : (column : List T) → ws ≡ w ∷ rest → IsGrid P ws (map f rows) → column ≡ heads (map f rows) → IsColumn P w column
@@ -24,12 +24,12 @@ module _ {W T E X : Type 0} (f : X → List T) (P : W → ℕ → T → Type 0) 
   pub others_grid : (others : List X) → ws ≡ w ∷ rest → IsGrid P ws (map f rows) → map f others ≡ tails (map f rows) → IsGrid P rest (map f others)
   others_grid others more grid is = subst (IsGrid P rest) (sym is) (other_columns P w rest (map f rows) (subst (λ l. IsGrid P l (map f rows)) more grid))
 
-  pub goes_more : (ws0 : List W) (rows0 : List (List T)) (others : List X) (column : List T) (ends : List E) (end : E) → ws ≡ w ∷ rest → GoesOn Q ws0 rows0 ws (map f rows) ends → column ≡ heads (map f rows) →
-      map f others ≡ tails (map f rows) → Q w column end → GoesOn Q ws0 rows0 rest (map f others) (ends ++ end ∷ [])
+  pub goes_more : (ws0 : List W) (rows0 : List (List T)) (others : List X) (column : List T) (ends : List E) (end : E) → ws ≡ w ∷ rest → EndsSoFar Q ws0 rows0 ws (map f rows) ends → column ≡ heads (map f rows) →
+      map f others ≡ tails (map f rows) → Q w column end → EndsSoFar Q ws0 rows0 rest (map f others) (ends ++ end ∷ [])
   goes_more ws0 rows0 others column ends end more on first is q =
-      subst (λ l. GoesOn Q ws0 rows0 rest l (ends ++ end ∷ [])) (sym is)
-      (goes_next Q ws0 rows0 w rest (map f rows) ends end (subst (λ l. GoesOn Q ws0 rows0 l (map f rows) ends) more on) (subst (λ l. Q w l end) first q))
+      subst (λ l. EndsSoFar Q ws0 rows0 rest l (ends ++ end ∷ [])) (sym is)
+      (goes_next Q ws0 rows0 w rest (map f rows) ends end (subst (λ l. EndsSoFar Q ws0 rows0 l (map f rows) ends) more on) (subst (λ l. Q w l end) first q))
 
-pub goes_all : {W T E : Type 0} (Q : W → List T → E → Type 0) (ws0 : List W) (rows0 : List (List T)) (ws : List W) (rows : List (List T)) (ends : List E) → length ws ≡ 0 → GoesOn Q ws0 rows0 ws rows ends → AreEnded Q ws0 rows0 ends
+pub goes_all : {W T E : Type 0} (Q : W → List T → E → Type 0) (ws0 : List W) (rows0 : List (List T)) (ws : List W) (rows : List (List T)) (ends : List E) → length ws ≡ 0 → EndsSoFar Q ws0 rows0 ws rows ends → AreEnded Q ws0 rows0 ends
 goes_all Q ws0 rows0 [] rows ends none on = goes_end Q ws0 rows0 rows ends on
 goes_all Q ws0 rows0 (w ∷ ws) rows ends none on = absurd (omega arith)

@@ -13,7 +13,7 @@ use Rattle.rl_model.specs.declared.call.Call.{Call}
 use Rattle.rl_model.specs.declared.geom.Geom.{Geom}
 use Rattle.rl_asks.specs.ShardTables.{ShardTable, site_with}
 use Rattle.rl_asks.specs.ShardLaws.{GoodOf}
-use Rattle.rl_step.specs.LockQueues.{queues_of, readers_share}
+use Rattle.rl_step.specs.LockQueues.{queues_of, readers_share, lock_under, spares_gets}
 use Rattle.rl_place.specs.LockWords.{name_of}
 use Rattle.rl_place.specs.Places.{ThePlace, IsProper}
 use Rattle.rl_place.specs.Shapes.{shape_of, knobs_of}
@@ -35,19 +35,10 @@ use Rattle.rl_shard.specs.declared.seat.Seat.{Seat}
 use Rattle.rl_shard.specs.Shards.{IsShardOf}
 use Rattle.rl_run.specs.declared.caller.Caller.{Caller}
 use Rattle.rl_run.specs.Told.{NumbersFit, AreClosedShards, all_done, part_of}
-use Rattle.rl_run.specs.Runs.{AreNew, AreCallers, HasRun, MayWork, made_of, wanted, told}
+use Rattle.rl_run.specs.Runs.{AreNew, AreCallers, HaveBegun, HasRun, MayWork, made_of, wanted, told}
 use Rattle.rl_run.specs.RunLaws.{are_callers, wanted_long}
 use Rattle.rl_run.specs.EndLaws.{closed_shards}
-use Rattle.rl_run.specs.ReportLaws.{queues_long, few_updates, lawful}
-
--- a lock has as many queues as are named
-pub queue_count_is : (place : ThePlace) (name : LockName) (shape : TheShape) (knobs : Knobs) (n : ℕ) → name ≡ name_of place.lock → shape ≡ shape_of place → knobs ≡ knobs_of place.lock → n ≡ length (naming_of place).queues →
-    (home : ℕ) → n ≡ length (queues_of name shape home knobs)
-queue_count_is place name shape knobs n kind exact set e home =
-    e ∙ sym (queues_long place home)
-    ∙ ap (λ l. length (queues_of l (shape_of place) home (knobs_of place.lock))) (sym kind)
-    ∙ ap (λ s. length (queues_of name s home (knobs_of place.lock))) (sym exact)
-    ∙ ap (λ k. length (queues_of name shape home k)) (sym set)
+use Rattle.rl_run.specs.ReportLaws.{updates_few, lawful}
 
 -- as many lists of sizes as of calls
 pub sizes_long : (shards : ℕ) (lists : List (List Call)) (sizes : List (List ℕ)) → EachOfBlocks shards lists sizes → length sizes ≡ length lists
@@ -78,34 +69,40 @@ module _ {C V : Type 0} (D : TheShape → ℕ → Knobs → Site → ShardTable 
     as_many : length cs ≡ length ops.by_rank
     as_many = sym (length-map cs made_of) ∙ ap length made ∙ wanted_long place.geom 0 ops.by_rank ops.sizes rows long new_place.ranks
 
-    pub are_callers_of : All (MayWork table good layout) cs → AreCallers table good layout shards cs
+    are_callers_of : All (MayWork table good layout) cs → AreCallers table good layout shards cs
     are_callers_of may =
         are_callers D table good layout (shape_of place) (knobs_of place.lock) place.geom place.homes ops.by_rank ops.sizes shards rows new_place proper.geom all_place long
         (λ k. let f = few_calls ops.by_rank k 20000 fit.few in omega arith) (each_blocks place.geom proper.geom ops.by_rank ops.sizes fit.blocks)
         (λ s w gw e. alone (sym (ap (λ z. z.batches) (new_place.each s w gw).table_is ∙ has_batches (shape_of place) (get_or place.homes s 0) (knobs_of place.lock) (site_with place.geom s (map (updates_on place.geom s) ops.by_rank))) ∙ e)) cs made may
 
-    pub rooted : All (IsShardOf table (length cs)) shards
+    rooted : All (IsShardOf table (length cs)) shards
     rooted k d within = subst (λ n. IsShardOf table n (get_or shards k d)) (sym as_many) (new_place.each k (get_or shards k d) (slice_get-get_or shards k d within)).is_shard
 
-    module _ (name : LockName) (kind : name ≡ name_of place.lock) (has_queues : (shape : TheShape) (home : ℕ) (knobs : Knobs) (site : Site) → (D shape home knobs site).queues ≡ queues_of name shape home knobs)
-        (spares : Bool → Bool) (has_tenures : (shape : TheShape) (home : ℕ) (knobs : Knobs) (site : Site) → (D shape home knobs site).tenure ≡ is_tenure (spares (readers_share name))) (as_readers : spares (readers_share name) ≡ readers_share name) (ends : List Closed) (run : HasRun table shards cs ends) where
-      are : AreClosedShards place ops (map told ends)
-      are = closed_shards D name table good layout has_queues spares has_tenures as_readers place ops kind proper fit long shards rows new_place all_place cs made ends run
+    pub begun : All (MayWork table good layout) cs → HaveBegun D table good layout place ops shards cs
+    begun may = record { rows = rows; new = new_place; all = all_place; made = made; rooted = rooted; callers = are_callers_of may }
 
-      pub short : (k : ℕ) (d : Closed) → k < length ends → vec_len (get_or ends k d).journal < 2 ^ 32
-      short k d within =
-          let e : Closed = get_or ends k d in
-          let there : slice_get (map told ends) k ≡ _ = get_map told ends k e (slice_get-get_or ends k d within) in
-          let n : length (map told ends) ≡ length ends = length-map ends told in
-          let home = some_at place.homes k (let a = are.all in let b = proper.each_shard in omega arith) in
-          let few : length e.journal.items ≤ 20000 = few_updates place ops proper fit (map told ends) are k home.0 (told e) home.1 there in
-          let ok = e.journal.ok in
-          omega (arith, ok, few)
+module _ {C V : Type 0} (D : TheShape → ℕ → Knobs → Site → ShardTable V) (table : C → ShardTable V) (good : GoodOf C V) (layout : C → Layout)
+    (place : ThePlace) (ops : Ops) (proper : IsProper place) (fit : OpsFit (length place.paths) place.geom.shards ops)
+    (shards : List (Shard C V)) (cs : List (Caller C V)) (begun : HaveBegun D table good layout place ops shards cs)
+    (name : LockName) (kind : name ≡ lock_under (name_of place.lock)) (has_queues : (shape : TheShape) (home : ℕ) (knobs : Knobs) (site : Site) → (D shape home knobs site).queues ≡ queues_of name shape home knobs)
+    (spares : Bool → Bool) (has_tenures : (shape : TheShape) (home : ℕ) (knobs : Knobs) (site : Site) → (D shape home knobs site).tenure ≡ is_tenure (spares (readers_share name))) (as_told : spares (readers_share name) ≡ spares_gets (name_of place.lock)) (ends : List Closed) (run : HasRun table shards cs ends) where
+  are : AreClosedShards place ops (map told ends)
+  are = closed_shards D name table good layout has_queues spares has_tenures place ops kind as_told proper fit (sizes_long place.geom.shards ops.by_rank ops.sizes fit.blocks) shards begun.rows begun.new begun.all cs begun.made ends run
 
-      pub run_lawful : (parts : List TheShard) (done : List Done) → parts ≡ map part_of (map told ends) → done ≡ all_done ops → All NumbersFit (map told ends) → IsLawful place ops (record { shards = parts; done = done; steps = None })
-      run_lawful parts done parts_are done_is numbers =
-          subst (λ p. IsLawful place ops (record { shards = p; done = done; steps = None })) (sym parts_are)
-          (subst (λ d. IsLawful place ops (record { shards = map part_of (map told ends); done = d; steps = None })) (sym done_is) (lawful place ops proper fit (map told ends) are numbers))
+  pub short : (k : ℕ) (d : Closed) → k < length ends → vec_len (get_or ends k d).journal < 2 ^ 32
+  short k d within =
+      let e : Closed = get_or ends k d in
+      let there : slice_get (map told ends) k ≡ _ = get_map told ends k e (slice_get-get_or ends k d within) in
+      let n : length (map told ends) ≡ length ends = length-map ends told in
+      let home = some_at place.homes k (let a = are.all in let b = proper.each_shard in omega arith) in
+      let few : length e.journal.items ≤ 20000 = updates_few place ops proper fit (map told ends) are k home.0 (told e) home.1 there in
+      let ok = e.journal.ok in
+      omega (arith, ok, few)
+
+  pub run_lawful : (parts : List TheShard) (done : List Done) → parts ≡ map part_of (map told ends) → done ≡ all_done ops → All NumbersFit (map told ends) → IsLawful place ops (record { shards = parts; done = done; steps = None })
+  run_lawful parts done parts_are done_is numbers =
+      subst (λ p. IsLawful place ops (record { shards = p; done = done; steps = None })) (sym parts_are)
+      (subst (λ d. IsLawful place ops (record { shards = map part_of (map told ends); done = d; steps = None })) (sym done_is) (lawful place ops proper fit (map told ends) are numbers))
 
 -- ---- the parts of the report, one after the other
 

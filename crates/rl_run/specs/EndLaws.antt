@@ -14,7 +14,7 @@ use Rattle.rl_model.specs.declared.entry.Entry.{Entry}
 use Rattle.rl_model.specs.declared.geom.Geom.{Geom}
 use Rattle.rl_asks.specs.ShardTables.{ShardTable, site_with}
 use Rattle.rl_asks.specs.ShardLaws.{GoodOf}
-use Rattle.rl_step.specs.LockQueues.{queues_of, readers_share}
+use Rattle.rl_step.specs.LockQueues.{queues_of, readers_share, lock_under, spares_gets}
 use Rattle.rl_journal.specs.Blocks.{is_tenure}
 use Rattle.rl_journal.specs.History.{Each, AreOwn}
 use Rattle.rl_journal.specs.Legal.{IsLegal, table_after}
@@ -36,6 +36,7 @@ use Rattle.rl_shard.specs.declared.seat.Seat.{Seat}
 use Rattle.rl_shard.specs.Shards.{table_at, entries_at}
 use Rattle.rl_shard.specs.Ends.{IsEnd, transcripts_of, history_of}
 use Rattle.rl_history.specs.Lawful.{queues_at}
+use Rattle.rl_history.proofs.QueueLaws.{under_queues}
 use Rattle.rl_run.specs.declared.caller.Caller.{Caller}
 use Rattle.rl_run.specs.RowLaws.{ends_long}
 use Rattle.rl_run.specs.Told.{told_of, IsClosedShard, IsRankDone, AreClosedShards}
@@ -47,7 +48,7 @@ each_of P [] at = tt
 each_of P (e ∷ t) at = (at 0 e refl, each_of P t (λ i f g. at (suc i) f g))
 
 -- transcripts by rank
-own_all : (shard r : ℕ) (ts : List (List Entry)) → ((i : ℕ) (t : List Entry) → slice_get ts i ≡ Some t → All (IsOwn shard (r + i)) t × IsInOrder t) → AreOwn r ts
+pub own_all : (shard r : ℕ) (ts : List (List Entry)) → ((i : ℕ) (t : List Entry) → slice_get ts i ≡ Some t → All (IsOwn shard (r + i)) t × IsInOrder t) → AreOwn r ts
 own_all shard r [] own = tt
 own_all shard r (t ∷ ts) own =
     let none : r + 0 ≡ r = omega arith in
@@ -58,8 +59,8 @@ own_all shard r (t ∷ ts) own =
 
 module _ {C V : Type 0} (D : TheShape → ℕ → Knobs → Site → ShardTable V) (name : LockName) (table : C → ShardTable V) (good : GoodOf C V) (layout : C → Layout)
     (has_queues : (shape : TheShape) (home : ℕ) (knobs : Knobs) (site : Site) → (D shape home knobs site).queues ≡ queues_of name shape home knobs)
-    (spares : Bool → Bool) (has_tenures : (shape : TheShape) (home : ℕ) (knobs : Knobs) (site : Site) → (D shape home knobs site).tenure ≡ is_tenure (spares (readers_share name))) (as_readers : spares (readers_share name) ≡ readers_share name)
-    (place : ThePlace) (ops : Ops) (kind : name ≡ name_of place.lock) (proper : IsProper place) (fit : OpsFit (length place.paths) place.geom.shards ops) (long : length ops.sizes ≡ length ops.by_rank)
+    (spares : Bool → Bool) (has_tenures : (shape : TheShape) (home : ℕ) (knobs : Knobs) (site : Site) → (D shape home knobs site).tenure ≡ is_tenure (spares (readers_share name)))
+    (place : ThePlace) (ops : Ops) (kind : name ≡ lock_under (name_of place.lock)) (as_told : spares (readers_share name) ≡ spares_gets (name_of place.lock)) (proper : IsProper place) (fit : OpsFit (length place.paths) place.geom.shards ops) (long : length ops.sizes ≡ length ops.by_rank)
     (shards : List (Shard C V)) (rows : List (List (Seat C V))) (new : AreNew D table good layout (shape_of place) (knobs_of place.lock) place.geom place.homes ops.by_rank shards rows) (all : length shards ≡ place.geom.shards)
     (cs : List (Caller C V)) (made : map made_of cs ≡ wanted place.geom 0 ops.by_rank ops.sizes rows) (ends : List Closed) (run : HasRun table shards cs ends) where
   as_many : length cs ≡ length ops.by_rank
@@ -79,14 +80,14 @@ module _ {C V : Type 0} (D : TheShape → ℕ → Knobs → Site → ShardTable 
       let geom : T.site.geom ≡ place.geom = ap (λ z. z.geom) n.site_is in
       let home_is : get_or place.homes s 0 ≡ home = get_or_from_slice_get place.homes s home 0 gh in
       let table_is : T ≡ D (shape_of place) home (knobs_of place.lock) site = n.table_is ∙ ap (λ h. D (shape_of place) h (knobs_of place.lock) site) home_is in
-      let queues : T.queues ≡ queues_at place home = ap (λ z. z.queues) table_is ∙ has_queues (shape_of place) home (knobs_of place.lock) site ∙ ap (λ l. queues_of l (shape_of place) home (knobs_of place.lock)) kind in
-      let tenure : T.tenure ≡ is_tenure (readers_share (name_of place.lock)) = ap (λ z. z.tenure) table_is ∙ has_tenures (shape_of place) home (knobs_of place.lock) site ∙ ap is_tenure (as_readers ∙ ap readers_share kind) in
+      let queues : T.queues ≡ queues_at place home = ap (λ z. z.queues) table_is ∙ has_queues (shape_of place) home (knobs_of place.lock) site ∙ ap (λ l. queues_of l (shape_of place) home (knobs_of place.lock)) kind ∙ under_queues (name_of place.lock) (shape_of place) home (knobs_of place.lock) in
+      let tenure : T.tenure ≡ is_tenure (spares_gets (name_of place.lock)) = ap (λ z. z.tenure) table_is ∙ has_tenures (shape_of place) home (knobs_of place.lock) site ∙ ap is_tenure as_told in
       record {
         ranks = ap length E.transcripts_are ∙ length-map q.0 (entries_at table w.0) ∙ q.2 ∙ as_many ∙ fit.ranks_there;
         legal = subst (λ g. IsLegal g e.journal.items (transcripts_of e)) geom E.legal;
         own = own_all T.site.shard 0 (transcripts_of e) (λ i t g. let z : i ≡ 0 + i = omega arith in let o = E.own i t g in (subst (λ k. All (IsOwn T.site.shard k) t) z o.own, o.in_order));
         pairs_are = subst (λ g. e.pairs.items ≡ finite.entries (table_after g finite.empty e.journal.items)) geom E.pairs_are;
-        tallied = subst (λ qs. AreTallied qs (readers_share (name_of place.lock)) (history_of e) e.queues.items) queues (E.tallied (readers_share (name_of place.lock)) tenure);
+        tallied = subst (λ qs. AreTallied qs (spares_gets (name_of place.lock)) (history_of e) e.queues.items) queues (E.tallied (spares_gets (name_of place.lock)) tenure);
       }
 
   rank_done : (k : ℕ) → k < length ops.by_rank → IsRankDone place ops k (map told ends)

@@ -11,4 +11,5 @@ pub mod CallerLaws
 pub mod RunLaws
 pub mod EndLaws
 pub mod ToldLaws
+pub mod EntriesFit
 pub mod ReportLaws

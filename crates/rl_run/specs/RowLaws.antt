@@ -97,14 +97,14 @@ module _ {W T : Type 0} (P : W → ℕ → T → Type 0) where
 
 -- What is known of ends so far: whatever the ends of the other shards are, all are ended.
 module _ {W T E : Type 0} (Q : W → List T → E → Type 0) where
-  abbrev pub GoesOn : List W → List (List T) → List W → List (List T) → List E → Type 0
-  GoesOn ws0 rows0 ws rows ends = (es : List E) → AreEnded Q ws rows es → AreEnded Q ws0 rows0 (ends ++ es)
+  abbrev pub EndsSoFar : List W → List (List T) → List W → List (List T) → List E → Type 0
+  EndsSoFar ws0 rows0 ws rows ends = (es : List E) → AreEnded Q ws rows es → AreEnded Q ws0 rows0 (ends ++ es)
 
-  pub goes_next : (ws0 : List W) (rows0 : List (List T)) (w : W) (ws : List W) (rows : List (List T)) (ends : List E) (e : E) → GoesOn ws0 rows0 (w ∷ ws) rows ends → Q w (heads rows) e →
-      GoesOn ws0 rows0 ws (tails rows) (ends ++ e ∷ [])
+  pub goes_next : (ws0 : List W) (rows0 : List (List T)) (w : W) (ws : List W) (rows : List (List T)) (ends : List E) (e : E) → EndsSoFar ws0 rows0 (w ∷ ws) rows ends → Q w (heads rows) e →
+      EndsSoFar ws0 rows0 ws (tails rows) (ends ++ e ∷ [])
   goes_next ws0 rows0 w ws rows ends e g q es a = subst (AreEnded Q ws0 rows0) (sym (append_assoc ends (e ∷ []) es)) (g (e ∷ es) (q, a))
 
-  pub goes_end : (ws0 : List W) (rows0 : List (List T)) (rows : List (List T)) (ends : List E) → GoesOn ws0 rows0 [] rows ends → AreEnded Q ws0 rows0 ends
+  pub goes_end : (ws0 : List W) (rows0 : List (List T)) (rows : List (List T)) (ends : List E) → EndsSoFar ws0 rows0 [] rows ends → AreEnded Q ws0 rows0 ends
   goes_end ws0 rows0 rows ends g = subst (AreEnded Q ws0 rows0) (append-nil ends) (g [] tt)
 
   pub ends_long : (ws : List W) (rows : List (List T)) (es : List E) → AreEnded Q ws rows es → length es ≡ length ws

@@ -1,5 +1,5 @@
 -- A run from its shards: how seats and callers begin, and what is known when all callers are done.
-use Rattle.std.specs.Prelude.{◌≡◌, ℕ, ◌+◌, List, [], ◌∷◌, length, map, count_by, get_or, slice_get, Some, vec_items}
+use Rattle.std.specs.Prelude.{◌≡◌, ℕ, ◌+◌, List, [], ◌∷◌, All, length, map, count_by, get_or, slice_get, Some, vec_items}
 use Rattle.rl_word.specs.Acts.{Layout}
 use Rattle.rl_word.specs.Shapes.{TheShape}
 use Rattle.rl_word.specs.declared.shapes.Knobs.{Knobs}
@@ -8,6 +8,9 @@ use Rattle.rl_model.specs.declared.entry.Entry.{Entry}
 use Rattle.rl_model.specs.declared.geom.Geom.{Geom}
 use Rattle.rl_asks.specs.ShardTables.{ShardTable, site_with}
 use Rattle.rl_asks.specs.ShardLaws.{GoodOf}
+use Rattle.rl_place.specs.Places.{ThePlace}
+use Rattle.rl_place.specs.Shapes.{shape_of, knobs_of}
+use Rattle.rl_ops.specs.declared.ops.Ops.{Ops}
 use Rattle.rl_ops.specs.Room.{updates_on}
 use Rattle.rl_journal.specs.Ranks.{IsRankInOrder}
 use Rattle.rl_asks.specs.Asks.{is_on, asked_of}
@@ -21,10 +24,10 @@ use Rattle.rl_shard.specs.Ends.{IsEnd, transcripts_of}
 use Rattle.rl_run.specs.declared.caller.Caller.{Caller}
 use Rattle.rl_run.specs.Rows.{IsGrid, AreEnded}
 use Rattle.rl_run.specs.Callers.{who, seats_of, IsCaller, IsReady}
-use Rattle.rl_run.specs.Told.{Told}
+use Rattle.rl_run.specs.Told.{ToldShard}
 
 -- what a closed shard tells
-abbrev pub told : Closed → Told
+abbrev pub told : Closed → ToldShard
 told e = record { journal = e.journal.items; transcripts = map vec_items e.transcripts.items; pairs = e.pairs.items; queues = e.queues.items }
 
 -- what each rank's caller is made of: the ranks are numbered from one on
@@ -75,6 +78,15 @@ module _ {C V : Type 0} where
   -- the callers of all ranks, in their order
   abbrev pub AreCallers : (C → ShardTable V) → GoodOf C V → (C → Layout) → List (Shard C V) → List (Caller C V) → Type 0
   AreCallers table good layout shards cs = (r : ℕ) (c : Caller C V) → slice_get cs r ≡ Some c → (c.rank ≡ r) × IsCaller table good layout shards c
+
+  -- The shards of a placement's table are new, and each rank has its caller there, with the rank's calls; each caller may make its steps.
+  pub record HaveBegun (defined : TheShape → ℕ → Knobs → Site → ShardTable V) (table : C → ShardTable V) (good : GoodOf C V) (layout : C → Layout) (place : ThePlace) (ops : Ops) (shards : List (Shard C V)) (cs : List (Caller C V)) : Type 0 where
+    pub rows : List (List (Seat C V))
+    pub new : AreNew defined table good layout (shape_of place) (knobs_of place.lock) place.geom place.homes ops.by_rank shards rows
+    pub all : length shards ≡ place.geom.shards
+    pub made : map made_of cs ≡ wanted place.geom 0 ops.by_rank ops.sizes rows
+    pub rooted : All (IsShardOf table (length cs)) shards
+    pub callers : AreCallers table good layout shards cs
 
   -- All callers are done and all shards closed: each shard with what its rule tells, over its column of the seats; and each rank's
   -- entries on all shards are its calls, each once and in its order.

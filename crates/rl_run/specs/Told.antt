@@ -3,7 +3,7 @@ use Rattle.std.specs.Prelude.{◌≡◌, ◌<◌, ◌^◌, ℕ, List, [], All, l
 use Rattle.std.specs.FinMap as finite
 use Rattle.rl_model.specs.declared.entry.Entry.{Entry}
 use Rattle.rl_step.specs.declared.tallies.Tally.{Tally}
-use Rattle.rl_step.specs.LockQueues.{readers_share}
+use Rattle.rl_step.specs.LockQueues.{spares_gets}
 use Rattle.rl_journal.specs.Legal.{IsLegal, table_after}
 use Rattle.rl_journal.specs.History.{history, AreOwn}
 use Rattle.rl_journal.specs.Ranks.{IsRankInOrder}
@@ -18,49 +18,49 @@ use Rattle.rl_history.specs.Reports.{TheShard, TheReport, ReplyFits, TallyFits}
 use Rattle.rl_history.specs.Lawful.{queues_at}
 
 -- what a closed shard tells
-pub record Told : Type 0 where
+pub record ToldShard : Type 0 where
   pub journal : List Entry
   pub transcripts : List (List Entry)
   pub pairs : List (ℕ × ℕ)
   pub queues : List Tally
 
 -- the entries of a rank
-abbrev pub told_of : ℕ → Told → List Entry
+abbrev pub told_of : ℕ → ToldShard → List Entry
 told_of k e = get_or e.transcripts k []
 
 -- its part of the report
-abbrev pub part_of : Told → TheShard
+abbrev pub part_of : ToldShard → TheShard
 part_of e = record { updates = length e.journal; entries = history e.journal e.transcripts; queues = e.queues; pairs = e.pairs; events = [] }
 
 -- what each rank has done, once it has done all its calls
 abbrev pub all_done : Ops → List Done
 all_done ops = map (λ calls. record { done = length calls; given = length calls }) ops.by_rank
 
-abbrev pub report_of : Ops → List Told → TheReport
+abbrev pub report_of : Ops → List ToldShard → TheReport
 report_of ops es = record { shards = map part_of es; done = all_done ops; steps = None }
 
 -- the numbers fit the machine's
-pub record NumbersFit (e : Told) : Type 0 where
+pub record NumbersFit (e : ToldShard) : Type 0 where
   pub replies : All (λ f. ReplyFits f.reply) (history e.journal e.transcripts)
   pub tallies : All TallyFits e.queues
   pub pairs : All (λ p. (p.0 < 2 ^ 64) × (p.1 < 2 ^ 64)) e.pairs
 
 -- what is known of a closed shard with this home: journal and transcripts are legal, the pairs are the table after the journal, and
 -- the tallies of the queues keep the budgets in all, and are counted
-pub record IsClosedShard (place : ThePlace) (home : ℕ) (e : Told) : Type 0 where
+pub record IsClosedShard (place : ThePlace) (home : ℕ) (e : ToldShard) : Type 0 where
   pub ranks : length e.transcripts ≡ length place.paths
   pub legal : IsLegal place.geom e.journal e.transcripts
   pub own : AreOwn 0 e.transcripts
   pub pairs_are : e.pairs ≡ finite.entries (table_after place.geom finite.empty e.journal)
-  pub tallied : AreTallied (queues_at place home) (readers_share (name_of place.lock)) (history e.journal e.transcripts) e.queues
+  pub tallied : AreTallied (queues_at place home) (spares_gets (name_of place.lock)) (history e.journal e.transcripts) e.queues
 
 -- a rank has done all its calls, each once and in its order
-pub record IsRankDone (place : ThePlace) (ops : Ops) (k : ℕ) (es : List Told) : Type 0 where
+pub record IsRankDone (place : ThePlace) (ops : Ops) (k : ℕ) (es : List ToldShard) : Type 0 where
   pub order : IsRankInOrder place.geom k (asked_of (get_or ops.by_rank k []) (get_or ops.sizes k [])) (length (get_or ops.by_rank k [])) (map (told_of k) es)
   pub total : entries_in (map (told_of k) es) ≡ length (get_or ops.by_rank k [])
 
 -- all shards of a run that has ended
-pub record AreClosedShards (place : ThePlace) (ops : Ops) (es : List Told) : Type 0 where
+pub record AreClosedShards (place : ThePlace) (ops : Ops) (es : List ToldShard) : Type 0 where
   pub all : length es ≡ place.geom.shards
-  pub shards : (s home : ℕ) (e : Told) → slice_get place.homes s ≡ Some home → slice_get es s ≡ Some e → IsClosedShard place home e
+  pub shards : (s home : ℕ) (e : ToldShard) → slice_get place.homes s ≡ Some home → slice_get es s ≡ Some e → IsClosedShard place home e
   pub ranks : (k : ℕ) → k < length ops.by_rank → IsRankDone place ops k es

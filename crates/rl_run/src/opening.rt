@@ -1,18 +1,24 @@
 //! The shards of a run before its first step, and the callers of its ranks.
 
-ghost use Rattle.std.specs.Prelude.{◌≡◌, ◌≤◌, ◌<◌, ℕ, [], length, map, replicate, All, IfOk, vec_items, vec_len};
+ghost use Rattle.std.specs.Prelude.{◌≡◌, ◌≤◌, ◌<◌, ℕ, [], false, get_or, length, map, replicate, slice_index, All, IfOk, vec_items, vec_len};
 ghost use Rattle.std.specs.List.{AllByRecursion};
 ghost use Rattle.rl_model.specs.Geom.{GeomFits};
 ghost use Rattle.rl_word.specs.Shapes.{IsProper};
 ghost use Rattle.rl_step.specs.LockQueues.{queues_of};
-ghost use Rattle.rl_ops.specs.Ops.{total_calls};
-ghost use Rattle.rl_run.specs.Runs.{AreNew, MayWork, made_of, wanted};
+ghost use Rattle.rl_step.specs.LockQueues.{lock_under};
+ghost use Rattle.rl_place.specs.LockWords.{name_of};
+ghost use Rattle.rl_place.specs.Places.{IsProper as IsProperPlace};
+ghost use Rattle.rl_place.specs.Shapes.{shape_of, knobs_of};
+ghost use Rattle.rl_ops.specs.Ops.{OpsFit, total_calls};
+ghost use Rattle.rl_run.specs.Runs.{AreNew, HaveBegun, MayWork, made_of, wanted};
 
 use crate::caller::Caller;
 use crate::rows::deal_seats;
 use rl_asks::ShardCore;
+use rl_history::Naming;
 use rl_model::{Call, Geom};
 use rl_ops::Ops;
+use rl_place::Place;
 use rl_shard::{Seat, Shard};
 use rl_word::{Knobs, Shape};
 use std::alloc::{AllocError as OutOfMemory, Global};
@@ -88,4 +94,44 @@ pub fn callers_of<C: ShardCore>(
         rank += 1;
     }
     Ok(callers)
+}
+
+/// The shards of a placement's table, and a caller for each rank, before the first step.
+///
+/// `C` is the core of the placement's lock: it stands on the lock on which the placement's stands, and none of the calls is in a batch where
+/// it does none. Caller K makes the calls of rank K. Refused only for want of memory.
+pub fn begin_all<C: ShardCore>(
+    alloc: Global,
+    place: &Place,
+    ops: Ops,
+) -> Result<(Vec<Shard<C>>, Vec<Caller<C>>), OutOfMemory>
+    requires proper { IsProperPlace place.now }
+    requires knobs { C.suits_knobs (shape_of place.now) (knobs_of place.now.lock) }
+    requires kind { C.name ≡ lock_under (name_of place.now.lock) }
+    requires batches { C.batches ≡ false → (k i : ℕ) → slice_index (get_or ops.sizes k []) i ≤ 1 }
+    requires calls { OpsFit (length place.now.paths) place.now.geom.shards ops }
+    ensures { IfOk result (λ p. HaveBegun C.defined C.shard_table C.good C.layout place.now ops p.0.items p.1.items) }
+{
+    let shape = place.shape(alloc)?;
+    let naming = Naming::of(alloc, place)?;
+    let queues = naming.queues.as_slice().len() as u32;
+    let homes = place.homes.as_slice();
+    let (shards, rows) = open_all::<C>(
+        alloc,
+        &shape,
+        place.knobs(),
+        place.geom,
+        homes,
+        &ops,
+        queues,
+    )?;
+    let Ops { by_rank, sizes } = ops;
+    let callers = callers_of::<C>(
+        alloc,
+        place.geom,
+        by_rank.into_vec(),
+        sizes.into_vec(),
+        rows,
+    )?;
+    Ok((shards, callers))
 }

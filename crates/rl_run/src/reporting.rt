@@ -33,8 +33,8 @@ fn pair_fits(pair: (u64, u64))
     let _ = pair.0;
 }
 
-// Of all entries, each of which is looked at once.
-fn replies_fit(entries: &[Entry])
+/// The numbers of the replies of all entries are in their ranges. There is nothing to run but to look at each.
+pub fn replies_fit(entries: &[Entry])
     ensures { All (λ e. ReplyFits e.reply) entries.now }
 {
     for entry in entries {
@@ -42,8 +42,8 @@ fn replies_fit(entries: &[Entry])
     }
 }
 
-// Of all tallies.
-fn tallies_fit(tallies: &[Tally])
+/// The same of all tallies.
+pub fn tallies_fit(tallies: &[Tally])
     ensures { All TallyFits tallies.now }
 {
     for tally in tallies {

@@ -4,17 +4,17 @@ ghost use Rattle.std.specs.Prelude.{◌≡◌, ◌≤◌, ◌<◌, ◌^◌, ℕ,
 ghost use Rattle.rl_place.specs.LockWords.{name_of};
 ghost use Rattle.rl_place.specs.Places.{IsProper};
 ghost use Rattle.rl_place.specs.Shapes.{shape_of, knobs_of};
-ghost use Rattle.rl_step.specs.LockQueues.{readers_share};
+ghost use Rattle.rl_step.specs.LockQueues.{readers_share, lock_under, spares_gets};
 ghost use Rattle.rl_ops.specs.Ops.{OpsFit, total_calls};
 ghost use Rattle.rl_history.specs.Lawful.{IsLawful};
 ghost use Rattle.rl_run.specs.Runs.{told};
 ghost use Rattle.rl_run.specs.Told.{NumbersFit, all_done, part_of as part_told};
 
-use crate::opening::{callers_of, open_all};
+use crate::opening::begin_all;
 use crate::reporting::part_of;
 use crate::run::run_callers;
 use rl_asks::ShardCore;
-use rl_history::{Done, Naming, Report, ShardReport};
+use rl_history::{Done, Report, ShardReport};
 use rl_io::Gate;
 use rl_ops::Ops;
 use rl_place::Place;
@@ -55,11 +55,11 @@ fn parts_of(alloc: Global, mut ends: Vec<Closed>) -> Result<Vec<ShardReport>, Ou
 
 /// Runs all calls of a placement's ranks, a thread for each rank, and gives the report.
 ///
-/// `C` is the core of the placement's kind of lock, under which a get alone is a tenure by a writer as the report has it; none of the calls
-/// is in a batch where the core does none. Each shard is a window that the threads share, each rank has a caller with a seat at each
-/// shard, and the gate stands at the callers' blocks and steps. The report tells of a history that one thread could have made, which
-/// holds all calls of each rank, once and in its order; which of several it is depends on how the threads come to their steps. It
-/// waits for its threads. Refused only for want of memory, which is asked for before the first step and after the last.
+/// `C` is the core of the placement's lock: it stands on the lock on which the placement's stands, and a get alone is a tenure under it where
+/// the report counts one; none of the calls is in a batch where the core does none. Each shard is a window that the threads share, each rank
+/// has a caller with a seat at each shard, and the gate stands at the callers' blocks and steps. The report tells of a history that one
+/// thread could have made, which holds all calls of each rank, once and in its order; which of several it is depends on how the threads
+/// come to their steps. It waits for its threads. Refused only for want of memory, which is asked for before the first step and after the last.
 pub fn run_all<C: ShardCore + Send + Sync, G: Gate, R: Threads + Wait + Sync>(
     rt: &R,
     alloc: Global,
@@ -71,34 +71,14 @@ where
     C::View: Send + Sync,
     requires proper { IsProper place.now }
     requires knobs { C.suits_knobs (shape_of place.now) (knobs_of place.now.lock) }
-    requires kind { C.name ≡ name_of place.now.lock }
-    requires readers { C.spares (readers_share C.name) ≡ readers_share C.name }
+    requires kind { C.name ≡ lock_under (name_of place.now.lock) }
+    requires gets { C.spares (readers_share C.name) ≡ spares_gets (name_of place.now.lock) }
     requires batches { C.batches ≡ false → (k i : ℕ) → slice_index (get_or ops.sizes k []) i ≤ 1 }
     requires calls { OpsFit (length place.now.paths) place.now.geom.shards ops }
     ensures lawful { IfOk result (λ report. IsLawful place.now ops report) }
 {
-    let shape = place.shape(alloc)?;
-    let naming = Naming::of(alloc, place)?;
-    let queues = naming.queues.as_slice().len() as u32;
     let done = all_dones(alloc, &ops)?;
-    let homes = place.homes.as_slice();
-    let (shards, rows) = open_all::<C>(
-        alloc,
-        &shape,
-        place.knobs(),
-        place.geom,
-        homes,
-        &ops,
-        queues,
-    )?;
-    let Ops { by_rank, sizes } = ops;
-    let callers = callers_of::<C>(
-        alloc,
-        place.geom,
-        by_rank.into_vec(),
-        sizes.into_vec(),
-        rows,
-    )?;
+    let (shards, callers) = begin_all::<C>(alloc, place, ops)?;
     let ends = run_callers(rt, alloc, shards, callers, gate)?;
     let parts = parts_of(alloc, ends)?;
     Ok(Report {

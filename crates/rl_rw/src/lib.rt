@@ -17,6 +17,3 @@ mod view;
 
 pub use rw::Rw;
 pub use view::RwView;
-
-#[cfg(test)]
-mod tests;

@@ -4,7 +4,6 @@ use Rattle.std.specs.FinMap as finite
 use Rattle.std.proofs.Common.{arith}
 use Rattle.rl_word.specs.Acts.{Layout}
 use Rattle.rl_word.specs.declared.acts.Atom.{Atom}
-use Rattle.rl_model.specs.Geom.{GeomFits}
 use Rattle.rl_step.specs.declared.events.Event.{Event}
 use Rattle.rl_step.specs.declared.events.Stepped.{Stepped}
 use Rattle.rl_step.specs.Lock.{Deed}
@@ -43,9 +42,6 @@ module _ (V : Type 0) (T : ShardTable V) (good : TheWindow → List V → List E
       let f = laws.fits held is.views is.trace is.acts is.is_good in
       omega arith
 
-  pub left_some : 1 < length words
-  left_some = let a = left_all in omega arith
-
   -- the words of a place are there, and say its entry
   pub left_low : (at : ℕ) → at < length (journal_at T words) → journal_base T.site.geom + 6 * at + 6 ≤ length words
   left_low at there =
@@ -62,12 +58,6 @@ module _ (V : Type 0) (T : ShardTable V) (good : TheWindow → List V → List E
   pub left_part : (at : ℕ) → at < length (journal_at T words) → slice_index words (journal_base T.site.geom + 6 * at + 1) / 2048 < 2 ^ 32
   left_part at there = part_fits T.site words left_short T.site.geom left_legal at there
 
-  -- the volume is there, and is that of the table after the journal
-  pub left_fits : GeomFits T.site.geom
-  left_fits = laws.geom_fits held is.views is.trace is.acts is.is_good
-
-  pub left_long : 2 + volume_words T.site.geom ≤ length words
-  left_long = let a = left_all in omega arith
-
+  -- the volume is that of the table after the journal
   pub left_volume : IsVolume T.site.geom T.site.shard (take (volume_words T.site.geom) (drop 2 words)) (table_after T.site.geom finite.empty (journal_at T words))
   left_volume = laws.volume_left held is.views is.trace is.acts is.is_good is.closed

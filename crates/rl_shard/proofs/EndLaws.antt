@@ -30,7 +30,7 @@ use Rattle.rl_asks.specs.ShardLaws.{ShardCoreLaws, IsSeated, AllShut}
 use Rattle.rl_shard.specs.declared.counting.CountedView.{CountedView}
 use Rattle.rl_shard.specs.Tallies.{full, tally_at}
 use Rattle.rl_shard.specs.Queues.{is_had_by, settled_if, tenures_of, AreTallied}
-use Rattle.rl_shard.specs.Counting.{whole_of, settled_by, passed_by, IsFull, ComeTo, CountGood}
+use Rattle.rl_shard.specs.Counting.{whole_of, settled_by, passed_by, AnyFull, ComeTo, CountGood}
 use Rattle.rl_shard.specs.CountingLaws as counting
 use Rattle.rl_shard.specs.Closing.{entries_in}
 use Rattle.rl_shard.proofs.Tenures.{only_if, sum_same, rank_tenures, element_tenures, had_all}
@@ -39,7 +39,7 @@ use Rattle.rl_shard.proofs.Tenures.{only_if, sum_same, rank_tenures, element_ten
 exact : {V : Type 0} (f : CountedView V → ℕ) (vs : List (CountedView V)) (n : ℕ) → ComeTo f vs n → sum_by f vs < full → sum_by f vs ≡ n
 exact f vs n come low =
     ⊎_elim
-    (λ (w : IsFull f vs).
+    (λ (w : AnyFull f vs).
     let most = get_or-le-sum_by f vs w.rank w.view (slice_get_within vs w.rank w.view w.has) in
     let here : f (get_or vs w.rank w.view) ≡ f w.view = ap f (get_or_from_slice_get vs w.rank w.view w.view w.has) in
     let high = w.is_full in

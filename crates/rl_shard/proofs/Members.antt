@@ -4,12 +4,12 @@ use Rattle.std.specs.Prelude.{nat_lt, if◌then◌else◌}
 use Rattle.std.proofs.lemmas.Option.{same_Some, slice_get_within}
 use Rattle.std.proofs.lemmas.Bool.Decides.{nat_tests}
 use Rattle.rl_word.specs.declared.locks.LockName.{LockName}
-use Rattle.rl_word.specs.declared.locks.LockName.TheVariants.{Spin, Dmcs, Alock, Mcs, Rw}
+use Rattle.rl_word.specs.declared.locks.LockName.TheVariants.{Spin, Dmcs, Alock, Mcs, Rw, Seq, Combine}
 use Rattle.rl_word.specs.declared.shapes.Element.{Element}
 use Rattle.rl_word.specs.declared.shapes.Knobs.{Knobs}
 use Rattle.rl_word.specs.Shapes.{TheShape}
 use Rattle.rl_step.specs.Queues.{QueueOf}
-use Rattle.rl_step.specs.LockQueues.{queues_of, all_ranks, cohort_queue, same, sits_at, parent_of, is_node, leaf_of, is_at, is_in, element_queue, element_queues}
+use Rattle.rl_step.specs.LockQueues.{queues_of, all_ranks, cohort_queue, cohort_queues, same, sits_at, parent_of, is_node, leaf_of, is_at, is_in, element_queue, element_queues}
 use Rattle.rl_shard.specs.Queues.{AreMembersThere}
 
 both_true : (a b : Bool) → (a && b) ≡ true → a ≡ true
@@ -65,6 +65,18 @@ elements_there shape root =
           subst (λ k. m < k) (sym (elements_length shape root 0 n)) (inner_low shape (0 + q) m (ap (λ z. z.of_ranks) at ∙ elements) (ap (λ z. z.members m) at ∙ is));
     }
 
+cohorts_there : (shape : TheShape) (home : ℕ) (knobs : Knobs) → AreMembersThere (cohort_queues shape home knobs) (length shape.node_of)
+cohorts_there shape home knobs = record { of_ranks = λ q m d e ranks is. one q m d e is; of_elements = λ q m d e elements is. none q d e elements } where
+  one : (q m : ℕ) (d : QueueOf) → slice_get (cohort_queues shape home knobs) q ≡ Some d → d.members m ≡ true → m < length shape.node_of
+  one zero m d e is = rank_queue (length shape.node_of) m d (cohort_queue home shape.node_of true knobs.local) (same_Some _ _ e) refl (cohort_low home shape.node_of true knobs.local) is
+  one (suc zero) m d e is = rank_queue (length shape.node_of) m d (cohort_queue home shape.node_of false knobs.remote) (same_Some _ _ e) refl (cohort_low home shape.node_of false knobs.remote) is
+  one (suc (suc q)) m d e is = cc
+
+  none : {B : Type 0} (q : ℕ) (d : QueueOf) → slice_get (cohort_queues shape home knobs) q ≡ Some d → d.of_ranks ≡ false → B
+  none zero d e other = no_elements d (cohort_queue home shape.node_of true knobs.local) (same_Some _ _ e) refl other
+  none (suc zero) d e other = no_elements d (cohort_queue home shape.node_of false knobs.remote) (same_Some _ _ e) refl other
+  none (suc (suc q)) d e other = cc
+
 pub members_there : (name : LockName) (shape : TheShape) (home : ℕ) (knobs : Knobs) → AreMembersThere (queues_of name shape home knobs) (length shape.node_of)
 members_there Spin shape home knobs = record { of_ranks = λ q m d e ranks is. cc; of_elements = λ q m d e elements is. cc }
 members_there Dmcs shape home knobs = record { of_ranks = λ q m d e ranks is. one q m d e is; of_elements = λ q m d e elements is. none q d e elements } where
@@ -78,15 +90,8 @@ members_there Dmcs shape home knobs = record { of_ranks = λ q m d e ranks is. o
   none : {B : Type 0} (q : ℕ) (d : QueueOf) → slice_get (all_ranks (length shape.node_of) ∷ []) q ≡ Some d → d.of_ranks ≡ false → B
   none zero d e other = no_elements d (all_ranks (length shape.node_of)) (same_Some _ _ e) refl other
   none (suc q) d e other = cc
-members_there Alock shape home knobs = record { of_ranks = λ q m d e ranks is. one q m d e is; of_elements = λ q m d e elements is. none q d e elements } where
-  one : (q m : ℕ) (d : QueueOf) → slice_get (cohort_queue home shape.node_of true knobs.local ∷ cohort_queue home shape.node_of false knobs.remote ∷ []) q ≡ Some d → d.members m ≡ true → m < length shape.node_of
-  one zero m d e is = rank_queue (length shape.node_of) m d (cohort_queue home shape.node_of true knobs.local) (same_Some _ _ e) refl (cohort_low home shape.node_of true knobs.local) is
-  one (suc zero) m d e is = rank_queue (length shape.node_of) m d (cohort_queue home shape.node_of false knobs.remote) (same_Some _ _ e) refl (cohort_low home shape.node_of false knobs.remote) is
-  one (suc (suc q)) m d e is = cc
-
-  none : {B : Type 0} (q : ℕ) (d : QueueOf) → slice_get (cohort_queue home shape.node_of true knobs.local ∷ cohort_queue home shape.node_of false knobs.remote ∷ []) q ≡ Some d → d.of_ranks ≡ false → B
-  none zero d e other = no_elements d (cohort_queue home shape.node_of true knobs.local) (same_Some _ _ e) refl other
-  none (suc zero) d e other = no_elements d (cohort_queue home shape.node_of false knobs.remote) (same_Some _ _ e) refl other
-  none (suc (suc q)) d e other = cc
+members_there Alock shape home knobs = cohorts_there shape home knobs
 members_there Mcs shape home knobs = elements_there shape None
 members_there Rw shape home knobs = elements_there shape (Some knobs.writers)
+members_there Seq shape home knobs = cohorts_there shape home knobs
+members_there Combine shape home knobs = cohorts_there shape home knobs

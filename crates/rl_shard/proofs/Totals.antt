@@ -19,9 +19,6 @@ more_at (x ∷ ts) t (suc q) n e h =
     ⊎_elim (λ p. inl (let a = p.0 in omega arith, p.1)) (λ p. inr (let a = p.0 in omega arith, p.1)) (more_at ts t q (length ts) refl (omega arith))
 
 module _ {C V : Type 0} (seats : List (Seat C V)) where
-  pub no_totals : (ts : List Tally) → ts ≡ [] → AreTotals seats 0 ts
-  no_totals ts e = record { each = ap length e; settled_are = λ q h. absurd (omega arith); passed_are = λ q h. absurd (omega arith) }
-
   pub totals_more : (n : ℕ) (ts : List Tally) (t : Tally) → AreTotals seats n ts → t.settled ≡ min (all_settled n seats) full → t.passed ≡ min (all_passed n seats) full → t.settled ≢ full → t.passed ≢ full → AreTotals seats (n + 1) (ts ++ t ∷ [])
   totals_more n ts t so_far s p sn pn =
       let each = so_far.each in

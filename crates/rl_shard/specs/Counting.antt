@@ -43,7 +43,7 @@ module _ {V : Type 0} where
   counted_table K = record { next = λ x. K.next x.whole; after = counted_after K; size = K.size; home = K.home }
 
   -- some rank's count is full
-  pub record IsFull (count : CountedView V → ℕ) (vs : List (CountedView V)) : Type 0 where
+  pub record AnyFull (count : CountedView V → ℕ) (vs : List (CountedView V)) : Type 0 where
     pub rank : ℕ
     pub view : CountedView V
     pub has : slice_get vs rank ≡ Some view
@@ -51,11 +51,11 @@ module _ {V : Type 0} where
 
   -- the counts of all ranks come to this number; unless one is full
   abbrev pub ComeTo : (CountedView V → ℕ) → List (CountedView V) → ℕ → Type 0
-  ComeTo count vs n = IsFull count vs ⊎ (sum_by count vs ≡ n)
+  ComeTo count vs n = AnyFull count vs ⊎ (sum_by count vs ≡ n)
 
   -- some rank's count of the queue is full, that of its settlements or that of its passes
   abbrev pub HasFullCount : ℕ → List (CountedView V) → Type 0
-  HasFullCount q vs = IsFull (settled_by q) vs ⊎ IsFull (passed_by q) vs
+  HasFullCount q vs = AnyFull (settled_by q) vs ⊎ AnyFull (passed_by q) vs
 
   -- The ranks' counts keep the budgets: all ranks together have counted, of each queue that has a budget, at most so many passes for each
   -- settlement; unless a count of the queue is full, and so has stood still.

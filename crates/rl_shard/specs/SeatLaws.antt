@@ -90,18 +90,18 @@ module _ (C V : Type 0) (table : C → ShardTable V) (good : GoodOf C V) (cause 
     the_table = table_at table shard
 
     -- some state under the rule has the seat's view at its rank
-    pub record IsSeen : Type 0 where
+    pub record SeenState : Type 0 where
       pub held : TheWindow
       pub views : List (CountedView V)
       pub is_ruled : CountGood the_table (good (core_at shard)) (layout (core_at shard)) held views
       pub has : slice_get views (rank_at s) ≡ Some (counted_at s)
 
-    pub seen : IsSeen
+    pub seen : SeenState
     seen =
         let at = seat_may_be (counting_rule table good layout) shard.window s.seat is.seat is.kept in
         record { held = at.0.held; views = at.0.views; is_ruled = at.0.is_ruled.0; has = subst (λ n. slice_get at.0.views n ≡ Some (counted_at s)) at.1 at.0.has }
 
-    pub seen_seated : (q : IsSeen) → IsSeated the_table (good (core_at shard)) q.held (map whole_of q.views) q.is_ruled.trace q.is_ruled.acts (rank_at s) (view_at s)
+    pub seen_seated : (q : SeenState) → IsSeated the_table (good (core_at shard)) q.held (map whole_of q.views) q.is_ruled.trace q.is_ruled.acts (rank_at s) (view_at s)
     seen_seated q = counting.seated V the_table (good (core_at shard)) (cause (core_at shard)) (further (core_at shard)) (layout (core_at shard)) (laws (core_at shard)) q.held q.views (rank_at s) (counted_at s) q.is_ruled q.has
 
     seat_desk : IsDeskOf the_table.site (rank_at s) (desk_at table shard s)

@@ -11,7 +11,7 @@ use Rattle.rl_step.specs.declared.tallies.Tally.{Tally}
 use Rattle.rl_step.specs.Queues.{count, settles, passes, settled, passed}
 use Rattle.rl_shard.specs.declared.counting.CountedView.{CountedView}
 use Rattle.rl_shard.specs.Tallies.{full, raised, tally_at, settled_once, passed_once, noted, all_noted}
-use Rattle.rl_shard.specs.Counting.{IsFull, ComeTo}
+use Rattle.rl_shard.specs.Counting.{AnyFull, ComeTo}
 
 -- a count goes from n to m by so much, unless it is full then
 abbrev pub Rises : ℕ → ℕ → ℕ → Type 0
@@ -118,7 +118,7 @@ come_to_more f vs r x y n d has rises sum =
     ⊎_elim
     (λ (high : full ≤ f y). inl (record { rank = r; view = y; has = new; is_full = high }))
     (λ (is : f y ≡ f x + d). ⊎_elim
-    (λ (w : IsFull f vs). inl (⊎_elim
+    (λ (w : AnyFull f vs). inl (⊎_elim
     (λ (e : w.rank ≡ r). record { rank = r; view = y; has = new; is_full = let h = w.is_full in let same = ap f (one_at vs r w.view x (subst (λ k. slice_get vs k ≡ Some w.view) e w.has) has) in omega arith })
     (λ (ne : w.rank ≢ r). record { rank = w.rank; view = w.view; has = get_set_other vs r w.rank y ne ∙ w.has; is_full = w.is_full })
     (same_or_not w.rank r)))

@@ -3,7 +3,6 @@
 ghost use Rattle.std.specs.Prelude.{◌≡◌, ◌≤◌, ◌<◌, ◌^◌, length, map, replicate, sum, IfOk, IfErr, vec_len};
 ghost use Rattle.rl_model.specs.Geom.{GeomFits};
 ghost use Rattle.rl_word.specs.Shapes.{IsProper, layout_of};
-ghost use Rattle.rl_step.specs.Lock.{HandsOn};
 ghost use Rattle.rl_step.specs.LockQueues.{queues_of};
 ghost use Rattle.rl_asks.specs.ShardTables.{site_with};
 ghost use Rattle.rl_window.specs.Seats.{HasSeats};
@@ -59,7 +58,6 @@ impl<C: ShardCore> Shard<C> {
         requires updates { (vec_len room.updates ≡ length shape.now.node_of) × (sum room.updates.items ≤ 20000) }
         requires queues { queues ≡ length (queues_of C.name shape.now home knobs) }
         ensures core { IfOk result (λ p. table_at C.shard_table p.0 ≡ C.defined shape.now home knobs (site_with geom shard room.updates.items)) }
-        ensures promised { IfOk result (λ p. HandsOn (C.further (core_at p.0)) (C.promised shape.now home knobs)) }
         ensures layout { IfOk result (λ p. C.layout (core_at p.0) ≡ layout_of shape.now) }
         ensures shard { IfOk result (λ p. IsShardOf C.shard_table (length shape.now.node_of) p.0) }
         ensures seats { IfOk result (λ p. AreOf C.shard_table C.good C.layout p.0 p.1.items) }

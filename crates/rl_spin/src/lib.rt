@@ -17,6 +17,3 @@ mod view;
 
 pub use spin::Spin;
 pub use view::{Phase, SpinView};
-
-#[cfg(test)]
-mod tests;

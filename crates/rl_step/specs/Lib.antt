@@ -17,5 +17,3 @@ pub mod LockLemmas
 pub mod OvertakingLaws
 pub mod BatchLaws
 pub mod CoreLemmas
--- a core for tests
-pub mod Loader

@@ -1,7 +1,7 @@
 -- The queues of each lock, by its name, the shape, the shard's home and the settings: their members and their budgets.
 use Rattle.std.specs.Prelude.{ℕ, zero, suc, ◌+◌, ◌==◌, ◌&&◌, ◌||◌, Bool, true, false, not, List, [], ◌∷◌, length, nat_lt, if◌then◌else◌, slice_get, slice_index, Option, Some, None}
 use Rattle.rl_word.specs.declared.locks.LockName.{LockName}
-use Rattle.rl_word.specs.declared.locks.LockName.TheVariants.{Spin, Dmcs, Alock, Mcs, Rw}
+use Rattle.rl_word.specs.declared.locks.LockName.TheVariants.{Spin, Dmcs, Alock, Mcs, Rw, Seq, Combine}
 use Rattle.rl_word.specs.declared.shapes.Element.{Element}
 use Rattle.rl_word.specs.declared.shapes.Knobs.{Knobs}
 use Rattle.rl_word.specs.Shapes.{TheShape}
@@ -68,14 +68,20 @@ abbrev pub element_queues : TheShape → Option ℕ → ℕ → ℕ → List Que
 element_queues shape root from zero = []
 element_queues shape root from (suc n) = element_queue shape root from ∷ element_queues shape root (from + 1) n
 
--- The queues of a lock by number. A spin lock has none; D-MCS has one of all ranks; ALock has one of the ranks at home and one of
--- the others; the trees have one for each element, and the root's has no budget but under RMA-RW.
+-- ALock's queues: of the ranks at home, and of the others
+abbrev pub cohort_queues : TheShape → ℕ → Knobs → List QueueOf
+cohort_queues shape home knobs = cohort_queue home shape.node_of true knobs.local ∷ cohort_queue home shape.node_of false knobs.remote ∷ []
+
+-- The queues of a lock by number. A spin lock has none; D-MCS has one of all ranks; ALock has two cohorts, and so have optimistic readers and
+-- flat combining, which stand on it; the trees have one for each element, and the root's has no budget but under RMA-RW.
 abbrev pub queues_of : LockName → TheShape → ℕ → Knobs → List QueueOf
 queues_of Spin shape home knobs = []
 queues_of Dmcs shape home knobs = all_ranks (length shape.node_of) ∷ []
-queues_of Alock shape home knobs = cohort_queue home shape.node_of true knobs.local ∷ cohort_queue home shape.node_of false knobs.remote ∷ []
+queues_of Alock shape home knobs = cohort_queues shape home knobs
 queues_of Mcs shape home knobs = element_queues shape None 0 (length shape.elements)
 queues_of Rw shape home knobs = element_queues shape (Some knobs.writers) 0 (length shape.elements)
+queues_of Seq shape home knobs = cohort_queues shape home knobs
+queues_of Combine shape home knobs = cohort_queues shape home knobs
 
 -- the budget of a queue that there is
 abbrev pub budget_if : Option QueueOf → Option ℕ
@@ -92,3 +98,35 @@ readers_share Dmcs = false
 readers_share Alock = false
 readers_share Mcs = false
 readers_share Rw = true
+readers_share Seq = false
+readers_share Combine = false
+
+-- the lock that is asked for: optimistic readers and flat combining stand on ALock
+abbrev pub lock_under : LockName → LockName
+lock_under Spin = Spin
+lock_under Dmcs = Dmcs
+lock_under Alock = Alock
+lock_under Mcs = Mcs
+lock_under Rw = Rw
+lock_under Seq = Alock
+lock_under Combine = Alock
+
+-- a get alone is no tenure of a queue: under RMA-RW readers are in no queue, and optimistic readers take no lock
+abbrev pub spares_gets : LockName → Bool
+spares_gets Spin = false
+spares_gets Dmcs = false
+spares_gets Alock = false
+spares_gets Mcs = false
+spares_gets Rw = true
+spares_gets Seq = true
+spares_gets Combine = false
+
+-- a block may be a batch: in flat combining each call is done by itself
+abbrev pub does_batches : LockName → Bool
+does_batches Spin = true
+does_batches Dmcs = true
+does_batches Alock = true
+does_batches Mcs = true
+does_batches Rw = true
+does_batches Seq = true
+does_batches Combine = false

@@ -27,6 +27,3 @@ pub use flat::{Flat, FlatPort, advance_flat};
 pub use port::{Port, advance};
 pub use tallies::{Steps, Tally};
 pub use words::Words;
-
-#[cfg(test)]
-mod tests;

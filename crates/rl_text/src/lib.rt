@@ -39,6 +39,3 @@ pub use lines::{Lines, TEXT_LIMIT};
 pub use numbers::number;
 pub use printing::{put_number, put_refusal};
 pub use writing::{write_byte, write_bytes, write_number, write_spaced};
-
-#[cfg(test)]
-mod tests;

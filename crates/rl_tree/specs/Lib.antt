@@ -28,6 +28,4 @@ pub mod TreeMoves
 pub mod TreeRest
 pub mod TreeFits
 pub mod TreeLaws
-pub mod Tower
-pub mod FourRanks
 pub mod SameViews

@@ -30,6 +30,3 @@ pub use rooted::Rooted;
 pub use tree::Tree;
 pub use view::TreeView;
 pub use walk::tree_enter;
-
-#[cfg(test)]
-mod tests;

@@ -1,10 +1,11 @@
 //! What a rank does in the queues on its path.
 
-ghost use Rattle.std.specs.Prelude.{◌≡◌, ℕ, true, false, ◌+◌, ◌<◌, ◌≤◌, ◌++◌, [], List, length};
+ghost use Rattle.std.specs.Prelude.{◌≡◌, ◌↔◌, ◌⊎◌, ℕ, None, true, false, ◌+◌, ◌<◌, ◌≤◌, ◌++◌, [], List, length};
 ghost use Rattle.rl_step.specs.declared.events.Event.{Event as TheEvent};
+ghost use Rattle.rl_step.specs.Lock.{Rests};
 ghost use Rattle.rl_queue.specs.Queue.{full_budget, resume_at};
 ghost use Rattle.rl_queue.specs.Lane.{told_left};
-ghost use Rattle.rl_tree.specs.Tree.{path, is_none, behind_at, leaves_behind, member_at as the_member, inside_from, settles_below, comes_in as the_entry, goes_up as the_rise, gives_up as the_release, goes_down as the_descent, walk as the_walk, tree_plan, tree_learn, at_hook, resume_by, entry_if};
+ghost use Rattle.rl_tree.specs.Tree.{path, is_none, behind_at, leaves_behind, member_at as the_member, inside_from, settles_below, comes_in as the_entry, goes_up as the_rise, gives_up as the_release, goes_down as the_descent, walk as the_walk, tree_plan, tree_standing, tree_learn, at_hook, resume_by, entry_if};
 ghost use Rattle.rl_tree.specs.Elements.{how_many, tree_of};
 ghost use Rattle.rl_tree.specs.Fits.{IsPlaced, MayPlan, MayLearn, StatusFits};
 
@@ -234,7 +235,8 @@ impl Tree {
     #[inline(always)]
     pub fn plan(&self, view: TreeView) -> Option<Act>
         requires { MayPlan self.now.rooted view }
-        ensures { result ≡ tree_plan (tree_of self.now.rooted) view }
+        ensures is { result ≡ tree_plan (tree_of self.now.rooted) view }
+        ensures acts { (result ≡ None) ↔ (Rests (tree_standing view) ⊎ (at_hook view ≡ true)) }
     {
         let member = self.member_at(view.rank, view.leaf, view.level);
         let names = self.names(self.element_at(view.leaf, view.level));

@@ -28,5 +28,7 @@ pub mod CauseLaws
 pub mod IdleLaws
 pub mod RoundLaws
 pub mod Events
+pub mod EventsBy
 pub mod Alone
 pub mod WholeWall
+pub mod AtWork

@@ -1,10 +1,10 @@
 -- A rank's machine over any lock and any way of working keeps the laws of one.
 use Rattle.std.specs.Prelude.{◌≡◌, ◌≢◌, ◌↔◌, ℕ, zero, suc, ◌+◌, ◌-◌, ◌*◌, ◌==◌, ◌^◌, ◌<◌, ◌≤◌, Bool, true, false, List, [], ◌∷◌, ◌++◌, count_by, length, map, take, drop, slice_get, slice_index, slice_set, Option, Some, None, refl}
 use Rattle.std.specs.FinMap as finite
-use Rattle.std.proofs.Common.{sym, ◌∙◌, ap, subst, ⊎_elim, inl, inr, arith}
+use Rattle.std.proofs.Common.{sym, ◌∙◌, ap, subst, ⊎_elim, inl, inr, arith, length-set}
 use Rattle.std.proofs.lemmas.List.{length-map, drop-take, take-take}
-use Rattle.std.proofs.lemmas.Option.{same_Some}
-use Rattle.rl_word.specs.Places.{get_map, get_map_back, map_set}
+use Rattle.std.proofs.lemmas.Option.{same_Some, slice_get_within}
+use Rattle.rl_word.specs.Places.{get_map, get_map_back, get_set_cases, map_set}
 use Rattle.rl_word.specs.Acts.{Layout, word_of, by_card}
 use Rattle.rl_word.specs.Shapes.{TheShape}
 use Rattle.rl_word.specs.declared.shapes.Knobs.{Knobs}
@@ -21,22 +21,23 @@ use Rattle.rl_volume.specs.Words.{volume_words}
 use Rattle.rl_volume.specs.Volume.{IsVolume}
 use Rattle.rl_step.specs.declared.events.Event.{Event}
 use Rattle.rl_step.specs.declared.events.Standing.{Standing}
-use Rattle.rl_step.specs.declared.events.Standing.TheVariants.{Out, Asking, Writer, Reader}
+use Rattle.rl_step.specs.declared.events.Standing.TheVariants.{Out, Asking, Writer, Reader, Leaving}
 use Rattle.rl_step.specs.declared.events.Stepped.{Stepped}
 use Rattle.rl_step.specs.declared.events.Stepped.TheVariants.{Busy, Finished}
-use Rattle.rl_step.specs.Core.{MayBe}
+use Rattle.rl_step.specs.Core.{MayBe, Turned}
 use Rattle.rl_step.specs.Do.{TheWindow, do_atom, do_got}
 use Rattle.rl_step.specs.Exclusion.{IsExclusive, ExclusiveFrom, writers_of, readers_of, nobody}
 use Rattle.rl_step.specs.ExclusionLaws.{exclusive_append, writers_append, readers_append, is_exclusive}
-use Rattle.rl_step.specs.Lock.{LockTable, LockState, Deed, AllOut}
+use Rattle.rl_step.specs.Lock.{LockTable, LockState, Deed, AllOut, Rests}
 use Rattle.rl_step.specs.Queues.{IsFifo, settled, passed, tenures}
 use Rattle.rl_step.specs.QueueLemmas.{within_bound}
 use Rattle.rl_step.specs.QueuePromises.{KeepQueues, KeepBudgets, CountTenures}
 use Rattle.rl_work.specs.Site.{Site, lock_base, places, volume_of}
-use Rattle.rl_work.specs.Ways.{WorkSide, WorkTable, transcripts_from}
+use Rattle.rl_work.specs.Ways.{WorkSide, WorkTable, GoesOnAt, transcripts_from}
 use Rattle.rl_asks.specs.Desks.{Desk, Turns, entries_of}
 use Rattle.rl_asks.specs.Domains.{IsLocalAct}
 use Rattle.rl_asks.specs.Idle.{IsIdle}
+use Rattle.rl_asks.specs.EventRanks.{AreByRanks}
 use Rattle.rl_asks.specs.Standings.{AloneIn, leaves}
 use Rattle.rl_asks.specs.ShardTables.{ShardTable, opening_held, first_views, journal_at, kept_in}
 use Rattle.rl_asks.specs.ShardLaws.{IsLaid, IsSeated, MayOpen, ShardCoreLaws}
@@ -47,8 +48,8 @@ use Rattle.rl_whole.specs.Running.{LockAt, Goods, BothLaws, lock_with, kinds}
 use Rattle.rl_whole.specs.Opening.{first_view, opened_in}
 use Rattle.rl_whole.specs.Split.{lock_of, view_of, home_of, first_at, card_atom, side_atom}
 use Rattle.rl_whole.specs.Whole.{side_of, work_side, split_of, is_open, next_of, after_of, counts, made_deeds, own_desk, told_desk, Good}
-use Rattle.rl_whole.specs.WholeLaws.{keeps_at, laid, next_either, work_at, works_at}
-use Rattle.rl_whole.specs.OpenLaws.{IsFirstView, opening_rule, open_keeps, shut_is_none, none_is_shut, closed_is_out, closed_work}
+use Rattle.rl_whole.specs.WholeLaws.{keeps_at, laid, next_either, after_lock, after_work, work_at, works_at}
+use Rattle.rl_whole.specs.OpenLaws.{IsFirstView, opening_rule, open_keeps, shut_is_none, none_is_shut, closed_is_out, closed_parts, closed_work}
 use Rattle.rl_whole.specs.Changes.{Match, Change, Goes, goes}
 use Rattle.rl_whole.specs.StandLaws.{atom_change, alone_in, asked_change}
 use Rattle.rl_whole.specs.DeskLaws.{first_is_new, told_is, own_is, settled_is, told_opens, own_opens, own_turns, told_turns}
@@ -56,8 +57,9 @@ use Rattle.rl_whole.specs.Domains.{next_card_allowed, next_local_allowed}
 use Rattle.rl_whole.specs.IdleLaws.{held_idle}
 use Rattle.rl_whole.specs.Causes.{Cause}
 use Rattle.rl_whole.specs.CauseLaws.{answer_cause, work_no_take}
-use Rattle.rl_whole.specs.WholeShards.{stand, whole_shard, WholeGood}
+use Rattle.rl_whole.specs.WholeShards.{stand, standing_while, stand_on, IsDoneInCard, whole_shard, WholeGood}
 use Rattle.rl_whole.specs.Events.{all_named, atom_events}
+use Rattle.rl_whole.specs.EventsBy.{by_ranks_more, change_by}
 use Rattle.rl_whole.specs.Alone.{unhindered, take_unshifted}
 
 -- as it is defined its words lie by the site
@@ -172,7 +174,45 @@ module _ (V K : Type 0) (L : LockAt V K) (good : Goods V K) (further : List Even
         };
         exclusive = record { one = λ i j p e. cc; none = λ i j p e. cc };
         named = tt;
+        by_ranks = tt;
+        done = λ r x e o. inl (ap (λ (z : WholeView V K). z.side.card) (first_one L home 0 rooms r x e));
       }
+
+  -- a rank comes out of the lock only from leaving it, where its block is over
+  shut_by : (r : ℕ) (st : Standing) (b : Bool) (next : Option Atom) (es : List Event) → Change r st Out es → GoesOnAt st b next → (st ≡ Out → b ≡ false) → b ≡ false
+  shut_by r Out b next es c at out = out refl
+  shut_by r Asking b next es c at out = absurd c
+  shut_by r Writer b next es c at out = absurd c
+  shut_by r Reader b next es c at out = absurd c
+  shut_by r Leaving b next es c at out = at
+
+  -- so who is only in a card yet stays done
+  done_after : (h : TheWindow) (vs : List (WholeView V K)) (t : List Event) (ds : List Deed) (r : ℕ) (x : WholeView V K) (at : Atom) → IsSeated T G h vs t ds r x → next_of L x ≡ Some at → IsDoneInCard L (after_of L x (do_got at h.words h.cards)).view
+  done_after h vs t ds r x at s e out =
+      let g = s.is_good in
+      let got : ℕ = do_got at h.words h.cards in
+      let es : List Event = (after_of L x got).events in
+      ⊎_elim
+      (λ q.
+      let planned_none : stand L.table x ≡ Out → L.table.plan x.side.view ≡ None = λ was.
+      (laws.lock.rests (locked h vs g.rule) r x.side.view g.rule.lock_part.lock (get_map view_of (map side_of vs) r x.side (get_map side_of vs r x s.has))).1 (subst Rests (sym was) tt) in
+      let was_shut : stand L.table x ≡ Out → L.work.is_open x.work ≡ false = λ was. ⊎_elim
+      (λ free.
+      let none : side_atom L.table x.side ≡ None = ap (λ p. card_atom L.table p x.side.card) (planned_none was) ∙ ap (card_atom L.table None) free in
+      let some = q.1 in
+      absurd (cc))
+      (λ shut. shut)
+      (g.done r x s.has was) in
+      let same : x.work ≡ (after_of L x got).view.work = (after_lock V K L good further layout laws home x q.0 at got q.1).1 in
+      inr (ap L.work.is_open (sym same)
+      ∙ shut_by r (stand L.table x) (L.work.is_open x.work) (L.work.next r x.work) es
+      (subst (λ z. Change r (stand L.table x) z es) out (atom_change V K L good further layout laws home h vs r x at g.rule s.has e))
+      (laws.work.goes_on h.words (map (work_side L.table) vs) r (work_side L.table x) (work_at V K L good further layout laws home h vs g.rule r x s.has)) was_shut))
+      (λ q. inl (ap (λ (z : Turned (WholeView V K)). z.view.side.card) (after_work V K L good further layout laws home h vs g.rule r x s.has q.0 got)))
+      (next_either V K L good further layout laws home x at e)
+
+  done_set : (vs : List (WholeView V K)) (r : ℕ) (y : WholeView V K) → ((i : ℕ) (u : WholeView V K) → slice_get vs i ≡ Some u → IsDoneInCard L u) → IsDoneInCard L y → (i : ℕ) (u : WholeView V K) → slice_get (slice_set vs r y) i ≡ Some u → IsDoneInCard L u
+  done_set vs r y done here i u e = ⊎_elim (λ q. subst (IsDoneInCard L) (sym q.1) here) (λ q. done i u q.1) (get_set_cases vs r i y u e)
 
   atom_keeps : (h : TheWindow) (vs : List (WholeView V K)) (t : List Event) (ds : List Deed) (r : ℕ) (x : WholeView V K) (at : Atom) → IsSeated T G h vs t ds r x → next_of L x ≡ Some at →
       G (do_atom r at h) (slice_set vs r (after_of L x (do_got at h.words h.cards)).view) (t ++ (after_of L x (do_got at h.words h.cards)).events) (ds ++ made_deeds L.table x (do_got at h.words h.cards))
@@ -194,6 +234,10 @@ module _ (V K : Type 0) (L : LockAt V K) (good : Goods V K) (further : List Even
             (subst (Match (writers_of (writers_of nobody t) es) (readers_of (readers_of nobody t) es)) (sym (map_set (stand L.table) vs r y)) went.match));
         exclusive = exclusive_append nobody nobody t es g.exclusive went.exclusive;
         named = all_named L.table.queues L.table.cohort t es g.named (atom_events V K L good further layout laws home h vs r x at g.rule s.has e).named;
+        by_ranks = subst (λ n. AreByRanks n (t ++ es)) (sym (length-set vs r y))
+            (by_ranks_more (length vs) t es g.by_ranks
+            (change_by (length vs) r (stand L.table x) (stand L.table y) es (slice_get_within vs r x s.has) (atom_change V K L good further layout laws home h vs r x at g.rule s.has e)));
+        done = done_set vs r y g.done (done_after h vs t ds r x at s e);
       }
 
   open_good : (h : TheWindow) (vs : List (WholeView V K)) (t : List Event) (ds : List Deed) (r : ℕ) (x : WholeView V K) (calls : List Call) (seq : ℕ) → IsSeated T G h vs t ds r x → MayOpen T r x calls seq →
@@ -214,7 +258,37 @@ module _ (V K : Type 0) (L : LockAt V K) (good : Goods V K) (further : List Even
         match = subst (Match (writers_of nobody t) (readers_of nobody t)) (sym (map_set (stand L.table) vs r y)) went.match;
         exclusive = g.exclusive;
         named = g.named;
+        by_ranks = subst (λ n. AreByRanks n t) (sym (length-set vs r y)) g.by_ranks;
+        done = done_set vs r y g.done (λ out. inl (closed_parts V K L good further layout laws home h vs r x g.rule s.has (shut_is_none V K L good further layout laws home x (may h vs t ds r x s) o.shut)).1);
       }
+
+  -- whoever stands as a holder on the shard stands so at the lock
+  writer_at : (st : Standing) (b : Bool) → standing_while st b ≡ Writer → st ≡ Writer
+  writer_at Out true e = cc
+  writer_at Out false e = cc
+  writer_at Asking b e = cc
+  writer_at Writer b e = refl
+  writer_at Reader b e = cc
+  writer_at Leaving b e = cc
+
+  reader_at : (st : Standing) (b : Bool) → standing_while st b ≡ Reader → st ≡ Reader
+  reader_at Out true e = cc
+  reader_at Out false e = cc
+  reader_at Asking b e = cc
+  reader_at Writer b e = cc
+  reader_at Reader b e = refl
+  reader_at Leaving b e = cc
+
+  alone_on : (h : TheWindow) (vs : List (WholeView V K)) → Good L good layout h vs → AloneIn (map (stand_on L) vs)
+  alone_on h vs g =
+      let a : AloneIn (map (stand L.table) vs) = alone_in V K L good further layout laws home h vs g in
+      let writer : (i : ℕ) → slice_get (map (stand_on L) vs) i ≡ Some Writer → slice_get (map (stand L.table) vs) i ≡ Some Writer = λ i e.
+      let x = get_map_back (stand_on L) vs i Writer e in
+      get_map (stand L.table) vs i x.0 x.1 ∙ ap (λ z. Some z) (writer_at (stand L.table x.0) (L.work.is_open x.0.work) x.2) in
+      let reader : (i : ℕ) → slice_get (map (stand_on L) vs) i ≡ Some Reader → slice_get (map (stand L.table) vs) i ≡ Some Reader = λ i e.
+      let x = get_map_back (stand_on L) vs i Reader e in
+      get_map (stand L.table) vs i x.0 x.1 ∙ ap (λ z. Some z) (reader_at (stand L.table x.0) (L.work.is_open x.0.work) x.2) in
+      record { one = λ i j p q. a.one i j (writer i p) (writer j q); none = λ i j p q. a.none i j (writer i p) (reader j q) }
 
   none_open : (h : TheWindow) (vs : List (WholeView V K)) (t : List Event) (ds : List Deed) (r : ℕ) (x : WholeView V K) → IsSeated T G h vs t ds r x → is_open L x ≡ false → next_of L x ≡ None
   none_open h vs t ds r x s shut = shut_is_none V K L good further layout laws home x (may h vs t ds r x s) shut
@@ -327,7 +401,7 @@ module _ (V K : Type 0) (L : LockAt V K) (good : Goods V K) (further : List Even
         turns_own = λ h vs t ds r x at s e. own_turns V K L good further layout laws home h vs r x s.is_good.rule s.has at e;
         turns_told = λ h vs t ds r x at s e. told_turns V K L good further layout laws home h vs r x s.is_good.rule s.has at e;
         exclusive = λ h vs t ds g. is_exclusive t g.exclusive;
-        alone_in = λ h vs t ds g. alone_in V K L good further layout laws home h vs g.rule;
+        alone_in = λ h vs t ds g. alone_on h vs g.rule;
         legal = legal;
         sorted = sorted;
         short = short;
@@ -336,6 +410,7 @@ module _ (V K : Type 0) (L : LockAt V K) (good : Goods V K) (further : List Even
         counted = counted;
         left_as = left_count;
         named = λ h vs t ds g. g.named;
+        by_ranks = λ h vs t ds g. g.by_ranks;
         orders = λ h vs t ds r x at s e. let a = atom_events V K L good further layout laws home h vs r x at s.is_good.rule s.has e in (a.order, a.few);
         cards = λ h vs t ds r x at s e kind. subst (λ n. (a : Act) × (by_card a ≡ true) × (L.table.may_make n a ≡ true)) (s.is_good.rule.own r x s.has) (next_card_allowed V K L good further layout laws home x at (may h vs t ds r x s) e kind);
         locals = λ h vs t ds r x at s e kind. subst (λ n. (a : Act) × IsLocalAct a × (L.table.may_make n a ≡ true)) (s.is_good.rule.own r x s.has) (next_local_allowed V K L good further layout laws home x at (may h vs t ds r x s) e kind);

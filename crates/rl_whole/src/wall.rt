@@ -1,6 +1,6 @@
 //! A rank's machine over any lock and any way of working, as machines, shards, seats and callers use it.
 
-ghost use Rattle.std.specs.Prelude.{refl, ◌+◌};
+ghost use Rattle.std.specs.Prelude.{◌≡◌, refl, ◌+◌};
 ghost use Rattle.std.proofs.Common.{ap, ◌∙◌};
 ghost use Rattle.rl_journal.specs.Blocks.{is_tenure};
 ghost use Rattle.rl_work.specs.Site.{lock_base};
@@ -8,7 +8,7 @@ ghost use Rattle.rl_whole.specs.Causes.{Cause};
 ghost use Rattle.rl_whole.specs.Running.{lock_at, tables, goods, good_at, lock_with, kinds};
 ghost use Rattle.rl_whole.specs.DeskLaws.{keeps_all};
 ghost use Rattle.rl_whole.specs.SeenLoads.{with_lock};
-ghost use Rattle.rl_whole.specs.WholeShards.{whole_shard, WholeGood};
+ghost use Rattle.rl_whole.specs.WholeShards.{standing_while, whole_shard, WholeGood};
 ghost use Rattle.rl_whole.specs.WholeWall.{whole_shard_laws, laid_with};
 
 use crate::idle::waits;
@@ -20,6 +20,18 @@ use rl_step::{Algo, Standing, Stepped, Words};
 use rl_word::{Knobs, Shape};
 use rl_work::{KeepsOwn, Work};
 use std::alloc::{AllocError as OutOfMemory, Global};
+
+/// How a rank stands on the shard that is out of the lock: it is asking while its block is open.
+#[inline(always)]
+fn standing_out(busy: bool) -> Standing
+    ensures { result ≡ standing_while Standing.Out busy }
+{
+    if busy {
+        Standing::Asking
+    } else {
+        Standing::Out
+    }
+}
 
 impl<A: Algo, W: Work> ShardCore for Whole<A, W> {
     ghost shard_table = { λ c. whole_shard (lock_at (tables A.table W.table) c) c.home };
@@ -117,7 +129,10 @@ impl<A: Algo, W: Work> ShardCore for Whole<A, W> {
 
     #[inline(always)]
     fn standing(&self, view: &WholeView<A::View, W::Side>) -> Standing {
-        self.algo.standing(view.side.view)
+        match self.algo.standing(view.side.view) {
+            Standing::Out => standing_out(self.work.is_open(&view.work)),
+            standing => standing,
+        }
     }
 
     fn card(&self, view: &WholeView<A::View, W::Side>) -> Option<u32> {

@@ -4,8 +4,6 @@ pub mod Joins
 pub mod Kept
 pub mod Made
 pub mod Opened
-pub mod PairLaws
-pub mod RoundBegins
 pub mod RootSeats
 pub mod SplitOff
 pub mod Splits

@@ -6,5 +6,3 @@ pub mod Ports
 -- proved; skip at first
 pub mod AtomLengths
 pub mod SeatLemmas
--- a core for tests
-pub mod Rounds

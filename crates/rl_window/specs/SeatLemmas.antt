@@ -1,17 +1,17 @@
 -- Lemmas on the seats of a window: views that are changed as the rule allows, ports, and all seats where one goes on.
 use Rattle.std.specs.Prelude.{◌≡◌, ℕ, List, [], slice_get, slice_set, Some, refl}
-use Rattle.std.proofs.Common.{sym, subst, ap, ◌∙◌, set-set, ⊎_elim, length-set}
+use Rattle.std.proofs.Common.{sym, subst, ap, ◌∙◌, set-set}
 use Rattle.atomic_table.specs.Table.{Me}
-use Rattle.rl_word.specs.Places.{get_set_same, get_set_cases, set_same_get}
+use Rattle.rl_word.specs.Places.{get_set_same, set_same_get}
 use Rattle.rl_step.specs.Do.{TheWindow}
 use Rattle.rl_step.specs.Core.{CoreTable, MayBe}
 use Rattle.rl_window.specs.declared.knows.Knows.{Knows}
-use Rattle.rl_window.specs.declared.knows.Knows.TheVariants.{Root, Rank}
+use Rattle.rl_window.specs.declared.knows.Knows.TheVariants.{Rank}
 use Rattle.rl_window.specs.declared.window.Window.{Window}
 use Rattle.rl_window.specs.declared.window.WinSeat.{WinSeat}
 use Rattle.rl_window.specs.Rule.{sized, MayBeAt, MayGetAt, Keeps}
 use Rattle.rl_window.specs.Plays.{last_of, steps_of}
-use Rattle.rl_window.specs.Seats.{last_view, IsSeatOf, IsKept, IsAll, AreNew, AreKept, all_given, table_steps, with_view}
+use Rattle.rl_window.specs.Seats.{last_view, IsSeatOf, IsKept, table_steps, with_view}
 use Rattle.rl_window.specs.Ports.{IsFit}
 
 module _ {V : Type 0} (rule : TheWindow → List V → Type 0) where
@@ -54,10 +54,6 @@ module _ {C V : Type 0} (rule : C → TheWindow → List V → Type 0) (w : Wind
   pub kept_still : (s : WinSeat C V) → last_view s ≡ s.view → IsKept rule w s
   kept_still s e = subst (λ x. Keeps (rule w.core) s.rank x s.view) (sym e) (keeps_still (rule w.core) s.rank s.view)
 
-  -- and in seats that are new
-  pub new_kept : (seats : List (WinSeat C V)) → AreNew seats → AreKept rule w seats
-  new_kept seats N i s e = kept_still s (N i s e).0
-
   -- the seat stays the window's, and the view in the table stays, where the view between two table steps is changed
   pub reviewed : (s : WinSeat C V) (v : V) → IsSeatOf rule w s → IsSeatOf rule w (with_view s v) × (last_view (with_view s v) ≡ last_view s) × (table_steps (with_view s v) ≡ table_steps s)
   reviewed s v S =
@@ -79,17 +75,3 @@ module _ {C V : Type 0} (rule : C → TheWindow → List V → Type 0) (w : Wind
 -- what a port that fits says of its seat, wherever the window and the seat are read
 pub fit_seat : {C V : Type 0} (rule : C → TheWindow → List V → Type 0) (w w' : Window C V) (s s' : WinSeat C V) (c : C) → IsFit rule w' s' c → w' ≡ w → s' ≡ s → IsSeatOf rule w s
 fit_seat rule w w' s s' c F ew es = subst (λ x. IsSeatOf rule x s) ew (subst (IsSeatOf rule w') es F.seat)
-
--- all seats are still the window's, where one of them went on
-pub all_after : {C V : Type 0} (rule : C → TheWindow → List V → Type 0) (w : Window C V) (seats : List (WinSeat C V)) (i : ℕ) (s s' : WinSeat C V) → IsAll rule w seats × AreKept rule w seats → slice_get seats i ≡ Some s →
-    s'.rank ≡ s.rank → IsSeatOf rule w s' → IsKept rule w s' → IsAll rule w (slice_set seats i s') × AreKept rule w (slice_set seats i s')
-all_after rule w seats i s s' all has rank S K = (
-  record {
-    table = all.0.table;
-    root = all.0.root ∙ ap (λ n. (Root (all_given w n), [])) (sym (length-set seats i s'));
-    each = λ j t e. ⊎_elim
-        (λ (p : (j ≡ i) × (t ≡ s')). subst (λ x. (x.rank ≡ j) × IsSeatOf rule w x) (sym p.1) (rank ∙ (all.0.each i s has).0 ∙ sym p.0, S))
-        (λ p. all.0.each j t p.1) (get_set_cases seats i j s' t e);
-  },
-  λ j t e. ⊎_elim (λ (p : (j ≡ i) × (t ≡ s')). subst (IsKept rule w) (sym p.1) K) (λ p. all.1 j t p.1) (get_set_cases seats i j s' t e),
-)

@@ -30,6 +30,3 @@ mod window;
 pub use knows::{Knows, RankKnows, RootKnows, Setup, WindowRule};
 pub use table_port::TablePort;
 pub use window::{WinSeat, Window};
-
-#[cfg(test)]
-mod tests;

@@ -5,4 +5,3 @@ pub mod Shapes
 pub mod Places
 -- shapes for tests
 pub mod OneNode
-pub mod TwoNodes

@@ -23,6 +23,3 @@ pub use classes::{Class, Mode, Spot};
 pub use lawfulness::lawful;
 pub use locks::LockName;
 pub use shapes::{Element, Knobs, Shape};
-
-#[cfg(test)]
-mod tests;

@@ -13,4 +13,8 @@ pub enum LockName {
     Mcs,
     /// RMA-RW: a tree of queues for writers, and counters of readers.
     Rw,
+    /// Optimistic readers: writers under ALock, and a get alone takes no lock.
+    Seq,
+    /// Flat combining: ranks post their calls, and who holds ALock does them.
+    Combine,
 }

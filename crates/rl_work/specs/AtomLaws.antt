@@ -1,6 +1,6 @@
 -- Every atom of the work keeps the work's part of the rule, and can be made; so do the opening of a call and a change of a rank's
 -- standing by the lock; and the opening state meets it.
-use Rattle.std.specs.Prelude.{◌≡◌, ◌≢◌, ◌⊎◌, ℕ, ◌+◌, ◌*◌, ◌^◌, ◌<◌, ◌≤◌, ◌==◌, if◌then◌else◌, zero, suc, true, false, List, [], ◌∷◌, All, filter, length, replicate, slice_get, slice_index, slice_set, Option, Some, None, refl}
+use Rattle.std.specs.Prelude.{◌≡◌, ◌≢◌, ◌⊎◌, ℕ, ◌+◌, ◌*◌, ◌^◌, ◌<◌, ◌≤◌, ◌==◌, if◌then◌else◌, zero, suc, true, false, List, [], ◌∷◌, ◌++◌, All, filter, length, replicate, slice_get, slice_index, slice_set, Option, Some, None, IfSome, refl}
 use Rattle.std.proofs.Common.{sym, ◌∙◌, ap, subst, ⊎_elim, arith, length-set, length-append}
 use Rattle.std.proofs.lemmas.List.{take_at, length-map}
 use Rattle.std.proofs.lemmas.List.Elements.{All-nil, All-weaker}
@@ -21,6 +21,7 @@ use Rattle.rl_step.specs.Core.{home_at}
 use Rattle.rl_volume.specs.declared.write.Write.{Write}
 use Rattle.rl_volume.specs.Words.{volume_words}
 use Rattle.rl_volume.specs.Volume.{start_words}
+use Rattle.rl_volume.specs.Walk.{most_reads}
 use Rattle.rl_volume.proofs.StartLaws.{starts, start_size}
 use Rattle.rl_work.specs.declared.stage.Stage.{Stage}
 use Rattle.rl_work.specs.declared.stage.Stage.TheVariants.{Rest, Begin, Read, Journal, Volume}
@@ -39,7 +40,7 @@ use Rattle.rl_work.specs.TurnLaws.{turn_length}
 use Rattle.rl_work.specs.OpeningLaws.{opening_size}
 use Rattle.rl_work.specs.RoomLaws.{place_left, journal_short}
 use Rattle.rl_work.specs.WorkLaws.{count_loaded, word_loaded, journal_stored, write_made, count_stored}
-use Rattle.rl_volume.proofs.NextWord.{next_there, next_unseen}
+use Rattle.rl_volume.proofs.NextWord.{next_there, next_unseen, few_read}
 use Rattle.std.specs.FinMap as finite
 
 module _ (site : Site) (words : List ℕ) (sides : List WorkSide) (g : WorkGood site words sides) (r : ℕ) (x : WorkSide) (has : slice_get sides r ≡ Some x) where
@@ -311,6 +312,20 @@ few_replies site words sides g r x has at =
     let p : HasDecided site g.journal g.before x.work (f.call ∷ f.rest) = f.partly in
     omega (arith, ap length p.replies_are, turn_length site.geom (table_after site.geom finite.empty g.journal) p.first, ap length p.split, length-append p.first (f.call ∷ f.rest)))
     at
+
+-- who reads a word for a call alone has read few
+pub few_loads : (site : Site) (words : List ℕ) (sides : List WorkSide) (g : WorkGood site words sides) (r : ℕ) (x : WorkSide) → slice_get sides r ≡ Some x → (call : Call) (count word : ℕ) → x.work.calls ≡ call ∷ [] → x.work.stage ≡ Read count word →
+    length x.work.seen.pairs < most_reads site.geom call
+few_loads site words sides g r x has call count word alone stage =
+    let f : IsReading site r g.journal g.before x count word = subst (FitsAt site words g.journal g.before r x) stage (g.fits r x has) in
+    let p : HasDecided site g.journal g.before x.work (f.call ∷ f.rest) = f.partly in
+    let few : length x.work.seen.pairs < most_reads site.geom f.call =
+    subst (λ o. IfSome o (λ word. length x.work.seen.pairs < most_reads site.geom f.call)) f.next (few_read site.geom f.call x.work.seen.pairs (f.named (ap length alone))) in
+    subst (λ c. length x.work.seen.pairs < most_reads site.geom c) (only p.first f.call f.rest (p.split ∙ alone)) few
+  where
+    only : (first : List Call) (c : Call) (rest : List Call) → first ++ c ∷ rest ≡ call ∷ [] → c ≡ call
+    only [] c rest e = cc
+    only (a ∷ first) c rest e = absurd (omega (arith, ap length e, length-append first (c ∷ rest)))
 
 -- a rank that holds the lock has an atom of the work
 pub holder_works : (site : Site) (words : List ℕ) (sides : List WorkSide) (g : WorkGood site words sides) (r : ℕ) (x : WorkSide) → slice_get sides r ≡ Some x → IsHolder x.standing → work_atom site.geom x.work ≡ None → ⊥

@@ -1,9 +1,10 @@
 -- What is promised of the rule, as statements: it holds at the start, is kept by all that happens, and says what the words and
 -- transcripts are.
-use Rattle.std.specs.Prelude.{◌≡◌, ℕ, ◌^◌, ◌<◌, List, length, slice_get, slice_set, Some, IsSome}
+use Rattle.std.specs.Prelude.{◌≡◌, ℕ, ◌^◌, ◌<◌, List, [], ◌∷◌, length, slice_get, slice_set, Some, IsSome}
 use Rattle.rl_word.specs.declared.acts.Atom.{Atom}
 use Rattle.rl_model.specs.declared.call.Call.{Call}
 use Rattle.rl_model.specs.Geom.{GeomFits}
+use Rattle.rl_volume.specs.Walk.{most_reads}
 use Rattle.rl_step.specs.declared.events.Event.{Event}
 use Rattle.rl_step.specs.declared.events.Standing.{Standing}
 use Rattle.rl_step.specs.declared.events.Standing.TheVariants.{Out, Asking}
@@ -13,6 +14,7 @@ use Rattle.rl_step.specs.Do.{CanDo, do_got, do_words}
 use Rattle.rl_journal.specs.Legal.{IsLegal}
 use Rattle.rl_journal.specs.History.{history, IsSorted}
 pub use Rattle.rl_work.specs.Ways.{journal_of}
+use Rattle.rl_work.specs.declared.stage.Stage.TheVariants.{Read}
 use Rattle.rl_work.specs.Site.{Site, lock_base}
 use Rattle.rl_work.specs.Work.{work_atom, with_block, CanName, CanTurn}
 use Rattle.rl_work.specs.WorkGood.{WorkSide, WorkGood, IsApart, IsOpen, IsFirst, opening_words, transcripts, side_after}
@@ -63,6 +65,12 @@ abbrev pub AtomKeeps : Type 0
 AtomKeeps =
     (site : Site) (words : List ℕ) (sides : List WorkSide) (rank : ℕ) (x : WorkSide) → IsSide site words sides rank x → IsApart sides → IsHolder x.standing → (at : Atom) (cards : List ℕ) → work_atom site.geom x.work ≡ Some at
     → WorkGood site (do_words at words) (slice_set sides rank (side_after site rank x (do_got at words cards)))
+
+-- a rank that reads a word for a call alone has read fewer than the call can want
+abbrev pub ReadsFew : Type 0
+ReadsFew =
+    (site : Site) (words : List ℕ) (sides : List WorkSide) (rank : ℕ) (x : WorkSide) → IsSide site words sides rank x → (call : Call) (count word : ℕ) → x.work.calls ≡ call ∷ [] → x.work.stage ≡ Read count word
+    → length x.work.seen.pairs < most_reads site.geom call
 
 -- the journal that the words spell and the transcripts are legal
 abbrev pub IsLegalAlways : Type 0

@@ -12,7 +12,7 @@ use Rattle.rl_step.specs.Lock.{IsHolder}
 use Rattle.rl_volume.specs.declared.write.Write.{Write}
 use Rattle.rl_volume.specs.Words.{volume_words}
 use Rattle.rl_volume.specs.Volume.{IsVolume}
-use Rattle.rl_volume.specs.Seen.{AgreesWith, value_of, next_word}
+use Rattle.rl_volume.specs.Seen.{AgreesWith, AreNamed, value_of, next_word}
 use Rattle.rl_volume.specs.Decision.{written}
 use Rattle.rl_work.specs.declared.stage.Stage.{Stage}
 use Rattle.rl_work.specs.declared.stage.Stage.TheVariants.{Rest, Begin, Read, Journal, Volume}
@@ -94,6 +94,8 @@ pub record IsReading (site : Site) (rank : ℕ) (journal : List Entry) (before :
   pub rest : List Call
   pub partly : HasDecided site journal before x.work (call ∷ rest)
   pub next : next_word site.geom call x.work.seen.pairs ≡ Some word
+  -- a call alone has read nothing but what it wanted, word after word
+  pub named : length x.work.calls ≡ 1 → AreNamed site.geom call x.work.seen.pairs
 
 -- a writer that has decided
 pub record IsDecided (site : Site) (rank : ℕ) (journal : List Entry) (before : List ℕ) (x : WorkSide) : Type 0 where

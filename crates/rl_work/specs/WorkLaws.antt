@@ -3,7 +3,7 @@
 use Rattle.std.specs.Prelude.{◌≡◌, ◌≢◌, ℕ, zero, suc, ◌+◌, ◌*◌, ◌<◌, ◌≤◌, ◌==◌, ◌^◌, true, false, ◌||◌, cond, List, [], ◌∷◌, ◌++◌, All, count_by, filter, length, take, drop, slice_get, slice_index, slice_set, Option, Some, None, refl}
 use Rattle.std.specs.FinMap as finite
 use Rattle.std.proofs.Common.{sym, ◌∙◌, ap, subst, ⊎_elim, arith, length-set, length-append, append_assoc, get_or-set_other, get_or-set_same}
-use Rattle.std.proofs.lemmas.List.{take_all, length-map, append-nil}
+use Rattle.std.proofs.lemmas.List.{take_all, length-map, append-nil, take_at, get_or_at, get_or_append_left, take-append-le}
 use Rattle.std.proofs.lemmas.List.Elements.{All-push, All-append, All-nil, All-weaker}
 use Rattle.std.proofs.lemmas.List.Sums.{length-filter}
 use Rattle.std.proofs.lemmas.Bool.Decides.{nat_tests}
@@ -12,6 +12,7 @@ use Rattle.rl_word.specs.Places.{same_or_not, one_at, get_set_cases, get_set_sam
 use Rattle.rl_model.proofs.Counts.{count-append, count-cons}
 use Rattle.rl_model.specs.declared.call.Call.{Call}
 use Rattle.rl_model.specs.declared.entry.Entry.{Entry}
+use Rattle.rl_model.specs.declared.geom.Geom.{Geom}
 use Rattle.rl_model.specs.Call.{shard_of}
 use Rattle.rl_step.specs.declared.events.Standing.{Standing}
 use Rattle.rl_step.specs.declared.events.Standing.TheVariants.{Out, Asking, Writer, Reader, Leaving}
@@ -19,7 +20,7 @@ use Rattle.rl_step.specs.Lock.{IsHolder}
 use Rattle.rl_volume.specs.declared.write.Write.{Write}
 use Rattle.rl_volume.specs.Words.{volume_words}
 use Rattle.rl_volume.specs.Volume.{IsVolume}
-use Rattle.rl_volume.specs.Seen.{AgreesWith, next_word, value_or_zero, patched}
+use Rattle.rl_volume.specs.Seen.{AgreesWith, AreNamed, next_word, value_or_zero, patched}
 use Rattle.rl_volume.proofs.Patches.{agrees_below, patched_none, none_before}
 use Rattle.rl_volume.specs.Decision.{written, decision}
 use Rattle.rl_volume.proofs.Volumes.{inside, decided as decided_as}
@@ -53,6 +54,29 @@ written_one before (v ∷ ws) zero w get = ap (λ z. slice_set before z.word z.v
 written_one before (v ∷ ws) (suc i) w get =
     let e : suc i + 1 ≡ suc (i + 1) = omega arith in
     ap (λ n. written before (take n (v ∷ ws))) e ∙ written_one (slice_set before v.word v.value) ws i w get
+
+-- the first of these calls has read these words, each when it wanted it
+abbrev IsNamedBy : Geom → List Call → List (ℕ × ℕ) → Type 0
+IsNamedBy geom [] pairs = Unit {0}
+IsNamedBy geom (c ∷ cs) pairs = AreNamed geom c pairs
+
+-- as it has before it reads any
+none_named : (geom : Geom) (cs : List Call) (pairs : List (ℕ × ℕ)) → pairs ≡ [] → IsNamedBy geom cs pairs
+none_named geom [] pairs e = tt
+none_named geom (c ∷ cs) pairs e = λ i h. absurd (let none : length pairs ≡ 0 = ap length e in omega arith)
+
+-- and with one more, which it wanted
+named_more : (geom : Geom) (c : Call) (pairs : List (ℕ × ℕ)) (word got : ℕ) → AreNamed geom c pairs → next_word geom c pairs ≡ Some word → AreNamed geom c (pairs ++ (word, got) ∷ [])
+named_more geom c pairs word got named is i h =
+    let last : List (ℕ × ℕ) = (word, got) ∷ [] in
+    let long : length (pairs ++ last) ≡ length pairs + 1 = length-append pairs last in
+    ⊎_elim
+    (λ (e : i ≡ length pairs).
+    ap (next_word geom c) (take_at pairs last i (sym e)) ∙ is ∙ ap (λ (p : ℕ × ℕ). Some p.0) (sym (get_or_at pairs (word, got) [] (0, 0) i (sym e))))
+    (λ (ne : i ≢ length pairs).
+    let low : i < length pairs = omega arith in
+    ap (next_word geom c) (take-append-le i pairs last (omega arith)) ∙ named i low ∙ ap (λ (p : ℕ × ℕ). Some p.0) (sym (get_or_append_left pairs last (0, 0) i low)))
+    (same_or_not i (length pairs))
 
 -- a writer holds the lock
 holder_of : (st : Standing) → st ≡ Writer → IsHolder st
@@ -312,18 +336,18 @@ module _ (site : Site) (words : List ℕ) (sides : List WorkSide) (g : WorkGood 
             ] refl
 
       -- it reads the next word, or goes on
-      next_keeps : (call : Call) (rest : List Call) → HasDecided site g.journal g.before y (call ∷ rest) → (n : Option ℕ) → next_word site.geom call y.seen.pairs ≡ n → (on : WorkTurned) →
+      next_keeps : (call : Call) (rest : List Call) → HasDecided site g.journal g.before y (call ∷ rest) → (length y.calls ≡ 1 → AreNamed site.geom call y.seen.pairs) → (n : Option ℕ) → next_word site.geom call y.seen.pairs ≡ n → (on : WorkTurned) →
           (next_word site.geom call y.seen.pairs ≡ None → WorkGood site words (slice_set sides r (side_turned x.standing on))) →
           WorkGood site words (slice_set sides r (side_turned x.standing (read_next y count n on)))
-      next_keeps call rest p (Some word) next on goes =
+      next_keeps call rest p named (Some word) next on goes =
           calm_moves (side_turned x.standing (read_next y count (Some word) on)) holds reading as_before room own_before
-          (record { open_call = o; holds = holds; found = found; call = call; rest = rest; partly = p; next = next })
-      next_keeps call rest p None next on goes = goes next
+          (record { open_call = o; holds = holds; found = found; call = call; rest = rest; partly = p; next = next; named = named })
+      next_keeps call rest p named None next on goes = goes next
 
     -- it reads on, or decides
-    read_keeps : (rest : List Call) (y : TheWork) → HasOpen site r y → y.transcript ≡ x.work.transcript → y.seen.room ≡ x.work.seen.room → y.calls ≡ x.work.calls → HasDecided site g.journal g.before y rest →
+    read_keeps : (rest : List Call) (y : TheWork) → HasOpen site r y → y.transcript ≡ x.work.transcript → y.seen.room ≡ x.work.seen.room → y.calls ≡ x.work.calls → HasDecided site g.journal g.before y rest → (length y.calls ≡ 1 → IsNamedBy site.geom rest y.seen.pairs) →
         WorkGood site words (slice_set sides r (side_turned x.standing (read_on site.geom site.shard r count rest y)))
-    read_keeps [] y o same room calls p =
+    read_keeps [] y o same room calls p named =
         let all : p.first ≡ y.calls = sym (append-nil p.first) ∙ p.split in
         let some : 1 ≤ length y.calls = o.is_block.some in
         let replies : y.replies ≡ (in_turn site.geom met y.calls).1 = p.replies_are ∙ ap (λ cs. (in_turn site.geom met cs).1) all in
@@ -334,8 +358,8 @@ module _ (site : Site) (words : List ℕ) (sides : List WorkSide) (g : WorkGood 
         p.inside
         (ap length replies ∙ turn_length site.geom met y.calls)
         calls
-    read_keeps (c ∷ rest) y o same room calls p =
-        next_keeps y o same room c rest p (next_word site.geom c y.seen.pairs) refl _
+    read_keeps (c ∷ rest) y o same room calls p named =
+        next_keeps y o same room c rest p named (next_word site.geom c y.seen.pairs) refl _
         (λ over.
         let m : Table = (in_turn site.geom met p.first).0 in
         let d : List Write × Reply = decision site.geom c (value_or_zero y.seen.pairs) in
@@ -385,11 +409,17 @@ module _ (site : Site) (words : List ℕ) (sides : List WorkSide) (g : WorkGood 
                     let q = patched_none d.0 y.seen.pairs w unseen in
                     ap (λ z. slice_index z w) (written_append g.before y.writes d.0) ∙ q.1 (written g.before y.writes) ∙ p.elsewhere w q.0;
               })
+              (λ one. was_last rest (omega (arith, ap length p.split, length-append p.first (c ∷ rest))) (patched y.seen.pairs d.0))
         ] refl)
       where
         found_at : (xs : List Call) (c : Call) (ys : List Call) → slice_get (xs ++ c ∷ ys) (length xs) ≡ Some c
         found_at [] c ys = refl
         found_at (x ∷ xs) c ys = found_at xs c ys
+
+        -- behind a call alone there is none
+        was_last : (cs : List Call) → length cs ≡ 0 → (pairs : List (ℕ × ℕ)) → IsNamedBy site.geom cs pairs
+        was_last [] none pairs = tt
+        was_last (b ∷ cs) none pairs = absurd (omega arith)
 
   -- the load of the count
   pub count_loaded : x.work.stage ≡ Begin → IsHolder x.standing → WorkGood site words (slice_set sides r (side_turned x.standing (seen_on site.geom site.shard r x.work (slice_index words count_word))))
@@ -408,7 +438,7 @@ module _ (site : Site) (words : List ℕ) (sides : List WorkSide) (g : WorkGood 
         agrees = pairs;
         elsewhere = λ w unseen. ap (λ z. slice_index (written g.before z) w) f.4;
       } in
-      read_keeps holds (ap is_writing stage) (slice_index words count_word) g.count (left_of x.work) x.work f.0 refl refl refl none
+      read_keeps holds (ap is_writing stage) (slice_index words count_word) g.count (left_of x.work) x.work f.0 refl refl refl none (λ _. none_named site.geom (left_of x.work) x.work.seen.pairs f.2)
 
   -- the load of a word of the volume
   pub word_loaded : (count word : ℕ) → x.work.stage ≡ Read count word →
@@ -434,6 +464,7 @@ module _ (site : Site) (words : List ℕ) (sides : List WorkSide) (g : WorkGood 
         agrees = agrees_with_more x.work.seen.pairs (written g.before x.work.writes) word got p.agrees still;
         elsewhere = λ w unseen. p.elsewhere w (none_before x.work.seen.pairs word got w unseen);
       }))
+      (λ one. subst (λ cs. IsNamedBy site.geom cs pairs) (sym left) (named_more site.geom f.call x.work.seen.pairs word got (f.named one) f.next))
     where
       left_is : {rest : List Call} → HasDecided site g.journal g.before x.work rest → left_of x.work ≡ rest
       left_is {rest} p = ap (λ n. drop n x.work.calls) (ap length p.replies_are ∙ turn_length site.geom (table_after site.geom finite.empty g.journal) p.first) ∙ ap (drop (length p.first)) (sym p.split) ∙ drop_front p.first rest where

@@ -14,6 +14,8 @@ pub fn work_laws()
     // The code can name it and go on behind it.
     ensures names { rule.NameFits }
     ensures turns { rule.TurnFits }
+    // A get loads at most 3 + 2 * overflow words of the volume, and any other call alone as few as `next_read` says.
+    ensures few { rule.ReadsFew }
     // In each state that meets it the words spell a legal journal, whose history is in order.
     ensures legal { rule.IsLegalAlways }
     ensures sorted { rule.IsSortedAlways }

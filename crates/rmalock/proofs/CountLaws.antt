@@ -113,11 +113,15 @@ module _ {V : Type 0} where
       let at : from + suc k ≡ (from + 1) + k = omega arith in
       ap (λ n. entries_of (desk_at T words n (slice_get views k))) at ∙ kept_is T words (from + 1) views k
 
+  -- what a rank did on a shard, among the shard's transcripts
+  pub kept_told : (S : ShardRun V) (k : ℕ) → kept_on k S ≡ get_or (transcripts_on S) k []
+  kept_told S k = (let at : k ≡ 0 + k = omega arith in ap (λ n. entries_of (desk_at S.table S.held.words n (slice_get S.views k))) at) ∙ kept_is S.table S.held.words 0 S.views k
+
   module _ (m : Running V) (s : ℕ) where
     -- what a rank did on a shard is among the shard's transcripts
     kept_there : (S : ShardRun V) → slice_get m.shards s ≡ Some S → (k : ℕ) → get_or (kept_by m k) s [] ≡ get_or (transcripts_at m s) k []
     kept_there S has k = get_or_from_slice_get (kept_by m k) s (kept_on k S) [] (get_map (kept_on k) m.shards s S has)
-        ∙ (let at : k ≡ 0 + k = omega arith in ap (λ n. entries_of (desk_at S.table S.held.words n (slice_get S.views k))) at) ∙ kept_is S.table S.held.words 0 S.views k
+        ∙ kept_told S k
         ∙ ap (λ found. get_or (on_shard [] transcripts_on found) k []) (sym has)
 
     -- a rank has few

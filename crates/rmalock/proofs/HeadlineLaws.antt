@@ -5,6 +5,9 @@ use Rattle.rl_ops.specs.declared.ops.Ops.{Ops}
 use Rattle.rl_ops.specs.declared.schedule.Schedule.{Schedule}
 use Rattle.rl_history.specs.Naming.{naming_of}
 use Rattle.rl_history.specs.Spelling.{report_spelling}
+use Rattle.rl_history.specs.Reading.{report_at}
+use Rattle.rl_check.specs.LawfulReplays.{IsLawfulReplay}
+use Rattle.rl_check.specs.Legal.{IsLegalReport}
 use Rattle.rl_io.specs.Outside.{Appends}
 use Rattle.rl_replay.specs.declared.complaint.Complaint.{Complaint}
 use Rattle.rl_replay.specs.declared.complaint.Which.{Which}
@@ -18,8 +21,9 @@ use Rattle.rmalock.proofs.SpelledLaws.{PlaceRead, place_read, calls_read, schedu
 
 -- texts that are replayed
 pub is_replay : (texts : Texts) (place : ThePlace) (ops : Ops) (schedule : Schedule) (text : List ℕ) → placed texts.place ≡ Ok place → called place texts.calls ≡ Ok ops → scheduled place texts.schedule ≡ Ok schedule →
-    text ≡ report_spelling (naming_of place) (report_of place ops schedule) → KeepsPromises place ops schedule → IsReplay texts text
-is_replay texts place ops schedule text p c s is kept =
+    text ≡ report_spelling (naming_of place) (report_of place ops schedule) → KeepsPromises place ops schedule → IsLawfulReplay place ops (report_of place ops schedule) → IsLegalReport place ops (report_of place ops schedule) →
+    report_at (naming_of place) text ≡ Ok (report_of place ops schedule) → IsReplay texts text
+is_replay texts place ops schedule text p c s is kept lawful legal again =
     let read : PlaceRead texts.place place = place_read texts.place place p in
     let most = read.proper.most_ranks in
     let ranks : length place.paths < 2 ^ 32 = omega (arith, most) in
@@ -37,6 +41,9 @@ is_replay texts place ops schedule text p c s is kept =
       schedule_spelled = turns.1;
       bytes = is;
       kept = kept;
+      lawful = lawful;
+      legal = legal;
+      read = again;
     }
 
 -- the answer's status is 1 where the words are no form

@@ -8,6 +8,8 @@ use Rattle.rl_model.specs.declared.geom.Geom.{Geom}
 use Rattle.rl_journal.specs.Legal.{IsLegal}
 use Rattle.rl_journal.specs.History.{IsReplay}
 use Rattle.rl_journal.specs.Ranks.{IsRankInOrder}
+use Rattle.rl_step.specs.LockQueues.{lock_under}
+use Rattle.rl_history.proofs.QueueLaws.{under_queues}
 use Rattle.rl_place.specs.LockWords.{name_of}
 use Rattle.rl_place.specs.Places.{ThePlace}
 use Rattle.rl_place.specs.Shapes.{shape_of, knobs_of}
@@ -23,7 +25,7 @@ use Rattle.rl_machine.specs.Start.{start_of}
 use Rattle.rl_machine.specs.StartLaws.{shards_length}
 use Rattle.rl_machine.specs.Run.{calls_by, run_of, ranks_of, done_of, kept_by}
 use Rattle.rl_machine.specs.RunActs.{EachSays}
-use Rattle.rl_machine.specs.Promises.{journal_on, transcripts_on, history_on, IsSound, EachKeepsQueues}
+use Rattle.rl_machine.specs.Promises.{journal_on, transcripts_on, history_on, IsSound, KeepsQueues, EachKeepsQueues}
 use Rattle.rl_cores.specs.Kinds.{Defined, Promised}
 use Rattle.rmalock.specs.Replay.{start_with, run_with}
 use Rattle.rmalock.specs.Headline.{IsKept}
@@ -56,13 +58,16 @@ ran defined place ops schedule inside shape knobs homes turns end same shape_is 
     run ∙ run_is defined place ops schedule shape knobs inside.geom homes turns shape_is knobs_is (ap (λ (p : ThePlace). p.geom) same) (homes_are ∙ ap (λ (p : ThePlace). p.homes) same) turns_are
 
 -- The queues of a run, by the parts of a placement.
-pub keeps_is : {V : Type 0} (name : LockName) (place : ThePlace) (shape : TheShape) (knobs : Knobs) (homes : List ℕ) (m n : Running V) → name ≡ name_of place.lock → shape ≡ shape_of place → knobs ≡ knobs_of place.lock → homes ≡ place.homes →
+pub keeps_is : {V : Type 0} (name : LockName) (place : ThePlace) (shape : TheShape) (knobs : Knobs) (homes : List ℕ) (m n : Running V) → name ≡ lock_under (name_of place.lock) → shape ≡ shape_of place → knobs ≡ knobs_of place.lock → homes ≡ place.homes →
     m ≡ n → EachKeepsQueues name shape knobs homes m → EachKeepsQueues (name_of place.lock) (shape_of place) (knobs_of place.lock) place.homes n
-keeps_is name place shape knobs homes m n named shape_is knobs_is homes_are same keep =
-    subst (λ z. EachKeepsQueues (name_of place.lock) (shape_of place) (knobs_of place.lock) place.homes z) same
-    (subst (λ hs. EachKeepsQueues (name_of place.lock) (shape_of place) (knobs_of place.lock) hs m) homes_are
-    (subst (λ k. EachKeepsQueues (name_of place.lock) (shape_of place) k homes m) knobs_is
-    (subst (λ s. EachKeepsQueues (name_of place.lock) s knobs homes m) shape_is (subst (λ z. EachKeepsQueues z shape knobs homes m) named keep))))
+keeps_is name place shape knobs homes m n named shape_is knobs_is homes_are same keep s home get =
+    subst (λ qs. KeepsQueues qs n s) (under_queues (name_of place.lock) (shape_of place) home (knobs_of place.lock)) (under s home get) where
+      under : EachKeepsQueues (lock_under (name_of place.lock)) (shape_of place) (knobs_of place.lock) place.homes n
+      under =
+          subst (λ z. EachKeepsQueues (lock_under (name_of place.lock)) (shape_of place) (knobs_of place.lock) place.homes z) same
+          (subst (λ hs. EachKeepsQueues (lock_under (name_of place.lock)) (shape_of place) (knobs_of place.lock) hs m) homes_are
+          (subst (λ k. EachKeepsQueues (lock_under (name_of place.lock)) (shape_of place) k homes m) knobs_is
+          (subst (λ s. EachKeepsQueues (lock_under (name_of place.lock)) s knobs homes m) shape_is (subst (λ z. EachKeepsQueues z shape knobs homes m) named keep))))
 
 module _ {V : Type 0} (defined : Defined V) (place : ThePlace) (ops : Ops) (schedule : Schedule) where
   abbrev first : Running V

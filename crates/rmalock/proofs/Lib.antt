@@ -1,6 +1,9 @@
 mod RunLaws
 mod KeptLaws
-mod ReportLaws
+mod CohortLaws
+mod MachineOf
+mod ReplayEvents
+mod ReplayReports
 mod SpelledLaws
 mod HeadlineLaws
 mod ReplayLemmas
@@ -11,6 +14,7 @@ mod DealtLaws
 mod MadePlaceLaws
 mod LapLaws
 mod CountLaws
+mod ReportLaws
 mod SummaryLaws
 mod MakeLaws
 mod SeatLists

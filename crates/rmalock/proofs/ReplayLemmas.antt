@@ -1,11 +1,14 @@
 -- A replay, from what its three files came to.
-use Rattle.std.proofs.Common.{◌≡◌, ℕ, List, [], Option, Result, Ok, Err, IfOk, IsErrAnd, unwrap_or, ap, sym, subst, ◌∙◌, Vec, Global}
+use Rattle.std.proofs.Common.{◌≡◌, ℕ, List, [], length, Option, Result, Ok, Err, IfOk, IsErrAnd, unwrap_or, ap, sym, subst, ◌∙◌, Vec, Global}
 use Rattle.std.proofs.lemmas.Result.{err_from_is_err_and}
 use Rattle.rl_place.specs.Places.{ThePlace}
 use Rattle.rl_ops.specs.declared.ops.Ops.{Ops}
 use Rattle.rl_ops.specs.declared.schedule.Schedule.{Schedule}
 use Rattle.rl_history.specs.Naming.{naming_of}
 use Rattle.rl_history.specs.Spelling.{report_spelling}
+use Rattle.rl_history.specs.Reading.{report_at}
+use Rattle.rl_check.specs.LawfulReplays.{IsLawfulReplay}
+use Rattle.rl_check.specs.Legal.{IsLegalReport}
 use Rattle.rmalock.specs.Replay.{report_of}
 use Rattle.rmalock.specs.Headline.{IsReplay, KeepsPromises}
 use Rattle.rl_replay.specs.declared.complaint.Complaint.{Complaint}
@@ -70,8 +73,9 @@ module _ (file : List ℕ → Option (List ℕ)) (names : Names) where
   pub all_read : (place : ThePlace) (ops : Ops) (schedule : Schedule) (text : Vec ℕ Global) → WasRead {X = ThePlace} (file names.place) (λ place. place) placed (Ok place) →
       WasRead {X = Ops} (file names.calls) (λ ops. ops) (called place) (Ok ops) →
       WasRead {X = Schedule} (file names.schedule) (λ schedule. schedule) (scheduled place) (Ok schedule) →
-      text.items ≡ report_spelling (naming_of place) (report_of place ops schedule) → KeepsPromises place ops schedule → WasReplayed file names (Ok text)
+      text.items ≡ report_spelling (naming_of place) (report_of place ops schedule) → KeepsPromises place ops schedule → IsLawfulReplay place ops (report_of place ops schedule) → IsLegalReport place ops (report_of place ops schedule) →
+      report_at (naming_of place) text.items ≡ Ok (report_of place ops schedule) → WasReplayed file names (Ok text)
   unfolding replayed
-  all_read place ops schedule text r c s is kept =
+  all_read place ops schedule text r c s is kept lawful legal again =
       replay_was r.bytes c.bytes s.bytes (Ok text) r.fits c.fits s.fits (rw (r.ends, c.ends, s.ends) (ap (λ t. Ok t) (sym is)))
-      (is_replay (record { place = r.bytes; calls = c.bytes; schedule = s.bytes }) place ops schedule text.items r.ends c.ends s.ends is kept)
+      (is_replay (record { place = r.bytes; calls = c.bytes; schedule = s.bytes }) place ops schedule text.items r.ends c.ends s.ends is kept lawful legal again)

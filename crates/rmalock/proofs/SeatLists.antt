@@ -1,4 +1,4 @@
--- The seats of a shard: where the shard is new, and where one seat has changed. For tests.
+-- The seats of a shard: where the shard is new, and where one seat has changed; and callers, where one has changed. For tests.
 use Rattle.std.proofs.Common.{◌≡◌, ◌<◌, ◌≢◌, ℕ, ◌*◌, List, length, map, sum, replicate, slice_get, slice_set, get_or, Some, sym, ap, ◌∙◌, subst, ⊎_elim, arith}
 use Rattle.std.proofs.lemmas.List.{length-map, length-replicate}
 use Rattle.std.proofs.lemmas.List.Folds.{sum_by-replicate}
@@ -13,7 +13,6 @@ use Rattle.rl_place.specs.LockWords.{name_of}
 use Rattle.rl_place.specs.Places.{ThePlace}
 use Rattle.rl_place.specs.Shapes.{shape_of, knobs_of}
 use Rattle.rl_history.specs.Naming.{naming_of}
-use Rattle.rl_run.specs.ReportLaws.{queues_long}
 use Rattle.rl_asks.specs.ShardTables.{ShardTable, first_views}
 use Rattle.rl_asks.specs.ShardLaws.{GoodOf}
 use Rattle.rl_asks.specs.Filling.{first_length}
@@ -21,6 +20,9 @@ use Rattle.rl_shard.specs.declared.shard.Shard.{Shard}
 use Rattle.rl_shard.specs.declared.seat.Seat.{Seat}
 use Rattle.rl_shard.specs.Counting.{first_counted}
 use Rattle.rl_shard.specs.Shards.{IsOf, AreOf, counted_at, rank_at}
+use Rattle.rl_run.specs.declared.caller.Caller.{Caller}
+use Rattle.rl_run.specs.Callers.{IsCaller}
+use Rattle.rl_run.specs.Runs.{AreCallers}
 
 -- there is a node
 pub node_there : (s : TheShape) → IsProper s → 0 < s.nodes
@@ -28,15 +30,6 @@ node_there s p =
     let first = some_at s.node_of 0 p.some in
     let low = p.sits 0 first.0 first.1 in
     omega arith
-
--- a lock has as many queues as are named
-pub queue_count_is : (place : ThePlace) (name : LockName) (shape : TheShape) (knobs : Knobs) (n : ℕ) → name ≡ name_of place.lock → shape ≡ shape_of place → knobs ≡ knobs_of place.lock → n ≡ length (naming_of place).queues →
-    (home : ℕ) → n ≡ length (queues_of name shape home knobs)
-queue_count_is place name shape knobs n kind exact set e home =
-    e ∙ sym (queues_long place home)
-    ∙ ap (λ l. length (queues_of l (shape_of place) home (knobs_of place.lock))) (sym kind)
-    ∙ ap (λ s. length (queues_of name s home (knobs_of place.lock))) (sym exact)
-    ∙ ap (λ k. length (queues_of name shape home k)) (sym set)
 
 -- room for one of each rank is as long as the shape's list of ranks
 pub room_long : (place : ThePlace) (shape : TheShape) (ranks : ℕ) (room : List ℕ) → shape ≡ shape_of place → ranks ≡ length place.paths → room ≡ replicate ranks 1 → length room ≡ length shape.node_of
@@ -48,6 +41,15 @@ pub sum_ones : (n : ℕ) → sum (replicate n 1) ≡ n
 sum_ones n = let all : sum (replicate n 1) ≡ n * 1 = sum_by-replicate (λ (x : ℕ). x) n 1 in omega arith
 
 module _ {C V : Type 0} where
+  -- one caller is changed, and is still its rank's
+  pub one_caller_changed : (table : C → ShardTable V) (good : GoodOf C V) (layout : C → Layout) (shards : List (Shard C V)) (cs : List (Caller C V)) (r : ℕ) (c d : Caller C V) → AreCallers table good layout shards cs → slice_get cs r ≡ Some c →
+      d.rank ≡ c.rank → IsCaller table good layout shards d → AreCallers table good layout shards (slice_set cs r d)
+  one_caller_changed table good layout shards cs r c d are get same is k e at =
+      ⊎_elim
+      (λ (p : (k ≡ r) × (e ≡ d)). subst (λ z. (z.rank ≡ k) × IsCaller table good layout shards z) (sym p.1) (same ∙ (are r c get).0 ∙ sym p.0, is))
+      (λ (p : (k ≢ r) × (slice_get cs k ≡ Some e)). are k e p.1)
+      (get_set_cases cs r k d e at)
+
   -- a new shard has a seat for each rank
   pub new_long : (T : ShardTable V) (queues ranks : ℕ) (seats : List (Seat C V)) → map counted_at seats ≡ first_counted T queues (replicate ranks 1) → length seats ≡ ranks
   new_long T queues ranks seats views =

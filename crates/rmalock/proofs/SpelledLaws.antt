@@ -1,13 +1,15 @@
 -- Files that are read spell what was read.
-use Rattle.std.proofs.Common.{◌≡◌, ℕ, ◌<◌, ◌^◌, List, length, Bool, true, false, nat_le, Result, Ok, Err, refl, sym, ap, subst, if◌then◌else◌}
+use Rattle.std.proofs.Common.{◌≡◌, ℕ, ◌<◌, ◌^◌, List, length, Bool, true, false, nat_le, not, ◌&&◌, Result, Ok, Err, refl, sym, ap, subst, ◌∙◌, if◌then◌else◌}
 use Rattle.rl_text.specs.declared.causes.Refusal.{Refusal}
+use Rattle.rl_step.specs.LockQueues.{does_batches}
+use Rattle.rl_place.specs.LockWords.{name_of}
 use Rattle.rl_place.specs.Places.{ThePlace, IsProper}
 use Rattle.rl_place.specs.Reading.{place_at}
 use Rattle.rl_place.specs.Spelling.{place_spelling}
 use Rattle.rl_place.proofs.PlaceLaws.{place-takes}
 use Rattle.rl_ops.specs.declared.ops.Ops.{Ops}
 use Rattle.rl_ops.specs.declared.schedule.Schedule.{Schedule}
-use Rattle.rl_ops.specs.Ops.{SpellsOps}
+use Rattle.rl_ops.specs.Ops.{SpellsOps, has_batch}
 use Rattle.rl_ops.specs.OpsReading.{ops_at}
 use Rattle.rl_ops.specs.Schedule.{ScheduleFits, schedule_spelling}
 use Rattle.rl_ops.specs.ScheduleReading.{schedule_at}
@@ -16,7 +18,7 @@ use Rattle.rl_ops.proofs.ScheduleLaws.{schedule-takes}
 use Rattle.rl_replay.specs.declared.complaint.Which.{Which}
 use Rattle.rl_replay.specs.declared.complaint.Which.TheVariants as which
 use Rattle.rl_replay.specs.declared.complaint.Complaint.{Complaint}
-use Rattle.rl_replay.specs.Reading.{◌>>=◌, within, refused_in, placed, called, scheduled}
+use Rattle.rl_replay.specs.Reading.{◌>>=◌, within, refused_in, as_done, placed, called, scheduled}
 
 -- what follows a step that went well
 pub step_ok : {A B : Type 0} (r : Result A Complaint) (f : A → Result B Complaint) (y : B) → (r >>= f) ≡ Ok y → (x : A) × (r ≡ Ok x) × (f x ≡ Ok y)
@@ -34,6 +36,11 @@ same_value x y e = cc
 passed_with : {A E : Type 0} (b : Bool) (x y : A) (d : E) → (if b then Ok x else Err d) ≡ Ok y → (b ≡ true) × (x ≡ y)
 passed_with {E = E} true x y d e = (refl, same_value {E = E} x y e)
 passed_with false x y d e = absurd cc
+
+-- a test that was not met
+as_it_was : {A E : Type 0} (b : Bool) (x y : A) (d : E) → (if b then Err d else Ok x) ≡ Ok y → x ≡ y
+as_it_was true x y d e = absurd cc
+as_it_was {E = E} false x y d e = same_value {E = E} x y e
 
 refused_ok : {X : Type 0} (kind : Which) (r : Result X Refusal) (x : X) → refused_in kind r ≡ Ok x → r ≡ Ok x
 refused_ok kind (Ok a) x e = ap (λ z. Ok z) (same_value {E = Complaint} a x e)
@@ -60,7 +67,12 @@ place_read bytes place e =
 pub calls_read : (place : ThePlace) (bytes : List ℕ) (ops : Ops) → length place.paths < 2 ^ 32 → place.geom.shards < 2 ^ 32 → called place bytes ≡ Ok ops → SpellsOps (length place.paths) place.geom.shards ops bytes
 unfolding called
 calls_read place bytes ops ranks shards e =
-    ops-takes (length place.paths) place.geom.shards bytes ops ranks shards (read_ok which.Calls 4194304 (ops_at (length place.paths) place.geom.shards) bytes ops e)
+    let reading : List ℕ → Result Ops Refusal = ops_at (length place.paths) place.geom.shards in
+    let text = step_ok (within which.Calls 4194304 bytes) (λ text. refused_in which.Calls (reading text) >>= as_done place) ops e in
+    let calls = step_ok (refused_in which.Calls (reading text.0)) (as_done place) ops text.2 in
+    let same : calls.0 ≡ ops = as_it_was (not (does_batches (name_of place.lock)) && has_batch calls.0) calls.0 ops _ calls.2 in
+    let read = read_ok which.Calls 4194304 reading bytes calls.0 (ap (λ z. z >>= λ t. refused_in which.Calls (reading t)) text.1 ∙ calls.1) in
+    ops-takes (length place.paths) place.geom.shards bytes ops ranks shards (subst (λ z. reading bytes ≡ Ok z) same read)
 
 pub schedule_read : (place : ThePlace) (bytes : List ℕ) (schedule : Schedule) → length place.paths < 2 ^ 32 → scheduled place bytes ≡ Ok schedule → ScheduleFits (length place.paths) schedule × (bytes ≡ schedule_spelling schedule)
 unfolding scheduled

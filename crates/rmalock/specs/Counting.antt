@@ -1,5 +1,6 @@
--- What a summary tells of a shard, counted where it stands in a machine.
-use Rattle.std.specs.Prelude.{◌≡◌, ◌≤◌, ℕ, length, count_by, slice_get, Some}
+-- What a report and a summary tell of a shard, counted where it stands in a machine.
+use Rattle.std.specs.Global.{Vec}
+use Rattle.std.specs.Prelude.{◌≡◌, ◌≤◌, ℕ, List, length, map, count_by, slice_get, Some}
 use Rattle.rl_ops.specs.declared.ops.TheConstants.{MOST_CALLS}
 use Rattle.rl_ops.specs.Ops.{total_calls}
 use Rattle.rl_journal.specs.Ranks.{count_in}
@@ -7,6 +8,10 @@ use Rattle.rl_machine.specs.Running.{ShardRun, Running}
 use Rattle.rl_machine.specs.Promises.{journal_on, transcripts_on}
 use Rattle.rmalock.specs.declared.counts.ShardCounts.{ShardCounts}
 use Rattle.rmalock.specs.Summary.{is_get, is_settle, is_pass}
+
+-- the lists that a vector of vectors holds
+abbrev pub lists_in : {X : Type 0} → Vec (Vec X) → List (List X)
+lists_in vectors = map (λ vector. vector.items) vectors.items
 
 module _ {V : Type 0} where
   -- the updates of the journal, the gets of all ranks' transcripts, and the settlements and passes of the trace

@@ -1,5 +1,5 @@
 -- The headline of a replay: what is true of the texts that are replayed, of the run, and of the report that is written.
-use Rattle.std.specs.Prelude.{◌≡◌, ◌<◌, ℕ, List, [], length, get_or, slice_get, Some}
+use Rattle.std.specs.Prelude.{◌≡◌, ◌<◌, ℕ, List, [], length, get_or, slice_get, Some, Ok}
 use Rattle.std.specs.FinMap as map
 use Rattle.rl_step.specs.Exclusion.{IsExclusive}
 use Rattle.rl_journal.specs.Legal.{IsLegal}
@@ -16,6 +16,9 @@ use Rattle.rl_ops.specs.Schedule.{ScheduleFits, schedule_spelling}
 use Rattle.rl_replay.specs.Files.{Texts}
 use Rattle.rl_history.specs.Naming.{naming_of}
 use Rattle.rl_history.specs.Spelling.{report_spelling}
+use Rattle.rl_history.specs.Reading.{report_at}
+use Rattle.rl_check.specs.LawfulReplays.{IsLawfulReplay}
+use Rattle.rl_check.specs.Legal.{IsLegalReport}
 use Rattle.rl_machine.specs.Running.{ShardRun, Running}
 use Rattle.rl_machine.specs.ShardSteps.{events_of}
 use Rattle.rl_asks.specs.Asks.{asked_of}
@@ -39,7 +42,7 @@ module _ {V : Type 0} (defined : Defined V) (promised : Promised) (place : ThePl
     -- on no shard is a writer ever beside another holder; and who touches the table holds the lock, as a writer where it writes
     pub exclusive : OnShards m (λ S. IsExclusive (events_of S.trace))
     -- no queue with a budget passes its lock more often than that between two settlements, nor, in all, more often than that for each
-    -- settlement; each queue serves first who came first; and while no call is open each was settled and passed as often as it was had
+    -- settlement; each queue serves first who came first; and while no call is open there each was settled and passed as often as it was had
     pub queues : EachKeepsQueues (name_of place.lock) (shape_of place) (knobs_of place.lock) place.homes m
     -- what the kind of lock promises beyond that
     pub further : EachSays promised (shape_of place) (knobs_of place.lock) place.homes (start_with defined place ops) (ranks_of schedule.turns)
@@ -59,7 +62,7 @@ abbrev pub KeepsPromises : ThePlace → Ops → Schedule → Type 0
 KeepsPromises place ops schedule = IsKept (kind_of place.lock).defined (kind_of place.lock).promised place ops schedule
 
 -- These texts are replayed: they spell a placement, calls and a schedule, and this text is the report of their run, which keeps its
--- promises.
+-- promises. It is a report that is read again, and a check finds it legal.
 pub record IsReplay (texts : Texts) (text : List ℕ) : Type 0 where
   pub place : ThePlace
   pub ops : Ops
@@ -72,3 +75,11 @@ pub record IsReplay (texts : Texts) (text : List ℕ) : Type 0 where
   pub schedule_spelled : texts.schedule ≡ schedule_spelling schedule
   pub bytes : text ≡ report_spelling (naming_of place) (report_of place ops schedule)
   pub kept : KeepsPromises place ops schedule
+  -- the report keeps its limits; its entries are the history of a legal journal and legal transcripts, and hold so many of each rank's calls
+  -- as are told as done, whole blocks, each call once and in its order; its tallies count its events; and by these no writer was ever
+  -- beside another holder, and each queue with a budget kept it
+  pub lawful : IsLawfulReplay place ops (report_of place ops schedule)
+  -- so a check finds it legal
+  pub legal : IsLegalReport place ops (report_of place ops schedule)
+  -- and this text is read as this report
+  pub read : report_at (naming_of place) text ≡ Ok (report_of place ops schedule)

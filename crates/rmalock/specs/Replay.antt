@@ -1,15 +1,22 @@
 -- The run of a placement, calls and a schedule, and the report of it.
-use Rattle.std.specs.Prelude.{ℕ, ◌+◌, List, [], ◌∷◌, filter, length, map, Some}
+use Rattle.std.specs.Prelude.{◌≡◌, ◌⊎◌, ◌≤◌, ℕ, ◌+◌, Bool, true, List, [], ◌∷◌, All, filter, length, map, slice_get, Some}
 use Rattle.rl_model.specs.declared.call.Call.{Call}
+use Rattle.rl_word.specs.Shapes.{TheShape}
+use Rattle.rl_word.specs.declared.shapes.Knobs.{Knobs}
+use Rattle.rl_step.specs.Answers.{steps_made}
+use Rattle.rl_place.specs.declared.lock.Lock.{Lock}
 use Rattle.rl_place.specs.Places.{ThePlace}
 use Rattle.rl_place.specs.Shapes.{shape_of, knobs_of}
 use Rattle.rl_ops.specs.declared.ops.Ops.{Ops}
 use Rattle.rl_ops.specs.declared.schedule.Schedule.{Schedule}
+use Rattle.rl_ops.specs.declared.schedule.TheConstants.{MOST_STEPS}
 use Rattle.rl_history.specs.declared.report.Done.{Done}
-use Rattle.rl_history.specs.Naming.{naming_of}
-use Rattle.rl_history.specs.Reports.{TheShard, TheReport}
+use Rattle.rl_history.specs.Lawful.{queues_at}
+use Rattle.rl_history.specs.Naming.{has_cohorts, naming_of}
+use Rattle.rl_history.specs.Reports.{TheShard, TheReport, ReplyFits, TallyFits}
 use Rattle.rl_history.specs.Spelling.{is_printed}
 use Rattle.rl_history.specs.Tallies.{tallies_from}
+use Rattle.rl_work.specs.Site.{Site}
 use Rattle.rl_machine.specs.Running.{ShardRun, Running}
 use Rattle.rl_machine.specs.ShardSteps.{events_of}
 use Rattle.rl_machine.specs.Start.{start_of}
@@ -61,3 +68,29 @@ module _ {V : Type 0} where
 -- the report of a replay
 abbrev pub report_of : ThePlace → Ops → Schedule → TheReport
 report_of place ops schedule = report_in (queue_count place) (replay_of place ops schedule)
+
+-- ---- when it fits
+
+-- these are the cohorts of a lock that has cohorts
+abbrev pub AreCohortsOf : Lock → (ℕ → Bool) → Type 0
+AreCohortsOf lock cohort = (c : ℕ) → cohort c ≡ true → (has_cohorts lock ≡ true) × ((c ≡ 1) ⊎ (c ≡ 2))
+
+-- so are those of a rank's machine that is defined so
+abbrev pub AreCohortsBy : {V : Type 0} → Defined V → Lock → Type 0
+AreCohortsBy defined lock = (shape : TheShape) (home : ℕ) (knobs : Knobs) (site : Site) → AreCohortsOf lock (defined shape home knobs site).cohort
+
+-- a machine of a placement and calls, which has made no more steps than a schedule has
+pub record IsMachineOf {V : Type 0} (place : ThePlace) (ops : Ops) (m : Running V) : Type 0 where
+  pub geom : m.geom ≡ place.geom
+  pub calls : m.calls ≡ ops.by_rank
+  pub sizes : m.sizes ≡ ops.sizes
+  -- a shard for each home, with the queues and the cohorts of the placement's lock
+  pub all : length m.shards ≡ length place.homes
+  pub queues : (s home : ℕ) (S : ShardRun V) → slice_get place.homes s ≡ Some home → slice_get m.shards s ≡ Some S → S.table.queues ≡ queues_at place home
+  pub cohorts : (s : ℕ) (S : ShardRun V) → slice_get m.shards s ≡ Some S → AreCohortsOf place.lock S.table.cohort
+  pub few : steps_made m.steps ≤ MOST_STEPS
+
+-- the numbers of a part are in their ranges
+pub record NumbersFit (part : TheShard) : Type 0 where
+  pub replies : All (λ e. ReplyFits e.reply) part.entries
+  pub tallies : All TallyFits part.queues

@@ -67,6 +67,16 @@ fn six<R: AllocGlobal>(rt: &R, first: &str, done: &str) -> Result<String, OutOfM
     )
 }
 
+/// A check finds this report legal.
+pub(crate) fn legal<R: Threads + Wait + Sync + AllocGlobal>(
+    rt: &R,
+    place: &str,
+    calls: &str,
+    report: &str,
+) -> bool {
+    checks(rt, (place, calls, report), 0, "legal\n")
+}
+
 #[test]
 fn a_replayed_hold_is_legal(rt: HostRuntime) {
     assert!(rt; checks(&rt, (ONE_RANK, ONE_HOLD, HELD_ONCE), 0, "legal\n"));

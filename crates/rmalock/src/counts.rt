@@ -5,11 +5,10 @@ ghost use Rattle.rl_place.specs.Places.{IsProper};
 ghost use Rattle.rl_journal.specs.Ranks.{count_in};
 ghost use Rattle.rl_machine.specs.Running.{running};
 ghost use Rattle.rl_machine.specs.Records.{transcripts_at};
-ghost use Rattle.rmalock.specs.Replay.{queue_count, report_in};
+ghost use Rattle.rmalock.specs.Replay.{queue_count, dones_from, report_in};
 ghost use Rattle.rmalock.specs.Summary.{is_get as is_get_at, is_settle as is_settle_at, is_pass as is_pass_at, all_done as all_done_at, counts_in};
 ghost use Rattle.rmalock.specs.Counting.{counts_on, IsSmall};
 
-use crate::reporting::dones_of;
 use rl_asks::TellsAll;
 use rl_history::Done;
 use rl_machine::{Machine, soundness};
@@ -153,6 +152,25 @@ fn all_done(done: &[Done]) -> u64
     all
 }
 
+/// What each of so many ranks has done of the calls that it was given.
+fn dones_of_machine<C: TellsAll>(
+    alloc: Global,
+    machine: &Machine<C>,
+    ranks: u32,
+) -> Result<Vec<Done>, OutOfMemory>
+    requires { ranks ≡ length machine.now.calls }
+    ensures { IfOk result (λ dones. dones.items ≡ dones_from (running C.shard_table machine.now) 0 machine.now.calls) }
+{
+    let mut dones = Vec::new(alloc);
+    for rank in 0..ranks {
+        dones.push(Done {
+            done: machine.done(rank),
+            given: machine.given(rank),
+        })?;
+    }
+    Ok(dones)
+}
+
 /// What the summary of the run that a machine made tells, where its shards and ranks are those of a placement: what it
 /// would tell of the report of the machine. Refused only for want of memory.
 pub fn counts_of_machine<C: TellsAll>(
@@ -168,7 +186,7 @@ pub fn counts_of_machine<C: TellsAll>(
 {
     soundness(machine);
     let ranks = place.paths.len() as u32;
-    let done = dones_of(alloc, machine, ranks)?;
+    let done = dones_of_machine(alloc, machine, ranks)?;
     Ok(RunCounts {
         shards: all_shards(alloc, machine, place.geom.shards, ranks)?,
         done: all_done(done.as_slice()),

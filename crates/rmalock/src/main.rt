@@ -3,6 +3,8 @@
 
 mod answer;
 #[cfg(test)]
+mod caller_tests;
+#[cfg(test)]
 mod check_tests;
 mod checking;
 mod command;
@@ -13,11 +15,15 @@ mod generating;
 mod generating_tests;
 mod laps;
 #[cfg(test)]
+mod library_tests;
+#[cfg(test)]
 mod lock_tests;
 mod making;
 mod offline;
 mod program;
 mod replaying;
+#[cfg(test)]
+mod report_tests;
 mod reporting;
 #[cfg(test)]
 mod robust_tests;
@@ -32,10 +38,12 @@ mod summary;
 mod tests;
 #[cfg(test)]
 mod trials;
+#[cfg(test)]
+mod way_tests;
 
 use crate::program::rmalock;
 use rl_io::{OpenGate, RealFiles, RealOut};
-use rl_replay::{why_no_output, words};
+use rl_replay::{say_why, words};
 use std::alloc::AllocError as OutOfMemory;
 use std::process::ExitCode;
 use std::rt::{Env, Files};
@@ -43,34 +51,21 @@ use std::sync::Wait;
 use std::thread::Threads;
 
 /// The status of what the command line asks for.
-fn run<R: Threads + Wait + Sync + Env + AllocGlobal, F: Files + Drop, P: Print + Drop>(
-    rt: &R,
-    mut source: RealFiles<F>,
-    mut out: RealOut<P>,
-) -> Result<u8, OutOfMemory> {
+fn run<
+    R: Threads + Wait + Sync + Env + AllocGlobal,
+    F: Files + AllocGlobal + Drop,
+    P: Print + Drop,
+>(rt: &R, source: &mut RealFiles<F>, out: &mut RealOut<P>) -> Result<u8, OutOfMemory> {
     let words = words(rt)?;
-    Ok(rmalock(
-        rt,
-        rt.alloc(),
-        words.as_slice(),
-        &mut source,
-        &mut out,
-        &OpenGate,
-    ))
+    Ok(rmalock(rt, rt.alloc(), words.as_slice(), source, out, &OpenGate))
 }
 
 /// Does what the command line asks for, and ends with its status: 5 is want of memory. Where there is no output, one line on
 /// standard error says why.
 fn main(rt: HostRuntime) -> ExitCode {
-    let files: Result<_, OutOfMemory> = rt.clone();
-    let out: Result<_, OutOfMemory> = rt.clone();
-    let status = match (files, out) {
-        (Ok(files), Ok(out)) => run(&rt, RealFiles::new(files), RealOut::new(out)).unwrap_or(5),
-        _ => 5,
-    };
-    if let Some(why) = why_no_output(status) {
-        // If standard error takes nothing either, the status is all that is left.
-        let _ = eprintln!(rt; "rmalock: {why}");
-    }
+    let mut source = RealFiles::new(&rt);
+    let mut out = RealOut::new(&rt);
+    let status = run(&rt, &mut source, &mut out).unwrap_or(5);
+    say_why(&rt, "rmalock", status, &source, &out);
     ExitCode::from(status)
 }

@@ -1,5 +1,6 @@
 //! Worked cases of runs by threads, with values from their definition, and gates that lead the ranks.
 
+use crate::caller_tests::{answers_alone, callers_told};
 use crate::tests::{look, named, run_through};
 use crate::trials::trial;
 use crossbeam_utils::Backoff;
@@ -246,7 +247,7 @@ fn answer_of(sign: &str) -> u64 {
 }
 
 /// Runs these texts led by the turns of these ranks, and looks that the ranks got the answers that the machine gives for the same turns,
-/// of each kind so many.
+/// of each kind so many; and that callers on one thread get them too.
 fn run_led<R: Threads + Wait + Sync + AllocGlobal + Abort>(
     rt: &R,
     place: &str,
@@ -255,6 +256,8 @@ fn run_led<R: Threads + Wait + Sync + AllocGlobal + Abort>(
     counts: &str,
 ) -> Result<Report, Fail> {
     let told = trial(rt.alloc(), place, calls, ranks)?;
+    let alone = callers_told(rt.alloc(), place, calls, ranks)?;
+    assert_eq!(rt; alone, answers_alone(rt.alloc(), &told)?);
     let gate = Led::new(rt, ranks)?;
     let report = report_of(rt, place, calls, &gate)?;
     assert_eq!(rt; gate.missed.load(Ordering::SeqCst), 0);
@@ -276,6 +279,20 @@ fn run_led<R: Threads + Wait + Sync + AllocGlobal + Abort>(
         assert_eq!(rt; done.done, done.given);
     }
     Ok(report)
+}
+
+/// The same five times.
+pub(crate) fn run_led_often<R: Threads + Wait + Sync + AllocGlobal + Abort>(
+    rt: &R,
+    place: &str,
+    calls: &str,
+    ranks: &str,
+    counts: &str,
+) -> Result<(), Fail> {
+    for _ in 0..5 {
+        let _report = run_led(rt, place, calls, ranks, counts)?;
+    }
+    Ok(())
 }
 
 const HOLDS_OF_TWO: &str = "rmalock-calls 1\n0 hold 0\n1 hold 0\nend\n";
@@ -344,12 +361,18 @@ fn runs_led_by_turns(rt: HostRuntime) -> Result<(), Fail> {
             "0000000000000000001111111111111111222222222222222233333333333000000000111111111111111111333332222222",
             "moved 96 waiting 2 lost 2 busy 0",
         ),
+        // two readers beside each other
+        (
+            "rw\nbudget 1\nwriters 1\nreaders 1000\ngroup 32",
+            "00",
+            "rmalock-calls 1\n0 get 0\n1 get 0\nend\n",
+            "00000111111111100000",
+            "moved 20 waiting 0 lost 0 busy 0",
+        ),
     ];
     for (lock, nodes, calls, ranks, counts) in cases {
         let place = one_shard(&rt, lock, SMALL, nodes)?;
-        for _ in 0..5 {
-            let _report = run_led(&rt, &place, calls, ranks, counts)?;
-        }
+        run_led_often(&rt, &place, calls, ranks, counts)?;
     }
     Ok(())
 }
@@ -402,9 +425,11 @@ fn eight_ranks<R: AllocGlobal>(rt: &R, lock: &str) -> Result<String, OutOfMemory
     )
 }
 
-/// Eight ranks put keys of their own and get each again: a rank reads its own write.
-#[test]
-fn ranks_read_their_own_writes(rt: HostRuntime) -> Result<(), Fail> {
+/// Eight ranks put keys of their own and get each again: a rank reads its own write. Five runs with this lock.
+pub(crate) fn read_own_writes<R: Threads + Wait + Sync + AllocGlobal + Abort>(
+    rt: &R,
+    lock: &str,
+) -> Result<(), Fail> {
     let mut calls = format!(in rt.alloc(); "rmalock-calls 1\n")?;
     for rank in 0..8u32 {
         for i in 0..25u32 {
@@ -416,32 +441,33 @@ fn ranks_read_their_own_writes(rt: HostRuntime) -> Result<(), Fail> {
         }
     }
     calls.push_str("end\n")?;
-    for lock in [
-        "rw\nbudget 4 4\nwriters 4\nreaders 16\ngroup 2",
-        "mcs\nbudget 4 4",
-    ] {
-        let place = eight_ranks(&rt, lock)?;
-        for _ in 0..5 {
-            let report = report_of(&rt, &place, &calls, &OpenGate)?;
-            let mut gets = 0u32;
-            for shard in report.shards.as_slice() {
-                for entry in shard.entries.as_slice() {
-                    match entry.reply {
-                        Reply::Val(value) => {
-                            assert_eq!(rt; Some(value), u64::from(entry.seq).checked_sub(1));
-                            gets = gets.saturating_add(1);
-                        }
-                        reply => assert!(rt; matches!(reply, Reply::New | Reply::Was(_))),
+    let place = eight_ranks(rt, lock)?;
+    for _ in 0..5 {
+        let report = report_of(rt, &place, &calls, &OpenGate)?;
+        let mut gets = 0u32;
+        for shard in report.shards.as_slice() {
+            for entry in shard.entries.as_slice() {
+                match entry.reply {
+                    Reply::Val(value) => {
+                        assert_eq!(rt; Some(value), u64::from(entry.seq).checked_sub(1));
+                        gets = gets.saturating_add(1);
                     }
+                    reply => assert!(rt; matches!(reply, Reply::New | Reply::Was(_))),
                 }
             }
-            assert_eq!(rt; gets, 200);
-            for done in report.done.as_slice() {
-                assert!(rt; done.done == 50 && done.given == 50);
-            }
+        }
+        assert_eq!(rt; gets, 200);
+        for done in report.done.as_slice() {
+            assert!(rt; done.done == 50 && done.given == 50);
         }
     }
     Ok(())
+}
+
+#[test]
+fn ranks_read_their_own_writes(rt: HostRuntime) -> Result<(), Fail> {
+    read_own_writes(&rt, "rw\nbudget 4 4\nwriters 4\nreaders 16\ngroup 2")?;
+    read_own_writes(&rt, "mcs\nbudget 4 4")
 }
 
 /// Eight ranks make batches of two puts on keys of their own, which all have room.

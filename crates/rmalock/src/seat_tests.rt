@@ -4,6 +4,7 @@
 ghost use Rattle.std.specs.Prelude.{◌≡◌, ◌<◌, ℕ, true, IfOk, IfSome, Some, replicate, slice_get, vec_len};
 ghost use Rattle.rl_model.specs.Call.{shard_of};
 ghost use Rattle.rl_model.specs.Geom.{GeomFits};
+ghost use Rattle.rl_step.specs.LockQueues.{lock_under};
 ghost use Rattle.rl_place.specs.LockWords.{name_of};
 ghost use Rattle.rl_place.specs.Places.{IsProper};
 ghost use Rattle.rl_place.specs.Shapes.{shape_of, knobs_of};
@@ -11,8 +12,11 @@ ghost use Rattle.rl_cores.specs.Fresh.{IsFresh};
 ghost use Rattle.rl_shard.specs.Shards.{IsOf, IsShardOf, AreOf, AreClosed, rank_at};
 
 use crate::trials::{answer_sign, trial};
-use rl_asks::{Resting, ShardCore, TellsAll};
-use rl_cores::{AlockCore, CoreTask, DmcsCore, McsCore, RwCore, SpinCore, over_lock};
+use rl_asks::{Resting, ShardCore};
+use rl_cores::{
+    AlockCore, CombineCore, CoreTask, DmcsCore, McsCore, RwCore, SeqCore, SpinCore, over_lock,
+    settings_suit,
+};
 use rl_history::Naming;
 use rl_model::{Call, Entry, Geom, Reply};
 use rl_ops::{Room, read_ops};
@@ -43,7 +47,7 @@ fn opened<C: ShardCore>(
 ) -> Result<(Shard<C>, Vec<Seat<C>>), OutOfMemory>
     requires proper { IsProper place.now }
     requires knobs { C.suits_knobs (shape_of place.now) (knobs_of place.now.lock) }
-    requires kind { C.name ≡ name_of place.now.lock }
+    requires kind { C.name ≡ lock_under (name_of place.now.lock) }
     ensures shard { IfOk result (λ p. IsShardOf C.shard_table (vec_len p.1) p.0) }
     ensures seats { IfOk result (λ p. AreOf C.shard_table C.good C.layout p.0 p.1.items) }
     ensures fresh { IfOk result (λ p. (r : ℕ) (s : _) → slice_get p.1.items r ≡ Some s → IsFresh C.shard_table C.good C.layout place.now.geom 0 1 p.0 s) }
@@ -139,7 +143,19 @@ fn tallies_told<C: ShardCore>(alloc: Global, seats: &[Seat<C>]) -> Result<String
     Ok(text)
 }
 
-/// The answer with the number that its word has where no rank has room for an update: each rank's room is six words before the lock's.
+/// How many of these ranks ask for no update: each has one call at most.
+fn ranks_without_update(calls: &[Vec<Call>]) -> u32 {
+    let mut ranks = 0u32;
+    for own in calls {
+        if !own.iter().any(|call| call.is_update()) {
+            ranks = ranks.saturating_add(1);
+        }
+    }
+    ranks
+}
+
+/// The answer with the number that its word has where so many ranks, which ask for no update, have no room for one: each rank's room is six
+/// words before the lock's.
 fn without_room(answer: Stepped, ranks: u32) -> Stepped {
     match answer {
         Stepped::Waiting { word, value } => Stepped::Waiting {
@@ -159,17 +175,17 @@ fn seats_told<C: ShardCore>(
 ) -> Result<String, OutOfMemory>
     requires proper { IsProper place.now }
     requires knobs { C.suits_knobs (shape_of place.now) (knobs_of place.now.lock) }
-    requires kind { C.name ≡ name_of place.now.lock }
+    requires kind { C.name ≡ lock_under (name_of place.now.lock) }
 {
     let (shard, mut seats) = opened::<C>(alloc, place)?;
     begin_all(&shard, place.geom, &mut seats, calls);
-    let ranks = place.paths.len() as u32;
+    let spare = ranks_without_update(calls);
     let mut text = String::new(alloc);
     for digit in turns {
         let rank = usize::from(digit.saturating_sub(b'0'));
         if rank < seats.len() {
             let answer = step_of(&shard, &mut seats, rank);
-            text.push_str(&answer_sign(alloc, without_room(answer, ranks))?)?;
+            text.push_str(&answer_sign(alloc, without_room(answer, spare))?)?;
             text.push_str(" ")?;
         }
     }
@@ -192,7 +208,7 @@ impl CoreTask for SeatsTask<'_> {
 
     ghost gives = { λ b place kind told. Unit {0} };
 
-    fn over<C: Resting + TellsAll>(self, place: &Place) -> Result<String, OutOfMemory> {
+    fn over<C: Resting>(self, place: &Place) -> Result<String, OutOfMemory> {
         seats_told::<C>(self.alloc, place, self.calls, self.turns)
     }
 }
@@ -344,7 +360,7 @@ where
     C::View: Send + Sync,
     requires proper { IsProper place.now }
     requires knobs { C.suits_knobs (shape_of place.now) (knobs_of place.now.lock) }
-    requires kind { C.name ≡ name_of place.now.lock }
+    requires kind { C.name ≡ lock_under (name_of place.now.lock) }
 {
     let (shard, mut seats) = opened::<C>(alloc, place)?;
     begin_all(&shard, place.geom, &mut seats, calls);
@@ -373,12 +389,15 @@ fn closed_of<R: Threads + Sync + AllocGlobal>(
     let count = place.paths.len() as u32;
     let ops = read_ops(alloc, count, place.geom.shards, calls.as_bytes())?;
     let calls = ops.by_rank.as_slice();
+    settings_suit();
     let closed = match &place.lock {
         Lock::Spin => closed_by_threads::<SpinCore, R>(rt, alloc, &place, calls)?,
         Lock::Dmcs => closed_by_threads::<DmcsCore, R>(rt, alloc, &place, calls)?,
         Lock::Alock { .. } => closed_by_threads::<AlockCore, R>(rt, alloc, &place, calls)?,
         Lock::Mcs { .. } => closed_by_threads::<McsCore, R>(rt, alloc, &place, calls)?,
         Lock::Rw { .. } => closed_by_threads::<RwCore, R>(rt, alloc, &place, calls)?,
+        Lock::Seq { .. } => closed_by_threads::<SeqCore, R>(rt, alloc, &place, calls)?,
+        Lock::Combine { .. } => closed_by_threads::<CombineCore, R>(rt, alloc, &place, calls)?,
     };
     Ok(closed)
 }

@@ -74,7 +74,7 @@ pub(crate) fn files<R: AllocGlobal>(
 }
 
 /// The status and the text of what this line asks for, over these files and a sink, which never fail.
-fn answer_of(
+pub(crate) fn answer_of(
     rt: &HostRuntime,
     line: &[&str],
     held: Vec<(String, Vec<u8>)>,

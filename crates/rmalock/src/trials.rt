@@ -1,22 +1,25 @@
 //! What the tests of all locks share: what the steps of a run tell, as one line of text.
 
 ghost use Rattle.std.specs.Prelude.{◌≡◌, ◌-◌, ◌<◌, ◌^◌, length, true, IfOk};
+ghost use Rattle.rl_step.specs.LockQueues.{does_batches};
+ghost use Rattle.rl_place.specs.LockWords.{name_of};
 ghost use Rattle.rl_place.specs.Places.{IsProper};
 ghost use Rattle.rl_place.specs.Shapes.{shape_of, knobs_of};
 ghost use Rattle.rl_ops.specs.Ops.{OpsFit};
 ghost use Rattle.rl_step.specs.Answers.{steps_made};
+ghost use Rattle.rl_replay.specs.Reading.{SuitsLock};
 
-use rl_asks::{Resting, ShardCore, TellsAll};
+use rl_asks::{Resting, ShardCore};
 use rl_cores::{CoreTask, over_lock};
 use rl_machine::Machine;
 use rl_ops::{Ops, read_ops};
-use rl_place::{Place, read_place};
+use rl_place::{Lock, Place, read_place};
 use rl_step::{Event, Stepped, Steps};
 use rl_text::{TEXT_LIMIT, TextErr};
 use std::alloc::{AllocError as OutOfMemory, Global};
 
 /// Whether so few steps were made that one more can be.
-fn has_room(steps: Steps) -> bool
+pub(crate) fn has_room(steps: Steps) -> bool
     ensures { result ≡ true → steps_made steps < 2 ^ 32 - 1 }
 {
     steps.moved < 1000
@@ -106,8 +109,9 @@ fn run<C: ShardCore>(
 ) -> Result<String, OutOfMemory>
     requires proper { IsProper place.now }
     requires knobs { C.suits_knobs (shape_of place.now) (knobs_of place.now.lock) }
-    requires batches { C.batches ≡ true }
+    requires batches { C.batches ≡ does_batches (name_of place.now.lock) }
     requires calls { OpsFit (length place.now.paths) place.now.geom.shards ops }
+    requires suits { SuitsLock place.now ops }
 {
     let shape = place.shape(alloc)?;
     let homes = place.homes.as_slice();
@@ -126,22 +130,21 @@ struct TrialTask<'a> {
 impl CoreTask for TrialTask<'_> {
     type Out = Result<String, OutOfMemory>;
 
-    ghost takes = { λ t place. OpsFit (length place.paths) place.geom.shards t.ops };
+    ghost takes = { λ t place. OpsFit (length place.paths) place.geom.shards t.ops × SuitsLock place t.ops };
 
     ghost gives = { λ t place kind told. Unit {0} };
 
-    fn over<C: Resting + TellsAll>(self, place: &Place) -> Result<String, OutOfMemory> {
+    fn over<C: Resting>(self, place: &Place) -> Result<String, OutOfMemory> {
         run::<C>(self.alloc, place, self.ops, self.ranks)
     }
 }
 
-/// What the steps of these ranks tell, over the placement and the calls of these texts.
-pub(crate) fn trial(
-    alloc: Global,
-    place: &str,
-    calls: &str,
-    ranks: &str,
-) -> Result<String, TextErr> {
+/// The placement and the calls of these texts. Texts that are too long, and a batch where the lock does none, are no texts of a test.
+pub(crate) fn read_both(alloc: Global, place: &str, calls: &str) -> Result<(Place, Ops), TextErr>
+    ensures proper { IfOk result (λ p. IsProper p.0) }
+    ensures calls { IfOk result (λ p. OpsFit (length p.0.paths) p.0.geom.shards p.1) }
+    ensures suits { IfOk result (λ p. SuitsLock p.0 p.1) }
+{
     if place.len() >= TEXT_LIMIT as usize || calls.len() >= TEXT_LIMIT as usize {
         return Err(TextErr::Memory);
     }
@@ -152,6 +155,20 @@ pub(crate) fn trial(
         place.geom.shards,
         calls.as_bytes(),
     )?;
+    if ops.has_batch() && matches!(&place.lock, Lock::Combine { .. }) {
+        return Err(TextErr::Memory);
+    }
+    Ok((place, ops))
+}
+
+/// What the steps of these ranks tell, over the placement and the calls of these texts.
+pub(crate) fn trial(
+    alloc: Global,
+    place: &str,
+    calls: &str,
+    ranks: &str,
+) -> Result<String, TextErr> {
+    let (place, ops) = read_both(alloc, place, calls)?;
     let ranks = ranks.as_bytes();
     Ok(over_lock(&place, TrialTask { alloc, ops, ranks })?)
 }

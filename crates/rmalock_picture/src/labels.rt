@@ -10,7 +10,7 @@ use std::fmt;
 /// How wide a letter of a label is, at the most.
 const LETTER: Px = Px(6);
 
-/// A name of a report, which has letters, digits and dots alone.
+/// Words of a report or of a listing of steps, which are ASCII.
 #[derive(Clone, Copy)]
 pub struct Word<'a>(pub &'a [u8]);
 

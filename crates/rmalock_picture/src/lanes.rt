@@ -1,14 +1,17 @@
 //! What is seen of a replay: a lane for each rank.
 
+use crate::labels::Word;
 use rl_step::{Event, Standing, Stepped};
 use std::alloc::{AllocError as OutOfMemory, Global};
 use std::fmt;
 
-/// One step of a rank, and how it went.
-#[derive(Clone, Copy)]
+/// One step of a rank, how it went, and what a listing of steps says of it: the atom, the answer and the events. Nothing is
+/// told of a step that isn't shown.
+#[derive(Drop)]
 pub struct Cell {
     pub step: u32,
     pub answer: Stepped,
+    pub told: Vec<u8>,
 }
 
 /// Something that happened in a step.
@@ -43,7 +46,7 @@ pub struct Band {
 }
 
 /// What is seen of a rank after one of its steps.
-#[derive(Clone, Copy)]
+#[derive(Drop)]
 pub struct Moment {
     /// The step and how it went.
     pub cell: Cell,
@@ -71,25 +74,8 @@ impl Doing {
 impl fmt::Display for Cell {
     fn fmt<W: fmt::Write>(&self, f: &mut fmt::Formatter<W>) -> fmt::Result {
         let step = self.step;
-        match self.answer {
-            Stepped::Moved => write!(f, "step {step}: moved"),
-            Stepped::Waiting { word, value } => {
-                write!(f, "step {step}: waits on word {word}, which is {value}")
-            }
-            Stepped::Lost { guess, seen } => {
-                write!(
-                    f,
-                    "step {step}: compare lost, guessed {guess} and saw {seen}"
-                )
-            }
-            Stepped::Busy { node, holder } => {
-                write!(
-                    f,
-                    "step {step}: rank {holder} is in the card of node {node}"
-                )
-            }
-            Stepped::Finished => write!(f, "step {step}: no call left"),
-        }
+        let told = Word(self.told.as_slice());
+        write!(f, "step {step}:{told}")
     }
 }
 
@@ -184,6 +170,11 @@ impl Lane {
         }
     }
 
+    /// Whether the step with this number is shown.
+    pub fn shows(&self, step: u32) -> bool {
+        self.first <= step
+    }
+
     /// Takes down a step.
     pub fn note(&mut self, moment: Moment, events: &[(u32, Event)]) -> Result<(), OutOfMemory> {
         let Moment {
@@ -197,7 +188,7 @@ impl Lane {
             .follow(step, Doing::by_standing(standing), shard)?;
         self.card
             .follow(step, card.map(|node| Doing::InCard { node }), shard)?;
-        if self.first <= step {
+        if self.shows(step) {
             self.cells.push(cell)?;
             for (_, event) in events {
                 self.marks.push(Mark {

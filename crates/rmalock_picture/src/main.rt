@@ -17,24 +17,27 @@ mod tests;
 
 use crate::picturing::draw_replay;
 use rl_io::{RealFiles, RealOut};
-use rl_replay::{why_no_output, words};
+use rl_replay::{say_why, words};
 use std::alloc::AllocError as OutOfMemory;
 use std::process::ExitCode;
+use std::rt::{Env, Files};
 
 /// The status of what the command line asks for.
-fn run(rt: &HostRuntime) -> Result<u8, OutOfMemory> {
+fn run<R: Env + AllocGlobal, F: Files + AllocGlobal + Drop, P: Print + Drop>(
+    rt: &R,
+    source: &mut RealFiles<F>,
+    out: &mut RealOut<P>,
+) -> Result<u8, OutOfMemory> {
     let words = words(rt)?;
-    let mut source = RealFiles::new(rt.clone()?);
-    let mut out = RealOut::new(rt.clone()?);
-    Ok(draw_replay(rt.alloc(), words.as_slice(), &mut source, &mut out))
+    Ok(draw_replay(rt.alloc(), words.as_slice(), source, out))
 }
 
-/// Draws what the command line asks for, and ends with the status. Where there is no output, one line on standard error says why.
+/// Draws what the command line asks for, and ends with the status: 5 is want of memory. Where there is no output, one line on
+/// standard error says why.
 fn main(rt: HostRuntime) -> ExitCode {
-    let status = run(&rt).unwrap_or(5);
-    if let Some(why) = why_no_output(status) {
-        // If standard error takes nothing either, the status is all that is left.
-        let _ = eprintln!(rt; "rmalock_picture: {why}");
-    }
+    let mut source = RealFiles::new(&rt);
+    let mut out = RealOut::new(&rt);
+    let status = run(&rt, &mut source, &mut out).unwrap_or(5);
+    say_why(&rt, "rmalock_picture", status, &source, &out);
     ExitCode::from(status)
 }

@@ -4,7 +4,7 @@ ghost use Rattle.rl_io.specs.Outside.{Appends};
 ghost use Rattle.rl_place.specs.Places.{IsProper};
 ghost use Rattle.rl_ops.specs.Ops.{OpsFit};
 ghost use Rattle.rl_ops.specs.Schedule.{ScheduleFits};
-ghost use Rattle.rl_replay.specs.Reading.{RisesWithFault};
+ghost use Rattle.rl_replay.specs.Reading.{RisesWithFault, SuitsLock};
 ghost use Rattle.rl_replay.specs.Files.{named, MayOpen};
 ghost use Rattle.rmalock_picture.specs.Asking.{asked_by};
 ghost use Rattle.rmalock_picture.specs.Answer.{MayRead, WasDrawn, IsDone};
@@ -49,6 +49,7 @@ fn steps_of(schedule: &Schedule) -> u32 {
 fn picture_of(alloc: Global, replay: Replay, window: Window) -> Result<Vec<u8>, OutOfMemory>
     requires proper { IsProper replay.place }
     requires calls { OpsFit (length replay.place.paths) replay.place.geom.shards replay.ops }
+    requires suits { SuitsLock replay.place replay.ops }
     requires schedule { ScheduleFits (length replay.place.paths) replay.schedule }
     requires few { window.to ≤ 2000000 }
 {

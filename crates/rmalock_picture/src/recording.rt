@@ -1,20 +1,35 @@
 //! A machine is made, makes the steps of a schedule, and each step is taken down.
 ghost use Rattle.std.specs.Prelude.{◌≡◌, ◌+◌, ◌-◌, ◌<◌, ◌≤◌, ◌^◌, true, length, vec_len, IfOk};
+ghost use Rattle.rl_model.specs.Geom.{GeomFits};
+ghost use Rattle.rl_step.specs.LockQueues.{does_batches};
+ghost use Rattle.rl_place.specs.LockWords.{name_of};
 ghost use Rattle.rl_place.specs.Places.{IsProper};
 ghost use Rattle.rl_place.specs.Shapes.{shape_of, knobs_of};
 ghost use Rattle.rl_ops.specs.Ops.{OpsFit};
 ghost use Rattle.rl_ops.specs.Schedule.{ScheduleFits, TurnFits};
 ghost use Rattle.rl_step.specs.Answers.{steps_made};
+ghost use Rattle.rl_replay.specs.Reading.{SuitsLock};
 
 use crate::asking::Window;
 use crate::lanes::{Cell, Lane, Moment};
-use rl_asks::{Resting, ShardCore, TellsAll};
+use rl_asks::{Resting, ShardCore};
 use rl_cores::{CoreTask, over_lock};
+use rl_history::Naming;
 use rl_machine::Machine;
+use rl_names::put_step;
 use rl_ops::{Ops, Schedule, Turn};
 use rl_place::Place;
 use rl_step::Event;
 use std::alloc::{AllocError as OutOfMemory, Global};
+
+/// What is seen of a machine: the placement, by whose names its steps are told, and the step before which the window ends.
+#[derive(Clone, Copy)]
+struct View<'a> {
+    alloc: Global,
+    place: &'a Place,
+    naming: &'a Naming,
+    until: u32,
+}
 
 /// A lane for each of so many ranks.
 fn first_lanes(alloc: Global, ranks: u32, first: u32) -> Result<Vec<Lane>, OutOfMemory>
@@ -36,8 +51,9 @@ fn events_of_step(events: &[(u32, Event)], step: u32) -> &[(u32, Event)] {
     &events[first..]
 }
 
-/// Makes one step of a rank, the step with this number, and takes it down.
+/// Makes one step of a rank, the step with this number, and takes it down; in words where the lane shows it.
 fn make_step<C: ShardCore>(
+    view: View<'_>,
     machine: &mut Machine<C>,
     lane: &mut Lane,
     rank: u32,
@@ -45,13 +61,19 @@ fn make_step<C: ShardCore>(
 ) -> Result<(), OutOfMemory>
     requires there { rank < length machine.old.calls }
     requires few { steps_made machine.old.steps < 2 ^ 32 - 1 }
+    requires fits { GeomFits view.place.now.geom }
     ensures ranks { IfOk result (λ _. length machine.new.calls ≡ length machine.old.calls) }
     ensures counted { IfOk result (λ _. steps_made machine.new.steps ≡ steps_made machine.old.steps + 1) }
 {
-    let answer = machine.step(rank)?;
+    let mut told = Vec::new(view.alloc);
+    let answer = if lane.shows(step) {
+        put_step(&mut told, view.place, view.naming, machine, rank)?
+    } else {
+        machine.step(rank)?
+    };
     let shard = machine.place(rank);
     let moment = Moment {
-        cell: Cell { step, answer },
+        cell: Cell { step, answer, told },
         shard,
         standing: machine.standing(rank),
         card: machine.card(rank),
@@ -62,27 +84,28 @@ fn make_step<C: ShardCore>(
 
 /// Makes so many steps of a rank, as far as the window goes; the first has this number. Gives the number of the next one.
 fn make_steps<C: ShardCore>(
+    view: View<'_>,
     machine: &mut Machine<C>,
     lanes: &mut Vec<Lane>,
     rank: u32,
     count: u32,
     first: u32,
-    until: u32,
 ) -> Result<u32, OutOfMemory>
     requires there { rank < length machine.old.calls }
     requires lanes { vec_len lanes.old ≡ length machine.old.calls }
     requires counted { steps_made machine.old.steps ≡ first }
-    requires few { until ≤ 2000000 }
+    requires few { view.until ≤ 2000000 }
+    requires fits { GeomFits view.place.now.geom }
     ensures ranks { IfOk result (λ _. length machine.new.calls ≡ length machine.old.calls) }
     ensures lanes { IfOk result (λ _. vec_len lanes.new ≡ vec_len lanes.old) }
     ensures counted { IfOk result (λ step. steps_made machine.new.steps ≡ step) }
 {
     let mut step = first;
     for _ in 0..count {
-        if step >= until {
+        if step >= view.until {
             return Ok(step);
         }
-        make_step(machine, &mut lanes[rank as usize], rank, step)?;
+        make_step(view, machine, &mut lanes[rank as usize], rank, step)?;
         step += 1;
     }
     Ok(step)
@@ -90,29 +113,30 @@ fn make_steps<C: ShardCore>(
 
 /// Makes the steps of a turn, as far as the window goes. A stop has none.
 fn make_turn<C: ShardCore>(
+    view: View<'_>,
     machine: &mut Machine<C>,
     lanes: &mut Vec<Lane>,
     turn: Turn,
     step: u32,
-    until: u32,
 ) -> Result<u32, OutOfMemory>
     requires there { TurnFits (length machine.old.calls) turn }
     requires lanes { vec_len lanes.old ≡ length machine.old.calls }
     requires counted { steps_made machine.old.steps ≡ step }
-    requires few { until ≤ 2000000 }
+    requires few { view.until ≤ 2000000 }
+    requires fits { GeomFits view.place.now.geom }
     ensures ranks { IfOk result (λ _. length machine.new.calls ≡ length machine.old.calls) }
     ensures lanes { IfOk result (λ _. vec_len lanes.new ≡ vec_len lanes.old) }
     ensures counted { IfOk result (λ step. steps_made machine.new.steps ≡ step) }
 {
     match turn {
         Turn::Steps { rank, count } => {
-            make_steps(machine, lanes, u32::from(rank), count, step, until)
+            make_steps(view, machine, lanes, u32::from(rank), count, step)
         }
         Turn::Stop { .. } => Ok(step),
     }
 }
 
-/// What is seen of a replay with this core, which is that of the placement's lock and does batches.
+/// What is seen of a replay with this core, which is that of the placement's lock.
 fn record_with<C: ShardCore>(
     alloc: Global,
     place: &Place,
@@ -122,13 +146,15 @@ fn record_with<C: ShardCore>(
 ) -> Result<Vec<Lane>, OutOfMemory>
     requires proper { IsProper place.now }
     requires knobs { C.suits_knobs (shape_of place.now) (knobs_of place.now.lock) }
-    requires batches { C.batches ≡ true }
+    requires batches { C.batches ≡ does_batches (name_of place.now.lock) }
     requires calls { OpsFit (length place.now.paths) place.now.geom.shards ops }
+    requires suits { SuitsLock place.now ops }
     requires schedule { ScheduleFits (length place.now.paths) schedule.now }
     requires few { window.to ≤ 2000000 }
     ensures lanes { IfOk result (λ lanes. vec_len lanes ≡ length place.now.paths) }
 {
     let shape = place.shape(alloc)?;
+    let naming = Naming::of(alloc, place)?;
     let homes = place.homes.as_slice();
     let ranks = place.paths.len() as u32;
     let mut lanes = first_lanes(alloc, ranks, window.from)?;
@@ -140,9 +166,15 @@ fn record_with<C: ShardCore>(
         homes,
         ops,
     )?;
+    let view = View {
+        alloc,
+        place,
+        naming: &naming,
+        until: window.to,
+    };
     let mut step = 0;
     for turn in schedule.turns.as_slice() {
-        step = make_turn(&mut machine, &mut lanes, *turn, step, window.to)?;
+        step = make_turn(view, &mut machine, &mut lanes, *turn, step)?;
     }
     for lane in lanes.iter_mut() {
         lane.end(step)?;
@@ -162,11 +194,11 @@ struct RecordTask<'a> {
 impl CoreTask for RecordTask<'_> {
     type Out = Result<Vec<Lane>, OutOfMemory>;
 
-    ghost takes = { λ r place. OpsFit (length place.paths) place.geom.shards r.ops × ScheduleFits (length place.paths) r.schedule.now × (r.window.to ≤ 2000000) };
+    ghost takes = { λ r place. OpsFit (length place.paths) place.geom.shards r.ops × SuitsLock place r.ops × ScheduleFits (length place.paths) r.schedule.now × (r.window.to ≤ 2000000) };
 
     ghost gives = { λ r place kind result. IfOk result (λ lanes. vec_len lanes ≡ length place.paths) };
 
-    fn over<C: Resting + TellsAll>(self, place: &Place) -> Result<Vec<Lane>, OutOfMemory> {
+    fn over<C: Resting>(self, place: &Place) -> Result<Vec<Lane>, OutOfMemory> {
         record_with::<C>(self.alloc, place, self.ops, self.schedule, self.window)
     }
 }
@@ -182,6 +214,7 @@ pub fn record(
 ) -> Result<Vec<Lane>, OutOfMemory>
     requires proper { IsProper place.now }
     requires calls { OpsFit (length place.now.paths) place.now.geom.shards ops }
+    requires suits { SuitsLock place.now ops }
     requires schedule { ScheduleFits (length place.now.paths) schedule.now }
     requires few { window.to ≤ 2000000 }
     ensures lanes { IfOk result (λ lanes. vec_len lanes ≡ length place.now.paths) }

@@ -57,7 +57,8 @@ fn count(text: &[u8], part: &[u8]) -> usize {
     found
 }
 
-/// Rank 0 has the lock; rank 1's compare is lost in step 5.
+/// Rank 0 has the lock from step 2 on, the only one with an event; rank 1's compare is lost in step 5. The other five answers are
+/// `moved`, and end what is told.
 #[test]
 fn a_lost_compare(rt: HostRuntime) -> Result<(), Fail> {
     let (status, text) = drawn(&rt, &["p", "c", "s"], LOST)?;
@@ -66,14 +67,15 @@ fn a_lost_compare(rt: HostRuntime) -> Result<(), Fail> {
     assert!(rt; text.starts_with(b"<svg "));
     assert!(rt; text.ends_with(b"</svg>\n"));
     assert_eq!(rt; count(text, b"<title>step "), 7);
-    assert_eq!(rt; count(text, b": moved</title>"), 6);
-    assert_eq!(rt;
-        count(
-            text,
-            b"<title>step 5: compare lost, guessed 0 and saw 1</title>"
-        ),
-        1
-    );
+    assert_eq!(rt; count(text, b" moved</title>"), 5);
+    let told = [
+        "<title>step 2: card-store word := 1 moved event enter-w 0</title>",
+        "<title>step 3: leave card 0 moved</title>",
+        "<title>step 5: card-load word = 1 lost 0</title>",
+    ];
+    for title in told {
+        assert_eq!(rt; count(text, title.as_bytes()), 1);
+    }
     assert_eq!(rt; count(text, b"<title>card 0</title>"), 2);
     assert_eq!(rt; count(text, b"<title>writer</title>"), 1);
     Ok(())
@@ -87,18 +89,24 @@ fn a_card_that_is_taken(rt: HostRuntime) -> Result<(), Fail> {
     assert_eq!(rt;
         count(
             text.as_slice(),
-            b"<title>step 2: rank 0 is in the card of node 0</title>"
+            b"<title>step 2: take card 0 busy 0</title>"
         ),
         1
     );
     Ok(())
 }
 
+/// The steps before a window are made too.
 #[test]
 fn a_window_of_one_step(rt: HostRuntime) -> Result<(), Fail> {
     let (status, text) = drawn(&rt, &["p", "c", "s", "5", "6"], LOST)?;
+    let text = text.as_slice();
     assert_eq!(rt; status, 0);
-    assert_eq!(rt; count(text.as_slice(), b"<title>step "), 1);
+    assert_eq!(rt; count(text, b"<title>step "), 1);
+    assert_eq!(rt;
+        count(text, b"<title>step 5: card-load word = 1 lost 0</title>"),
+        1
+    );
     Ok(())
 }
 

@@ -45,7 +45,7 @@ impl<C: ShardCore> Machine<C> {
     }
 
     /// How the rank stands to the lock of the shard where it stands: Out where it has no call open, and also where only the
-    /// Leave of a card is left of its last act.
+    /// Leave of a card is left of its last act. A call that is open but isn't at the lock stands as Asking.
     pub fn standing(&self, rank: u32) -> Standing
         requires { rank < length self.now.calls }
         ensures { result ≡ standing_by (running C.shard_table self.now) rank }

@@ -3,9 +3,18 @@ use Rattle.rl_queue.specs.QueueCredit.{act_spends}
 use Rattle.rl_queue.specs.QueueFits.{plan_fits, learn_fits, alone_finds, alone_moves_on, waits_on, holder_told}
 use Rattle.rl_queue.specs.QueueMoves.{act_keeps, join_keeps, settle_keeps, leave_keeps, leave_keeps_quietly, resume_keeps, one_first, queue_fifo, queue_within, queue_counted}
 use Rattle.rl_queue.specs.QueueServed.{served_back, settle_unserved}
-use Rattle.rl_queue.specs.QueueFrame.{other_queue_keeps}
+use Rattle.rl_queue.specs.QueueFrame.{begins_good, beside_all_keep, elsewhere_keeps, other_queue_keeps}
 use Rattle.rl_queue.specs.QueueStatements.{In}
 use Rattle.rl_queue.proofs.laws.queue_laws.Goals as goal
+
+pub returns-clause-begins : goal.returns-clause-begins
+returns-clause-begins c = λ n members. begins_good n (In members)
+
+pub returns-clause-beside : goal.returns-clause-beside
+returns-clause-beside c = λ n members q es. beside_all_keep n (In members) q.words q.phases q.line q.trace es q.ended
+
+pub returns-clause-elsewhere : goal.returns-clause-elsewhere
+returns-clause-elsewhere c = λ n members q w v. elsewhere_keeps n (In members) q.words q.phases q.line q.trace q.ended w v
 
 pub returns-clause-acts : goal.returns-clause-acts
 returns-clause-acts c = λ n members q ph' m. act_keeps n (In members) q.words q.phases ph' q.line q.trace q.ended m

@@ -1,75 +1,27 @@
-use Rattle.std.proofs.Common.{rules, ◌≡◌, ◌≤◌, ◌∙◌, All, length, map, vec_len, vec_items, ap, sym, subst, arith}
-use Rattle.std.proofs.lemmas.List.{length-map}
+use Rattle.std.proofs.Common.{rules, ◌≡◌, All, length, vec_len, sym, subst}
 use Rattle.rl_shard.specs.Shards.{IsShardOf}
-use Rattle.rl_run.specs.Runs.{wanted, made_of}
 use Rattle.rl_run.proofs.WholeRun as whole
 use Rattle.rl_run.proofs.whole_run.run_all.Goals as goal
 
-pub open_all-requires-clause-queues : goal.open_all-requires-clause-queues
-open_all-requires-clause-queues g c =
-    whole.queue_count_is c.args.place.now g.C.ShardCore.name c.in_ok-shape.shape c.knobs.result (length c.as_slice.result.now) c.requires.kind c.in_ok-shape.ensures.exact c.knobs.ensures
-    (ap length (c.as_slice.ensures.value ∙ ap (λ n. n.queues) c.naming.view_is ∙ ap (λ n. n.queues) c.in_ok-naming.ensures))
-
-pub callers_of-requires-clause-sizes : goal.callers_of-requires-clause-sizes
-callers_of-requires-clause-sizes g c =
-    let same : length c.into_vec-2.result.items ≡ length c.into_vec.result.items =
-    sym (length-map c.into_vec-2.result.items vec_items) ∙ ap length c.into_vec-2.ensures ∙ whole.sizes_long c.args.place.now.geom.shards c.args.ops.by_rank c.args.ops.sizes c.requires.calls.blocks
-    ∙ sym (ap length c.into_vec.ensures) ∙ length-map c.into_vec.result.items vec_items in
-    search rules
-
-pub callers_of-requires-clause-rows : goal.callers_of-requires-clause-rows
-callers_of-requires-clause-rows g c =
-    let same : length c.in_ok-shards.rows.items ≡ length c.into_vec.result.items =
-    sym (length-map c.in_ok-shards.rows.items vec_items) ∙ c.in_ok-shards.ensures.made.ranks ∙ sym (ap length c.into_vec.ensures) ∙ length-map c.into_vec.result.items vec_items in
-    search rules
-
-pub callers_of-requires-clause-few : goal.callers_of-requires-clause-few
-callers_of-requires-clause-few g c =
-    let same : length c.into_vec.result.items ≡ length c.args.place.now.paths = sym (length-map c.into_vec.result.items vec_items) ∙ ap length c.into_vec.ensures ∙ c.requires.calls.ranks_there in
-    let most = c.requires.proper.most_ranks in
-    let few : length c.into_vec.result.items ≤ 32 = omega arith in
-    search rules
-
 pub run_callers-requires-clause-rooted : goal.run_callers-requires-clause-rooted
 run_callers-requires-clause-rooted g c κs within =
-    let geom = ap (λ p. p.geom) c.place.view_is in
-    let homes = c.as_slice-homes.ensures.value ∙ ap (λ p. p.homes) c.place.view_is in
-    let rows = map vec_items c.in_ok-shards.rows.items in
-    let made : map made_of c.in_ok-callers.callers.items ≡ wanted c.args.place.now.geom 0 c.args.ops.by_rank c.args.ops.sizes rows =
-    c.in_ok-callers.ensures.made ∙ ap (λ l. wanted c.place.inside.geom 0 l (map vec_items c.into_vec-2.result.items) rows) c.into_vec.ensures
-    ∙ ap (λ l. wanted c.place.inside.geom 0 c.args.ops.by_rank l rows) c.into_vec-2.ensures ∙ ap (λ g. wanted g 0 c.args.ops.by_rank c.args.ops.sizes rows) geom in
-    let n : vec_len c.in_ok-callers.callers ≡ length c.in_ok-callers.callers.items = search rules in
-    subst (λ k. All (IsShardOf g.C.ShardCore.shard_table k) c.in_ok-shards.shards.items) (sym n) (whole.rooted g.C.ShardCore.defined g.C.ShardCore.shard_table g.C.ShardCore.good g.C.ShardCore.layout c.args.place.now c.args.ops c.requires.proper c.requires.calls c.in_ok-shape.shape c.knobs.result c.place.inside.geom c.as_slice-homes.result.now c.in_ok-shape.ensures.exact c.knobs.ensures geom homes c.in_ok-shards.shards.items rows c.in_ok-shards.ensures.made c.in_ok-shards.ensures.all g.C.ShardCore.batches (g.met.C.ShardCore g.world.𝓛 g.world.𝓜 g.world.𝓡 ((λ s x. x), (λ x. x), (λ x. x), λ x. x)).has_batches c.requires.batches c.in_ok-callers.callers.items made)
+    let n : vec_len c.in_ok-shards.callers ≡ length c.in_ok-shards.callers.items = search rules in
+    subst (λ k. All (IsShardOf g.C.ShardCore.shard_table k) c.in_ok-shards.shards.items) (sym n) c.in_ok-shards.ensures.rooted
 
 pub run_callers-requires-clause-callers : goal.run_callers-requires-clause-callers
-run_callers-requires-clause-callers g c κs within =
-    let geom = ap (λ p. p.geom) c.place.view_is in
-    let homes = c.as_slice-homes.ensures.value ∙ ap (λ p. p.homes) c.place.view_is in
-    let rows = map vec_items c.in_ok-shards.rows.items in
-    let made : map made_of c.in_ok-callers.callers.items ≡ wanted c.args.place.now.geom 0 c.args.ops.by_rank c.args.ops.sizes rows =
-    c.in_ok-callers.ensures.made ∙ ap (λ l. wanted c.place.inside.geom 0 l (map vec_items c.into_vec-2.result.items) rows) c.into_vec.ensures
-    ∙ ap (λ l. wanted c.place.inside.geom 0 c.args.ops.by_rank l rows) c.into_vec-2.ensures ∙ ap (λ g. wanted g 0 c.args.ops.by_rank c.args.ops.sizes rows) geom in
-    whole.are_callers_of g.C.ShardCore.defined g.C.ShardCore.shard_table g.C.ShardCore.good g.C.ShardCore.layout c.args.place.now c.args.ops c.requires.proper c.requires.calls c.in_ok-shape.shape c.knobs.result c.place.inside.geom c.as_slice-homes.result.now c.in_ok-shape.ensures.exact c.knobs.ensures geom homes c.in_ok-shards.shards.items rows c.in_ok-shards.ensures.made c.in_ok-shards.ensures.all g.C.ShardCore.batches (g.met.C.ShardCore g.world.𝓛 g.world.𝓜 g.world.𝓡 ((λ s x. x), (λ x. x), (λ x. x), λ x. x)).has_batches c.requires.batches c.in_ok-callers.callers.items made c.in_ok-callers.ensures.may
+run_callers-requires-clause-callers g c κs within = c.in_ok-shards.ensures.callers
 
 pub parts_of-requires : goal.parts_of-requires
 parts_of-requires g c =
-    let geom = ap (λ p. p.geom) c.place.view_is in
-    let homes = c.as_slice-homes.ensures.value ∙ ap (λ p. p.homes) c.place.view_is in
-    let rows = map vec_items c.in_ok-shards.rows.items in
-    let made : map made_of c.in_ok-callers.callers.items ≡ wanted c.args.place.now.geom 0 c.args.ops.by_rank c.args.ops.sizes rows =
-    c.in_ok-callers.ensures.made ∙ ap (λ l. wanted c.place.inside.geom 0 l (map vec_items c.into_vec-2.result.items) rows) c.into_vec.ensures
-    ∙ ap (λ l. wanted c.place.inside.geom 0 c.args.ops.by_rank l rows) c.into_vec-2.ensures ∙ ap (λ g. wanted g 0 c.args.ops.by_rank c.args.ops.sizes rows) geom in
-    whole.short g.C.ShardCore.defined g.C.ShardCore.shard_table g.C.ShardCore.good g.C.ShardCore.layout c.args.place.now c.args.ops c.requires.proper c.requires.calls c.in_ok-shape.shape c.knobs.result c.place.inside.geom c.as_slice-homes.result.now c.in_ok-shape.ensures.exact c.knobs.ensures geom homes c.in_ok-shards.shards.items rows c.in_ok-shards.ensures.made c.in_ok-shards.ensures.all g.C.ShardCore.batches (g.met.C.ShardCore g.world.𝓛 g.world.𝓜 g.world.𝓡 ((λ s x. x), (λ x. x), (λ x. x), λ x. x)).has_batches c.requires.batches c.in_ok-callers.callers.items made g.C.ShardCore.name c.requires.kind (g.met.C.ShardCore g.world.𝓛 g.world.𝓜 g.world.𝓡 ((λ s x. x), (λ x. x), (λ x. x), λ x. x)).has_queues g.C.ShardCore.spares (g.met.C.ShardCore g.world.𝓛 g.world.𝓜 g.world.𝓡 ((λ s x. x), (λ x. x), (λ x. x), λ x. x)).has_tenures c.requires.readers c.in_ok-ends.ends.items c.in_ok-ends.ensures
+    let begun = c.in_ok-shards.ensures in
+    whole.short g.C.ShardCore.defined g.C.ShardCore.shard_table g.C.ShardCore.good g.C.ShardCore.layout c.args.place.now c.args.ops c.requires.proper c.requires.calls c.in_ok-shards.shards.items c.in_ok-shards.callers.items begun
+    g.C.ShardCore.name c.requires.kind (g.met.C.ShardCore g.world.𝓛 g.world.𝓜 g.world.𝓡 ((λ s x. x), (λ x. x), (λ x. x), λ x. x)).has_queues g.C.ShardCore.spares (g.met.C.ShardCore g.world.𝓛 g.world.𝓜 g.world.𝓡 ((λ s x. x), (λ x. x), (λ x. x), λ x. x)).has_tenures c.requires.gets c.in_ok-ends.ends.items c.in_ok-ends.ensures
 
 pub returns : goal.returns
 returns g c =
-    let geom = ap (λ p. p.geom) c.place.view_is in
-    let homes = c.as_slice-homes.ensures.value ∙ ap (λ p. p.homes) c.place.view_is in
-    let rows = map vec_items c.in_ok-shards.rows.items in
-    let made : map made_of c.in_ok-callers.callers.items ≡ wanted c.args.place.now.geom 0 c.args.ops.by_rank c.args.ops.sizes rows =
-    c.in_ok-callers.ensures.made ∙ ap (λ l. wanted c.place.inside.geom 0 l (map vec_items c.into_vec-2.result.items) rows) c.into_vec.ensures
-    ∙ ap (λ l. wanted c.place.inside.geom 0 c.args.ops.by_rank l rows) c.into_vec-2.ensures ∙ ap (λ g. wanted g 0 c.args.ops.by_rank c.args.ops.sizes rows) geom in
+    let begun = c.in_ok-shards.ensures in
     record {
-      lawful = whole.run_lawful g.C.ShardCore.defined g.C.ShardCore.shard_table g.C.ShardCore.good g.C.ShardCore.layout c.args.place.now c.args.ops c.requires.proper c.requires.calls c.in_ok-shape.shape c.knobs.result c.place.inside.geom c.as_slice-homes.result.now c.in_ok-shape.ensures.exact c.knobs.ensures geom homes c.in_ok-shards.shards.items rows c.in_ok-shards.ensures.made c.in_ok-shards.ensures.all g.C.ShardCore.batches (g.met.C.ShardCore g.world.𝓛 g.world.𝓜 g.world.𝓡 ((λ s x. x), (λ x. x), (λ x. x), λ x. x)).has_batches c.requires.batches c.in_ok-callers.callers.items made g.C.ShardCore.name c.requires.kind (g.met.C.ShardCore g.world.𝓛 g.world.𝓜 g.world.𝓡 ((λ s x. x), (λ x. x), (λ x. x), λ x. x)).has_queues g.C.ShardCore.spares (g.met.C.ShardCore g.world.𝓛 g.world.𝓜 g.world.𝓡 ((λ s x. x), (λ x. x), (λ x. x), λ x. x)).has_tenures c.requires.readers c.in_ok-ends.ends.items c.in_ok-ends.ensures
+      lawful = whole.run_lawful g.C.ShardCore.defined g.C.ShardCore.shard_table g.C.ShardCore.good g.C.ShardCore.layout c.args.place.now c.args.ops c.requires.proper c.requires.calls c.in_ok-shards.shards.items c.in_ok-shards.callers.items begun
+          g.C.ShardCore.name c.requires.kind (g.met.C.ShardCore g.world.𝓛 g.world.𝓜 g.world.𝓡 ((λ s x. x), (λ x. x), (λ x. x), λ x. x)).has_queues g.C.ShardCore.spares (g.met.C.ShardCore g.world.𝓛 g.world.𝓜 g.world.𝓡 ((λ s x. x), (λ x. x), (λ x. x), λ x. x)).has_tenures c.requires.gets c.in_ok-ends.ends.items c.in_ok-ends.ensures
           c.in_ok-parts.parts.items c.in_ok-done.done.items c.in_ok-parts.ensures.parts c.in_ok-done.ensures c.in_ok-parts.ensures.numbers;
     }

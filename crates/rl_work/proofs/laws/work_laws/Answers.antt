@@ -2,7 +2,7 @@
 use Rattle.std.specs.Prelude.{◌≡◌, Option, Some, None, IsSome, refl}
 use Rattle.rl_word.specs.declared.acts.Atom.{Atom}
 use Rattle.rl_work.specs.Work.{work_atom}
-use Rattle.rl_work.specs.AtomLaws.{opening_good, open_keeps, shift_keeps, atom_keeps, atom_can, can_name, can_turn, holder_works}
+use Rattle.rl_work.specs.AtomLaws.{opening_good, open_keeps, shift_keeps, atom_keeps, atom_can, can_name, can_turn, few_loads, holder_works}
 use Rattle.rl_work.specs.RuleLaws.{always_legal, always_sorted}
 use Rattle.rl_work.proofs.laws.work_laws.Goals as goal
 
@@ -39,3 +39,6 @@ returns-clause-names c = λ site words sides rank x is low. can_name site words 
 
 pub returns-clause-turns : goal.returns-clause-turns
 returns-clause-turns c = λ site words sides rank x is low at cards planned. can_turn site words sides is.good rank x is.there low at cards planned
+
+pub returns-clause-few : goal.returns-clause-few
+returns-clause-few c = λ site words sides rank x is call count word alone stage. few_loads site words sides is.good rank x is.there call count word alone stage

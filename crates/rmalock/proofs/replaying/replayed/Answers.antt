@@ -1,6 +1,8 @@
-use Rattle.std.proofs.Common.{◌∙◌, ap}
+use Rattle.std.proofs.Common.{Ok, ◌∙◌, ap, subst}
 use Rattle.rl_history.specs.Naming.{naming_of}
 use Rattle.rl_history.specs.Spelling.{report_spelling}
+use Rattle.rl_check.specs.LawfulReplays.{IsLawfulReplay}
+use Rattle.rl_check.specs.Legal.{IsLegalReport}
 use Rattle.rmalock.specs.Answer.{WasReplayed}
 use Rattle.rmalock.proofs.ReplayLemmas.{ended, still_read, place_stops, calls_stop, schedule_stops, memory_stops, all_read}
 use Rattle.rmalock.proofs.replaying.replayed.Goals as goal
@@ -38,3 +40,6 @@ returns-clause-replayed g c =
     all_read _ _ _ _ _ _ c.in_ok-place.ensures.read (still_read (c.in_ok-place.ensures.same.files c.args.files.calls.now) c.in_ok-ops.ensures.read)
     (still_read (c.in_ok-ops.ensures.same.files name ∙ c.in_ok-place.ensures.same.files name) c.in_ok-schedule.ensures.read)
     (c.in_ok-report_text.ensures.text ∙ ap (report_spelling (naming_of c.in_ok-place.place)) c.in_ok-report.ensures.report) c.in_ok-report.ensures.kept
+    (subst (IsLawfulReplay c.in_ok-place.place c.in_ok-ops.ops) c.in_ok-report.ensures.report c.in_ok-report.ensures.lawful)
+    (subst (IsLegalReport c.in_ok-place.place c.in_ok-ops.ops) c.in_ok-report.ensures.report c.in_ok-report.ensures.legal)
+    (c.in_ok-report_text.ensures.again c.in_ok-report.ensures.lawful.fits ∙ ap (λ r. Ok r) c.in_ok-report.ensures.report)

@@ -3,12 +3,14 @@ use Rattle.std.proofs.Common.{rules, ℕ, slice_index, ◌≡◌, ◌<◌, ◌�
 use Rattle.std.proofs.lemmas.List.{length-map, get_or-replicate}
 use Rattle.std.proofs.lemmas.Option.{slice_get_within}
 use Rattle.rl_word.specs.Shapes.{TheShape}
+use Rattle.rl_step.specs.LockQueues.{queues_of}
 use Rattle.rl_place.specs.Places.{ThePlace}
+use Rattle.rl_place.specs.Shapes.{shape_of, knobs_of}
 use Rattle.rl_asks.specs.ShardTables.{site_with}
 use Rattle.rl_shard.specs.Counting.{first_counted}
 use Rattle.rl_shard.specs.Shards.{IsShardOf, core_at, table_at}
 use Rattle.rl_cores.proofs.FreshLaws.{fresh_at}
-use Rattle.rmalock.proofs.SeatLists.{node_there, sum_ones, new_long, queue_count_is, room_long}
+use Rattle.rmalock.proofs.SeatLists.{node_there, sum_ones, new_long, room_long}
 use Rattle.rmalock.proofs.seat_tests.opened.Goals as goal
 
 pub new-requires-clause-home : goal.new-requires-clause-home
@@ -16,8 +18,12 @@ new-requires-clause-home g c = node_there c.in_ok-shape.shape c.in_ok-shape.ensu
 
 pub new-requires-clause-queues : goal.new-requires-clause-queues
 new-requires-clause-queues g c =
-    queue_count_is c.args.place.now g.C.ShardCore.name c.in_ok-shape.shape c.knobs.result (length c.as_slice.result.now) c.requires.kind c.in_ok-shape.ensures.exact c.knobs.ensures
-    (ap length (c.as_slice.ensures.value ∙ ap (λ n. n.queues) c.naming.view_is ∙ ap (λ n. n.queues) c.in_ok-naming.ensures)) 0
+    let place = c.args.place.now in
+    let name = g.C.ShardCore.name in
+    ap length c.as_slice.ensures.value ∙ ap (λ n. length n.queues) c.naming.view_is ∙ c.in_ok-naming.ensures.under 0
+    ∙ ap (λ l. length (queues_of l (shape_of place) 0 (knobs_of place.lock))) (sym c.requires.kind)
+    ∙ ap (λ s. length (queues_of name s 0 (knobs_of place.lock))) (sym c.in_ok-shape.ensures.exact)
+    ∙ ap (λ k. length (queues_of name c.in_ok-shape.shape 0 k)) (sym c.knobs.ensures)
 
 pub new-requires-clause-calls : goal.new-requires-clause-calls
 new-requires-clause-calls g c =

@@ -1,6 +1,6 @@
--- The core does batches.
-use Rattle.rmalock.proofs.RunLaws.{any_sizes}
+-- Where the lock does no batches there is none.
+use Rattle.rl_replay.proofs.SuitLaws.{sizes_suit}
 use Rattle.rmalock.proofs.trials.run.Goals as goal
 
 pub new-requires-clause-batches : goal.new-requires-clause-batches
-new-requires-clause-batches g c = any_sizes g.C.ShardCore.batches c.args.ops.sizes c.requires.batches
+new-requires-clause-batches g c = sizes_suit c.args.place.now c.args.ops g.C.ShardCore.batches c.requires.batches c.requires.suits

@@ -3,6 +3,7 @@ use Rattle.std.proofs.Common.{length, ap, ◌∙◌, arith, rules}
 use Rattle.std.proofs.lemmas.Grind.{common_steps}
 use Rattle.rl_place.specs.Places.{ThePlace}
 use Rattle.rl_step.specs.Answers.{steps_made}
+use Rattle.rl_replay.proofs.SuitLaws.{sizes_suit}
 use Rattle.rmalock_picture.proofs.recording.record_with.Goals as goal
 
 pub loop-turn-init : goal.loop-turn-init
@@ -13,3 +14,6 @@ loop-turn-init g c =
       ap (λ m. length m.calls) made ∙ c.requires.calls.ranks_there,
       first_of (grind (arith, common_steps, paths, c.in_ok-lanes.ensures, c.len-ranks.ensures), search (rules, paths)),
     )
+
+pub new-requires-clause-batches : goal.new-requires-clause-batches
+new-requires-clause-batches g c = sizes_suit c.args.place.now c.args.ops g.C.ShardCore.batches c.requires.batches c.requires.suits

@@ -1,0 +1,4 @@
+pub mod FourRanks
+pub mod PairLaws
+pub mod RoundBegins
+pub mod TwoNodes

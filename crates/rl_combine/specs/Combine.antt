@@ -1,0 +1,321 @@
+-- A rank's call under the lock, as plain functions: it posts the call, and whoever has the lock does all calls that it finds posted.
+use Rattle.std.specs.Prelude.{ℕ, ◌+◌, ◌*◌, ◌/◌, ◌==◌, Bool, true, false, ◌&&◌, if◌then◌else◌, List, [], ◌∷◌, ◌++◌, filter, length, slice_get, slice_index, Option, Some, None}
+use Rattle.rl_word.specs.declared.acts.Atom.{Atom}
+use Rattle.rl_word.specs.declared.acts.Atom.TheVariants.{Load, Store}
+use Rattle.rl_word.specs.declared.classes.Mode.TheVariants as mode
+use Rattle.rl_model.specs.declared.call.Call.{Call}
+use Rattle.rl_model.specs.declared.call.Call.TheVariants.{Hold}
+use Rattle.rl_model.specs.declared.entry.Entry.{Entry}
+use Rattle.rl_model.specs.declared.entry.Reply.{Reply}
+use Rattle.rl_model.specs.declared.entry.Reply.TheVariants.{Held}
+use Rattle.rl_model.specs.declared.geom.Geom.{Geom}
+use Rattle.rl_model.specs.Call.{is_update}
+use Rattle.rl_volume.specs.declared.write.Write.{Write}
+use Rattle.rl_volume.specs.Seen.{SeenWords, value_or_zero, next_word}
+use Rattle.rl_volume.specs.Words.{volume_words}
+use Rattle.rl_volume.specs.Decision.{decision}
+use Rattle.rl_journal.specs.Journal.{spelling}
+use Rattle.rl_journal.specs.Legal.{is_of}
+use Rattle.rl_work.specs.Site.{count_word, volume_base, journal_base}
+use Rattle.rl_work.specs.Transcript.{TheTranscript}
+use Rattle.rl_work.specs.declared.follow.Follow.{Follow}
+use Rattle.rl_work.specs.declared.follow.Follow.TheVariants.{On, Ask, Over}
+use Rattle.rl_work.specs.Ways.{Worked, WorkTable, journal_by}
+use Rattle.rl_work.specs.Work.{write_atom, more_entries}
+use Rattle.rl_step.specs.declared.events.Stepped.TheVariants.{Moved}
+use Rattle.rl_combine.specs.declared.stage.Stage.{Stage}
+use Rattle.rl_combine.specs.declared.stage.Stage.TheVariants.{Rest, Post, Raise, Look, Count, Sweep, Copy, Read, Journal, Volume, Answer, Mark, Collect, Lower}
+use Rattle.rl_combine.specs.Posts.{CombineSite, ThePost, ranks_of, post_word, flag_word, post_of, post_spelling, posted_call, posted_seq, answer_spelling, answered_entry}
+
+-- a rank's side of the work
+pub record TheCombineSide : Type 0 where
+  -- where it stands in its open call
+  pub stage : Stage
+  -- that call, and its number
+  pub call : Call
+  pub seq : ℕ
+  -- the count, as it is while the rank sweeps
+  pub count : ℕ
+  -- the words of a post that it has copied
+  pub copied : List ℕ
+  -- the posted call that it does, and its number; what it has seen of the volume for it
+  pub posted : Call
+  pub posted_number : ℕ
+  pub seen : SeenWords
+  -- once that is decided: its entry, and the writes
+  pub entry : Entry
+  pub writes : List Write
+  -- its own entries that it has collected
+  pub kept : TheTranscript
+
+-- its open call, and the entries that it keeps
+pub record Opened : Type 0 where
+  pub call : Call
+  pub seq : ℕ
+  pub kept : TheTranscript
+
+abbrev pub opened_of : TheCombineSide → Opened
+opened_of x = record { call = x.call; seq = x.seq; kept = x.kept }
+
+-- the atom of a stage
+abbrev pub stage_atom : CombineSite → ℕ → TheCombineSide → Stage → Option Atom
+stage_atom S rank x Rest = None
+stage_atom S rank x (Post made) = Some (Store (post_word S rank (1 + made)) (slice_index (post_spelling x.call x.seq) made))
+stage_atom S rank x Raise = Some (Store (flag_word S rank) 1)
+stage_atom S rank x Look = Some (Load (flag_word S rank))
+stage_atom S rank x Count = Some (Load count_word)
+stage_atom S rank x (Sweep owner) = Some (Load (flag_word S owner))
+stage_atom S rank x (Copy owner made) = Some (Load (post_word S owner (1 + made)))
+stage_atom S rank x (Read owner word) = Some (Load (volume_base + word))
+stage_atom S rank x (Journal owner made) = Some (Store (journal_base S.site.geom + (6 * x.count + made)) (slice_index (spelling x.entry) made))
+stage_atom S rank x (Volume owner made) = Some (write_atom (x.count + 1) (slice_get x.writes made))
+stage_atom S rank x (Answer owner made) = Some (Store (post_word S owner (6 + made)) (slice_index (answer_spelling x.entry) made))
+stage_atom S rank x (Mark owner) = Some (Store (flag_word S owner) 2)
+stage_atom S rank x (Collect made) = Some (Load (post_word S rank (6 + made)))
+stage_atom S rank x Lower = Some (Store (flag_word S rank) 0)
+
+-- the next atom of a rank for which the lock plans none
+abbrev pub combine_atom : CombineSite → ℕ → TheCombineSide → Option Atom
+combine_atom S rank x = stage_atom S rank x x.stage
+
+-- what an atom leaves: the side, and what follows. It has always moved
+abbrev pub turned : TheCombineSide → Follow → Worked TheCombineSide
+turned x follow = record { work = x; follow = follow; stepped = Moved }
+
+-- the same side at another stage
+abbrev pub at_stage : TheCombineSide → Stage → TheCombineSide
+at_stage x stage = record x { stage = stage }
+
+abbrev pub to_stage : TheCombineSide → Stage → Worked TheCombineSide
+to_stage x stage = turned (at_stage x stage) On
+
+-- a rank's side before its first call, with room for so many entries
+abbrev pub first_combine : Geom → ℕ → TheCombineSide
+first_combine geom room =
+    record {
+      stage = Rest;
+      call = Hold 0;
+      seq = 0;
+      count = 0;
+      copied = [];
+      posted = Hold 0;
+      posted_number = 0;
+      seen = record { pairs = []; room = volume_words geom };
+      entry = record { shard = 0; rank = 0; seq = 0; call = Hold 0; at = 0; reply = Held; batch = 0; part = 0 };
+      writes = [];
+      kept = record { items = []; room = room };
+    }
+
+-- a call is opened: it is posted next
+abbrev pub with_open : TheCombineSide → Call → ℕ → TheCombineSide
+with_open x call seq = record x { stage = Post 0; call = call; seq = seq }
+
+-- a block is opened: it is a call alone
+abbrev pub with_block : ℕ → TheCombineSide → List Call → ℕ → TheCombineSide
+with_block rank x [] seq = x
+with_block rank x (call ∷ calls) seq = with_open x call seq
+
+-- one word more of a post is copied
+abbrev pub with_copied : TheCombineSide → ℕ → TheCombineSide
+with_copied x got = record x { copied = x.copied ++ got ∷ [] }
+
+-- nothing is copied yet
+abbrev pub with_nothing : TheCombineSide → TheCombineSide
+with_nothing x = record x { copied = [] }
+
+-- the own answer is collected next
+abbrev pub to_collect : TheCombineSide → Worked TheCombineSide
+to_collect x = to_stage (with_nothing x) (Collect 0)
+
+-- the sweep goes on with this rank, or is over
+abbrev pub sweep_on : CombineSite → TheCombineSide → ℕ → Worked TheCombineSide
+sweep_on S x owner = if owner == ranks_of S then to_collect x else to_stage x (Sweep owner)
+
+-- all words of a rank's posted call are copied
+abbrev pub with_posted : CombineSite → TheCombineSide → TheCombineSide
+with_posted S x = record x { posted = posted_call S.site.shard x.copied; posted_number = posted_seq x.copied; seen = record x.seen { pairs = [] } }
+
+-- the entry of the posted call, with its reply
+abbrev pub posted_entry : CombineSite → TheCombineSide → ℕ → Reply → Entry
+posted_entry S x owner reply =
+    record { shard = S.site.shard; rank = owner; seq = x.posted_number; call = x.posted; at = x.count; reply = reply; batch = 0; part = 0 }
+
+-- the posted call is decided: its writes and its reply
+abbrev pub with_decision : CombineSite → TheCombineSide → ℕ → List Write × Reply → TheCombineSide
+with_decision S x owner d = record x { entry = posted_entry S x owner d.1; writes = d.0 }
+
+-- an update goes on to the journal, any other call to its answer
+abbrev pub decided_stage : ℕ → Bool → Stage
+decided_stage owner true = Journal owner 0
+decided_stage owner false = Answer owner 0
+
+abbrev pub decided_on : CombineSite → TheCombineSide → ℕ → Worked TheCombineSide
+decided_on S x owner = to_stage (with_decision S x owner (decision S.site.geom x.posted (value_or_zero x.seen.pairs))) (decided_stage owner (is_update x.posted))
+
+-- the next word of the volume is read, or the call is decided
+abbrev pub read_next : CombineSite → TheCombineSide → ℕ → Option ℕ → Worked TheCombineSide
+read_next S x owner (Some word) = to_stage x (Read owner word)
+read_next S x owner None = decided_on S x owner
+
+abbrev pub read_on : CombineSite → TheCombineSide → ℕ → Worked TheCombineSide
+read_on S x owner = read_next S x owner (next_word S.site.geom x.posted x.seen.pairs)
+
+-- what the rank has seen, and one word more
+abbrev pub with_word : TheCombineSide → ℕ → ℕ → TheCombineSide
+with_word x word got = record x { seen = record x.seen { pairs = x.seen.pairs ++ (word, got) ∷ [] } }
+
+-- after a write the next one follows; the store of the count makes the count one more
+abbrev pub written_on : TheCombineSide → ℕ → ℕ → Option Write → Worked TheCombineSide
+written_on x owner made (Some w) = to_stage x (Volume owner (made + 1))
+written_on x owner made None = to_stage (record x { count = x.count + 1 }) (Answer owner 0)
+
+-- the rank's own entry, by the answer that it has copied, joins those that it keeps
+abbrev pub with_own : CombineSite → ℕ → TheCombineSide → TheCombineSide
+with_own S rank x = record x { stage = Rest; kept = more_entries x.kept (answered_entry S.site.shard rank x.seq x.call x.copied ∷ []) }
+
+-- what the atom of a stage leaves
+abbrev pub stage_after : CombineSite → ℕ → TheCombineSide → ℕ → Stage → Worked TheCombineSide
+stage_after S rank x got Rest = turned x On
+stage_after S rank x got (Post made) = if made + 1 == 5 then to_stage x Raise else to_stage x (Post (made + 1))
+stage_after S rank x got Raise = turned (at_stage x Look) (Ask mode.Write)
+stage_after S rank x got Look = if got == 2 then to_collect x else to_stage x Count
+stage_after S rank x got Count = sweep_on S (record x { count = got }) 0
+stage_after S rank x got (Sweep owner) = if got == 1 then to_stage (with_nothing x) (Copy owner 0) else sweep_on S x (owner + 1)
+stage_after S rank x got (Copy owner made) =
+    if made + 1 == 5 then read_on S (with_posted S (with_copied x got)) owner else to_stage (with_copied x got) (Copy owner (made + 1))
+stage_after S rank x got (Read owner word) = read_on S (with_word x word got) owner
+stage_after S rank x got (Journal owner made) = if made + 1 == 6 then to_stage x (Volume owner 0) else to_stage x (Journal owner (made + 1))
+stage_after S rank x got (Volume owner made) = written_on x owner made (slice_get x.writes made)
+stage_after S rank x got (Answer owner made) = if made + 1 == 3 then to_stage x (Mark owner) else to_stage x (Answer owner (made + 1))
+stage_after S rank x got (Mark owner) = sweep_on S x (owner + 1)
+stage_after S rank x got (Collect made) = if made + 1 == 3 then to_stage (with_copied x got) Lower else to_stage (with_copied x got) (Collect (made + 1))
+stage_after S rank x got Lower = turned (with_own S rank x) Over
+
+-- what an atom that gave got leaves of rank's side
+abbrev pub combine_after : CombineSite → ℕ → TheCombineSide → ℕ → Worked TheCombineSide
+combine_after S rank x got = stage_after S rank x got x.stage
+
+-- the atom of this stage touches what the lock guards, and whether it writes there
+abbrev pub touch_at : Stage → Option Bool
+touch_at Rest = None
+touch_at (Post made) = None
+touch_at Raise = None
+touch_at Look = None
+touch_at Count = Some false
+touch_at (Sweep owner) = None
+touch_at (Copy owner made) = None
+touch_at (Read owner word) = Some false
+touch_at (Journal owner made) = Some true
+touch_at (Volume owner made) = Some true
+touch_at (Answer owner made) = None
+touch_at (Mark owner) = None
+touch_at (Collect made) = None
+touch_at Lower = None
+
+-- what follows the atom of a stage: the lock is asked for once the call is posted, and the call is over once its flag is lowered
+abbrev pub follow_of : Stage → Follow
+follow_of Rest = On
+follow_of (Post made) = On
+follow_of Raise = Ask mode.Write
+follow_of Look = On
+follow_of Count = On
+follow_of (Sweep owner) = On
+follow_of (Copy owner made) = On
+follow_of (Read owner word) = On
+follow_of (Journal owner made) = On
+follow_of (Volume owner made) = On
+follow_of (Answer owner made) = On
+follow_of (Mark owner) = On
+follow_of (Collect made) = On
+follow_of Lower = Over
+
+-- a call is open
+abbrev pub is_open : Stage → Bool
+is_open Rest = false
+is_open (Post made) = true
+is_open Raise = true
+is_open Look = true
+is_open Count = true
+is_open (Sweep owner) = true
+is_open (Copy owner made) = true
+is_open (Read owner word) = true
+is_open (Journal owner made) = true
+is_open (Volume owner made) = true
+is_open (Answer owner made) = true
+is_open (Mark owner) = true
+is_open (Collect made) = true
+is_open Lower = true
+
+-- the rank whose posted call is in hand: all its words were copied
+abbrev pub in_hand : Stage → Option ℕ
+in_hand Rest = None
+in_hand (Post made) = None
+in_hand Raise = None
+in_hand Look = None
+in_hand Count = None
+in_hand (Sweep owner) = None
+in_hand (Copy owner made) = None
+in_hand (Read owner word) = Some owner
+in_hand (Journal owner made) = Some owner
+in_hand (Volume owner made) = Some owner
+in_hand (Answer owner made) = Some owner
+in_hand (Mark owner) = Some owner
+in_hand (Collect made) = None
+in_hand Lower = None
+
+-- the entry is that of the rank's call with this number
+abbrev pub is_call : ℕ → ℕ → Entry → Bool
+is_call rank seq e = is_of rank e && (e.seq == seq)
+
+-- the entry of a get or hold, by its post
+abbrev pub early_read : CombineSite → ThePost → ℕ → TheCombineSide → List Entry
+early_read S p rank x = if p.flag == 2 then answered_entry S.site.shard rank x.seq x.call p.answer ∷ [] else []
+
+-- the entry of an update that is done, or of a get or hold
+abbrev pub early_by : CombineSite → List ℕ → ℕ → TheCombineSide → Bool → List Entry
+early_by S words rank x true = filter (is_call rank x.seq) (journal_by S.site words)
+early_by S words rank x false = early_read S (post_of S words rank) rank x
+
+-- Entries of the open call that are done by the words, and not kept yet: an update is done where the journal has its entry, a get or
+-- hold where the rank's flag is 2.
+abbrev pub early_open : CombineSite → List ℕ → ℕ → TheCombineSide → Bool → List Entry
+early_open S words rank x true = early_by S words rank x (is_update x.call)
+early_open S words rank x false = []
+
+abbrev pub early : CombineSite → List ℕ → ℕ → TheCombineSide → List Entry
+early S words rank x = early_open S words rank x (is_open x.stage)
+
+-- the rank's transcript: what it keeps, and then these
+abbrev pub transcript : CombineSite → List ℕ → ℕ → TheCombineSide → List Entry
+transcript S words rank x = x.kept.items ++ early S words rank x
+
+-- a call is open, and its entry isn't in the transcript yet
+abbrev pub owes : CombineSite → List ℕ → ℕ → TheCombineSide → Bool
+owes S words rank x = is_open x.stage && (length (early S words rank x) == 0)
+
+-- the way of working, over nodes of the ranks
+abbrev pub combine_table : CombineSite → (ℕ → ℕ) → WorkTable TheCombineSide
+combine_table S node =
+    record {
+      site = S.site;
+      behind = S.behind;
+      size = 9 * ranks_of S;
+      home = λ word. node (word / 9);
+      first = λ rank room. first_combine S.site.geom room;
+      opens = with_block;
+      asks = λ calls. None;
+      next = combine_atom S;
+      after = combine_after S;
+      touch = λ x. touch_at x.stage;
+      is_open = λ x. is_open x.stage;
+      calls = λ x. x.call ∷ [];
+      seq = λ x. x.seq;
+      mode = λ x. mode.Write;
+      kept = λ x. x.kept;
+      pends = λ x. true;
+      ended = λ x. x.kept.items;
+      transcript = transcript S;
+      owes = owes S;
+      spares = λ shares. false;
+      batches = false;
+    }

@@ -1,0 +1,180 @@
+-- Under the rule of flat combining over any lock flags say what they have to, and a flag that was found 1 is made 2.
+use Rattle.std.proofs.Common.{◌≡◌, ℕ, ◌≤◌, Bool, true, false, ◌||◌, count_by, List, length, map, slice_get, Some, refl, sym, ap, ◌∙◌, subst, inl, inr, ⊎_elim, arith}
+use Rattle.std.proofs.lemmas.Option.{same_Some}
+use Rattle.rl_word.specs.Places.{get_map, get_map_back}
+use Rattle.rl_word.specs.Acts.{Layout}
+use Rattle.rl_word.specs.declared.acts.Atom.{Atom}
+use Rattle.rl_word.specs.declared.acts.Atom.TheVariants.{Load}
+use Rattle.rl_step.specs.declared.events.Event.{Event}
+use Rattle.rl_step.specs.declared.events.Standing.TheVariants.{Writer}
+use Rattle.rl_step.specs.Core.{Turned}
+use Rattle.rl_step.specs.Do.{TheWindow, do_words, do_got}
+use Rattle.rl_step.specs.Lock.{LockTable, LockState, Deed, Rests}
+use Rattle.rl_work.specs.Ways.{IsSide}
+use Rattle.rl_asks.specs.ShardTables.{ShardTable}
+use Rattle.rl_combine.specs.declared.stage.Stage.{Stage}
+use Rattle.rl_combine.specs.declared.stage.Stage.TheVariants.{Sweep, Copy, Read, Journal, Volume, Answer, Mark, Rest, Post, Raise, Look, Count, Collect, Lower}
+use Rattle.rl_combine.specs.Posts.{CombineSite, post_of, post_word, flag_word}
+use Rattle.rl_combine.specs.Combine.{TheCombineSide, combine_table, early, is_open, stage_atom, stage_after}
+use Rattle.rl_combine.specs.CombineGood.{RankSide, CombineGood}
+use Rattle.rl_combine.specs.Sweep.{IsLate, IsLateAt, FlagSays, FlagMoves}
+use Rattle.rl_combine.specs.SideLaws.{found}
+use Rattle.rl_combine.specs.MoveLaws.{Combines, combiner_of, seat_of}
+use Rattle.rl_combine.specs.OwnLaws.{found_flag}
+use Rattle.rl_combine.specs.TranscriptLaws.{HasNone, HasOne, shown}
+use Rattle.rl_combine.specs.FlagLaws.{holds_on, found_keeps, found_open, flag_says, flag_moves}
+use Rattle.rl_whole.specs.declared.whole.WholeView.{WholeView}
+use Rattle.rl_whole.specs.Running.{LockAt, Goods, BothLaws}
+use Rattle.rl_whole.specs.Whole.{work_side, next_of, after_of, counts, is_at_work, leaves}
+use Rattle.rl_whole.specs.WholeShards.{stand, standing_while, whole_shard, WholeGood}
+use Rattle.rl_whole.specs.AtWork.{IsOfLock, IsOfWork, side_at, resting, after_none, each_atom}
+use Rattle.rl_cores.proofs.SweepLaws.{GoesOnFound}
+use Rattle.rl_cores.specs.Combining.{rank_side, KeepsCombining}
+
+-- a rank whose sweep has found a flag combines
+found_combines : (st : Stage) (owner : ℕ) → found st ≡ Some owner → Combines st
+found_combines Rest owner e = absurd (cc)
+found_combines (Post made) owner e = absurd (cc)
+found_combines Raise owner e = absurd (cc)
+found_combines Look owner e = absurd (cc)
+found_combines Count owner e = absurd (cc)
+found_combines (Sweep j) owner e = absurd (cc)
+found_combines (Copy j made) owner e = tt
+found_combines (Read j word) owner e = tt
+found_combines (Journal j made) owner e = tt
+found_combines (Volume j made) owner e = tt
+found_combines (Answer j made) owner e = tt
+found_combines (Mark j) owner e = tt
+found_combines (Collect made) owner e = absurd (cc)
+found_combines Lower owner e = absurd (cc)
+
+module _ (V : Type 0) (base : ℕ) (table : LockTable V) (S : CombineSite) (node : ℕ → ℕ) (lock_good : LockState V → Type 0) where
+  abbrev pub L : LockAt V TheCombineSide
+  L = record { base = base; table = table; work = combine_table S node }
+
+  abbrev pub good : Goods V TheCombineSide
+  good = record { lock = lock_good; work = CombineGood S }
+
+  -- a rank whose sweep has found a flag has its call open
+  pub in_call : (home : ℕ) (x : WholeView V TheCombineSide) (owner : ℕ) → found x.work.stage ≡ Some owner → ((whole_shard L home).own x).is_open ≡ true
+  in_call home x owner e = ap (λ b. is_at_work (stand table x) x.side.card || b) (found_open x.work.stage owner e) ∙ or_true (is_at_work (stand table x) x.side.card) where
+    or_true : (b : Bool) → (b || true) ≡ true
+    or_true true = refl
+    or_true false = refl
+
+  module _ (further : List Event → List Deed → Type 0) (layout : Layout) (laws : BothLaws L good further layout) (home : ℕ)
+      (h : TheWindow) (vs : List (WholeView V TheCombineSide)) (t : List Event) (ds : List Deed) (g : WholeGood L good layout h vs t ds) where
+    abbrev T : ShardTable (WholeView V TheCombineSide)
+    T = whole_shard L home
+
+    -- the ranks' sides, by the lock and by the shard
+    abbrev sides : List RankSide
+    sides = map (work_side table) vs
+
+    abbrev shown_sides : List RankSide
+    shown_sides = map (rank_side T) vs
+
+    rule : CombineGood S h.words sides
+    rule = g.rule.work_part
+
+    side : (r : ℕ) (x : WholeView V TheCombineSide) → slice_get vs r ≡ Some x → IsSide (combine_table S node) (CombineGood S) h.words sides r (work_side table x)
+    side r x has = side_at V TheCombineSide L good further layout laws home h vs t ds g r x has
+
+    -- a writer at the lock stands so on the shard
+    writes_on : (x : WholeView V TheCombineSide) → stand table x ≡ Writer → T.standing x ≡ Writer
+    writes_on x e = ap (λ st. standing_while st (is_open x.work.stage)) e
+
+    late_on : (k : ℕ) → IsLate sides k → IsLate shown_sides k
+    late_on k l =
+        let x = get_map_back (work_side table) vs l.rank l.side l.there in
+        record {
+          rank = l.rank;
+          side = rank_side T x.0;
+          there = get_map (rank_side T) vs l.rank x.0 x.1;
+          writes = writes_on x.0 (ap (λ (z : RankSide). z.standing) x.2 ∙ l.writes);
+          late = subst (λ (z : RankSide). IsLateAt z.work.stage k) (sym x.2) l.late;
+        }
+
+    says_on : (r : ℕ) (x : WholeView V TheCombineSide) → slice_get vs r ≡ Some x → FlagSays S h.words shown_sides r x.work
+    says_on r x has =
+        let s = side r x has in
+        let f : FlagSays S h.words sides r x.work = flag_says S node h.words s.laid sides s.is_good r (work_side table x) s.there in
+        record {
+          few = f.few;
+          posted = f.posted;
+          not_done = λ one. ⊎_elim (λ none. inl none) (λ late. inr (late_on r late.0, late.1)) (f.not_done one);
+          done = f.done;
+        }
+
+    moves_on : (r k : ℕ) (x : WholeView V TheCombineSide) (at : Atom) → slice_get vs r ≡ Some x → next_of L x ≡ Some at → FlagMoves S h.words (do_words at h.words) r (rank_side T x) k
+    moves_on r k x at has next =
+        ⊎_elim
+        (λ (q : IsOfLock V TheCombineSide L good further layout laws home h vs t ds g r x has at). inl (q.words.behind (post_word S k 0) (omega arith)))
+        (λ (q : IsOfWork V TheCombineSide L good further layout laws home h vs t ds g r x has at).
+        let w = q.works in
+        ⊎_elim
+        (λ same. inl same)
+        (λ others. ⊎_elim
+        (λ raised. inr (inl raised))
+        (λ rest. ⊎_elim (λ lowered. inr (inr (inl lowered))) (λ made. inr (inr (inr (writes_on x made.0, made.1, made.2)))) rest)
+        others)
+        (flag_moves S node h.words w.side.laid sides w.side.is_good w.apart r (work_side table x) w.side.there k at w.planned))
+        (each_atom V TheCombineSide L good further layout laws home h vs t ds g r x has at next)
+
+    once_on : (r : ℕ) (x : WholeView V TheCombineSide) → slice_get vs r ≡ Some x → length (early S h.words r x.work) ≤ 1
+    once_on r x has =
+        let s = side r x has in
+        let y = seat_of S node h.words s.laid sides s.is_good r (work_side table x) s.there in
+        ⊎_elim
+        (λ (n : HasNone S h.words r x.work y.0). let none : length (early S h.words r x.work) ≡ 0 = ap length n.none in omega arith)
+        (λ (o : HasOne S h.words r x.work y.0). let one : length (early S h.words r x.work) ≡ 1 = ap length o.one in omega arith)
+        (shown S h.words sides s.is_good r (work_side table x) y.0 y.1 s.there)
+
+    -- who combines writes
+    combiner_writes : (r : ℕ) (x : WholeView V TheCombineSide) → slice_get vs r ≡ Some x → Combines x.work.stage → stand table x ≡ Writer
+    combiner_writes r x has c =
+        let s = side r x has in
+        let y = seat_of S node h.words s.laid sides s.is_good r (work_side table x) s.there in
+        (combiner_of S (post_of S h.words r) r (work_side table x) y.0 x.work.stage c (s.is_good.own r (work_side table x) y.0 s.there y.1)).0
+
+    finds_on : (r owner : ℕ) (x : WholeView V TheCombineSide) → slice_get vs r ≡ Some x → x.work.stage ≡ Sweep owner → next_of L x ≡ Some (Load (flag_word S owner)) → found (after_of L x 1).view.work.stage ≡ Some owner
+    finds_on r owner x has e next =
+        let writes : stand table x ≡ Writer = combiner_writes r x has (subst Combines (sym e) tt) in
+        ⊎_elim
+        (λ none. ap (λ (z : Turned (WholeView V TheCombineSide)). found z.view.work.stage) (after_none V TheCombineSide L good further layout laws home h vs t ds g r x has none 1)
+        ∙ ap (λ st. found (stage_after S r x.work 1 st).work.stage) e)
+        (λ q. let clash = q.1 in absurd (cc))
+        (resting V TheCombineSide L good further layout laws home h vs t ds g r x has (subst Rests (sym writes) tt))
+
+    pub goes_on_found : GoesOnFound T h vs
+    goes_on_found r owner x at q next =
+        ⊎_elim
+        (λ (o : IsOfLock V TheCombineSide L good further layout laws home h vs t ds g r x q.there at). inr (ap (λ (z : TheCombineSide). found z.stage) o.same ∙ q.found_it, ap (λ (z : TheCombineSide). z.kept) o.same))
+        (λ (o : IsOfWork V TheCombineSide L good further layout laws home h vs t ds g r x q.there at).
+        let k : ℕ = do_got at h.words h.cards in
+        ⊎_elim
+        (λ (e : x.work.stage ≡ Mark owner). inl (same_Some _ _ (sym o.works.planned ∙ ap (stage_atom S r x.work) e)))
+        (λ still. inr (
+          ap (λ (z : Turned (WholeView V TheCombineSide)). found z.view.work.stage) o.after ∙ still,
+          ap (λ (z : Turned (WholeView V TheCombineSide)). z.view.work.kept) o.after ∙ found_keeps S r x.work k owner x.work.stage q.found_it,
+        ))
+        (holds_on S r x.work k owner x.work.stage q.found_it))
+        (each_atom V TheCombineSide L good further layout laws home h vs t ds g r x q.there at next)
+
+    -- how often a rank has left, by the entries that it keeps
+    pub left_at : (r : ℕ) (x : WholeView V TheCombineSide) → slice_get vs r ≡ Some x → leaves r t ≡ count_by (counts L) x.work.kept.items
+    left_at r x has = ap (leaves r) (sym g.same) ∙ g.rule.left_as r x has
+
+    pub keeps_combining : KeepsCombining T h vs
+    keeps_combining =
+        record {
+          posted = record { says = says_on; moves = moves_on; once = once_on };
+          sweeps = record {
+            finds = λ r owner x has e next one. finds_on r owner x has e next;
+            writes = λ r owner x q. (
+              writes_on x (combiner_writes r x q.there (found_combines x.work.stage owner q.found_it)),
+              found_flag S node h.words (side r x q.there).laid sides rule r (work_side table x) (side r x q.there).there owner q.found_it,
+            );
+            holds = λ r owner x at q next. ⊎_elim (λ stores. inl stores) (λ still. inr still.0) (goes_on_found r owner x at q next);
+          };
+        }

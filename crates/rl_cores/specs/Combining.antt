@@ -1,0 +1,58 @@
+-- What is promised of flat combining on a shard, over whatever lock lets one writer in at a time: of its words and of the views of its
+-- ranks.
+use Rattle.std.specs.Prelude.{◌≡◌, ◌⊎◌, ℕ, ◌≤◌, List, length, map, slice_get, slice_index, Some}
+use Rattle.rl_word.specs.declared.acts.Atom.{Atom}
+use Rattle.rl_word.specs.declared.acts.Atom.TheVariants.{Load, Store}
+use Rattle.rl_step.specs.declared.events.Standing.TheVariants.{Writer}
+use Rattle.rl_step.specs.Do.{TheWindow, do_atom, do_got}
+use Rattle.rl_asks.specs.ShardTables.{ShardTable}
+use Rattle.rl_combine.specs.declared.stage.Stage.TheVariants.{Sweep}
+use Rattle.rl_combine.specs.Posts.{CombineSite, flag_word}
+use Rattle.rl_combine.specs.Combine.{TheCombineSide, early}
+use Rattle.rl_combine.specs.CombineGood.{RankSide}
+use Rattle.rl_combine.specs.SideLaws.{found}
+use Rattle.rl_combine.specs.Sweep.{FlagSays, FlagMoves}
+use Rattle.rl_whole.specs.declared.whole.WholeView.{WholeView}
+
+module _ {V : Type 0} (T : ShardTable (WholeView V TheCombineSide)) where
+  -- the post words are the work's own
+  abbrev pub posts : CombineSite
+  posts = record { site = T.site; behind = T.own_at }
+
+  -- how a rank stands, and its side of the work
+  abbrev pub rank_side : WholeView V TheCombineSide → RankSide
+  rank_side x = record { standing = T.standing x; work = x.work }
+
+  -- the flag of a rank
+  abbrev pub flag_now : TheWindow → ℕ → ℕ
+  flag_now h owner = slice_index h.words (flag_word posts owner)
+
+  module _ (h : TheWindow) (vs : List (WholeView V TheCombineSide)) where
+    -- the posts of the ranks
+    pub record KeepsPosts : Type 0 where
+      -- a flag of 1 stands over a posted call that isn't done, but where a writer has counted it; and one of 2 over its answer
+      pub says : (r : ℕ) (x : WholeView V TheCombineSide) → slice_get vs r ≡ Some x → FlagSays posts h.words (map rank_side vs) r x.work
+      -- its owner raises and lowers a flag, and a writer alone makes it 2 from 1
+      pub moves : (r k : ℕ) (x : WholeView V TheCombineSide) (at : Atom) → slice_get vs r ≡ Some x → T.core.next x ≡ Some at → FlagMoves posts h.words (do_atom r at h).words r (rank_side x) k
+      -- a rank's open call was done once at most, by whichever rank
+      pub once : (r : ℕ) (x : WholeView V TheCombineSide) → slice_get vs r ≡ Some x → length (early posts h.words r x.work) ≤ 1
+
+    -- rank r has this view, and its sweep has found the flag 1 of this owner and not made it 2 yet
+    pub record HasFound (r owner : ℕ) (x : WholeView V TheCombineSide) : Type 0 where
+      pub there : slice_get vs r ≡ Some x
+      pub found_it : found x.work.stage ≡ Some owner
+
+    -- the sweeps of the ranks
+    pub record KeepsSweeps : Type 0 where
+      -- a rank that loads a flag in its sweep and finds 1 has found it
+      pub finds : (r owner : ℕ) (x : WholeView V TheCombineSide) → slice_get vs r ≡ Some x → x.work.stage ≡ Sweep owner → T.core.next x ≡ Some (Load (flag_word posts owner)) → flag_now h owner ≡ 1 →
+          found (T.core.after x 1).view.work.stage ≡ Some owner
+      -- while it has it stands as a writer, and the flag is 1
+      pub writes : (r owner : ℕ) (x : WholeView V TheCombineSide) → HasFound r owner x → (T.standing x ≡ Writer) × (flag_now h owner ≡ 1)
+      -- it has until it stores 2 there: so it leaves the lock no sooner
+      pub holds : (r owner : ℕ) (x : WholeView V TheCombineSide) (at : Atom) → HasFound r owner x → T.core.next x ≡ Some at →
+          (at ≡ Store (flag_word posts owner) 2) ⊎ (found (T.core.after x (do_got at h.words h.cards)).view.work.stage ≡ Some owner)
+
+    pub record KeepsCombining : Type 0 where
+      pub posted : KeepsPosts
+      pub sweeps : KeepsSweeps

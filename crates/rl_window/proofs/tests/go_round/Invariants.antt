@@ -1,7 +1,0 @@
-use Rattle.std.proofs.Common.{◌≡◌}
-use Rattle.rl_window.specs.Seats.{IsSeatOf, IsKept}
-use Rattle.rl_window.specs.Rounds.{rounds_rule}
-use Rattle.rl_window.proofs.tests.go_round.Given as goal
-
-abbrev pub invariant-loop : goal.invariant-loop
-invariant-loop l = IsSeatOf rounds_rule l.window l.seat × IsKept rounds_rule l.window l.seat × (l.seat.rank ≡ l.fn.seat.rank)

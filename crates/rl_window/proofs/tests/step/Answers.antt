@@ -1,8 +1,0 @@
-use Rattle.std.proofs.Common.{rules, ◌∙◌}
-use Rattle.rl_window.specs.Rounds.{rounds_rule}
-use Rattle.rl_window.specs.SeatLemmas.{fit_seat}
-use Rattle.rl_window.proofs.tests.step.Goals as goal
-
-pub returns-clause-seat : goal.returns-clause-seat
-returns-clause-seat c =
-    fit_seat rounds_rule c.args.window.now c.advance.new.port.window.now _ c.advance.new.port.seat.now _ c.advance.ensures.fits (c.advance.ensures.frame.0 ∙ c.port-port.ensures.window) (search rules)

@@ -1,0 +1,132 @@
+//! Worked cases of optimistic readers and of flat combining, with values from their definitions: by replays, by single seats on one thread,
+//! by threads that are led, and by eight threads that go on as they come.
+
+use crate::check_tests::legal;
+use crate::run_tests::{read_own_writes, run_led_often};
+use crate::seat_tests::trial_and_seats;
+use crate::tests::{look, replay_of};
+use std::alloc::AllocError as OutOfMemory;
+use std::process::Abort;
+use std::test::*;
+
+/// Two ranks on the home of the one shard, whose table has room for one key, with this lock.
+fn two_at_home<R: AllocGlobal>(rt: &R, lock: &str) -> Result<String, OutOfMemory> {
+    format!(in rt.alloc();
+        "rmalock-place 1\nlevels 1\nlock {lock}\nbudget 1 1\nshards 1\nbuckets 1\noverflow 0\nrank 0 at 0\nrank 1 at 0\nhome 0 0\nend\n"
+    )
+}
+
+const PUT_AND_GET: &str = "rmalock-calls 1\n0 put 0 7\n1 get 0\nend\n";
+
+const PUT_ONE_AND_GET: &str = "rmalock-calls 1\n0 put 0 1\n1 get 0\nend\n";
+
+/// A get looks at an even version while a writer is about to write, finds another afterwards and has lost, waits while the version is
+/// odd, and reads what was written.
+const GET_BESIDE_A_WRITER: &str = "111000000000110000000000000111111";
+
+/// Both ranks post their calls; the first gets the lock and does both; the second collects its answer.
+const BOTH_CALLS_BY_ONE: &str =
+    "11111100000000000000000000000000000000000000000000000000000111111111111";
+
+#[test]
+fn a_get_beside_a_writer(rt: HostRuntime) -> Result<(), Fail> {
+    let place = two_at_home(&rt, "seq")?;
+    let report =
+        "rmalock-report 2\nreplay seq\nranks 2 shards 1\nshard 0 updates 1 entries 2\nentry 0 0 0 put 0 7 = new\nentry 1 1 0 get 0 = val 7\nqueue local settled 1 passed 0\nqueue remote settled 0 passed 0\nevent 5 join local 0\nevent 6 announce local\nevent 7 settle local 0\nevent 7 enter-w 0\nevent 24 leave-w 0\nrank 0 done 1 of 1\nrank 1 done 1 of 1\nsteps 33 moved 31 waiting 1 lost 1 busy 0 finished 0\nend\n";
+    let turns = "1 3\n0 9\n1 2\n0 13\n1 6\nend\n";
+    look(&rt, replay_of(&rt, &place, PUT_AND_GET, turns)?, 0, report);
+    assert!(rt; legal(&rt, &place, PUT_AND_GET, report));
+    Ok(())
+}
+
+#[test]
+fn one_rank_does_the_calls_of_both(rt: HostRuntime) -> Result<(), Fail> {
+    let place = two_at_home(&rt, "combine")?;
+    let head =
+        "rmalock-report 2\nreplay combine\nranks 2 shards 1\nshard 0 updates 1 entries 2\nentry 0 0 0 put 0 1 = new\nentry 1 1 0 get 0 = val 1\n";
+    let collected = format!(in rt.alloc();
+        "{head}queue local settled 2 passed 0\nqueue remote settled 0 passed 0\nevent 14 join local 0\nevent 15 announce local\nevent 16 settle local 0\nevent 16 enter-w 0\nevent 56 leave-w 0\nevent 61 join local 1\nevent 62 announce local\nevent 63 settle local 1\nevent 63 enter-w 1\nevent 68 leave-w 1\nrank 0 done 1 of 1\nrank 1 done 1 of 1\nsteps 71 moved 71 waiting 0 lost 0 busy 0 finished 0\nend\n"
+    )?;
+    let uncollected = format!(in rt.alloc();
+        "{head}queue local settled 1 passed 0\nqueue remote settled 0 passed 0\nevent 14 join local 0\nevent 15 announce local\nevent 16 settle local 0\nevent 16 enter-w 0\nevent 56 leave-w 0\nrank 0 done 1 of 1\nrank 1 done 1 of 1\nsteps 59 moved 59 waiting 0 lost 0 busy 0 finished 0\nend\n"
+    )?;
+    for (turns, report) in [
+        ("1 6\n0 53\n1 12\nend\n", &collected),
+        ("1 6\n0 53\nend\n", &uncollected),
+    ] {
+        look(
+            &rt,
+            replay_of(&rt, &place, PUT_ONE_AND_GET, turns)?,
+            0,
+            report,
+        );
+        assert!(rt; legal(&rt, &place, PUT_ONE_AND_GET, report));
+    }
+    Ok(())
+}
+
+/// A calls file with a batch is refused before the schedule is opened, which here isn't there.
+#[test]
+fn a_batch_is_not_combined(rt: HostRuntime) -> Result<(), Fail> {
+    let place = two_at_home(&rt, "combine")?;
+    let calls = "rmalock-calls 2\n0 batch 2\n0 put 0 1\n0 put 0 2\nend\n";
+    let answer = replay_of(&rt, &place, calls, "no turn\n")?;
+    look(&rt, answer, 2, "refused c 0 0 word\n");
+    Ok(())
+}
+
+/// What the steps of these ranks tell, by the machine and by single seats: its answers and the events, and each answer by itself.
+fn answers<R: AllocGlobal + Abort>(
+    rt: &R,
+    lock: &str,
+    calls: &str,
+    ranks: &str,
+) -> Result<String, Fail> {
+    let place = two_at_home(rt, lock)?;
+    trial_and_seats(rt, &place, calls, ranks)
+}
+
+/// Seats on one thread answer as the machine does: the get has lost in step 12, having found version 0 first and 1 now, waits in step 13
+/// since the version is 1, and moves on in all others; under flat combining all 71 move on.
+#[test]
+fn seats_answer_alike(rt: HostRuntime) -> Result<(), Fail> {
+    let told = answers(&rt, "seq", PUT_AND_GET, GET_BESIDE_A_WRITER)?;
+    for (step, sign) in told.as_str().split(' ').enumerate() {
+        match step {
+            12 => assert_eq!(rt; sign, "l0.1"),
+            13 => assert!(rt; sign.starts_with("w") && sign.ends_with(".1")),
+            _ => assert!(rt; sign.starts_with("m")),
+        }
+    }
+    let told = answers(&rt, "combine", PUT_ONE_AND_GET, BOTH_CALLS_BY_ONE)?;
+    assert!(rt; told.as_str().split(' ').all(|sign| sign.starts_with("m")));
+    Ok(())
+}
+
+/// Threads that are led by the same turns get the same answers.
+#[test]
+fn threads_answer_alike(rt: HostRuntime) -> Result<(), Fail> {
+    let place = two_at_home(&rt, "seq")?;
+    run_led_often(
+        &rt,
+        &place,
+        PUT_AND_GET,
+        GET_BESIDE_A_WRITER,
+        "moved 31 waiting 1 lost 1 busy 0",
+    )?;
+    let place = two_at_home(&rt, "combine")?;
+    run_led_often(
+        &rt,
+        &place,
+        PUT_ONE_AND_GET,
+        BOTH_CALLS_BY_ONE,
+        "moved 71 waiting 0 lost 0 busy 0",
+    )
+}
+
+/// Eight ranks read their own writes.
+#[test]
+fn eight_ranks_in_both_ways(rt: HostRuntime) -> Result<(), Fail> {
+    read_own_writes(&rt, "seq\nbudget 4 4")?;
+    read_own_writes(&rt, "combine\nbudget 4 4")
+}

@@ -1,0 +1,2 @@
+mod DoneLaws
+pub mod ListingLaws

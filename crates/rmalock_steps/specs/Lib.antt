@@ -1,0 +1,4 @@
+-- to be believed, in reading order
+pub mod Asking
+pub mod Listing
+pub mod Answer

@@ -1,0 +1,74 @@
+//! The words of the command line.
+ghost use Rattle.std.specs.Prelude.{◌≡◌, map, string_bytes};
+ghost use Rattle.std.specs.Option.{option_map};
+ghost use Rattle.rl_text.specs.Number.{number_of};
+ghost use Rattle.rmalock_steps.specs.Asking.{window_by, the_asked, asked_by};
+
+use rl_ops::MOST_STEPS;
+use rl_replay::Files;
+use rl_text::number;
+
+/// Steps: those from `from` on and before `to`.
+#[derive(Clone, Copy, PartialEq, Eq, Debug)]
+pub struct Window {
+    pub from: u32,
+    pub to: u32,
+}
+
+/// What the words ask for: the listing of a replay of these files, of the steps of a window.
+#[derive(Clone, Copy)]
+pub struct Asked<'a> {
+    pub files: Files<'a>,
+    pub window: Window,
+}
+
+/// All steps that a schedule may have.
+const ALL_STEPS: Window = Window {
+    from: 0,
+    to: MOST_STEPS,
+};
+
+/// The window of two words, where they are numbers, the first below the second, and the second at most 2,000,000.
+fn window_of(from: &str, to: &str) -> Option<Window>
+    ensures { result ≡ window_by (number_of from.now) (number_of to.now) }
+{
+    let from = number(from.as_bytes())?;
+    let to = number(to.as_bytes())?;
+    if from < to && to <= u64::from(MOST_STEPS) {
+        Some(Window {
+            from: from as u32,
+            to: to as u32,
+        })
+    } else {
+        None
+    }
+}
+
+/// What the words ask for: `PLACE CALLS SCHEDULE`, and a window `FROM TO` behind them or none. Nothing where they are no
+/// form.
+pub fn asked_in(words: &[String]) -> Option<Asked<'_>>
+    ensures { option_map the_asked result ≡ asked_by (map string_bytes words.now) }
+{
+    match words {
+        [place, calls, schedule] => Some(Asked {
+            files: Files {
+                place: place.as_str(),
+                calls: calls.as_str(),
+                schedule: schedule.as_str(),
+            },
+            window: ALL_STEPS,
+        }),
+        [place, calls, schedule, from, to] => match window_of(from.as_str(), to.as_str()) {
+            Some(window) => Some(Asked {
+                files: Files {
+                    place: place.as_str(),
+                    calls: calls.as_str(),
+                    schedule: schedule.as_str(),
+                },
+                window,
+            }),
+            None => None,
+        },
+        _ => None,
+    }
+}
