@@ -1,13 +1,13 @@
 //! The picture of what was seen of a replay.
 ghost use Rattle.std.specs.Prelude.{◌<◌};
 
-use crate::asking::Window;
 use crate::labels::{Labels, Word, labels_of, width_of};
 use crate::lanes::{Band, Cell, Doing, Lane};
 use crate::svg::{Area, Px, Spot, Svg};
 use rl_history::Naming;
 use rl_place::{Path, path_text};
 use rl_step::Stepped;
+use rl_viewer::Window;
 use std::alloc::{AllocError as OutOfMemory, Global};
 
 /// What is drawn: the lanes of the ranks, with the steps of the window, and what the placement says of ranks and shards.

@@ -1,11 +1,10 @@
 //! Draws a replay: a lane for each rank, time from left to right.
 //!
-//! The program is also the example of how the library is used. `picturing.rt` reads the files of a replay, `recording.rt` makes
-//! a machine and its steps and takes down what each tells, in `lanes.rt`; `drawing.rt` draws that, with the elements of
-//! `svg.rt`.
+//! The program is also the example of how the library is used. It is a viewer: `rl_viewer` reads the words and the files, and
+//! answers. `picturing.rt` has the replay drawn: `recording.rt` makes a machine and its steps and takes down what each tells, in
+//! `lanes.rt`; `drawing.rt` draws that, with the elements of `svg.rt`.
 #![tactic(auto)]
 
-mod asking;
 mod drawing;
 mod labels;
 mod lanes;

@@ -10,7 +10,6 @@ ghost use Rattle.rl_ops.specs.Schedule.{ScheduleFits, TurnFits};
 ghost use Rattle.rl_step.specs.Answers.{steps_made};
 ghost use Rattle.rl_replay.specs.Reading.{SuitsLock};
 
-use crate::asking::Window;
 use crate::lanes::{Cell, Lane, Moment};
 use rl_asks::{Resting, ShardCore};
 use rl_cores::{CoreTask, over_lock};
@@ -20,6 +19,7 @@ use rl_names::put_step;
 use rl_ops::{Ops, Schedule, Turn};
 use rl_place::Place;
 use rl_step::Event;
+use rl_viewer::Window;
 use std::alloc::{AllocError as OutOfMemory, Global};
 
 /// What is seen of a machine: the placement, by whose names its steps are told, and the step before which the window ends.

@@ -1,2 +1,1 @@
-mod DoneLaws
 pub mod ListingLaws

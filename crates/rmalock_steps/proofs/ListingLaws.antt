@@ -20,8 +20,9 @@ use Rattle.rl_machine.specs.Run.{stepped, run_of, turn_ranks, ranks_of, steps_in
 use Rattle.rl_machine.specs.ReplayLaws.{run_append, replicate-end, ranks-more}
 use Rattle.rl_machine.specs.Start.{start_of}
 use Rattle.rl_cores.specs.Kinds.{Defined}
-use Rattle.rmalock_steps.specs.declared.asking.Window.{Window}
-use Rattle.rmalock_steps.specs.Listing.{step_lines, step_line, shown, is_in, head_lines, listing_text}
+use Rattle.rl_viewer.specs.declared.asking.Window.{Window}
+use Rattle.rl_viewer.specs.Asking.{is_in}
+use Rattle.rmalock_steps.specs.Listing.{step_lines, step_line, shown, head_lines, listing_text}
 
 pub text-append : (xs ys : List (List (List ℕ))) → text_of (xs ++ ys) ≡ text_of xs ++ text_of ys
 text-append xs ys = flat_map-append line_text xs ys

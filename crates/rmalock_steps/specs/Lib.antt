@@ -1,4 +1,3 @@
 -- to be believed, in reading order
-pub mod Asking
 pub mod Listing
 pub mod Answer

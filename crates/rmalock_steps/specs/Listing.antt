@@ -1,5 +1,5 @@
 -- The listing of a replay: a line for each step of the run.
-use Rattle.std.specs.Prelude.{ℕ, List, [], ◌∷◌, ◌++◌, Bool, ◌&&◌, nat_lt, nat_le, codes, decimal, if◌then◌else◌}
+use Rattle.std.specs.Prelude.{◌≡◌, ℕ, List, [], ◌∷◌, ◌++◌, Bool, codes, decimal, if◌then◌else◌}
 use Rattle.rl_text.specs.Spelling.{text_of}
 use Rattle.rl_step.specs.Answers.{steps_made}
 use Rattle.rl_place.specs.Places.{ThePlace}
@@ -13,12 +13,10 @@ use Rattle.rl_machine.specs.Run.{stepped, ranks_of}
 use Rattle.rl_machine.specs.Start.{start_of}
 use Rattle.rl_cores.specs.Kinds.{Defined, kind_of}
 use Rattle.rl_replay.specs.declared.replay.Replay.{Replay}
-use Rattle.rmalock_steps.specs.declared.asking.Window.{Window}
+use Rattle.rl_viewer.specs.declared.asking.Window.{Window}
+use Rattle.rl_viewer.specs.Asking.{is_in}
 
--- a step that is in the window, and the line that is shown then
-abbrev pub is_in : Window → ℕ → Bool
-is_in window step = nat_le window.from step && nat_lt step window.to
-
+-- the line of a step that is in the window
 abbrev pub shown : Bool → List (List ℕ) → List (List (List ℕ))
 shown b line = if b then line ∷ [] else []
 
@@ -50,3 +48,7 @@ listing_with defined place ops schedule window = listing_text (naming_of place) 
 -- the listing of a replay, whose shards are guarded by the lock of its placement
 abbrev pub listing_of : Replay → Window → List ℕ
 listing_of replay window = listing_with (kind_of replay.place.lock).defined replay.place replay.ops replay.schedule window
+
+-- a text is exactly that listing
+abbrev pub IsListing : Replay → Window → List ℕ → Type 0
+IsListing replay window text = text ≡ listing_of replay window

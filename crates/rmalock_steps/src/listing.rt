@@ -9,9 +9,8 @@ ghost use Rattle.rl_ops.specs.Ops.{OpsFit};
 ghost use Rattle.rl_ops.specs.Schedule.{ScheduleFits};
 ghost use Rattle.rl_replay.specs.Reading.{SuitsLock};
 ghost use Rattle.rl_text.specs.Spelling.{text_of};
-ghost use Rattle.rmalock_steps.specs.Listing.{head_lines, listing_with, listing_of};
+ghost use Rattle.rmalock_steps.specs.Listing.{head_lines, listing_with, IsListing};
 
-use crate::asking::Window;
 use crate::stepping::{Scene, take_turn};
 use rl_asks::{Resting, ShardCore};
 use rl_cores::{CoreTask, over_lock};
@@ -20,6 +19,7 @@ use rl_machine::Machine;
 use rl_ops::{Ops, Schedule};
 use rl_place::Place;
 use rl_replay::Replay;
+use rl_viewer::{Viewer, Window};
 use std::alloc::{AllocError as OutOfMemory, Global};
 
 /// The first lines: the version, and the lock.
@@ -88,26 +88,26 @@ impl CoreTask for ListTask<'_> {
     }
 }
 
-/// The listing of a replay: a line for each of its steps in the window. Refused only for want of memory.
-pub fn listing(alloc: Global, replay: Replay, window: Window) -> Result<Vec<u8>, OutOfMemory>
-    requires proper { IsProper replay.place }
-    requires calls { OpsFit (length replay.place.paths) replay.place.geom.shards replay.ops }
-    requires suits { SuitsLock replay.place replay.ops }
-    requires schedule { ScheduleFits (length replay.place.paths) replay.schedule }
-    ensures { IfOk result (λ text. text.items ≡ listing_of replay window) }
-{
-    let Replay {
-        place,
-        ops,
-        schedule,
-    } = replay;
-    over_lock(
-        &place,
-        ListTask {
-            alloc,
+/// Shows a replay by its listing: a line for each of its steps in the window.
+pub struct Lister;
+
+impl Viewer for Lister {
+    ghost shows = { IsListing };
+
+    fn show(alloc: Global, replay: Replay, window: Window) -> Result<Vec<u8>, OutOfMemory> {
+        let Replay {
+            place,
             ops,
-            schedule: &schedule,
-            window,
-        },
-    )
+            schedule,
+        } = replay;
+        over_lock(
+            &place,
+            ListTask {
+                alloc,
+                ops,
+                schedule: &schedule,
+                window,
+            },
+        )
+    }
 }

@@ -1,11 +1,10 @@
 //! Lists a replay: a line for each step, with the atom that it makes on the word that it names, what it finds, its answer and its events.
 //!
-//! `answering.rt` reads the files of a replay and answers; `listing.rt` makes the machine of the placement's lock, and `stepping.rt` its steps, each with
-//! its line. What a line says is defined in `specs/Listing`; the names of words are those of `rl_names`.
+//! It is a viewer: `rl_viewer` reads the words and the files, and answers. `listing.rt` makes the machine of the placement's lock, and `stepping.rt` its
+//! steps, each with its line. What a line says is defined in `specs/Listing`; the names of words are those of `rl_names`.
 #![tactic(auto)]
 
 mod answering;
-mod asking;
 mod listing;
 mod stepping;
 #[cfg(test)]

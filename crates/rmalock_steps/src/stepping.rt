@@ -7,9 +7,8 @@ ghost use Rattle.rl_step.specs.Answers.{steps_made};
 ghost use Rattle.rl_ops.specs.Schedule.{TurnFits, steps_of};
 ghost use Rattle.rl_machine.specs.Running.{running};
 ghost use Rattle.rl_machine.specs.Run.{stepped, run_of, turn_ranks};
-ghost use Rattle.rmalock_steps.specs.Listing.{step_line, step_lines, is_in};
+ghost use Rattle.rmalock_steps.specs.Listing.{step_line, step_lines};
 
-use crate::asking::Window;
 use rl_asks::ShardCore;
 use rl_history::{Naming, put_value, put_word};
 use rl_machine::Machine;
@@ -18,6 +17,7 @@ use rl_ops::Turn;
 use rl_place::Place;
 use rl_step::Steps;
 use rl_text::put_number;
+use rl_viewer::Window;
 use std::alloc::AllocError as OutOfMemory;
 
 /// What is listed: the placement, by whose names, and which steps.
@@ -26,15 +26,6 @@ pub struct Scene<'a> {
     pub place: &'a Place,
     pub naming: &'a Naming,
     pub window: Window,
-}
-
-impl Window {
-    /// Whether a step is in the window.
-    fn has(self, step: u32) -> bool
-        ensures { result ≡ is_in self step }
-    {
-        self.from <= step && step < self.to
-    }
 }
 
 /// How many steps were made.

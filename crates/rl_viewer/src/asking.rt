@@ -1,21 +1,30 @@
 //! The words of the command line.
-ghost use Rattle.std.specs.Prelude.{◌≡◌, ◌↔◌, ◌≤◌, map, string_bytes, IsTrue, IsSome, IfSome};
+ghost use Rattle.std.specs.Prelude.{◌≡◌, ◌≤◌, map, string_bytes, IfSome};
 ghost use Rattle.std.specs.Option.{option_map};
 ghost use Rattle.rl_text.specs.Number.{number_of};
-ghost use Rattle.rmalock_picture.specs.Asking.{is_window, names_asked, asked_by};
+ghost use Rattle.rl_viewer.specs.Asking.{is_in, window_by, the_asked, asked_by};
 
 use rl_ops::MOST_STEPS;
 use rl_replay::Files;
 use rl_text::number;
 
-/// Steps: those from `from` on and before `to`, which is at most 2,000,000.
-#[derive(Clone, Copy)]
+/// Steps: those from `from` on and before `to`.
+#[derive(Clone, Copy, PartialEq, Eq, Debug)]
 pub struct Window {
     pub from: u32,
     pub to: u32,
 }
 
-/// What the words ask for: the picture of a replay of these files, of the steps of a window.
+impl Window {
+    /// Whether a step is in the window.
+    pub fn has(self, step: u32) -> bool
+        ensures { result ≡ is_in self step }
+    {
+        self.from <= step && step < self.to
+    }
+}
+
+/// What the words ask for: to show a replay of these files, in a window of its steps.
 #[derive(Clone, Copy)]
 pub struct Asked<'a> {
     pub files: Files<'a>,
@@ -30,8 +39,8 @@ const ALL_STEPS: Window = Window {
 
 /// The window of two words, where they are numbers, the first below the second, and the second at most 2,000,000.
 fn window_of(from: &str, to: &str) -> Option<Window>
-    ensures window { IsSome result ↔ IsTrue (is_window (number_of from.now) (number_of to.now)) }
-    ensures fits { IfSome result (λ window. window.to ≤ 2000000) }
+    ensures window { result ≡ window_by (number_of from.now) (number_of to.now) }
+    ensures few { IfSome result (λ window. window.to ≤ 2000000) }
 {
     let from = number(from.as_bytes())?;
     let to = number(to.as_bytes())?;
@@ -48,8 +57,8 @@ fn window_of(from: &str, to: &str) -> Option<Window>
 /// What the words ask for: `PLACE CALLS SCHEDULE`, and a window `FROM TO` behind them or none. Nothing where they are no
 /// form.
 pub fn asked_in(words: &[String]) -> Option<Asked<'_>>
-    ensures asked { option_map names_asked result ≡ asked_by (map string_bytes words.now) }
-    ensures fits { IfSome result (λ asked. asked.window.to ≤ 2000000) }
+    ensures asked { option_map the_asked result ≡ asked_by (map string_bytes words.now) }
+    ensures few { IfSome result (λ asked. asked.window.to ≤ 2000000) }
 {
     match words {
         [place, calls, schedule] => Some(Asked {

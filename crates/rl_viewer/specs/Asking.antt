@@ -1,9 +1,13 @@
 -- What the words of the command line ask for.
-use Rattle.std.specs.Prelude.{ℕ, List, [], ◌∷◌, ◌&&◌, nat_lt, nat_le, Option, Some, None, if◌then◌else◌}
+use Rattle.std.specs.Prelude.{ℕ, List, [], ◌∷◌, Bool, ◌&&◌, nat_lt, nat_le, Option, Some, None, if◌then◌else◌}
 use Rattle.rl_text.specs.Number.{number_of}
 use Rattle.rl_replay.specs.Files.{Names, named}
-use Rattle.rmalock_steps.specs.declared.asking.Asked.{Asked}
-use Rattle.rmalock_steps.specs.declared.asking.Window.{Window}
+use Rattle.rl_viewer.specs.declared.asking.Asked.{Asked}
+use Rattle.rl_viewer.specs.declared.asking.Window.{Window}
+
+-- a step that is in the window
+abbrev pub is_in : Window → ℕ → Bool
+is_in window step = nat_le window.from step && nat_lt step window.to
 
 -- the files whose replay is asked for, and which of its steps
 pub record TheAsked : Type 0 where
