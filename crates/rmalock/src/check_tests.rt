@@ -120,6 +120,22 @@ fn six_calls_bent(rt: HostRuntime) -> Result<(), Fail> {
     Ok(())
 }
 
+/// A rank's second get stands at a count that is below its first one's; a second writer enters beside the first, by the second of the
+/// events, whatever the numbers of their steps.
+#[test]
+fn a_stale_get_and_two_writers(rt: HostRuntime) {
+    let place =
+        "rmalock-place 1\nlevels 1\nlock spin\nshards 1\nbuckets 1\noverflow 0\nrank 0 at 0\nrank 1 at 0\nhome 0 0\nend\n";
+    let calls = "rmalock-calls 1\n0 get 0\n0 get 0\n1 put 0 5\nend\n";
+    let report =
+        "rmalock-report 2\nrun spin\nranks 2 shards 1\nshard 0 updates 1 entries 3\nentry 0 0 1 get 0 = none\nentry 0 1 0 put 0 5 = new\nentry 1 0 0 get 0 = val 5\npair 0 5\nrank 0 done 2 of 2\nrank 1 done 1 of 1\nend\n";
+    assert!(rt; checks(&rt, (place, calls, report), 6, "illegal rank 0 1 fresh\n"));
+    let calls = "rmalock-calls 1\n0 hold 0\n1 hold 0\nend\n";
+    let report =
+        "rmalock-report 2\nreplay spin\nranks 2 shards 1\nshard 0 updates 0 entries 0\nevent 5 enter-w 0\nevent 9 enter-w 1\nrank 0 done 0 of 1\nrank 1 done 0 of 1\nsteps 10 moved 10 waiting 0 lost 0 busy 0 finished 0\nend\n";
+    assert!(rt; checks(&rt, (place, calls, report), 6, "illegal shard 0 1 events\n"));
+}
+
 #[test]
 fn what_is_no_report_is_refused(rt: HostRuntime) {
     assert!(rt; checks(&rt, (ONE_RANK, ONE_HOLD, ""), 2, "refused r 1 0 noend\n"));
