@@ -1,5 +1,5 @@
 -- Under the rule of flat combining over any lock flags say what they have to, and a flag that was found 1 is made 2.
-use Rattle.std.proofs.Common.{◌≡◌, ℕ, ◌≤◌, Bool, true, false, ◌||◌, count_by, List, length, map, slice_get, Some, refl, sym, ap, ◌∙◌, subst, inl, inr, ⊎_elim, arith}
+use Rattle.std.proofs.Common.{◌≡◌, ℕ, ◌+◌, ◌<◌, ◌≤◌, Bool, true, false, ◌||◌, count_by, List, [], ◌∷◌, ◌++◌, length, map, slice_get, Option, Some, None, refl, sym, ap, ◌∙◌, subst, inl, inr, ⊎_elim, arith}
 use Rattle.std.proofs.lemmas.Option.{same_Some}
 use Rattle.rl_word.specs.Places.{get_map, get_map_back}
 use Rattle.rl_word.specs.Acts.{Layout}
@@ -10,26 +10,33 @@ use Rattle.rl_step.specs.declared.events.Standing.TheVariants.{Writer}
 use Rattle.rl_step.specs.Core.{Turned}
 use Rattle.rl_step.specs.Do.{TheWindow, do_words, do_got}
 use Rattle.rl_step.specs.Lock.{LockTable, LockState, Deed, Rests}
+use Rattle.rl_volume.specs.Seen.{SeenWords, next_word}
+use Rattle.rl_volume.specs.Walk.{most_reads}
+use Rattle.rl_work.specs.declared.stage.Stage.TheVariants as block
+use Rattle.rl_work.specs.AtomLaws.{few_loads}
+use Rattle.rl_work.specs.Site.{volume_base}
 use Rattle.rl_work.specs.Ways.{IsSide}
+use Rattle.rl_work.specs.WorkGood.{WorkSide as Seat}
 use Rattle.rl_asks.specs.ShardTables.{ShardTable}
 use Rattle.rl_combine.specs.declared.stage.Stage.{Stage}
 use Rattle.rl_combine.specs.declared.stage.Stage.TheVariants.{Sweep, Copy, Read, Journal, Volume, Answer, Mark, Rest, Post, Raise, Look, Count, Collect, Lower}
 use Rattle.rl_combine.specs.Posts.{CombineSite, post_of, post_word, flag_word}
-use Rattle.rl_combine.specs.Combine.{TheCombineSide, combine_table, early, is_open, stage_atom, stage_after}
-use Rattle.rl_combine.specs.CombineGood.{RankSide, CombineGood}
+use Rattle.rl_combine.specs.Combine.{TheCombineSide, combine_table, early, is_open, stage_atom, stage_after, read_next, with_posted, with_copied, with_word}
+use Rattle.rl_combine.specs.CombineGood.{RankSide, CombineGood, OwnAt, SweepAt, IsReading, reading, front_of}
 use Rattle.rl_combine.specs.Sweep.{IsLate, IsLateAt, FlagSays, FlagMoves}
 use Rattle.rl_combine.specs.SideLaws.{found}
+use Rattle.rl_combine.specs.LookLaws.{handed_at}
 use Rattle.rl_combine.specs.MoveLaws.{Combines, combiner_of, seat_of}
 use Rattle.rl_combine.specs.OwnLaws.{found_flag}
 use Rattle.rl_combine.specs.TranscriptLaws.{HasNone, HasOne, shown}
 use Rattle.rl_combine.specs.FlagLaws.{holds_on, found_keeps, found_open, flag_says, flag_moves}
 use Rattle.rl_whole.specs.declared.whole.WholeView.{WholeView}
 use Rattle.rl_whole.specs.Running.{LockAt, Goods, BothLaws}
-use Rattle.rl_whole.specs.Whole.{work_side, next_of, after_of, counts, is_at_work, leaves}
+use Rattle.rl_whole.specs.Whole.{work_side, next_of, after_of, work_turned, counts, is_at_work, leaves}
 use Rattle.rl_whole.specs.WholeShards.{stand, standing_while, whole_shard, WholeGood}
 use Rattle.rl_whole.specs.AtWork.{IsOfLock, IsOfWork, side_at, resting, after_none, each_atom}
 use Rattle.rl_cores.proofs.SweepLaws.{GoesOnFound}
-use Rattle.rl_cores.specs.Combining.{rank_side, KeepsCombining}
+use Rattle.rl_cores.specs.Combining.{rank_side, ReadsFor, KeepsCombining}
 
 -- a rank whose sweep has found a flag combines
 found_combines : (st : Stage) (owner : ℕ) → found st ≡ Some owner → Combines st
@@ -47,6 +54,11 @@ found_combines (Answer j made) owner e = tt
 found_combines (Mark j) owner e = tt
 found_combines (Collect made) owner e = absurd (cc)
 found_combines Lower owner e = absurd (cc)
+
+-- a load for a call changes what was seen by that load alone
+reads_keep : (S : CombineSite) (x : TheCombineSide) (owner : ℕ) (o : Option ℕ) → (read_next S x owner o).work.seen ≡ x.seen
+reads_keep S x owner (Some word) = refl
+reads_keep S x owner None = refl
 
 module _ (V : Type 0) (base : ℕ) (table : LockTable V) (S : CombineSite) (node : ℕ → ℕ) (lock_good : LockState V → Type 0) where
   abbrev pub L : LockAt V TheCombineSide
@@ -137,14 +149,52 @@ module _ (V : Type 0) (base : ℕ) (table : LockTable V) (S : CombineSite) (node
         let y = seat_of S node h.words s.laid sides s.is_good r (work_side table x) s.there in
         (combiner_of S (post_of S h.words r) r (work_side table x) y.0 x.work.stage c (s.is_good.own r (work_side table x) y.0 s.there y.1)).0
 
+    -- and its next load is one of its work
+    combines_on : (r w got : ℕ) (x : WholeView V TheCombineSide) → slice_get vs r ≡ Some x → Combines x.work.stage → next_of L x ≡ Some (Load w) → after_of L x got ≡ work_turned L x (stage_after S r x.work got x.work.stage)
+    combines_on r w got x has c next =
+        ⊎_elim
+        (λ none. after_none V TheCombineSide L good further layout laws home h vs t ds g r x has none got)
+        (λ q. let clash = q.1 in absurd (cc))
+        (resting V TheCombineSide L good further layout laws home h vs t ds g r x has (subst Rests (sym (combiner_writes r x has c)) tt))
+
     finds_on : (r owner : ℕ) (x : WholeView V TheCombineSide) → slice_get vs r ≡ Some x → x.work.stage ≡ Sweep owner → next_of L x ≡ Some (Load (flag_word S owner)) → found (after_of L x 1).view.work.stage ≡ Some owner
     finds_on r owner x has e next =
-        let writes : stand table x ≡ Writer = combiner_writes r x has (subst Combines (sym e) tt) in
-        ⊎_elim
-        (λ none. ap (λ (z : Turned (WholeView V TheCombineSide)). found z.view.work.stage) (after_none V TheCombineSide L good further layout laws home h vs t ds g r x has none 1)
-        ∙ ap (λ st. found (stage_after S r x.work 1 st).work.stage) e)
-        (λ q. let clash = q.1 in absurd (cc))
-        (resting V TheCombineSide L good further layout laws home h vs t ds g r x has (subst Rests (sym writes) tt))
+        ap (λ (z : Turned (WholeView V TheCombineSide)). found z.view.work.stage) (combines_on r (flag_word S owner) 1 x has (subst Combines (sym e) tt) next) ∙ ap (λ st. found (stage_after S r x.work 1 st).work.stage) e
+
+    -- what a rank that reads for a posted call knows
+    reads_for : (r owner word : ℕ) (x : WholeView V TheCombineSide) → ReadsFor T h vs r owner word x → IsReading rule.seats x.work owner word
+    reads_for r owner word x q = (subst (SweepAt S h.words rule.seats r x.work) q.reads (rule.sweeps r (work_side table x) (side r x q.there).there)).1
+
+    -- and the seat of that call
+    abbrev seat_for : (owner word : ℕ) (x : WholeView V TheCombineSide) → IsReading rule.seats x.work owner word → Seat
+    seat_for owner word x f = reading x.work (block.Read x.work.count word) f.at f.entries f.t
+
+    whose_on : (r owner word : ℕ) (x y : WholeView V TheCombineSide) → ReadsFor T h vs r owner word x → slice_get vs owner ≡ Some y → x.work.posted ≡ y.work.call
+    whose_on r owner word x y q has =
+        let f = reads_for r owner word x q in
+        let seat : Seat = seat_for owner word x f in
+        let own : OwnAt S (post_of S h.words owner) owner (work_side table y) seat y.work.stage = rule.own owner (work_side table y) seat (side owner y has).there f.seat in
+        let same : x.work.posted ∷ [] ≡ y.work.call ∷ [] = (handed_at S (post_of S h.words owner) owner (work_side table y) seat y.work.stage own refl).0 in
+        cc
+
+    fresh_on : (r owner got : ℕ) (x : WholeView V TheCombineSide) → slice_get vs r ≡ Some x → x.work.stage ≡ Copy owner 4 → next_of L x ≡ Some (Load (post_word S owner 5)) → (after_of L x got).view.work.seen.pairs ≡ []
+    fresh_on r owner got x has e next =
+        let w : TheCombineSide = with_posted S (with_copied x.work got) in
+        ap (λ (z : Turned (WholeView V TheCombineSide)). z.view.work.seen.pairs) (combines_on r (post_word S owner 5) got x has (subst Combines (sym e) tt) next)
+        ∙ ap (λ st. (stage_after S r x.work got st).work.seen.pairs) e
+        ∙ ap (λ (z : SeenWords). z.pairs) (reads_keep S w owner (next_word S.site.geom w.posted w.seen.pairs))
+
+    more_on : (r owner word got : ℕ) (x : WholeView V TheCombineSide) → ReadsFor T h vs r owner word x → next_of L x ≡ Some (Load (volume_base + word)) → (after_of L x got).view.work.seen.pairs ≡ x.work.seen.pairs ++ (word, got) ∷ []
+    more_on r owner word got x q next =
+        let w : TheCombineSide = with_word x.work word got in
+        ap (λ (z : Turned (WholeView V TheCombineSide)). z.view.work.seen.pairs) (combines_on r (volume_base + word) got x q.there (subst Combines (sym q.reads) tt) next)
+        ∙ ap (λ st. (stage_after S r x.work got st).work.seen.pairs) q.reads
+        ∙ ap (λ (z : SeenWords). z.pairs) (reads_keep S w owner (next_word S.site.geom w.posted w.seen.pairs))
+
+    few_on : (r owner word : ℕ) (x : WholeView V TheCombineSide) → ReadsFor T h vs r owner word x → length x.work.seen.pairs < most_reads S.site.geom x.work.posted
+    few_on r owner word x q =
+        let f = reads_for r owner word x q in
+        few_loads S.site (front_of S h.words) rule.seats rule.work owner (seat_for owner word x f) f.seat x.work.posted x.work.count word refl refl
 
     pub goes_on_found : GoesOnFound T h vs
     goes_on_found r owner x at q next =
@@ -177,4 +227,5 @@ module _ (V : Type 0) (base : ℕ) (table : LockTable V) (S : CombineSite) (node
             );
             holds = λ r owner x at q next. ⊎_elim (λ stores. inl stores) (λ still. inr still.0) (goes_on_found r owner x at q next);
           };
+          loads = record { whose = whose_on; fresh = fresh_on; one_more = more_on; few = few_on };
         }

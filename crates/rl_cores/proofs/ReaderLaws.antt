@@ -1,10 +1,15 @@
 -- Under the rule of optimistic readers over any lock gets hold nothing, and are answered as the version says.
-use Rattle.std.proofs.Common.{◌≡◌, ◌≢◌, ℕ, ◌%◌, true, List, [], ◌++◌, map, slice_get, slice_index, Option, Some, None, refl, sym, ap, ◌∙◌, subst, ⊎_elim, arith}
+use Rattle.std.proofs.Common.{◌≡◌, ◌≢◌, ℕ, ◌%◌, Bool, true, false, ◌&&◌, List, [], ◌∷◌, ◌++◌, map, slice_get, slice_index, Option, Some, None, refl, sym, ap, ◌∙◌, subst, ⊎_elim, arith}
 use Rattle.std.proofs.lemmas.Option.{same_Some}
 use Rattle.rl_word.specs.Places.{get_map, get_map_back}
 use Rattle.rl_word.specs.Acts.{Layout}
 use Rattle.rl_word.specs.declared.acts.Atom.{Atom}
 use Rattle.rl_word.specs.declared.acts.Atom.TheVariants.{Load}
+use Rattle.rl_model.specs.declared.call.Call.{Call}
+use Rattle.rl_model.specs.declared.call.Call.TheVariants.{Put, Get, Del, Add, Cas, Hold}
+use Rattle.rl_model.specs.declared.entry.Entry.{Entry}
+use Rattle.rl_model.specs.Asked.{asks_update}
+use Rattle.rl_model.specs.Call.{reads}
 use Rattle.rl_step.specs.declared.events.Event.{Event}
 use Rattle.rl_step.specs.declared.events.Standing.TheVariants.{Out}
 use Rattle.rl_step.specs.Core.{Turned}
@@ -12,17 +17,23 @@ use Rattle.rl_step.specs.Do.{TheWindow, do_words, do_got}
 use Rattle.rl_step.specs.Lock.{LockTable, LockState, Deed}
 use Rattle.rl_work.specs.declared.follow.Follow.{Follow}
 use Rattle.rl_work.specs.declared.follow.Follow.TheVariants.{On, Ask, Over}
+use Rattle.rl_work.specs.declared.stage.Stage.{Stage as BlockStage}
+use Rattle.rl_work.specs.declared.stage.Stage.TheVariants as block
+use Rattle.rl_work.specs.Locked.{first_reads}
+use Rattle.rl_work.specs.Site.{Site}
 use Rattle.rl_work.specs.Unlocked.{wanted, with_word}
-use Rattle.rl_work.specs.Work.{TheWork}
+use Rattle.rl_work.specs.Work.{TheWork, has_work, stores}
+use Rattle.rl_work.specs.WorkGood.{WorkSide, FitsAt}
 use Rattle.rl_work.specs.Ways.{Worked}
 use Rattle.rl_asks.specs.ShardTables.{ShardTable}
 use Rattle.rl_seq.specs.declared.stage.SeqStage.{SeqStage}
 use Rattle.rl_seq.specs.declared.stage.SeqStage.TheVariants as stage
-use Rattle.rl_seq.specs.Site.{SeqSite, version_word, version_in}
-use Rattle.rl_seq.specs.SeqWork.{TheSeqWork, seq_table, seq_after, seq_stage_after, seq_stage_atom, touch_at, is_open_at, read_by}
-use Rattle.rl_seq.specs.SeqGood.{SeqRank, SeqGood, IsGetting, is_between}
-use Rattle.rl_seq.specs.Rule.{is_getting}
-use Rattle.rl_seq.specs.FitLaws.{fit_at}
+use Rattle.rl_seq.specs.Site.{SeqSite, version_word, version_in, front}
+use Rattle.rl_seq.specs.SeqWork.{TheSeqWork, seq_table, seq_after, seq_stage_after, seq_stage_atom, touch_at, is_open_at, owes_at, read_by}
+use Rattle.rl_seq.specs.SeqGood.{SeqRank, SeqGood, IsGetting, is_between, as_locked, locked_at}
+use Rattle.rl_seq.specs.Rule.{is_getting, found_count}
+use Rattle.rl_seq.specs.CheckLaws.{get_alone}
+use Rattle.rl_seq.specs.FitLaws.{fit_at, locked_there}
 use Rattle.rl_seq.specs.VersionLaws.{odd_between, writers_odd, never_lowers, no_lower, stands_still, gets_load, reads_few, waits_at, loses_at}
 use Rattle.rl_whole.specs.declared.whole.WholeView.{WholeView}
 use Rattle.rl_whole.specs.Running.{LockAt, Goods, BothLaws}
@@ -32,23 +43,44 @@ use Rattle.rl_whole.specs.WholeShards.{stand, standing_while, whole_shard, Whole
 use Rattle.rl_whole.specs.AtWork.{IsOutside, IsOfLock, IsOfWork, outside, each_atom}
 use Rattle.rl_cores.specs.Optimistic.{Gets, GetsBy, got_by, KeepsOutside, AnswersGets, KeepsTries, KeepsVersion, KeepsGets}
 
+and_first : (a b : Bool) → (a && b) ≡ true → a ≡ true
+and_first true b e = refl
+and_first false b e = absurd (cc)
+
 -- whoever is out and done has no holder to leave
 out_departs : (rank : ℕ) (f : Follow) → departure_by rank Out f ≡ []
 out_departs rank On = refl
 out_departs rank (Ask m) = refl
 out_departs rank Over = refl
 
--- of a get at each stage: its block is open, its atom is no touch, and it isn't between two stores
-gets_open : (w : TheWork) (st : SeqStage) → is_getting st ≡ true → (is_open_at w st ≡ true) × (touch_at w st ≡ None)
+-- of a get at each stage: its block is open, its atom is no touch, and its entry is owed
+gets_open : (w : TheWork) (st : SeqStage) → is_getting st ≡ true → (is_open_at w st ≡ true) × (touch_at w st ≡ None) × ((is_open_at w st && owes_at w st) ≡ true)
 gets_open w stage.Locked e = absurd (cc)
-gets_open w stage.Look e = (refl, refl)
-gets_open w (stage.Count v) e = (refl, refl)
-gets_open w (stage.Read v count word) e = (refl, refl)
-gets_open w (stage.Again v count) e = (refl, refl)
+gets_open w stage.Look e = (refl, refl, refl)
+gets_open w (stage.Count v) e = (refl, refl, refl)
+gets_open w (stage.Read v count word) e = (refl, refl, refl)
+gets_open w (stage.Again v count) e = (refl, refl, refl)
 gets_open w stage.Decided e = absurd (cc)
 gets_open w (stage.Open v) e = absurd (cc)
 gets_open w (stage.Write v) e = absurd (cc)
 gets_open w (stage.Close v) e = absurd (cc)
+
+-- a get's only call
+get_key : (c : Call) → reads c ≡ true → (key : ℕ) × (c ≡ Get key)
+get_key (Put key value) e = absurd (cc)
+get_key (Get key) e = (key, refl)
+get_key (Del key) e = absurd (cc)
+get_key (Add key by) e = absurd (cc)
+get_key (Cas key old new) e = absurd (cc)
+get_key (Hold shard) e = absurd (cc)
+
+-- whoever stores asks for an update
+stores_updates : (site : Site) (words : List ℕ) (journal : List Entry) (before : List ℕ) (r : ℕ) (y : WorkSide) (st : BlockStage) → FitsAt site words journal before r y st → stores st ≡ true → asks_update y.work.calls ≡ true
+stores_updates site words journal before r y block.Rest f e = absurd (cc)
+stores_updates site words journal before r y block.Begin f e = absurd (cc)
+stores_updates site words journal before r y (block.Read count word) f e = absurd (cc)
+stores_updates site words journal before r y (block.Journal made) f e = f.0.update
+stores_updates site words journal before r y (block.Volume made) f e = f.0.update
 
 -- a read that goes on keeps what was seen
 reads_keep : (w : TheWork) (version count : ℕ) (o : Option ℕ) → (read_by w version count o).work.work ≡ w
@@ -94,9 +126,47 @@ module _ (V : Type 0) (base : ℕ) (table : LockTable V) (at : SeqSite) (node : 
     is_outside : (r : ℕ) (x : WholeView V TheSeqWork) (q : Gets T h vs r x) → IsOutside V TheSeqWork L good further layout laws home h vs t ds g r x q.there
     is_outside r x q = outside V TheSeqWork L good further layout laws home h vs t ds g r x q.there (out r x q) (gets_open x.work.work x.work.stage q.getting).0
 
+    -- who is at work on a get owes the entry of one
+    gets_owe : (r : ℕ) (x : WholeView V TheSeqWork) → Gets T h vs r x → (key : ℕ) × ((T.own x).owes ≡ true) × ((T.own x).calls ≡ Get key ∷ [])
+    gets_owe r x q =
+        let f : IsGetting at.site r (stand table x) x.work.work = fits_by r x q x.work.stage refl q.getting in
+        let alone = get_alone x.work.work.calls f.open_call.is_block f.get in
+        let key = get_key alone.0 alone.2 in
+        (key.0, (gets_open x.work.work x.work.stage q.getting).2, alone.1 ∙ ap (λ c. c ∷ []) key.1)
+
+    -- and who owes the entry of a get is at work on it
+    owes_gets : (r : ℕ) (x : WholeView V TheSeqWork) → slice_get vs r ≡ Some x → (key : ℕ) → (T.own x).owes ≡ true → x.work.work.calls ≡ Get key ∷ [] → is_getting x.work.stage ≡ true
+    owes_gets r x has key owes calls = by_stage x.work.stage refl owes where
+      no_update : asks_update x.work.work.calls ≡ false
+      no_update = ap asks_update calls
+
+      never : (st : SeqStage) → x.work.stage ≡ st → locked_at (stand table x) x.work.work st ≡ record { standing = stand table x; work = x.work.work } → stores x.work.work.stage ≡ true → ⊥
+      never st e same writes =
+          let y : WorkSide = record { standing = stand table x; work = x.work.work } in
+          let here : slice_get (map as_locked sides) r ≡ Some y = locked_there at h.words sides rule r (work_side table x) (there r x has) st e ∙ ap Some same in
+          let updates : asks_update x.work.work.calls ≡ true =
+          stores_updates at.site (front at h.words) rule.locked.journal rule.locked.before r y x.work.work.stage (rule.locked.fits r y here) writes in
+          cc
+
+      by_stage : (st : SeqStage) → x.work.stage ≡ st → (is_open_at x.work.work st && owes_at x.work.work st) ≡ true → is_getting st ≡ true
+      by_stage stage.Locked e o =
+          let f = fit_at at h.words sides rule r (work_side table x) (there r x has) stage.Locked e in
+          let reads : first_reads x.work.work.calls ≡ true = ap first_reads calls in
+          let none : first_reads x.work.work.calls ≡ false = f.1 (and_first (has_work x.work.work.stage) (has_work x.work.work.stage) o) in
+          absurd (cc)
+      by_stage stage.Look e o = refl
+      by_stage (stage.Count v) e o = refl
+      by_stage (stage.Read v count word) e o = refl
+      by_stage (stage.Again v count) e o = refl
+      by_stage stage.Decided e o = absurd (never stage.Decided e refl (ap stores (fit_at at h.words sides rule r (work_side table x) (there r x has) stage.Decided e)))
+      by_stage (stage.Open v) e o = absurd (never (stage.Open v) e refl (ap stores (fit_at at h.words sides rule r (work_side table x) (there r x has) (stage.Open v) e).0))
+      by_stage (stage.Write v) e o = absurd (never (stage.Write v) e refl (fit_at at h.words sides rule r (work_side table x) (there r x has) (stage.Write v) e).0)
+      by_stage (stage.Close v) e o = absurd (cc)
+
     keeps_outside : KeepsOutside T h vs
     keeps_outside =
         record {
+          every = λ r x has. (λ b. gets_owe r x (record { there = has; getting = b }), λ q. owes_gets r x has q.0 q.1 q.2);
           asks = λ r x q. ap (λ st. standing_while st (is_open_at x.work.work x.work.stage)) (out r x q) ∙ ap (standing_while Out) (gets_open x.work.work x.work.stage q.getting).0;
           away = λ r x q. ap (card_in table (table.plan x.side.view)) (is_outside r x q).free;
           loads = λ r x q.
@@ -139,10 +209,24 @@ module _ (V : Type 0) (base : ℕ) (table : LockTable V) (at : SeqSite) (node : 
               );
         }
 
+    -- a get that hasn't found the count has loaded nothing
+    nothing_loaded : (r : ℕ) (x : WholeView V TheSeqWork) → Gets T h vs r x → found_count x.work.stage ≡ None → x.work.work.seen.pairs ≡ []
+    nothing_loaded r x q none = by_stage x.work.stage refl q.getting none where
+      by_stage : (st : SeqStage) → x.work.stage ≡ st → is_getting st ≡ true → found_count st ≡ None → x.work.work.seen.pairs ≡ []
+      by_stage stage.Locked e b n = absurd (cc)
+      by_stage stage.Look e b n = (fit_at at h.words sides rule r (work_side table x) (there r x q.there) stage.Look e).1
+      by_stage (stage.Count v) e b n = (fit_at at h.words sides rule r (work_side table x) (there r x q.there) (stage.Count v) e).2
+      by_stage (stage.Read v count word) e b n = absurd (cc)
+      by_stage (stage.Again v count) e b n = absurd (cc)
+      by_stage stage.Decided e b n = absurd (cc)
+      by_stage (stage.Open v) e b n = absurd (cc)
+      by_stage (stage.Write v) e b n = absurd (cc)
+      by_stage (stage.Close v) e b n = absurd (cc)
+
     keeps_tries : KeepsTries T h vs
     keeps_tries =
         record {
-          fresh = λ r x q e. (fit_at at h.words sides rule r (work_side table x) (there r x q.there) stage.Look e).1;
+          fresh = nothing_loaded;
           one_more = λ r x by version count word q e.
               let k : ℕ = do_got by h.words h.cards in
               ap (λ (z : Turned (WholeView V TheSeqWork)). z.view.work.work.seen.pairs) ((is_outside r x q.gets).after k)

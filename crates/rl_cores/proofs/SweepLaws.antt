@@ -1,5 +1,5 @@
 -- What a sweep has found it keeps through all steps of a machine, until it stores 2 there; and so it doesn't leave before.
-use Rattle.std.proofs.Common.{◌≡◌, ◌≢◌, ◌⊎◌, ℕ, Bool, true, false, List, [], ◌∷◌, length, nat_lt, slice_get, slice_index, Option, Some, None, refl, sym, ap, ◌∙◌, subst, inl, inr, ⊎_elim, arith}
+use Rattle.std.proofs.Common.{◌≡◌, ◌≢◌, ◌⊎◌, ℕ, Bool, true, false, List, [], ◌∷◌, ◌++◌, length, nat_lt, slice_get, slice_index, Option, Some, None, refl, sym, ap, ◌∙◌, subst, inl, inr, ⊎_elim, arith}
 use Rattle.rl_word.specs.Places.{get_set_same, get_set_other, same_or_not, one_at}
 use Rattle.rl_word.specs.declared.acts.Atom.{Atom}
 use Rattle.rl_word.specs.declared.acts.Atom.TheVariants.{Store}
@@ -91,6 +91,11 @@ step_leaves m j k s S ne has =
     by_opening false = record { shard = S; has = has; same = record { same_table = refl; same_view = refl } }
     by_opening true =
         left_by m (opened_if m j true) (block_shard m.geom (next_block m j)) s k (opened_on j (next_block m j) (slice_index m.opened j)) S refl (λ T. opened_same T j k (slice_index m.opened j) (next_block m j) ne) has
+
+-- the front of a list of ranks that are there
+front_there : (n : ℕ) (ks js : List ℕ) → AreThere n (ks ++ js) → AreThere n ks
+front_there n [] js a = tt
+front_there n (k ∷ ks) js a = (a.0, front_there n ks js a.1)
 
 -- ---- what a sweep has found
 
@@ -199,27 +204,39 @@ module _ (C V : Type 0) (cores : List C) (table : C → ShardTable (WholeView V 
         (λ (ne : k ≢ j). inr (others_step j ne))
         (same_or_not k j)
 
+  -- one of rank k's steps in a run of these ranks stores 2 there, and up to it the rank has still found the flag
+  record StoresIn (m : Machine) (ks : List ℕ) (T : ShardTable (WholeView V TheCombineSide)) (s k owner : ℕ) (kept : TheTranscript) : Type 0 where
+    made : MakesIn m ks s k (Store (flag_word (posts T) owner) 2)
+    still : Holding (run_of m made.before) T s k owner kept
+
   holds_through : (m : Machine) (ks : List ℕ) → AreThere (length m.calls) ks → ((js : List ℕ) → AreThere (length m.calls) js → Ruled (run_of m js)) → (T : ShardTable (WholeView V TheCombineSide)) (s k owner : ℕ) (kept : TheTranscript) →
-      Holding m T s k owner kept → MakesIn m ks s k (Store (flag_word (posts T) owner) 2) ⊎ Holding (run_of m ks) T s k owner kept
+      Holding m T s k owner kept → StoresIn m ks T s k owner kept ⊎ Holding (run_of m ks) T s k owner kept
   holds_through m [] there ruled T s k owner kept o = inr o
   holds_through m (j ∷ ks) there ruled T s k owner kept o =
       let same : (stepped m j).calls ≡ m.calls = (stepped_shape m j).1 in
       ⊎_elim
       (λ q. let now = q.1 in
-      inl (record { before = []; rest = ks; is = ap (λ z. z ∷ ks) (sym q.0); stands = now.stands; goes_on = now.goes_on; shard = now.shard; has = now.has; view = now.view; there = now.there; next = now.next }))
-      (λ h. ⊎_elim
-      (λ (later : MakesIn (stepped m j) ks s k (Store (flag_word (posts T) owner) 2)).
       inl (record {
-        before = j ∷ later.before;
-        rest = later.rest;
-        is = ap (λ z. j ∷ z) later.is;
-        stands = later.stands;
-        goes_on = later.goes_on;
-        shard = later.shard;
-        has = later.has;
-        view = later.view;
-        there = later.there;
-        next = later.next;
+        made = record { before = []; rest = ks; is = ap (λ z. z ∷ ks) (sym q.0); stands = now.stands; goes_on = now.goes_on; shard = now.shard; has = now.has; view = now.view; there = now.there; next = now.next };
+        still = o;
+      }))
+      (λ h. ⊎_elim
+      (λ (later : StoresIn (stepped m j) ks T s k owner kept).
+      let made = later.made in
+      inl (record {
+        made = record {
+          before = j ∷ made.before;
+          rest = made.rest;
+          is = ap (λ z. j ∷ z) made.is;
+          stands = made.stands;
+          goes_on = made.goes_on;
+          shard = made.shard;
+          has = made.has;
+          view = made.view;
+          there = made.there;
+          next = made.next;
+        };
+        still = later.still;
       }))
       (λ end. inr end)
       (holds_through (stepped m j) ks (subst (λ c. AreThere (length c) ks) (sym same) there.1) (λ js low. ruled (j ∷ js) (there.0, subst (λ c. AreThere (length c) js) same low)) T s k owner kept h))
@@ -236,11 +253,12 @@ module _ (C V : Type 0) (cores : List C) (table : C → ShardTable (WholeView V 
   pub stores_first : (m : Machine) → ((ks : List ℕ) → AreThere (length m.calls) ks → Ruled (run_of m ks)) → StoresTwoFirst m
   stores_first m ruled ks s k owner S x there has f leaves_more =
       let q = (ruled [] tt).shards s S has in
-      ⊎_elim
-      (λ made. made)
-      (λ (o : Holding (run_of m ks) S.table s k owner x.work.kept).
       let first : left_so_far m s k ≡ count q.core x.work.kept.items = left_is m (ruled [] tt) s k q.core S x q.has_core has f.there in
-      let last : left_so_far (run_of m ks) s k ≡ count q.core x.work.kept.items =
-      left_is (run_of m ks) (ruled ks there) s k q.core o.shard o.view q.has_core o.has o.there ∙ ap (λ z. count q.core z.items) o.same in
-      absurd (omega arith))
+      let last : (js : List ℕ) → AreThere (length m.calls) js → Holding (run_of m js) S.table s k owner x.work.kept → left_so_far (run_of m js) s k ≡ left_so_far m s k =
+      λ js low o. left_is (run_of m js) (ruled js low) s k q.core o.shard o.view q.has_core o.has o.there ∙ ap (λ z. count q.core z.items) o.same ∙ sym first in
+      ⊎_elim
+      (λ (o : StoresIn m ks S.table s k owner x.work.kept).
+      let made = o.made in
+      (made, last made.before (front_there (length m.calls) made.before (k ∷ made.rest) (subst (AreThere (length m.calls)) made.is there)) o.still))
+      (λ (o : Holding (run_of m ks) S.table s k owner x.work.kept). let same = last ks there o in absurd (omega arith))
       (holds_through m ks there ruled S.table s k owner x.work.kept (record { shard = S; has = has; table_is = refl; view = x; there = f.there; found_it = f.found_it; same = refl }))

@@ -1,13 +1,15 @@
 -- What is promised of flat combining on a shard, over whatever lock lets one writer in at a time: of its words and of the views of its
 -- ranks.
-use Rattle.std.specs.Prelude.{◌≡◌, ◌⊎◌, ℕ, ◌≤◌, List, length, map, slice_get, slice_index, Some}
+use Rattle.std.specs.Prelude.{◌≡◌, ◌⊎◌, ℕ, ◌+◌, ◌<◌, ◌≤◌, List, [], ◌∷◌, ◌++◌, length, map, slice_get, slice_index, Some}
 use Rattle.rl_word.specs.declared.acts.Atom.{Atom}
 use Rattle.rl_word.specs.declared.acts.Atom.TheVariants.{Load, Store}
 use Rattle.rl_step.specs.declared.events.Standing.TheVariants.{Writer}
 use Rattle.rl_step.specs.Do.{TheWindow, do_atom, do_got}
+use Rattle.rl_volume.specs.Walk.{most_reads}
+use Rattle.rl_work.specs.Site.{volume_base}
 use Rattle.rl_asks.specs.ShardTables.{ShardTable}
-use Rattle.rl_combine.specs.declared.stage.Stage.TheVariants.{Sweep}
-use Rattle.rl_combine.specs.Posts.{CombineSite, flag_word}
+use Rattle.rl_combine.specs.declared.stage.Stage.TheVariants.{Sweep, Copy, Read}
+use Rattle.rl_combine.specs.Posts.{CombineSite, post_word, flag_word}
 use Rattle.rl_combine.specs.Combine.{TheCombineSide, early}
 use Rattle.rl_combine.specs.CombineGood.{RankSide}
 use Rattle.rl_combine.specs.SideLaws.{found}
@@ -22,6 +24,10 @@ module _ {V : Type 0} (T : ShardTable (WholeView V TheCombineSide)) where
   -- how a rank stands, and its side of the work
   abbrev pub rank_side : WholeView V TheCombineSide → RankSide
   rank_side x = record { standing = T.standing x; work = x.work }
+
+  -- the words of the volume that a rank has loaded for the posted call that it does, with what it found there
+  abbrev pub loaded : WholeView V TheCombineSide → List (ℕ × ℕ)
+  loaded x = x.work.seen.pairs
 
   -- the flag of a rank
   abbrev pub flag_now : TheWindow → ℕ → ℕ
@@ -53,6 +59,24 @@ module _ {V : Type 0} (T : ShardTable (WholeView V TheCombineSide)) where
       pub holds : (r owner : ℕ) (x : WholeView V TheCombineSide) (at : Atom) → HasFound r owner x → T.core.next x ≡ Some at →
           (at ≡ Store (flag_word posts owner) 2) ⊎ (found (T.core.after x (do_got at h.words h.cards)).view.work.stage ≡ Some owner)
 
+    -- rank r has this view, and reads this word of the volume next for the posted call of this owner
+    pub record ReadsFor (r owner word : ℕ) (x : WholeView V TheCombineSide) : Type 0 where
+      pub there : slice_get vs r ≡ Some x
+      pub reads : x.work.stage ≡ Read owner word
+
+    -- what a rank loads of the volume for a posted call
+    pub record KeepsLoads : Type 0 where
+      -- the call that it does is the one that the owner has open
+      pub whose : (r owner word : ℕ) (x y : WholeView V TheCombineSide) → ReadsFor r owner word x → slice_get vs owner ≡ Some y → x.work.posted ≡ y.work.call
+      -- it has loaded nothing for it when it has copied the last word of the post
+      pub fresh : (r owner got : ℕ) (x : WholeView V TheCombineSide) → slice_get vs r ≡ Some x → x.work.stage ≡ Copy owner 4 → T.core.next x ≡ Some (Load (post_word posts owner 5)) →
+          loaded (T.core.after x got).view ≡ []
+      -- with each load it has loaded one word more
+      pub one_more : (r owner word got : ℕ) (x : WholeView V TheCombineSide) → ReadsFor r owner word x → T.core.next x ≡ Some (Load (volume_base + word)) → loaded (T.core.after x got).view ≡ loaded x ++ (word, got) ∷ []
+      -- and before each it has loaded fewer than the call can want: of a get fewer than 3 + 2 * overflow. So it loads no more for it
+      pub few : (r owner word : ℕ) (x : WholeView V TheCombineSide) → ReadsFor r owner word x → length (loaded x) < most_reads T.site.geom x.work.posted
+
     pub record KeepsCombining : Type 0 where
       pub posted : KeepsPosts
       pub sweeps : KeepsSweeps
+      pub loads : KeepsLoads

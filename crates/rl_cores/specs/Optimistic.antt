@@ -2,6 +2,7 @@
 use Rattle.std.specs.Prelude.{◌≡◌, ◌≢◌, ◌↔◌, ◌⊎◌, ℕ, ◌+◌, ◌*◌, ◌%◌, ◌<◌, ◌≤◌, true, false, List, [], ◌∷◌, ◌++◌, length, take, slice_get, slice_index, Some, None}
 use Rattle.rl_word.specs.declared.acts.Atom.{Atom}
 use Rattle.rl_word.specs.declared.acts.Atom.TheVariants.{Load}
+use Rattle.rl_model.specs.declared.call.Call.TheVariants.{Get}
 use Rattle.rl_step.specs.declared.events.Standing.TheVariants.{Asking, Writer}
 use Rattle.rl_step.specs.declared.events.Stepped.TheVariants.{Waiting, Lost}
 use Rattle.rl_step.specs.Core.{Turned}
@@ -40,6 +41,8 @@ module _ {V : Type 0} (T : ShardTable (WholeView V TheSeqWork)) (h : TheWindow) 
 
   -- a get alone is at the lock nowhere
   pub record KeepsOutside : Type 0 where
+    -- a rank is at work on one exactly where it owes the entries of its block, and the block is a get: so from its opening until its entry joins
+    pub every : (r : ℕ) (x : WholeView V TheSeqWork) → slice_get vs r ≡ Some x → (is_getting x.work.stage ≡ true) ↔ ((key : ℕ) × ((T.own x).owes ≡ true) × ((T.own x).calls ≡ Get key ∷ []))
     -- it stands as asking from its opening to its end, so it is no holder; and it is in no card
     pub asks : (r : ℕ) (x : WholeView V TheSeqWork) → Gets r x → T.standing x ≡ Asking
     pub away : (r : ℕ) (x : WholeView V TheSeqWork) → Gets r x → T.card x ≡ None
@@ -59,7 +62,8 @@ module _ {V : Type 0} (T : ShardTable (WholeView V TheSeqWork)) (h : TheWindow) 
 
   -- what a get knows, and how much it loads in each of its tries: a try begins with the look at the version
   pub record KeepsTries : Type 0 where
-    pub fresh : (r : ℕ) (x : WholeView V TheSeqWork) → Gets r x → x.work.stage ≡ stage.Look → loaded x ≡ []
+    -- until it has found the count it has loaded nothing
+    pub fresh : (r : ℕ) (x : WholeView V TheSeqWork) → Gets r x → found_count x.work.stage ≡ None → loaded x ≡ []
     pub one_more : (r : ℕ) (x : WholeView V TheSeqWork) (at : Atom) (found count word : ℕ) → GetsBy r x at → x.work.stage ≡ stage.Read found count word → loaded (got_by x at).view ≡ loaded x ++ (word, do_got at h.words h.cards) ∷ []
     pub few : (r : ℕ) (x : WholeView V TheSeqWork) → Gets r x → length (loaded x) ≤ 3 + 2 * T.site.geom.overflow
     -- the version is no lower than the one that the try has found

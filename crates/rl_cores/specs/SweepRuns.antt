@@ -28,8 +28,9 @@ pub record MakesIn {V : Type 0} (m : Running V) (ks : List ℕ) (s k : ℕ) (at 
 abbrev pub left_so_far : {V : Type 0} → Running V → ℕ → ℕ → ℕ
 left_so_far m s k = leaves k (events_of (trace_of m s))
 
--- a rank whose sweep has found the flag 1 of an owner stores 2 there before it leaves, whatever ranks make steps
+-- a rank whose sweep has found the flag 1 of an owner stores 2 there before it leaves, whatever ranks make steps: up to that store it has
+-- left no more often than at the start
 abbrev pub StoresTwoFirst : {V : Type 0} → Running (WholeView V TheCombineSide) → Type 0
 StoresTwoFirst m =
     (ks : List ℕ) (s k owner : ℕ) (S : ShardRun _) (x : _) → AreThere (length m.calls) ks → slice_get m.shards s ≡ Some S → HasFound S.table S.held S.views k owner x → left_so_far m s k < left_so_far (run_of m ks) s k →
-    MakesIn m ks s k (Store (flag_word (posts S.table) owner) 2)
+    (made : MakesIn m ks s k (Store (flag_word (posts S.table) owner) 2)) × (left_so_far (run_of m made.before) s k ≡ left_so_far m s k)

@@ -14,9 +14,9 @@ use rl_whole::Whole;
 
 /// Flat combining on every shard of a machine, now and after whatever steps of its ranks, over whatever lock: a flag of 1 stands over a
 /// posted call that isn't done, but where a writer has counted it and not made the flag 2 yet, and one of 2 over its answer; owners raise
-/// and lower their flags, and writers alone make them 2; each posted call is done once at most, by whichever rank; and a rank that has
-/// found a flag 1 in its sweep is a writer until it has stored 2 there, so that in no run it leaves before (`sweeps`). There is nothing to
-/// run.
+/// and lower their flags, and writers alone make them 2; each posted call is done at most once, by whichever rank, which loads no more
+/// words of the volume for it than the call can want; and a rank that has found a flag 1 in its sweep is a writer until it has stored 2
+/// there. So in every run the rank makes that store before it leaves (`sweeps`). There is nothing to run.
 pub fn combiners_of_machine<A: Algo>(machine: &Machine<Whole<A, CombineWork>>)
     ensures now { EachShard KeepsCombining (running ⟦<Whole<A, CombineWork> as ShardCore>⟧.shard_table machine.now) }
     ensures stays { EachMoment KeepsCombining (running ⟦<Whole<A, CombineWork> as ShardCore>⟧.shard_table machine.now) }
@@ -25,8 +25,8 @@ pub fn combiners_of_machine<A: Algo>(machine: &Machine<Whole<A, CombineWork>>)
     rules(machine);
 }
 
-/// The same of a shard that threads share: it holds in each state of the window that meets its rule, and so between any two table steps.
-/// There is nothing to run.
+/// The same of a shard that threads share, but for runs (`sweeps`), which machines alone have: it holds in each state of the window that
+/// meets its rule, and so between any two table steps. There is nothing to run.
 pub fn combiners_of_shard<A: Algo>(shard: &Shard<Whole<A, CombineWork>>)
     ensures { let K = ⟦<Whole<A, CombineWork> as ShardCore>⟧ in EachState K.shard_table K.good K.layout KeepsCombining shard.now }
 {

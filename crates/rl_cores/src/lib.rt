@@ -10,8 +10,9 @@
 //! the core that the placement's lock has by its kind, whose settings suit it (`settings_suit`). What optimistic readers and flat combining
 //! promise holds of machines at every moment and of shared shards between any two table steps ([`readers_of_machine`],
 //! [`combiners_of_machine`] and theirs of shards). Over each lock seats keep its two domains apart ([`alock_domains`] and those of the
-//! others), and a seat loads few words of the volume for a call alone ([`few_loads`]).
-//! Not said here: that a rank ever gets the lock.
+//! others). Few words of the volume are loaded for a call alone under its lock ([`few_loads`]), in each try of a get under optimistic
+//! readers ([`readers_of_machine`]), and for each posted call by the rank that does it ([`combiners_of_machine`]).
+//! Not said here: that a rank ever gets the lock; how many words are loaded for a batch, or beside optimistic readers under the lock.
 #![tactic(auto)]
 
 mod choice;

@@ -11,10 +11,10 @@ use rl_shard::Shard;
 use rl_step::Algo;
 use rl_whole::Whole;
 
-/// Optimistic readers on every shard of a machine, now and after whatever steps of its ranks, over whatever lock the writers hold: a get
-/// alone holds nothing and makes loads alone, of no lock word; it waits exactly where the version that it looks at is odd, and has lost
-/// exactly where the second version isn't the first; in each try it loads few words; and no atom lowers the version. There is nothing to
-/// run.
+/// Optimistic readers on every shard of a machine, now and after whatever steps of its ranks, over whatever lock the writers hold: each get
+/// alone, from its opening until its entry joins, holds nothing and makes loads alone, of no lock word; it waits exactly where the version
+/// that it looks at is odd, and has lost exactly where the second version isn't the first; in each try it loads few words, and none before
+/// it has found the count; and no atom lowers the version. There is nothing to run.
 pub fn readers_of_machine<A: Algo>(machine: &Machine<Whole<A, SeqWork>>)
     ensures now { EachShard KeepsGets (running ⟦<Whole<A, SeqWork> as ShardCore>⟧.shard_table machine.now) }
     ensures stays { EachMoment KeepsGets (running ⟦<Whole<A, SeqWork> as ShardCore>⟧.shard_table machine.now) }
