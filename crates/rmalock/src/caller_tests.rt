@@ -19,6 +19,7 @@ use rl_shard::Shard;
 use rl_step::Stepped;
 use rl_text::TextErr;
 use std::alloc::{AllocError as OutOfMemory, Global};
+use std::test::Fail;
 
 /// One step of a rank's caller.
 fn step_of<C: ShardCore>(shards: &[Shard<C>], callers: &mut Vec<Caller<C>>, rank: usize) -> Stepped
@@ -99,4 +100,18 @@ pub(crate) fn answers_alone(alloc: Global, told: &str) -> Result<String, OutOfMe
         text.push_str(" ")?;
     }
     Ok(text)
+}
+
+/// Two readers beside each other under RMA-RW: neither waits for the other, and after ten steps each has finished.
+#[test]
+fn two_readers_finish(rt: HostRuntime) -> Result<(), Fail> {
+    let place =
+        "rmalock-place 1\nlevels 1\nlock rw\nbudget 1\nwriters 1\nreaders 1000\ngroup 32\nshards 1\nbuckets 1\noverflow 0\nrank 0 at 0\nrank 1 at 0\nhome 0 0\nend\n";
+    let calls = "rmalock-calls 1\n0 get 0\n1 get 0\nend\n";
+    let told = callers_told(rt.alloc(), place, calls, "0000011111111110000001")?;
+    assert_eq!(rt;
+        told.as_str(),
+        "m m m m m m m m m m m m m m m m m m m m f f "
+    );
+    Ok(())
 }

@@ -1,6 +1,7 @@
 //! Worked cases of runs by threads, with values from their definition, and gates that lead the ranks.
 
 use crate::caller_tests::{answers_alone, callers_told};
+use crate::check_tests::legal;
 use crate::tests::{look, named, run_through};
 use crate::trials::trial;
 use crossbeam_utils::Backoff;
@@ -9,7 +10,7 @@ use rl_io::{FixedSink, Gate, OpenGate, SureFiles};
 use rl_model::Reply;
 use rl_place::read_place;
 use rl_text::{TEXT_LIMIT, TextErr};
-use std::alloc::AllocError as OutOfMemory;
+use std::alloc::{AllocError as OutOfMemory, Global};
 use std::process::Abort;
 use std::sync::Wait;
 use std::sync::atomic::{AtomicU64, Ordering};
@@ -122,7 +123,16 @@ fn run_with<G: Gate, R: Threads + Wait + Sync + AllocGlobal>(
     Ok((status, Vec::from_slice(rt.alloc(), out.bytes())?))
 }
 
-/// The report of a run of these texts, with a gate, read back from what the program wrote.
+/// A report of this placement, read back from what the program wrote.
+fn read_back(alloc: Global, place: &str, text: &[u8]) -> Result<Report, TextErr> {
+    if place.len() >= TEXT_LIMIT as usize || text.len() >= TEXT_LIMIT as usize {
+        return Err(TextErr::Memory);
+    }
+    let place = read_place(alloc, place.as_bytes())?;
+    read_report(alloc, &place, text)
+}
+
+/// The report of a run of these texts, with a gate.
 fn report_of<G: Gate, R: Threads + Wait + Sync + AllocGlobal + Abort>(
     rt: &R,
     place: &str,
@@ -131,11 +141,22 @@ fn report_of<G: Gate, R: Threads + Wait + Sync + AllocGlobal + Abort>(
 ) -> Result<Report, Fail> {
     let (status, text) = run_with(rt, place, calls, gate)?;
     assert_eq!(rt; status, 0);
-    if place.len() >= TEXT_LIMIT as usize || text.len() >= TEXT_LIMIT as usize {
-        return Err(TextErr::Memory.into());
+    Ok(read_back(rt.alloc(), place, text.as_slice())?)
+}
+
+/// The report of a run of these texts whose ranks go on as they come, once `check` has called what was written legal.
+fn checked_report_of<R: Threads + Wait + Sync + AllocGlobal + Abort>(
+    rt: &R,
+    place: &str,
+    calls: &str,
+) -> Result<Report, Fail> {
+    let (status, text) = run_with(rt, place, calls, &OpenGate)?;
+    assert_eq!(rt; status, 0);
+    match std::str::from_utf8(text.as_slice()) {
+        Ok(report) => assert!(rt; legal(rt, place, calls, report)),
+        Err(_) => assert!(rt; false),
     }
-    let place = read_place(rt.alloc(), place.as_bytes())?;
-    Ok(read_report(rt.alloc(), &place, text.as_slice())?)
+    Ok(read_back(rt.alloc(), place, text.as_slice())?)
 }
 
 const SMALL: &str = "buckets 1\noverflow 0";
@@ -425,7 +446,7 @@ fn eight_ranks<R: AllocGlobal>(rt: &R, lock: &str) -> Result<String, OutOfMemory
     )
 }
 
-/// Eight ranks put keys of their own and get each again: a rank reads its own write. Five runs with this lock.
+/// Eight ranks put keys of their own and get each again: a rank reads its own write, and the report is legal. Five runs with this lock.
 pub(crate) fn read_own_writes<R: Threads + Wait + Sync + AllocGlobal + Abort>(
     rt: &R,
     lock: &str,
@@ -443,7 +464,7 @@ pub(crate) fn read_own_writes<R: Threads + Wait + Sync + AllocGlobal + Abort>(
     calls.push_str("end\n")?;
     let place = eight_ranks(rt, lock)?;
     for _ in 0..5 {
-        let report = report_of(rt, &place, &calls, &OpenGate)?;
+        let report = checked_report_of(rt, &place, &calls)?;
         let mut gets = 0u32;
         for shard in report.shards.as_slice() {
             for entry in shard.entries.as_slice() {
@@ -470,7 +491,7 @@ fn ranks_read_their_own_writes(rt: HostRuntime) -> Result<(), Fail> {
     read_own_writes(&rt, "mcs\nbudget 4 4")
 }
 
-/// Eight ranks make batches of two puts on keys of their own, which all have room.
+/// Eight ranks make batches of two puts on keys of their own, which all have room; the report is legal.
 #[test]
 fn batches_of_eight_ranks(rt: HostRuntime) -> Result<(), Fail> {
     let mut calls = format!(in rt.alloc(); "rmalock-calls 2\n")?;
@@ -485,7 +506,7 @@ fn batches_of_eight_ranks(rt: HostRuntime) -> Result<(), Fail> {
     calls.push_str("end\n")?;
     let place = eight_ranks(&rt, "rw\nbudget 4 4\nwriters 4\nreaders 16\ngroup 2")?;
     for _ in 0..5 {
-        let report = report_of(&rt, &place, &calls, &OpenGate)?;
+        let report = checked_report_of(&rt, &place, &calls)?;
         for shard in report.shards.as_slice() {
             for entry in shard.entries.as_slice() {
                 assert!(rt; matches!(entry.reply, Reply::New | Reply::Was(_)));

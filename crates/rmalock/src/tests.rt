@@ -19,6 +19,12 @@ const TWO_RANKS: &str =
 pub(crate) const FAR_RANK: &str =
     "rmalock-place 1\nlevels 1\nlock spin\nshards 1\nbuckets 1\noverflow 0\nrank 32 at 0\nhome 0 0\nend\n";
 
+const TWO_SPACES: &str =
+    "rmalock-place 1\nlevels  1\nlock spin\nshards 1\nbuckets 1\noverflow 0\nrank 0 at 0\nhome 0 0\nend\n";
+
+const LEADING_ZEROS: &str =
+    "rmalock-place 1\nlevels 1\nlock mcs\nbudget 007\nshards 1\nbuckets 1\noverflow 0\nrank 0 at 0\nhome 0 0\nend\n";
+
 const TWO_BUCKETS: &str =
     "rmalock-place 1\nlevels 1\nlock spin\nshards 1\nbuckets 2\noverflow 0\nrank 0 at 0\nhome 0 0\nend\n";
 
@@ -319,6 +325,8 @@ fn readers_beside_each_other(rt: HostRuntime) -> Result<(), Fail> {
 fn refusals(rt: HostRuntime) -> Result<(), Fail> {
     let cases = [
         (FAR_RANK, ONE_HOLD, "0 9\nend\n", "refused p 7 2 range\n"),
+        (TWO_SPACES, ONE_HOLD, "end\n", "refused p 2 2 number\n"),
+        (LEADING_ZEROS, ONE_HOLD, "end\n", "refused p 4 2 number\n"),
         (
             ONE_RANK,
             "rmalock-calls 1\n0 hold 1\nend\n",

@@ -30,7 +30,7 @@ pub(crate) fn has_room(steps: Steps) -> bool
 }
 
 /// One event: `j1.0` member 0 joins queue 1, `s1.0` settles it, `p1.0` is passed it; `a2` cohort 2 announces itself; `+0` rank 0 enters
-/// to write, `*0` looks at what the lock guards, `!0` writes it, `-0` leaves.
+/// to write, `*0` looks at what the lock guards, `!0` writes it, `-0` leaves; `<0` rank 0 enters to read, `>0` leaves.
 fn sign(alloc: Global, event: Event) -> Result<String, OutOfMemory> {
     let text = match event {
         Event::Join { queue, member } => format!(in alloc; "j{queue}.{member}")?,

@@ -2,12 +2,19 @@
 //! by threads that are led, and by eight threads that go on as they come.
 
 use crate::check_tests::legal;
+use crate::library_tests::journal_of;
+use crate::offline::offline;
+use crate::program::rmalock;
 use crate::run_tests::{read_own_writes, run_led_often};
 use crate::seat_tests::trial_and_seats;
-use crate::tests::{look, replay_of};
+use crate::tests::{look, named, replay_of, words};
+use rl_io::{FixedSink, MemFiles, OpenGate};
+use rl_model::{Call, Entry, Reply};
 use std::alloc::AllocError as OutOfMemory;
 use std::process::Abort;
+use std::sync::Wait;
 use std::test::*;
+use std::thread::Threads;
 
 /// Two ranks on the home of the one shard, whose table has room for one key, with this lock.
 fn two_at_home<R: AllocGlobal>(rt: &R, lock: &str) -> Result<String, OutOfMemory> {
@@ -65,13 +72,94 @@ fn one_rank_does_the_calls_of_both(rt: HostRuntime) -> Result<(), Fail> {
     Ok(())
 }
 
-/// A calls file with a batch is refused before the schedule is opened, which here isn't there.
+/// The status and the text of what a line asks for, where `p` and `c` are all the files that there are, so that to open another one is a
+/// read fault: by `offline`, or by `rmalock`.
+fn answer_of_two_files<R: Threads + Wait + Sync + AllocGlobal>(
+    rt: &R,
+    line: &[&str],
+    texts: (&str, &str),
+    threads: bool,
+) -> Result<(u8, Vec<u8>), OutOfMemory> {
+    let line = words(rt, line)?;
+    let alloc = rt.alloc();
+    let mut held = Vec::new(alloc);
+    held.push(named(rt, "p", texts.0)?)?;
+    held.push(named(rt, "c", texts.1)?)?;
+    let mut source = MemFiles::new(held, 4096, Vec::new(alloc));
+    let mut out = FixedSink::new(alloc, 4096)?;
+    let status = if threads {
+        rmalock(rt, alloc, line.as_slice(), &mut source, &mut out, &OpenGate)
+    } else {
+        offline(alloc, line.as_slice(), &mut source, &mut out)
+    };
+    Ok((status, Vec::from_slice(alloc, out.bytes())?))
+}
+
+/// A calls file with a batch is refused once it was read, and before the file behind it is opened: that one isn't there, which is a fault
+/// where the calls are all alone.
 #[test]
 fn a_batch_is_not_combined(rt: HostRuntime) -> Result<(), Fail> {
     let place = two_at_home(&rt, "combine")?;
-    let calls = "rmalock-calls 2\n0 batch 2\n0 put 0 1\n0 put 0 2\nend\n";
-    let answer = replay_of(&rt, &place, calls, "no turn\n")?;
-    look(&rt, answer, 2, "refused c 0 0 word\n");
+    let cases = [
+        (
+            "rmalock-calls 2\n0 batch 2\n0 put 0 1\n0 put 0 2\nend\n",
+            2,
+            "refused c 0 0 word\n",
+        ),
+        (
+            "rmalock-calls 2\n0 batch 2\n0 put 0 1\n0 put 0 2\n",
+            2,
+            "refused c 5 0 noend\n",
+        ),
+        ("rmalock-calls 2\n0 put 0 1\n0 put 0 2\nend\n", 3, ""),
+    ];
+    let lines: [&[&str]; 2] = [&["replay", "p", "c", "s"], &["check", "p", "c", "r"]];
+    for (calls, status, text) in cases {
+        for line in lines {
+            for threads in [false, true] {
+                let answer = answer_of_two_files(&rt, line, (&place, calls), threads)?;
+                look(&rt, answer, status, text);
+            }
+        }
+        if status == 2 {
+            let answer = answer_of_two_files(&rt, &["run", "p", "c"], (&place, calls), true)?;
+            look(&rt, answer, status, text);
+        }
+    }
+    Ok(())
+}
+
+/// The put of this value under key 0 by rank 0, its first call, as the first update.
+fn first_put(value: u64) -> Entry {
+    Entry {
+        shard: 0,
+        rank: 0,
+        seq: 0,
+        call: Call::Put { key: 0, value },
+        at: 0,
+        reply: Reply::New,
+        batch: 0,
+        part: 0,
+    }
+}
+
+/// The journal of the machine has the put alone.
+#[test]
+fn a_journal_beside_a_get(rt: HostRuntime) -> Result<(), Fail> {
+    let place = two_at_home(&rt, "seq")?;
+    let ranks = GET_BESIDE_A_WRITER.as_bytes();
+    let journal = journal_of(rt.alloc(), &place, PUT_AND_GET, ranks)?;
+    assert_eq!(rt; journal.as_slice(), [first_put(7)].as_slice());
+    Ok(())
+}
+
+/// The same where one rank does the calls of both.
+#[test]
+fn a_journal_by_one_for_both(rt: HostRuntime) -> Result<(), Fail> {
+    let place = two_at_home(&rt, "combine")?;
+    let ranks = BOTH_CALLS_BY_ONE.as_bytes();
+    let journal = journal_of(rt.alloc(), &place, PUT_ONE_AND_GET, ranks)?;
+    assert_eq!(rt; journal.as_slice(), [first_put(1)].as_slice());
     Ok(())
 }
 
@@ -124,7 +212,7 @@ fn threads_answer_alike(rt: HostRuntime) -> Result<(), Fail> {
     )
 }
 
-/// Eight ranks read their own writes.
+/// Eight ranks read their own writes, and what the runs wrote is legal.
 #[test]
 fn eight_ranks_in_both_ways(rt: HostRuntime) -> Result<(), Fail> {
     read_own_writes(&rt, "seq\nbudget 4 4")?;
