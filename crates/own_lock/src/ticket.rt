@@ -10,7 +10,7 @@ ghost use Rattle.own_lock.specs.TicketLaws.{ticket_laws};
 use crate::view::{Phase, TicketView};
 use arrayvec::ArrayVec;
 use rl_step::{Algo, Event, Standing};
-use rl_word::{Act, Class, Knobs, Mode, Shape, Spot};
+use rl_word::{Act, Class, Knobs, LockName, Mode, Shape, Spot};
 use std::alloc::{AllocError as OutOfMemory, Global};
 
 /// A ticket lock: two words on the shard's home. Word 0 is the next ticket, and word 1 the ticket that is served.
@@ -52,6 +52,10 @@ impl Algo for Ticket {
     ghost has_shares = { λ shape home knobs. refl };
 
     ghost suits_knobs = { λ shape knobs. Unit {0} };
+
+    fn lock_name() -> LockName {
+        LockName::Spin
+    }
 
     /// Makes the lock. It reads no setting.
     fn make(alloc: Global, shape: &Shape, home: u32, _knobs: Knobs) -> Result<Self, OutOfMemory> {

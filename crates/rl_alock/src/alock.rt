@@ -19,7 +19,7 @@ use rl_queue::{
     queue_settled, queue_standing, rank_words,
 };
 use rl_step::{Algo, Event, Learnt, Standing};
-use rl_word::{Act, Class, Knobs, Mode, Shape, Spot};
+use rl_word::{Act, Class, Knobs, LockName, Mode, Shape, Spot};
 use std::alloc::{AllocError as OutOfMemory, Global};
 
 /// The word that says which cohort yields.
@@ -223,6 +223,10 @@ impl Algo for Alock {
     ghost has_shares = { λ shape home knobs. refl };
 
     ghost suits_knobs = { λ shape knobs. (knobs.local ≤ 1000) × (knobs.remote ≤ 1000) };
+
+    fn lock_name() -> LockName {
+        LockName::Alock
+    }
 
     /// Makes the lock. Of the settings it reads `local` and `remote`: the budget of each queue, 0 to 1000.
     fn make(alloc: Global, shape: &Shape, home: u32, knobs: Knobs) -> Result<Self, OutOfMemory> {

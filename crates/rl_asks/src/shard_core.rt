@@ -21,7 +21,7 @@ ghost use Rattle.rl_asks.specs.ShardLaws.{ShardCoreLaws, IsLaid};
 
 use rl_model::{Call, Entry, Geom};
 use rl_step::{Core, Standing, Words};
-use rl_word::{Knobs, Shape};
+use rl_word::{Knobs, LockName, Shape};
 use std::alloc::{AllocError as OutOfMemory, Global};
 
 /// A rank's machine on one shard that does blocks: all that machines, shards, seats and callers need of it.
@@ -60,6 +60,10 @@ pub trait ShardCore: Core {
 
     /// The settings that the lock reads are in their ranges, and the shape has what it needs.
     ghost suits_knobs: { TheShape → TheKnobs → Type 0 };
+
+    /// The name of the lock on which it stands: by it others know what queues it has.
+    fn lock_name() -> LockName
+        ensures { result ≡ name };
 
     /// Makes the machine of a shard whose home is this node of a proper shape, over the lock that the settings make: the size of the
     /// table, the shard's number, and how many updates each rank may make on it, at most 20,000 in all. Refused only for want of memory.

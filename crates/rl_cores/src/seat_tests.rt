@@ -2,7 +2,6 @@
 
 ghost use Rattle.std.specs.Prelude.{◌≡◌, length};
 ghost use Rattle.rl_word.specs.OneNode.{one_node as one_node_shape};
-ghost use Rattle.rl_step.specs.LockQueues.{queues_of};
 
 use crate::tests::{GEOM, KNOBS, begun, closed, first_difference, two_ranks};
 use crate::{CombineCore, SeqCore};
@@ -34,9 +33,8 @@ fn put_beside_get<C: ShardCore>(
     turns: &[(bool, Stepped)],
 ) -> Result<Option<Closed>, OutOfMemory>
     requires knobs { C.suits_knobs (one_node_shape 2) KNOBS }
-    requires queues { 2 ≡ length (queues_of C.name (one_node_shape 2) 0 KNOBS) }
 {
-    let Some((shard, mut first, mut second)) = two_ranks::<C>(alloc, KNOBS, 2, (1, 0))? else {
+    let Some((shard, mut first, mut second)) = two_ranks::<C>(alloc, KNOBS, (1, 0))? else {
         return Ok(None);
     };
     begun(&shard, &mut first, 1, Call::Put { key: 0, value });

@@ -4,7 +4,6 @@ ghost use Rattle.std.specs.Prelude.{◌≡◌, ◌+◌, ◌<◌, ◌≤◌, leng
 ghost use Rattle.rl_model.specs.Call.{shard_of, is_update};
 ghost use Rattle.rl_word.specs.OneNode.{one_node as one_node_shape};
 ghost use Rattle.rl_word.specs.Shapes.{IsProper};
-ghost use Rattle.rl_step.specs.LockQueues.{queues_of};
 ghost use Rattle.rl_work.specs.WorkGood.{places_needed};
 ghost use Rattle.rl_shard.specs.Shards.{IsOf, rank_at};
 ghost use Rattle.rl_cores.specs.Fresh.{IsFresh, AreTwo, AreFreshTwo};
@@ -66,12 +65,10 @@ fn one_node(alloc: Global, ranks: u32) -> Result<Shape, OutOfMemory>
 pub fn two_ranks<C: ShardCore>(
     alloc: Global,
     knobs: Knobs,
-    queues: u32,
     updates: (u32, u32),
 ) -> Result<Option<(Shard<C>, Seat<C>, Seat<C>)>, OutOfMemory>
     requires few { updates.0 + updates.1 ≤ 20000 }
     requires knobs { C.suits_knobs (one_node_shape 2) knobs }
-    requires queues { queues ≡ length (queues_of C.name (one_node_shape 2) 0 knobs) }
     ensures { IfOk result (λ o. IfSome o (λ p. AreFreshTwo C.shard_table C.good C.layout p.0 GEOM updates.0 updates.1 p.1 p.2)) }
 {
     let shape = one_node(alloc, 2)?;
@@ -79,7 +76,7 @@ pub fn two_ranks<C: ShardCore>(
         calls: vec![in alloc; 1; 2]?,
         updates: vec![in alloc; updates.0, updates.1]?,
     };
-    let (shard, mut seats) = Shard::new(alloc, &shape, knobs, 0, GEOM, 0, room, queues)?;
+    let (shard, mut seats) = Shard::new(alloc, &shape, knobs, 0, GEOM, 0, room)?;
     let Some(second) = seats.pop() else {
         return Ok(None);
     };
@@ -129,13 +126,11 @@ pub fn first_difference<C: ShardCore>(
 fn held<C: ShardCore>(
     alloc: Global,
     knobs: Knobs,
-    queues: u32,
     turns: &[(bool, Stepped)],
 ) -> Result<Option<usize>, OutOfMemory>
     requires knobs { C.suits_knobs (one_node_shape 2) knobs }
-    requires queues { queues ≡ length (queues_of C.name (one_node_shape 2) 0 knobs) }
 {
-    let Some((shard, mut first, mut second)) = two_ranks::<C>(alloc, knobs, queues, (1, 1))? else {
+    let Some((shard, mut first, mut second)) = two_ranks::<C>(alloc, knobs, (1, 1))? else {
         return Ok(Some(0));
     };
     begun(&shard, &mut first, 1, Call::Hold { shard: 0 });
@@ -161,7 +156,7 @@ fn one_rank_holds_once(rt: HostRuntime) -> Result<(), Fail> {
         MOVES,
         (false, Stepped::Finished),
     ];
-    let difference = held::<SpinCore>(rt.alloc(), KNOBS, 0, turns.as_slice())?;
+    let difference = held::<SpinCore>(rt.alloc(), KNOBS, turns.as_slice())?;
     assert_eq!(rt; difference, None);
     Ok(())
 }
@@ -170,7 +165,7 @@ fn one_rank_holds_once(rt: HostRuntime) -> Result<(), Fail> {
 fn second_rank_finds_the_card_busy(rt: HostRuntime) -> Result<(), Fail> {
     let busy = Stepped::Busy { node: 0, holder: 0 };
     let turns = [MOVES, MOVES, (true, busy)];
-    let difference = held::<SpinCore>(rt.alloc(), KNOBS, 0, turns.as_slice())?;
+    let difference = held::<SpinCore>(rt.alloc(), KNOBS, turns.as_slice())?;
     assert_eq!(rt; difference, None);
     Ok(())
 }
@@ -187,7 +182,7 @@ fn second_rank_loses_the_compare(rt: HostRuntime) -> Result<(), Fail> {
         (true, lost),
         SECOND_MOVES,
     ];
-    let difference = held::<SpinCore>(rt.alloc(), KNOBS, 0, turns.as_slice())?;
+    let difference = held::<SpinCore>(rt.alloc(), KNOBS, turns.as_slice())?;
     assert_eq!(rt; difference, None);
     Ok(())
 }
@@ -275,14 +270,12 @@ fn two_puts<C: ShardCore + Send + Sync, R: Threads>(
     rt: &R,
     alloc: Global,
     knobs: Knobs,
-    queues: u32,
 ) -> Result<Option<Closed>, OutOfMemory>
 where
     C::View: Send + Sync,
     requires knobs { C.suits_knobs (one_node_shape 2) knobs }
-    requires queues { queues ≡ length (queues_of C.name (one_node_shape 2) 0 knobs) }
 {
-    let Some((shard, mut first, mut second)) = two_ranks::<C>(alloc, knobs, queues, (1, 1))? else {
+    let Some((shard, mut first, mut second)) = two_ranks::<C>(alloc, knobs, (1, 1))? else {
         return Ok(None);
     };
     begun(&shard, &mut first, 1, Call::Put { key: 0, value: 5 });
@@ -302,7 +295,7 @@ fn put_value(entry: &Entry) -> Option<u64> {
 
 #[test]
 fn two_threads_put_one_after_the_other(rt: HostRuntime) -> Result<(), Fail> {
-    let closed = two_puts::<SpinCore, HostRuntime>(&rt, rt.alloc(), KNOBS, 0)?.ok_or("not closed")?;
+    let closed = two_puts::<SpinCore, HostRuntime>(&rt, rt.alloc(), KNOBS)?.ok_or("not closed")?;
     assert_eq!(rt; closed.journal.len(), 2);
     let first = closed.journal[0];
     let second = closed.journal[1];

@@ -5,7 +5,8 @@ use Rattle.rl_word.specs.declared.locks.LockName.{LockName}
 use Rattle.rl_word.specs.declared.locks.LockName.TheVariants as named
 use Rattle.rl_word.specs.declared.shapes.Knobs.{Knobs}
 use Rattle.rl_word.specs.Shapes.{TheShape}
-use Rattle.rl_step.specs.LockQueues.{queues_of, element_queues, lock_under}
+use Rattle.rl_step.specs.LockQueues.{queues_of, lock_under}
+use Rattle.rl_step.specs.QueueLemmas.{elements_long}
 use Rattle.rl_place.specs.declared.lock.Lock.{Lock}
 use Rattle.rl_place.specs.declared.lock.Lock.TheVariants as lock
 use Rattle.rl_place.specs.LockWords.{name_of}
@@ -23,10 +24,6 @@ under_queues named.Mcs shape home knobs = refl
 under_queues named.Rw shape home knobs = refl
 under_queues named.Seq shape home knobs = refl
 under_queues named.Combine shape home knobs = refl
-
-elements_long : (shape : TheShape) (root : Option ℕ) (from n : ℕ) → length (element_queues shape root from n) ≡ n
-elements_long shape root from zero = refl
-elements_long shape root from (suc n) = ap suc (elements_long shape root (from + 1) n)
 
 module _ (place : ThePlace) where
   by_lock : (l : Lock) → (home : ℕ) → length (queues_of (name_of l) (shape_of place) home (knobs_of l)) ≡ length (queue_names l place.levels place.paths)

@@ -16,7 +16,7 @@ ghost use Rattle.rl_mcs.specs.McsLaws.{mcs_laws};
 use arrayvec::ArrayVec;
 use rl_step::{Algo, Event, Standing};
 use rl_tree::{Tree, TreeView, tree_enter};
-use rl_word::{Act, Knobs, Mode, Shape, Spot};
+use rl_word::{Act, Knobs, LockName, Mode, Shape, Spot};
 use std::alloc::{AllocError as OutOfMemory, Global};
 
 /// RMA-MCS, the lock of Schmid, Besta and Hoefler for remote memory: a queue for each element of the tree of nodes. A rank joins its
@@ -67,6 +67,10 @@ impl Algo for Mcs {
     ghost has_shares = { λ shape home knobs. refl };
 
     ghost suits_knobs = { λ shape knobs. IsBudgeted shape };
+
+    fn lock_name() -> LockName {
+        LockName::Mcs
+    }
 
     fn make(alloc: Global, shape: &Shape, home: u32, _knobs: Knobs) -> Result<Self, OutOfMemory> {
         let tree = Tree::new(alloc, shape, home, None)?;

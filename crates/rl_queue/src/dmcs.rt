@@ -16,7 +16,7 @@ use crate::ranks::rank_words;
 use crate::view::{QueueView, Stage};
 use arrayvec::ArrayVec;
 use rl_step::{Algo, Event, Standing};
-use rl_word::{Act, Class, Knobs, Mode, Shape, Spot};
+use rl_word::{Act, Class, Knobs, LockName, Mode, Shape, Spot};
 use std::alloc::{AllocError as OutOfMemory, Global};
 
 /// D-MCS, the queue lock of Mellor-Crummey and Scott over remote memory, as Schmid, Besta and Hoefler use it: one queue of all
@@ -74,6 +74,10 @@ impl Algo for Dmcs {
     ghost has_shares = { λ shape home knobs. refl };
 
     ghost suits_knobs = { λ shape knobs. Unit {0} };
+
+    fn lock_name() -> LockName {
+        LockName::Dmcs
+    }
 
     /// Makes the lock. It reads no setting.
     fn make(alloc: Global, shape: &Shape, home: u32, _knobs: Knobs) -> Result<Self, OutOfMemory> {

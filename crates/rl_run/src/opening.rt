@@ -4,7 +4,6 @@ ghost use Rattle.std.specs.Prelude.{◌≡◌, ◌≤◌, ◌<◌, ℕ, [], fals
 ghost use Rattle.std.specs.List.{AllByRecursion};
 ghost use Rattle.rl_model.specs.Geom.{GeomFits};
 ghost use Rattle.rl_word.specs.Shapes.{IsProper};
-ghost use Rattle.rl_step.specs.LockQueues.{queues_of};
 ghost use Rattle.rl_step.specs.LockQueues.{lock_under};
 ghost use Rattle.rl_place.specs.LockWords.{name_of};
 ghost use Rattle.rl_place.specs.Places.{IsProper as IsProperPlace};
@@ -15,7 +14,6 @@ ghost use Rattle.rl_run.specs.Runs.{AreNew, HaveBegun, MayWork, made_of, wanted}
 use crate::caller::Caller;
 use crate::rows::deal_seats;
 use rl_asks::ShardCore;
-use rl_history::Naming;
 use rl_model::{Call, Geom};
 use rl_ops::Ops;
 use rl_place::Place;
@@ -34,8 +32,8 @@ fn empty_rows<T: Drop>(alloc: Global, ranks: usize) -> Result<Vec<Vec<T>>, OutOf
     Ok(rows)
 }
 
-/// The shards of a table on these homes, and the seats of each rank, in the order of the shards. `queues` is how many queues the lock
-/// of a shard has. Refused only for want of memory.
+/// The shards of a table on these homes, and the seats of each rank, in the order of the shards. Refused only
+/// for want of memory.
 pub fn open_all<C: ShardCore>(
     alloc: Global,
     shape: &Shape,
@@ -43,7 +41,6 @@ pub fn open_all<C: ShardCore>(
     geom: Geom,
     homes: &[u32],
     ops: &Ops,
-    queues: u32,
 ) -> Result<(Vec<Shard<C>>, Vec<Vec<Seat<C>>>), OutOfMemory>
     requires proper { IsProper shape.now }
     requires knobs { C.suits_knobs shape.now knobs }
@@ -52,7 +49,6 @@ pub fn open_all<C: ShardCore>(
     requires homes { AllByRecursion (λ home. home < shape.now.nodes) homes.now }
     requires ranks { length ops.now.by_rank ≡ length shape.now.node_of }
     requires few { total_calls ops.now.by_rank ≤ 20000 }
-    requires queues { (home : ℕ) → queues ≡ length (queues_of C.name shape.now home knobs) }
     ensures all { IfOk result (λ p. length p.0.items ≡ geom.shards) }
     ensures made { IfOk result (λ p. AreNew C.defined C.shard_table C.good C.layout shape.now knobs geom homes.now ops.now.by_rank p.0.items (map vec_items p.1.items)) }
 {
@@ -62,7 +58,7 @@ pub fn open_all<C: ShardCore>(
     for number in 0..geom.shards {
         let home = homes[number as usize];
         let room = rooms.remove(0);
-        let (shard, seats) = Shard::new(alloc, shape, knobs, home, geom, number, room, queues)?;
+        let (shard, seats) = Shard::new(alloc, shape, knobs, home, geom, number, room)?;
         rows = deal_seats(alloc, rows, seats)?;
         shards.push(shard)?;
     }
@@ -113,18 +109,8 @@ pub fn begin_all<C: ShardCore>(
     ensures { IfOk result (λ p. HaveBegun C.defined C.shard_table C.good C.layout place.now ops p.0.items p.1.items) }
 {
     let shape = place.shape(alloc)?;
-    let naming = Naming::of(alloc, place)?;
-    let queues = naming.queues.as_slice().len() as u32;
     let homes = place.homes.as_slice();
-    let (shards, rows) = open_all::<C>(
-        alloc,
-        &shape,
-        place.knobs(),
-        place.geom,
-        homes,
-        &ops,
-        queues,
-    )?;
+    let (shards, rows) = open_all::<C>(alloc, &shape, place.knobs(), place.geom, homes, &ops)?;
     let Ops { by_rank, sizes } = ops;
     let callers = callers_of::<C>(
         alloc,

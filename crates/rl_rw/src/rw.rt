@@ -21,7 +21,7 @@ use rl_counter::{
 use rl_queue::{Phase, rank_words};
 use rl_step::{Algo, Event, Standing};
 use rl_tree::{Tree, tree_enter};
-use rl_word::{Act, Class, Knobs, Mode, Shape, Spot};
+use rl_word::{Act, Class, Knobs, LockName, Mode, Shape, Spot};
 use std::alloc::{AllocError as OutOfMemory, Global};
 
 /// RMA-RW, the lock of Schmid, Besta and Hoefler for remote memory that readers share: writers queue in the tree of elements, whose root
@@ -159,6 +159,10 @@ impl Algo for Rw {
     ghost has_shares = { λ shape home knobs. refl };
 
     ghost suits_knobs = { SuitsRw };
+
+    fn lock_name() -> LockName {
+        LockName::Rw
+    }
 
     /// Makes the lock. Of the settings it reads `writers`, the budget of the root, 0 to 1000; `readers`, how many readers may come to a
     /// counter, 1000 at most; and `group`, how many ranks share a counter, 1 to 32.

@@ -9,6 +9,7 @@ use Rattle.rl_word.specs.declared.shapes.Element.{Element}
 use Rattle.rl_word.specs.declared.shapes.Knobs.{Knobs}
 use Rattle.rl_word.specs.Shapes.{TheShape}
 use Rattle.rl_step.specs.Queues.{QueueOf}
+use Rattle.rl_step.specs.QueueLemmas.{elements_long}
 use Rattle.rl_step.specs.LockQueues.{queues_of, all_ranks, cohort_queue, cohort_queues, same, sits_at, parent_of, is_node, leaf_of, is_at, is_in, element_queue, element_queues}
 use Rattle.rl_shard.specs.Queues.{AreMembersThere}
 
@@ -35,10 +36,6 @@ element_at shape root from zero q d e = cc
 element_at shape root from (suc n) zero d e = let at : from + 0 ≡ from = omega arith in ap (element_queue shape root) at ∙ same_Some _ _ e
 element_at shape root from (suc n) (suc q) d e = let at : from + suc q ≡ (from + 1) + q = omega arith in ap (element_queue shape root) at ∙ element_at shape root (from + 1) n q d e
 
-elements_length : (shape : TheShape) (root : Option ℕ) (from n : ℕ) → length (element_queues shape root from n) ≡ n
-elements_length shape root from zero = refl
-elements_length shape root from (suc n) = ap suc (elements_length shape root (from + 1) n)
-
 node_low : (shape : TheShape) (q m : ℕ) → is_node shape q ≡ true → is_in shape q m ≡ true → m < length shape.node_of
 node_low shape q m node is =
     below m (length shape.node_of) (both_true (nat_lt m (length shape.node_of)) (leaf_of shape m == q)
@@ -62,7 +59,7 @@ elements_there shape root =
           node_low shape (0 + q) m (ap (λ z. z.of_ranks) at ∙ ranks) (ap (λ z. z.members m) at ∙ is);
       of_elements = λ q m d e elements is.
           let at : element_queue shape root (0 + q) ≡ d = element_at shape root 0 n q d e in
-          subst (λ k. m < k) (sym (elements_length shape root 0 n)) (inner_low shape (0 + q) m (ap (λ z. z.of_ranks) at ∙ elements) (ap (λ z. z.members m) at ∙ is));
+          subst (λ k. m < k) (sym (elements_long shape root 0 n)) (inner_low shape (0 + q) m (ap (λ z. z.of_ranks) at ∙ elements) (ap (λ z. z.members m) at ∙ is));
     }
 
 cohorts_there : (shape : TheShape) (home : ℕ) (knobs : Knobs) → AreMembersThere (cohort_queues shape home knobs) (length shape.node_of)

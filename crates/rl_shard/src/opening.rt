@@ -34,7 +34,7 @@ pub fn first_views<C: ShardCore>(
     alloc: Global,
     core: &C,
     rooms: &[u32],
-    queues: u32,
+    queues: usize,
 ) -> Result<Vec<CountedView<C::View>>, OutOfMemory>
     requires fits { GeomFits (C.shard_table core.now).site.geom }
     requires ranks { length rooms.now ≡ length (C.layout core.now).node_of }
@@ -44,7 +44,7 @@ pub fn first_views<C: ShardCore>(
     let mut views = Vec::new(alloc);
     for rank in 0..rooms.len() as u32 {
         let whole = core.first(alloc, rank, rooms[rank as usize])?;
-        let tallies = Tallies::none(alloc, queues as usize)?;
+        let tallies = Tallies::none(alloc, queues)?;
         views.push(CountedView { whole, tallies })?;
     }
     Ok(views)

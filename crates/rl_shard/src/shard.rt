@@ -19,6 +19,7 @@ use crate::seat::Seat;
 use rl_asks::ShardCore;
 use rl_model::Geom;
 use rl_ops::Room;
+use rl_step::queue_count;
 use rl_window::Window;
 use rl_word::{Knobs, Shape};
 use std::alloc::{AllocError as OutOfMemory, Global};
@@ -35,7 +36,7 @@ impl<C: ShardCore> Shard<C> {
     ///
     /// The shape is proper, and `home` one of its nodes, where the shard's words live; the settings suit the lock. `shard` is the
     /// shard's number. `room` says for each rank how many entries and how many updates it may make here; the updates are at most 20,000
-    /// in all. `queues` is how many queues the lock has. No block is open, and transcripts and tallies are empty.
+    /// in all. No block is open, and transcripts and tallies are empty.
     ///
     /// # Errors
     ///
@@ -48,7 +49,6 @@ impl<C: ShardCore> Shard<C> {
         geom: Geom,
         shard: u32,
         room: Room,
-        queues: u32,
     ) -> Result<(Shard<C>, Vec<Seat<C>>), OutOfMemory>
         requires proper { IsProper shape.now }
         requires knobs { C.suits_knobs shape.now knobs }
@@ -56,16 +56,16 @@ impl<C: ShardCore> Shard<C> {
         requires fits { GeomFits geom }
         requires calls { vec_len room.calls ≡ length shape.now.node_of }
         requires updates { (vec_len room.updates ≡ length shape.now.node_of) × (sum room.updates.items ≤ 20000) }
-        requires queues { queues ≡ length (queues_of C.name shape.now home knobs) }
         ensures core { IfOk result (λ p. table_at C.shard_table p.0 ≡ C.defined shape.now home knobs (site_with geom shard room.updates.items)) }
         ensures layout { IfOk result (λ p. C.layout (core_at p.0) ≡ layout_of shape.now) }
         ensures shard { IfOk result (λ p. IsShardOf C.shard_table (length shape.now.node_of) p.0) }
         ensures seats { IfOk result (λ p. AreOf C.shard_table C.good C.layout p.0 p.1.items) }
-        ensures views { IfOk result (λ p. map counted_at p.1.items ≡ first_counted (table_at C.shard_table p.0) queues room.calls.items) }
+        ensures views { IfOk result (λ p. map counted_at p.1.items ≡ first_counted (table_at C.shard_table p.0) (length (queues_of C.name shape.now home knobs)) room.calls.items) }
         ensures closed { IfOk result (λ p. AreClosed C.shard_table p.0 p.1.items) }
     {
         let Room { calls, updates } = room;
         let core = C::make(alloc, shape, knobs, home, geom, shard, updates)?;
+        let queues = queue_count(C::lock_name(), shape);
         Shard::start(alloc, core, shape.nodes, calls.as_slice(), queues)
     }
 
@@ -75,7 +75,7 @@ impl<C: ShardCore> Shard<C> {
         core: C,
         nodes: u32,
         rooms: &[u32],
-        queues: u32,
+        queues: usize,
     ) -> Result<(Shard<C>, Vec<Seat<C>>), OutOfMemory>
         requires start { IsStart C.shard_table C.good C.layout core nodes queues rooms.now }
         ensures core { IfOk result (λ p. core_at p.0 ≡ core) }

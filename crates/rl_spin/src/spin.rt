@@ -10,7 +10,7 @@ ghost use Rattle.rl_spin.specs.SpinLaws.{spin_laws};
 use crate::view::{Phase, SpinView};
 use arrayvec::ArrayVec;
 use rl_step::{Algo, Event, Standing};
-use rl_word::{Act, Class, Knobs, Mode, Shape, Spot};
+use rl_word::{Act, Class, Knobs, LockName, Mode, Shape, Spot};
 use std::alloc::{AllocError as OutOfMemory, Global};
 
 /// A spin lock: one card word on the shard's home.
@@ -51,6 +51,10 @@ impl Algo for Spin {
     ghost has_shares = { λ shape home knobs. refl };
 
     ghost suits_knobs = { λ shape knobs. Unit {0} };
+
+    fn lock_name() -> LockName {
+        LockName::Spin
+    }
 
     /// Makes the lock. It reads no setting.
     fn make(alloc: Global, shape: &Shape, home: u32, _knobs: Knobs) -> Result<Self, OutOfMemory> {

@@ -1,11 +1,18 @@
 -- What events at the end of a trace change for a queue, and that the two forms of the pass budget say the same.
-use Rattle.std.specs.Prelude.{◌≡◌, ℕ, ◌+◌, ◌-◌, ◌*◌, ◌<◌, ◌≤◌, ◌==◌, Bool, true, false, List, [], ◌∷◌, ◌++◌, if◌then◌else◌, refl}
+use Rattle.std.specs.Prelude.{◌≡◌, ℕ, zero, suc, Option, length, ◌+◌, ◌-◌, ◌*◌, ◌<◌, ◌≤◌, ◌==◌, Bool, true, false, List, [], ◌∷◌, ◌++◌, if◌then◌else◌, refl}
 use Rattle.std.proofs.Common.{sym, ◌∙◌, ap, subst, ⊎_elim, arith, append_assoc, zero-add}
 use Rattle.std.proofs.lemmas.Bool.Decides.{eqb_tells}
 use Rattle.std.proofs.lemmas.Bool.{true≢false}
 use Rattle.rl_step.specs.declared.events.Event.{Event}
 use Rattle.rl_step.specs.declared.events.Event.TheVariants.{Join, Announce, Pass, Settle, Touch, EnterW, EnterR, LeaveW, LeaveR}
+use Rattle.rl_word.specs.Shapes.{TheShape}
+use Rattle.rl_step.specs.LockQueues.{element_queues}
 use Rattle.rl_step.specs.Queues.{QueueOf, count, joins, gives, joined, given, settled, passed, room_after, PassFits, WithinFrom, room_of, tenures, IsWithin, IsWithinBudget, tally_of}
+
+-- a tree has a queue for each element
+pub elements_long : (shape : TheShape) (root : Option ℕ) (from n : ℕ) → length (element_queues shape root from n) ≡ n
+elements_long shape root from zero = refl
+elements_long shape root from (suc n) = ap suc (elements_long shape root (from + 1) n)
 
 -- what a trace after another one adds
 pub joined-append : (q : ℕ) (t es : List Event) → joined q (t ++ es) ≡ joined q t ++ joined q es

@@ -11,7 +11,7 @@ ghost use Rattle.rl_step.specs.Lock.{LockTable, LockState, LockLaws, HandsOn, De
 
 use crate::events::{Event, Standing};
 use arrayvec::ArrayVec;
-use rl_word::{Act, Knobs, Mode, Shape, Spot};
+use rl_word::{Act, Knobs, LockName, Mode, Shape, Spot};
 use std::alloc::{AllocError as OutOfMemory, Global};
 
 /// One shard's lock, in words numbered from 0 that are all 0 at first.
@@ -52,6 +52,10 @@ pub trait Algo: Sized + Drop {
 
     /// The settings that the lock reads are in their ranges, and the shape has what it needs.
     ghost suits_knobs: { TheShape → TheKnobs → Type 0 };
+
+    /// The lock's name: by it others know what queues it has.
+    fn lock_name() -> LockName
+        ensures { result ≡ name };
 
     /// Makes the lock of a shard whose home is this node of a proper shape.
     fn make(alloc: Global, shape: &Shape, home: u32, knobs: Knobs) -> Result<Self, OutOfMemory>

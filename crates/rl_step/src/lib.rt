@@ -17,6 +17,7 @@ mod cores;
 mod events;
 mod flat;
 mod port;
+mod queues;
 mod tallies;
 mod words;
 
@@ -25,5 +26,6 @@ pub use cores::{Core, Plan};
 pub use events::{Event, Learnt, Standing, Stepped};
 pub use flat::{Flat, FlatPort, advance_flat};
 pub use port::{Port, advance};
+pub use queues::queue_count;
 pub use tallies::{Steps, Tally};
 pub use words::Words;

@@ -17,7 +17,7 @@ use crate::whole::{Whole, WholeView};
 use rl_asks::{Resting, Round, ShardCore, TellsAll};
 use rl_model::{Call, Entry, Geom};
 use rl_step::{Algo, Standing, Stepped, Words};
-use rl_word::{Knobs, Shape};
+use rl_word::{Knobs, LockName, Shape};
 use rl_work::{KeepsOwn, Work};
 use std::alloc::{AllocError as OutOfMemory, Global};
 
@@ -55,6 +55,11 @@ impl<A: Algo, W: Work> ShardCore for Whole<A, W> {
     ghost spares = { W.spares };
 
     ghost batches = { W.batches };
+
+    #[inline(always)]
+    fn lock_name() -> LockName {
+        A::lock_name()
+    }
 
     fn make(
         alloc: Global,

@@ -17,7 +17,6 @@ use rl_cores::{
     AlockCore, CombineCore, CoreTask, DmcsCore, McsCore, RwCore, SeqCore, SpinCore, over_lock,
     settings_suit,
 };
-use rl_history::Naming;
 use rl_model::{Call, Entry, Geom, Reply};
 use rl_ops::{Room, read_ops};
 use rl_place::{Lock, Place, read_place};
@@ -53,11 +52,9 @@ fn opened<C: ShardCore>(
     ensures fresh { IfOk result (λ p. (r : ℕ) (s : _) → slice_get p.1.items r ≡ Some s → IsFresh C.shard_table C.good C.layout place.now.geom 0 1 p.0 s) }
 {
     let shape = place.shape(alloc)?;
-    let naming = Naming::of(alloc, place)?;
-    let queues = naming.queues.as_slice().len() as u32;
     let ranks = place.paths.len();
     let room = room_for_one(alloc, ranks)?;
-    let (shard, seats) = Shard::new(alloc, &shape, place.knobs(), 0, place.geom, 0, room, queues)?;
+    let (shard, seats) = Shard::new(alloc, &shape, place.knobs(), 0, place.geom, 0, room)?;
     Ok((shard, seats))
 }
 

@@ -1,19 +1,8 @@
 use Rattle.std.proofs.Common.{rules, ◌≡◌, ◌≤◌, ◌∙◌, All, length, map, vec_len, vec_items, ap, sym, subst, arith}
 use Rattle.std.proofs.lemmas.List.{length-map}
-use Rattle.rl_step.specs.LockQueues.{queues_of}
-use Rattle.rl_place.specs.Shapes.{shape_of, knobs_of}
 use Rattle.rl_run.specs.Runs.{wanted, made_of}
 use Rattle.rl_run.proofs.WholeRun as whole
 use Rattle.rl_run.proofs.opening.begin_all.Goals as goal
-
-pub open_all-requires-clause-queues : goal.open_all-requires-clause-queues
-open_all-requires-clause-queues g c =
-    let place = c.args.place.now in
-    let name = g.C.ShardCore.name in
-    λ home. ap length c.as_slice.ensures.value ∙ ap (λ n. length n.queues) c.naming.view_is ∙ c.in_ok-naming.ensures.under home
-    ∙ ap (λ l. length (queues_of l (shape_of place) home (knobs_of place.lock))) (sym c.requires.kind)
-    ∙ ap (λ s. length (queues_of name s home (knobs_of place.lock))) (sym c.in_ok-shape.ensures.exact)
-    ∙ ap (λ k. length (queues_of name c.in_ok-shape.shape home k)) (sym c.knobs.ensures)
 
 pub callers_of-requires-clause-sizes : goal.callers_of-requires-clause-sizes
 callers_of-requires-clause-sizes g c =

@@ -1,6 +1,7 @@
 -- One shard more.
 use Rattle.std.proofs.Common.{◌≡◌, ◌≤◌, ◌<◌, ◌+◌, ◌++◌, ◌∷◌, [], length, map, slice_index, sum, vec_items, ap, sym, subst, ◌∙◌, arith, length-append}
 use Rattle.std.proofs.lemmas.List.{length-map}
+use Rattle.rl_step.specs.LockQueues.{queues_of}
 use Rattle.rl_ops.specs.Room.{calls_on, updates_on, AreRooms}
 use Rattle.rl_ops.specs.RoomLaws.{first_room}
 use Rattle.rl_shard.specs.Counting.{first_counted}
@@ -44,7 +45,8 @@ pub deal_seats-requires : goal.deal_seats-requires
 deal_seats-requires g c =
     let inv = c.loop-number.invariant in
     let taken = first_room c.args.geom c.args.ops.now.by_rank c.loop-number.number c.loop-number.rooms.items c.remove-room.result inv.3 inv.2 c.loop-number-test.true c.remove-room.ensures.value in
-    let column = column_long (table_at g.C.ShardCore.shard_table c.in_ok-shard.shard) c.args.queues c.remove-room.result.calls.items c.in_ok-shard.seats.items c.in_ok-shard.ensures.views in
+    let queues = length (queues_of g.C.ShardCore.name c.args.shape.now (slice_index c.args.homes.now c.loop-number.number) c.args.knobs) in
+    let column = column_long (table_at g.C.ShardCore.shard_table c.in_ok-shard.shard) queues c.remove-room.result.calls.items c.in_ok-shard.seats.items c.in_ok-shard.ensures.views in
     let calls : length c.remove-room.result.calls.items ≡ length c.args.ops.now.by_rank = ap length taken.0.calls ∙ length-map c.args.ops.now.by_rank (calls_on c.args.geom c.loop-number.number) in
     let rows = sym (length-map c.loop-number.rows.items vec_items) ∙ c.loop-number.invariant.1.ranks in
     let ok = c.in_ok-shard.seats.ok.0 in
@@ -62,8 +64,9 @@ loop-number-preserved g c =
     let ranks : length c.args.shape.now.node_of ≡ length c.args.ops.now.by_rank = sym c.requires.ranks in
     let table_is = made.core ∙ ap (λ l. g.C.ShardCore.defined c.args.shape.now (slice_index homes i) c.args.knobs (site_with c.args.geom i l)) taken.0.updates in
     let site_is = ap (λ T. T.site) table_is ∙ (g.met.C.ShardCore.laid c.args.shape.now (slice_index homes i) c.args.knobs (site_with c.args.geom i (map (updates_on c.args.geom i) c.args.ops.now.by_rank))).site_is in
-    let views = made.views ∙ ap (first_counted (table_at g.C.ShardCore.shard_table c.in_ok-shard.shard) c.args.queues) taken.0.calls in
-    let more = new_more g.C.ShardCore.defined g.C.ShardCore.shard_table g.C.ShardCore.good g.C.ShardCore.layout c.args.shape.now c.args.knobs c.args.geom homes c.args.ops.now.by_rank c.loop-number.shards.items (map vec_items c.loop-number.rows.items) c.in_ok-shard.shard c.in_ok-shard.seats.items i c.args.queues c.loop-number.invariant.1 c.loop-number.invariant.0
+    let queues = length (queues_of g.C.ShardCore.name c.args.shape.now (slice_index homes i) c.args.knobs) in
+    let views = made.views ∙ ap (first_counted (table_at g.C.ShardCore.shard_table c.in_ok-shard.shard) queues) taken.0.calls in
+    let more = new_more g.C.ShardCore.defined g.C.ShardCore.shard_table g.C.ShardCore.good g.C.ShardCore.layout c.args.shape.now c.args.knobs c.args.geom homes c.args.ops.now.by_rank c.loop-number.shards.items (map vec_items c.loop-number.rows.items) c.in_ok-shard.shard c.in_ok-shard.seats.items i queues c.loop-number.invariant.1 c.loop-number.invariant.0
     table_is site_is (g.met.C.ShardCore.shard_laws (core_at c.in_ok-shard.shard)).first_desk (subst (λ n. IsShardOf g.C.ShardCore.shard_table n c.in_ok-shard.shard) ranks made.shard) made.seats views made.closed in (
       ap length c.in_ok-push.ensures.items ∙ length-append c.loop-number.shards.items (c.in_ok-shard.shard ∷ []) ∙ ap (λ n. n + 1) c.loop-number.invariant.0,
       subst (λ l. AreNew g.C.ShardCore.defined g.C.ShardCore.shard_table g.C.ShardCore.good g.C.ShardCore.layout c.args.shape.now c.args.knobs c.args.geom homes c.args.ops.now.by_rank l (map vec_items c.in_ok-rows-2.rows.items)) (sym c.in_ok-push.ensures.items)

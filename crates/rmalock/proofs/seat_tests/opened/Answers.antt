@@ -5,7 +5,6 @@ use Rattle.std.proofs.lemmas.Option.{slice_get_within}
 use Rattle.rl_word.specs.Shapes.{TheShape}
 use Rattle.rl_step.specs.LockQueues.{queues_of}
 use Rattle.rl_place.specs.Places.{ThePlace}
-use Rattle.rl_place.specs.Shapes.{shape_of, knobs_of}
 use Rattle.rl_asks.specs.ShardTables.{site_with}
 use Rattle.rl_shard.specs.Counting.{first_counted}
 use Rattle.rl_shard.specs.Shards.{IsShardOf, core_at, table_at}
@@ -15,15 +14,6 @@ use Rattle.rmalock.proofs.seat_tests.opened.Goals as goal
 
 pub new-requires-clause-home : goal.new-requires-clause-home
 new-requires-clause-home g c = node_there c.in_ok-shape.shape c.in_ok-shape.ensures.proper
-
-pub new-requires-clause-queues : goal.new-requires-clause-queues
-new-requires-clause-queues g c =
-    let place = c.args.place.now in
-    let name = g.C.ShardCore.name in
-    ap length c.as_slice.ensures.value ∙ ap (λ n. length n.queues) c.naming.view_is ∙ c.in_ok-naming.ensures.under 0
-    ∙ ap (λ l. length (queues_of l (shape_of place) 0 (knobs_of place.lock))) (sym c.requires.kind)
-    ∙ ap (λ s. length (queues_of name s 0 (knobs_of place.lock))) (sym c.in_ok-shape.ensures.exact)
-    ∙ ap (λ k. length (queues_of name c.in_ok-shape.shape 0 k)) (sym c.knobs.ensures)
 
 pub new-requires-clause-calls : goal.new-requires-clause-calls
 new-requires-clause-calls g c =
@@ -45,7 +35,7 @@ new-requires-clause-updates g c =
 pub returns-clause-shard : goal.returns-clause-shard
 returns-clause-shard g c =
     let shard = c.in_ok-shard.shard in
-    let queues = length c.as_slice.result.now in
+    let queues = length (queues_of g.C.ShardCore.name c.in_ok-shape.shape 0 c.knobs.result) in
     let counted : c.len-ranks.result ≡ length c.place.inside.paths.items = search rules in
     let there : c.len-ranks.result ≡ length c.args.place.now.paths = counted ∙ ap (λ (p : ThePlace). length p.paths) c.place.view_is in
     let calls : c.in_ok-room.room.calls.items ≡ replicate (length c.args.place.now.paths) 1 = c.in_ok-room.ensures.calls ∙ ap (λ (n : ℕ). replicate n 1) there in
@@ -59,7 +49,7 @@ pub returns-clause-fresh : goal.returns-clause-fresh
 returns-clause-fresh g c = λ r s get.
     let shard = c.in_ok-shard.shard in
     let ranks = length c.args.place.now.paths in
-    let queues = length c.as_slice.result.now in
+    let queues = length (queues_of g.C.ShardCore.name c.in_ok-shape.shape 0 c.knobs.result) in
     let geom = ap (λ p. p.geom) c.place.view_is in
     let counted : c.len-ranks.result ≡ length c.place.inside.paths.items = search rules in
     let there : c.len-ranks.result ≡ length c.args.place.now.paths = counted ∙ ap (λ (p : ThePlace). length p.paths) c.place.view_is in
