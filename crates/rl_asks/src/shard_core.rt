@@ -14,14 +14,15 @@ ghost use Rattle.rl_step.specs.Core.{MayBe};
 ghost use Rattle.rl_step.specs.Do.{TheWindow};
 ghost use Rattle.rl_step.specs.Lock.{Deed, HandsOn};
 ghost use Rattle.rl_step.specs.LockQueues.{queues_of, readers_share};
-ghost use Rattle.rl_work.specs.Site.{Site};
+ghost use Rattle.rl_work.specs.Site.{Site as TheSite, site_of};
 ghost use Rattle.rl_asks.specs.Desks.{entries_of};
-ghost use Rattle.rl_asks.specs.ShardTables.{ShardTable, site_with, journal_at};
+ghost use Rattle.rl_asks.specs.ShardTables.{ShardTable, journal_at};
 ghost use Rattle.rl_asks.specs.ShardLaws.{ShardCoreLaws, IsLaid};
 
 use rl_model::{Call, Entry, Geom};
 use rl_step::{Core, Standing, Words};
 use rl_word::{Knobs, LockName, Shape};
+use rl_work::Site;
 use std::alloc::{AllocError as OutOfMemory, Global};
 
 /// A rank's machine on one shard that does blocks: all that machines, shards, seats and callers need of it.
@@ -45,7 +46,7 @@ pub trait ShardCore: Core {
     ghost layout: { Self → Layout };
 
     /// The machine as it is defined: by a shape, the home of the shard, the settings, and the site.
-    ghost defined: { TheShape → ℕ → TheKnobs → Site → ShardTable Self.View };
+    ghost defined: { TheShape → ℕ → TheKnobs → TheSite → ShardTable Self.View };
 
     /// What its lock says further, by the first three.
     ghost promised: { TheShape → ℕ → TheKnobs → List TheEvent → List Deed → Type 0 };
@@ -65,24 +66,22 @@ pub trait ShardCore: Core {
     fn lock_name() -> LockName
         ensures { result ≡ name };
 
-    /// Makes the machine of a shard whose home is this node of a proper shape, over the lock that the settings make: the size of the
-    /// table, the shard's number, and how many updates each rank may make on it, at most 20,000 in all. Refused only for want of memory.
+    /// Makes the machine of a shard whose home is this node of a proper shape, over the lock that the settings make. At most 20,000 updates
+    /// may be made on it in all. Refused only for want of memory.
     fn make(
         alloc: Global,
         shape: &Shape,
         knobs: Knobs,
         home: u32,
-        geom: Geom,
-        shard: u32,
-        rooms: Vec<u32>,
+        site: Site,
     ) -> Result<Self, OutOfMemory>
         requires proper { IsProper shape.now }
         requires knobs { suits_knobs shape.now knobs }
         requires home { home < shape.now.nodes }
-        requires fits { GeomFits geom }
-        requires few { sum rooms.items ≤ 20000 }
-        requires ranks { length rooms.items ≡ length shape.now.node_of }
-        ensures defined { IfOk result (λ c. shard_table c ≡ defined shape.now home knobs (site_with geom shard rooms.items)) }
+        requires fits { GeomFits site.geom }
+        requires few { sum site.rooms.items ≤ 20000 }
+        requires ranks { length site.rooms.items ≡ length shape.now.node_of }
+        ensures defined { IfOk result (λ c. shard_table c ≡ defined shape.now home knobs (site_of site)) }
         ensures promised { IfOk result (λ c. HandsOn (further c) (promised shape.now home knobs)) }
         ensures layout { IfOk result (λ c. layout c ≡ layout_of shape.now) };
 
@@ -161,16 +160,16 @@ pub trait ShardCore: Core {
     ghost shard_laws: { (c : Self) → ShardCoreLaws (shard_table c) (good c) (cause c) (further c) (layout c) };
 
     /// As it is defined its words are laid out by the site.
-    ghost laid: { (shape : TheShape) (home : ℕ) (knobs : TheKnobs) (site : Site) → IsLaid (defined shape home knobs site) site };
+    ghost laid: { (shape : TheShape) (home : ℕ) (knobs : TheKnobs) (site : TheSite) → IsLaid (defined shape home knobs site) site };
 
     /// Its queues are those of the lock of that name: so their members and budgets are the placement's, and not the lock's own word.
-    ghost has_queues: { (shape : TheShape) (home : ℕ) (knobs : TheKnobs) (site : Site) → (defined shape home knobs site).queues ≡ queues_of name shape home knobs };
+    ghost has_queues: { (shape : TheShape) (home : ℕ) (knobs : TheKnobs) (site : TheSite) → (defined shape home knobs site).queues ≡ queues_of name shape home knobs };
 
     /// And the entries that stand for tenures by a writer are as it is said, by whether readers share the lock of that name.
-    ghost has_tenures: { (shape : TheShape) (home : ℕ) (knobs : TheKnobs) (site : Site) → (defined shape home knobs site).tenure ≡ is_tenure (spares (readers_share name)) };
+    ghost has_tenures: { (shape : TheShape) (home : ℕ) (knobs : TheKnobs) (site : TheSite) → (defined shape home knobs site).tenure ≡ is_tenure (spares (readers_share name)) };
 
     /// It does batches as it is said.
-    ghost has_batches: { (shape : TheShape) (home : ℕ) (knobs : TheKnobs) (site : Site) → (defined shape home knobs site).batches ≡ batches };
+    ghost has_batches: { (shape : TheShape) (home : ℕ) (knobs : TheKnobs) (site : TheSite) → (defined shape home knobs site).batches ≡ batches };
 }
 
 /// A core whose views hold all entries of their ranks: none is to be found in the words alone.

@@ -22,7 +22,7 @@ use rl_model::{Call, Entry, Geom};
 use rl_step::{Stepped, Words};
 use rl_volume::{Write, next_read};
 use rl_word::{Atom, Mode, Shape};
-use rl_work::{COUNT_WORD, VOLUME_BASE, Work, WorkStep, journal_base};
+use rl_work::{COUNT_WORD, Site, VOLUME_BASE, Work, WorkStep, journal_base};
 use std::alloc::{AllocError as OutOfMemory, Global};
 use std::marker::Model;
 
@@ -278,11 +278,10 @@ impl Work for CombineWork {
         _alloc: Global,
         shape: &Shape,
         _home: u32,
-        geom: Geom,
-        shard: u32,
-        rooms: Vec<u32>,
+        site: Site,
         behind: u32,
     ) -> Result<CombineWork, OutOfMemory> {
+        let Site { geom, shard, rooms } = site;
         Ok(CombineWork {
             geom,
             shard,

@@ -18,6 +18,7 @@ use rl_asks::ShardCore;
 use rl_model::Geom;
 use rl_ops::{Ops, Room};
 use rl_word::{Knobs, Shape};
+use rl_work::Site;
 use std::alloc::{AllocError as OutOfMemory, Global};
 
 /// So many counts of 0 as there are ranks.
@@ -49,7 +50,12 @@ fn first_shard<C: ShardCore>(
     ensures layout { IfOk result (λ s. C.layout s.core ≡ layout_of shape.now) }
 {
     let Room { calls, updates } = room;
-    let core = C::make(alloc, shape, knobs, home, geom, shard, updates)?;
+    let site = Site {
+        geom,
+        shard,
+        rooms: updates,
+    };
+    let core = C::make(alloc, shape, knobs, home, site)?;
     let state = opening(alloc, core, shape.nodes, calls.as_slice())?;
     Ok(state)
 }

@@ -4,8 +4,6 @@ ghost use Rattle.std.specs.Prelude.{◌≡◌, ◌≤◌, ◌<◌, ℕ, [], fals
 ghost use Rattle.std.specs.List.{AllByRecursion};
 ghost use Rattle.rl_model.specs.Geom.{GeomFits};
 ghost use Rattle.rl_word.specs.Shapes.{IsProper};
-ghost use Rattle.rl_step.specs.LockQueues.{lock_under};
-ghost use Rattle.rl_place.specs.LockWords.{name_of};
 ghost use Rattle.rl_place.specs.Places.{IsProper as IsProperPlace};
 ghost use Rattle.rl_place.specs.Shapes.{shape_of, knobs_of};
 ghost use Rattle.rl_ops.specs.Ops.{OpsFit, total_calls};
@@ -94,8 +92,8 @@ pub fn callers_of<C: ShardCore>(
 
 /// The shards of a placement's table, and a caller for each rank, before the first step.
 ///
-/// `C` is the core of the placement's lock: it stands on the lock on which the placement's stands, and none of the calls is in a batch where
-/// it does none. Caller K makes the calls of rank K. Refused only for want of memory.
+/// `C` is a core that the placement's shape and settings suit, as the core of its lock is; none of the calls is in a batch where it does
+/// none. Caller K makes the calls of rank K. Refused only for want of memory.
 pub fn begin_all<C: ShardCore>(
     alloc: Global,
     place: &Place,
@@ -103,7 +101,6 @@ pub fn begin_all<C: ShardCore>(
 ) -> Result<(Vec<Shard<C>>, Vec<Caller<C>>), OutOfMemory>
     requires proper { IsProperPlace place.now }
     requires knobs { C.suits_knobs (shape_of place.now) (knobs_of place.now.lock) }
-    requires kind { C.name ≡ lock_under (name_of place.now.lock) }
     requires batches { C.batches ≡ false → (k i : ℕ) → slice_index (get_or ops.sizes k []) i ≤ 1 }
     requires calls { OpsFit (length place.now.paths) place.now.geom.shards ops }
     ensures { IfOk result (λ p. HaveBegun C.defined C.shard_table C.good C.layout place.now ops p.0.items p.1.items) }

@@ -16,7 +16,7 @@ use crate::{SeqSide, SeqWork};
 use rl_model::{Call, Geom, Reply};
 use rl_step::{Standing, Stepped};
 use rl_word::{Atom, Mode};
-use rl_work::{Follow, Work, WorkStep, journal_base, opening_word};
+use rl_work::{Follow, Site, Work, WorkStep, journal_base, opening_word};
 use std::alloc::Global;
 use std::marker::Model;
 use std::process::Abort;
@@ -242,7 +242,12 @@ fn of_two(alloc: Global, geom: Geom) -> Result<SeqWork, Fail>
     ensures two { IfOk result IsOfTwo }
     ensures geom { IfOk result (λ way. way.geom ≡ geom) }
 {
-    Ok(SeqWork::at(geom, 0, vec![in alloc; 1, 1]?, journal_base(geom) + 12, 0))
+    let site = Site {
+        geom,
+        shard: 0,
+        rooms: vec![in alloc; 1, 1]?,
+    };
+    Ok(SeqWork::at(site, journal_base(geom) + 12, 0))
 }
 
 // Ranks without blocks meet the rule.

@@ -15,7 +15,7 @@ use crate::stage::SeqStage;
 use rl_model::{Call, Entry, Geom};
 use rl_step::Words;
 use rl_word::{Atom, Mode, Shape};
-use rl_work::{COUNT_WORD, KeepsOwn, VOLUME_BASE, Work, WorkStep};
+use rl_work::{COUNT_WORD, KeepsOwn, Site, VOLUME_BASE, Work, WorkStep};
 use std::alloc::{AllocError as OutOfMemory, Global};
 
 /// The work under a sequence lock: a get alone reads without the lock, between two loads of the version, and any other block is
@@ -41,11 +41,11 @@ fn is_get(calls: &[Call]) -> bool
 }
 
 impl SeqWork {
-    /// The work of a shard by its number and home, the size of its table, how many updates each rank may make on it, and the number of
-    /// the first word behind the lock's.
-    pub(crate) fn at(geom: Geom, shard: u32, rooms: Vec<u32>, behind: u32, home: u32) -> SeqWork
-        ensures { result ≡ record { geom = geom; shard = shard; rooms = rooms; behind = behind; home = home } }
+    /// The work of a shard by its site and its home, and the number of the first word behind the lock's.
+    pub(crate) fn at(site: Site, behind: u32, home: u32) -> SeqWork
+        ensures { result ≡ record { geom = site.geom; shard = site.shard; rooms = site.rooms; behind = behind; home = home } }
     {
+        let Site { geom, shard, rooms } = site;
         SeqWork {
             geom,
             shard,
@@ -196,12 +196,10 @@ impl Work for SeqWork {
         _alloc: Global,
         _shape: &Shape,
         home: u32,
-        geom: Geom,
-        shard: u32,
-        rooms: Vec<u32>,
+        site: Site,
         behind: u32,
     ) -> Result<SeqWork, OutOfMemory> {
-        Ok(SeqWork::at(geom, shard, rooms, behind, home))
+        Ok(SeqWork::at(site, behind, home))
     }
 
     #[inline(always)]

@@ -22,6 +22,7 @@ use rl_ops::Room;
 use rl_step::queue_count;
 use rl_window::Window;
 use rl_word::{Knobs, Shape};
+use rl_work::Site;
 use std::alloc::{AllocError as OutOfMemory, Global};
 
 /// One shard of the table, whose window threads share. Its ranks act on it by their seats.
@@ -64,7 +65,12 @@ impl<C: ShardCore> Shard<C> {
         ensures closed { IfOk result (λ p. AreClosed C.shard_table p.0 p.1.items) }
     {
         let Room { calls, updates } = room;
-        let core = C::make(alloc, shape, knobs, home, geom, shard, updates)?;
+        let site = Site {
+            geom,
+            shard,
+            rooms: updates,
+        };
+        let core = C::make(alloc, shape, knobs, home, site)?;
         let queues = queue_count(C::lock_name(), shape);
         Shard::start(alloc, core, shape.nodes, calls.as_slice(), queues)
     }

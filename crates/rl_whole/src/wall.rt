@@ -18,7 +18,7 @@ use rl_asks::{Resting, Round, ShardCore, TellsAll};
 use rl_model::{Call, Entry, Geom};
 use rl_step::{Algo, Standing, Stepped, Words};
 use rl_word::{Knobs, LockName, Shape};
-use rl_work::{KeepsOwn, Work};
+use rl_work::{KeepsOwn, Site, Work};
 use std::alloc::{AllocError as OutOfMemory, Global};
 
 /// How a rank stands on the shard that is out of the lock: it is asking while its block is open.
@@ -66,11 +66,9 @@ impl<A: Algo, W: Work> ShardCore for Whole<A, W> {
         shape: &Shape,
         knobs: Knobs,
         home: u32,
-        geom: Geom,
-        shard: u32,
-        rooms: Vec<u32>,
+        site: Site,
     ) -> Result<Whole<A, W>, OutOfMemory> {
-        Whole::new(alloc, shape, knobs, home, geom, shard, rooms)
+        Whole::new(alloc, shape, knobs, home, site)
     }
 
     #[inline(always)]

@@ -10,7 +10,7 @@ ghost use Rattle.rl_whole.specs.Domains.{KeepsToCards, KeepsToLocals};
 ghost use Rattle.rl_whole.specs.Opening.{first_view, opened_in};
 ghost use Rattle.rl_whole.specs.Running.{lock_at, tables, goods, good_at, lock_with, kinds};
 ghost use Rattle.rl_whole.specs.Split.{asked_act, card_of, card_word, word_home};
-ghost use Rattle.rl_asks.specs.ShardTables.{site_with};
+ghost use Rattle.rl_work.specs.Site.{site_of};
 ghost use Rattle.rl_whole.specs.Whole.{whole_table, planned_in, next_of, is_at_work, is_open, rule_of, touch_by, departure_by, followed};
 ghost use Rattle.rl_whole.specs.WholeLaws.{whole_laws};
 
@@ -23,7 +23,7 @@ use arrayvec::ArrayVec;
 use rl_model::{Call, Geom};
 use rl_step::{Algo, Core, Event, Plan, Standing, Stepped};
 use rl_word::{Act, Atom, Knobs, Shape};
-use rl_work::{Follow, Work, journal_base};
+use rl_work::{Follow, Site, Work, journal_base};
 use std::alloc::{AllocError as OutOfMemory, Global};
 
 /// What a rank knows between two of its atoms.
@@ -223,33 +223,31 @@ fn places(rooms: &[u32]) -> u32
 }
 
 impl<A: Algo, W: Work> Whole<A, W> {
-    /// The machine of a shard whose home is this node of a proper shape, over the lock that the settings make: its number, the
-    /// size of its table, and how many updates each rank may make on it, at most 20,000 in all. Refused only for want of memory.
+    /// The machine of a shard whose home is this node of a proper shape, over the lock that the settings make. At most 20,000 updates may
+    /// be made on it in all. Refused only for want of memory.
     pub fn new(
         alloc: Global,
         shape: &Shape,
         knobs: Knobs,
         home: u32,
-        geom: Geom,
-        shard: u32,
-        rooms: Vec<u32>,
+        site: Site,
     ) -> Result<Whole<A, W>, OutOfMemory>
         requires proper { IsProper shape.now }
         requires knobs { A.suits_knobs shape.now knobs }
         requires home { home < shape.now.nodes }
-        requires fits { GeomFits geom }
-        requires few { sum rooms.items ≤ 20000 }
-        requires ranks { length rooms.items ≡ length shape.now.node_of }
-        ensures lock { IfOk result (λ c. lock_at (tables A.table W.table) c ≡ lock_with (kinds A.defined W.defined shape.now home knobs) (site_with geom shard rooms.items)) }
+        requires fits { GeomFits site.geom }
+        requires few { sum site.rooms.items ≤ 20000 }
+        requires ranks { length site.rooms.items ≡ length shape.now.node_of }
+        ensures lock { IfOk result (λ c. lock_at (tables A.table W.table) c ≡ lock_with (kinds A.defined W.defined shape.now home knobs) (site_of site)) }
         ensures promised { IfOk result (λ c. HandsOn (A.further c.algo) (A.promised shape.now home knobs)) }
         ensures layout { IfOk result (λ c. A.layout c.algo ≡ layout_of shape.now) }
         ensures home { IfOk result (λ c. c.home ≡ home) }
     {
         let algo = A::make(alloc, shape, home, knobs)?;
-        let base = journal_base(geom) + ENTRY_WORDS * places(rooms.as_slice());
+        let base = journal_base(site.geom) + ENTRY_WORDS * places(site.rooms.as_slice());
         let behind = base + algo.words();
         Ok(Whole {
-            work: W::make(alloc, shape, home, geom, shard, rooms, behind)?,
+            work: W::make(alloc, shape, home, site, behind)?,
             algo,
             base,
             home,

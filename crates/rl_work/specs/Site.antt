@@ -3,11 +3,16 @@
 use Rattle.std.specs.Prelude.{ℕ, ◌+◌, ◌*◌, List, take, drop, sum}
 use Rattle.rl_model.specs.declared.geom.Geom.{Geom}
 use Rattle.rl_volume.specs.Words.{volume_words}
+use Rattle.rl_work.specs.declared.site.Site.{Site as GivenSite}
 
 pub record Site : Type 0 where
   pub geom : Geom
   pub shard : ℕ
   pub rooms : List ℕ
+
+-- the place that is given for a shard
+abbrev pub site_of : GivenSite → Site
+site_of s = record { geom = s.geom; shard = s.shard; rooms = s.rooms.items }
 
 -- the journal has a place for each update that a rank may make
 abbrev pub places : Site → ℕ

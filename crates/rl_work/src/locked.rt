@@ -6,6 +6,7 @@ ghost use Rattle.rl_work.specs.LockedLaws.{locked_laws};
 ghost use Rattle.rl_work.specs.Work.{TheWork};
 
 use crate::follow::{Follow, WorkStep};
+use crate::site::Site;
 use crate::way::{KeepsOwn, Work};
 use crate::work::LockedSide;
 use rl_model::{Call, Entry, Geom};
@@ -54,11 +55,10 @@ impl Work for LockedWork {
         _alloc: Global,
         _shape: &Shape,
         _home: u32,
-        geom: Geom,
-        shard: u32,
-        rooms: Vec<u32>,
+        site: Site,
         behind: u32,
     ) -> Result<LockedWork, OutOfMemory> {
+        let Site { geom, shard, rooms } = site;
         Ok(LockedWork {
             geom,
             shard,

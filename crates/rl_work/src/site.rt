@@ -1,4 +1,4 @@
-// Where the parts of a window lie that the work is done on.
+// What place a shard has in the table, and where the parts of its window lie that the work is done on.
 ghost use Rattle.std.specs.Prelude.{◌≡◌, slice_index};
 ghost use Rattle.rl_model.specs.Geom.{GeomFits};
 ghost use Rattle.rl_work.specs.Site as site;
@@ -6,6 +6,17 @@ ghost use Rattle.rl_work.specs.WorkGood.{opening_words};
 
 use rl_model::Geom;
 use rl_volume::{start_word, volume_words};
+
+/// A shard's place in the table.
+#[derive(Drop)]
+pub struct Site {
+    /// The size of the table.
+    pub geom: Geom,
+    /// The shard's number.
+    pub shard: u32,
+    /// How many updates each rank may make on the shard, by the ranks' numbers.
+    pub rooms: Vec<u32>,
+}
 
 /// The word of a window that counts the updates of its shard.
 pub const COUNT_WORD: u32 = 1;

@@ -3,10 +3,11 @@
 ghost use Rattle.std.specs.Prelude.{◌≡◌, ◌+◌, ◌<◌, ◌≤◌, ◌^◌, ℕ, Bool, List, true, false, length, sum, IfOk};
 ghost use Rattle.rl_model.specs.Geom.{GeomFits};
 ghost use Rattle.rl_word.specs.Shapes.{TheShape, IsProper};
-ghost use Rattle.rl_work.specs.Site.{Site, lock_base};
+ghost use Rattle.rl_work.specs.Site.{Site as TheSite, lock_base, site_of};
 ghost use Rattle.rl_work.specs.Ways.{WorkTable, WorkSide, WorkLaws, MayWork, MayTurn, WaitsOn, journal_by, worked_with};
 
 use crate::follow::WorkStep;
+use crate::site::Site;
 use rl_model::{Call, Entry, Geom};
 use rl_step::Words;
 use rl_word::{Atom, Mode, Shape};
@@ -26,7 +27,7 @@ pub trait Work: Sized + Drop {
 
     /// The way of working as it is defined: by a shape, the home of the shard, its site, and the number of the first word behind the
     /// lock's.
-    ghost defined: { TheShape → ℕ → Site → ℕ → WorkTable Self.Side };
+    ghost defined: { TheShape → ℕ → TheSite → ℕ → WorkTable Self.Side };
 
     /// Whether gets are no tenures of the lock by a writer, where readers share the lock or not; and whether a block may be a batch.
     ghost spares: { Bool → Bool };
@@ -34,28 +35,26 @@ pub trait Work: Sized + Drop {
     ghost batches: { Bool };
 
     /// As it is defined it does so.
-    ghost does: { (shape : TheShape) (home : ℕ) (site : Site) (behind : ℕ) → ((defined shape home site behind).spares ≡ spares) × ((defined shape home site behind).batches ≡ batches) };
+    ghost does: { (shape : TheShape) (home : ℕ) (site : TheSite) (behind : ℕ) → ((defined shape home site behind).spares ≡ spares) × ((defined shape home site behind).batches ≡ batches) };
 
     /// It keeps the site and the place for which it is made.
-    ghost placed: { (shape : TheShape) (home : ℕ) (site : Site) (behind : ℕ) → ((defined shape home site behind).site ≡ site) × ((defined shape home site behind).behind ≡ behind) };
+    ghost placed: { (shape : TheShape) (home : ℕ) (site : TheSite) (behind : ℕ) → ((defined shape home site behind).site ≡ site) × ((defined shape home site behind).behind ≡ behind) };
 
-    /// Makes the work of a shard whose home is this node of a proper shape: its number, the size of its table, how many updates each rank
-    /// may make on it, at most 20,000 in all, and the number of the first word behind the lock's.
+    /// Makes the work of a shard whose home is this node of a proper shape, and on which at most 20,000 updates may be made in all. `behind`
+    /// is the number of the first word behind the lock's.
     fn make(
         alloc: Global,
         shape: &Shape,
         home: u32,
-        geom: Geom,
-        shard: u32,
-        rooms: Vec<u32>,
+        site: Site,
         behind: u32,
     ) -> Result<Self, OutOfMemory>
         requires proper { IsProper shape.now }
         requires home { home < shape.now.nodes }
-        requires fits { GeomFits geom }
-        requires few { sum rooms.items ≤ 20000 }
-        requires ranks { length rooms.items ≡ length shape.now.node_of }
-        ensures { IfOk result (λ w. table w ≡ defined shape.now home (record { geom = geom; shard = shard; rooms = rooms.items }) behind) };
+        requires fits { GeomFits site.geom }
+        requires few { sum site.rooms.items ≤ 20000 }
+        requires ranks { length site.rooms.items ≡ length shape.now.node_of }
+        ensures { IfOk result (λ w. table w ≡ defined shape.now home (site_of site) behind) };
 
     /// The size of the table.
     fn geom(&self) -> Geom

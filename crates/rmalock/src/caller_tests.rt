@@ -1,7 +1,7 @@
 //! Callers on one thread: each makes the calls of its rank, block after block, and answers as the machine does.
 
 ghost use Rattle.std.specs.Prelude.{◌≡◌, ◌<◌, length, vec_len};
-ghost use Rattle.rl_step.specs.LockQueues.{lock_under, does_batches};
+ghost use Rattle.rl_step.specs.LockQueues.{does_batches};
 ghost use Rattle.rl_place.specs.LockWords.{name_of};
 ghost use Rattle.rl_place.specs.Places.{IsProper};
 ghost use Rattle.rl_place.specs.Shapes.{shape_of, knobs_of};
@@ -41,7 +41,6 @@ fn told_by<C: ShardCore>(
 ) -> Result<String, OutOfMemory>
     requires proper { IsProper place.now }
     requires knobs { C.suits_knobs (shape_of place.now) (knobs_of place.now.lock) }
-    requires kind { C.name ≡ lock_under (name_of place.now.lock) }
     requires batches { C.batches ≡ does_batches (name_of place.now.lock) }
     requires calls { OpsFit (length place.now.paths) place.now.geom.shards ops }
     requires suits { SuitsLock place.now ops }

@@ -4,8 +4,6 @@
 ghost use Rattle.std.specs.Prelude.{◌≡◌, ◌<◌, ℕ, true, IfOk, IfSome, Some, replicate, slice_get, vec_len};
 ghost use Rattle.rl_model.specs.Call.{shard_of};
 ghost use Rattle.rl_model.specs.Geom.{GeomFits};
-ghost use Rattle.rl_step.specs.LockQueues.{lock_under};
-ghost use Rattle.rl_place.specs.LockWords.{name_of};
 ghost use Rattle.rl_place.specs.Places.{IsProper};
 ghost use Rattle.rl_place.specs.Shapes.{shape_of, knobs_of};
 ghost use Rattle.rl_cores.specs.Fresh.{IsFresh};
@@ -46,7 +44,6 @@ fn opened<C: ShardCore>(
 ) -> Result<(Shard<C>, Vec<Seat<C>>), OutOfMemory>
     requires proper { IsProper place.now }
     requires knobs { C.suits_knobs (shape_of place.now) (knobs_of place.now.lock) }
-    requires kind { C.name ≡ lock_under (name_of place.now.lock) }
     ensures shard { IfOk result (λ p. IsShardOf C.shard_table (vec_len p.1) p.0) }
     ensures seats { IfOk result (λ p. AreOf C.shard_table C.good C.layout p.0 p.1.items) }
     ensures fresh { IfOk result (λ p. (r : ℕ) (s : _) → slice_get p.1.items r ≡ Some s → IsFresh C.shard_table C.good C.layout place.now.geom 0 1 p.0 s) }
@@ -172,7 +169,6 @@ fn seats_told<C: ShardCore>(
 ) -> Result<String, OutOfMemory>
     requires proper { IsProper place.now }
     requires knobs { C.suits_knobs (shape_of place.now) (knobs_of place.now.lock) }
-    requires kind { C.name ≡ lock_under (name_of place.now.lock) }
 {
     let (shard, mut seats) = opened::<C>(alloc, place)?;
     begin_all(&shard, place.geom, &mut seats, calls);
@@ -357,7 +353,6 @@ where
     C::View: Send + Sync,
     requires proper { IsProper place.now }
     requires knobs { C.suits_knobs (shape_of place.now) (knobs_of place.now.lock) }
-    requires kind { C.name ≡ lock_under (name_of place.now.lock) }
 {
     let (shard, mut seats) = opened::<C>(alloc, place)?;
     begin_all(&shard, place.geom, &mut seats, calls);
