@@ -22,12 +22,6 @@ take_next xs i x get = rw add-one (more xs i get) where
 abbrev filled : List ℕ → ℕ → ℕ → List ℕ
 filled l i zeros = take i l ++ replicate zeros 0
 
-filled_length : (l : List ℕ) (i zeros : ℕ) → i ≤ length l → length (filled l i zeros) ≡ i + zeros
-filled_length l zero zero h = refl
-filled_length l zero (suc z) h = ap suc (filled_length l zero z h) ∙ omega arith
-filled_length [] (suc i) z h = absurd (omega arith)
-filled_length (x ∷ l) (suc i) z h = ap suc (filled_length l i z (omega arith)) ∙ omega arith
-
 filled_next : (l : List ℕ) (i zeros : ℕ) → i < length l → slice_set (filled l i (suc zeros)) i (slice_index l i) ≡ filled l (suc i) zeros
 filled_next [] i z h = absurd (omega arith)
 filled_next (x ∷ l) zero z h = refl
@@ -40,12 +34,6 @@ module _ (site : Site) (behind : ℕ) where
 
   pub opened_none : (n : ℕ) → n ≡ lock_base site + behind → replicate n 0 ≡ opened_to 0
   opened_none n e = let same : n ≡ lock_base site - 0 + behind = omega arith in ap (λ k. replicate k 0) same
-
-  pub opened_length : (word : ℕ) → word ≤ lock_base site → length (opened_to word) ≡ lock_base site + behind
-  opened_length word low =
-      let all : length (opening_words site) ≡ lock_base site = opening_size site in
-      let long = filled_length (opening_words site) word (lock_base site - word + behind) (omega arith) in
-      omega arith
 
   -- one word more
   pub opened_next : (word value : ℕ) → word < lock_base site → value ≡ slice_index (opening_words site) word → slice_set (opened_to word) word value ≡ opened_to (word + 1)

@@ -1,13 +1,14 @@
-//! A shard before its first block: where the words behind its journal begin, and the views of its ranks.
+//! A shard before its first block: its words, where those behind its journal begin, and the views of its ranks.
 
-ghost use Rattle.std.specs.Prelude.{◌≡◌, ◌<◌, ◌≤◌, ◌^◌, length, sum, IfOk};
+ghost use Rattle.std.specs.Prelude.{◌≡◌, ◌+◌, ◌<◌, ◌≤◌, ◌^◌, ◌++◌, length, replicate, sum, IfOk};
 ghost use Rattle.rl_model.specs.Geom.{GeomFits};
 ghost use Rattle.rl_work.specs.Site.{Site, lock_base};
+ghost use Rattle.rl_work.specs.WorkGood.{opening_words};
 ghost use Rattle.rl_asks.specs.ShardTables.{first_views};
 
 use crate::shard_core::ShardCore;
 use rl_model::Geom;
-use rl_work::journal_base;
+use rl_work::{journal_base, opening_word};
 use std::alloc::{AllocError as OutOfMemory, Global};
 
 /// How many words an entry of a journal takes.
@@ -30,6 +31,24 @@ pub fn lock_base<C: ShardCore>(core: &C) -> u32
     ensures { result ≡ lock_base (C.shard_table core.now).site }
 {
     journal_end(core.geom(), core.rooms())
+}
+
+/// The words of a shard: word 0 is 1, the volume is that of the empty table, and all else is 0. Refused only for want of
+/// memory.
+pub fn first_words<C: ShardCore>(alloc: Global, core: &C) -> Result<Vec<u64>, OutOfMemory>
+    requires fits { GeomFits (C.shard_table core.now).site.geom }
+    requires rooms { sum (C.shard_table core.now).site.rooms ≤ 20000 }
+    requires few { lock_base (C.shard_table core.now).site + (C.shard_table core.now).behind < 2 ^ 32 }
+    ensures { IfOk result (λ words. words.items ≡ opening_words (C.shard_table core.now).site ++ replicate (C.shard_table core.now).behind 0) }
+{
+    let geom = core.geom();
+    let base = lock_base(core);
+    let size = (base + core.words()) as usize;
+    let mut words = vec![in alloc; 0; size]?;
+    for word in 0..base {
+        words[word as usize] = opening_word(geom, word);
+    }
+    Ok(words)
 }
 
 /// The views of all ranks before their first block, each with room for so many entries. Refused only for want of memory.

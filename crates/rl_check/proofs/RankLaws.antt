@@ -11,7 +11,7 @@ use Rattle.rl_model.specs.declared.call.Call.{Call}
 use Rattle.rl_model.specs.declared.entry.Entry.{Entry}
 use Rattle.rl_model.specs.Asked.{Asked}
 use Rattle.rl_model.proofs.Counts.{count-cons}
-use Rattle.rl_journal.specs.Lists.{get_set_cases}
+use Rattle.rl_word.specs.Places.{get_set_cases}
 use Rattle.rl_ops.specs.Asked.{asked_of, asked_after}
 use Rattle.rl_check.specs.declared.slots.Slot.{Slot}
 use Rattle.rl_check.specs.declared.slots.Slot.TheVariants.{Empty, One, More}

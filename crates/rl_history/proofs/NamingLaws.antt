@@ -1,18 +1,15 @@
 -- A proper placement names things by plain words, no two queues by the same.
-use Rattle.std.proofs.Common.{◌≡◌, ℕ, zero, suc, ◌+◌, ◌-◌, ◌*◌, ◌^◌, ◌<◌, ◌≤◌, true, false, cond, List, [], ◌∷◌, ◌++◌, length, map, fold, replicate, take, codes, decimal, Some, ◌⊎◌, inl, inr, refl, sym, ap, subst, ◌∙◌, ⊎_elim, arith}
+use Rattle.std.proofs.Common.{◌≡◌, ℕ, zero, suc, ◌+◌, ◌-◌, ◌*◌, ◌^◌, ◌<◌, ◌≤◌, true, false, cond, List, [], ◌∷◌, ◌++◌, length, map, fold, take, codes, decimal, Some, ◌⊎◌, inl, inr, refl, sym, ap, subst, ◌∙◌, ⊎_elim, arith}
 use Rattle.std.specs.List.{AllByRecursion, list_any, slice_get, join_with_byte}
 use Rattle.std.specs.Str.{bytes_eq}
-use Rattle.std.specs.Str.Parse.{AllDigits}
 use Rattle.std.proofs.lemmas.Bool.{eq-eqb, ne_eqb}
-use Rattle.std.proofs.lemmas.Fmt.{digits_decimal}
-use Rattle.std.proofs.lemmas.List.{length-append, length-map, length-take-le, take-append-le}
+use Rattle.std.proofs.lemmas.List.{length-append, length-map, length-take-le}
 use Rattle.std.proofs.lemmas.Option.{same_Some}
 use Rattle.std.proofs.lemmas.Slice.Eq.{bytes_eq-Decides}
-use Rattle.std.proofs.lemmas.Str.Parse.{digit_at}
 use Rattle.rl_text.specs.Cut.{pieces}
 use Rattle.rl_text.specs.Number.{number_of}
-use Rattle.rl_text.proofs.Decimals.{own, number_of-decimal}
-use Rattle.rl_text.proofs.TextLaws.{HasNo, pieces-join, is_plain}
+use Rattle.rl_text.proofs.Decimals.{number_of-decimal}
+use Rattle.rl_text.proofs.TextLaws.{pieces-join, is_plain}
 use Rattle.rl_text.proofs.WordLaws.{decimal-no_word}
 use Rattle.rl_word.specs.Places.{get_map_back}
 use Rattle.rl_place.specs.declared.path.Path.{Path}
@@ -22,8 +19,8 @@ use Rattle.rl_place.specs.LockWords.{lock_word, name_of}
 use Rattle.rl_place.specs.Paths.{IsPath, root_path, path_of, path_word, prefix}
 use Rattle.rl_place.specs.Numbering.{same_path, seen_after, prefixes_to, elements_after, element_paths}
 use Rattle.rl_place.specs.Places.{ThePlace, IsProper}
-use Rattle.rl_place.proofs.PathLaws.{all-fit, numbers_in-path, plain-path}
-use Rattle.rl_place.proofs.PrefixLaws.{IsTrim, trim-path}
+use Rattle.rl_place.proofs.PathLaws.{all-fit, no_dots, numbers_in-path, plain-path}
+use Rattle.rl_place.proofs.PrefixLaws.{IsTrim, front_path, trim-path}
 use Rattle.rl_place.proofs.NumberingLaws.{IsFrom, ElementsAre, elements-are}
 use Rattle.rl_history.specs.Naming.{TheQueueName, element_word, element_queue, element_queues, lone_queue, queue_names, cohort_names, naming_of}
 use Rattle.rl_history.proofs.EventLaws.{IsNaming}
@@ -66,14 +63,6 @@ few_queues place proper = by place.lock where
   by (lock.Combine local remote) = omega arith
 
 -- ---- a path's word tells its numbers
-
-digits_no_dot : (ds : List ℕ) → AllDigits 10 ds → HasNo 46 ds
-digits_no_dot [] h = tt
-digits_no_dot (d ∷ ds) h = let digit = digit_at (d ∷ ds) 0 h (omega arith) in (ne_eqb d 46 (λ e. omega (arith, digit.0, e)), digits_no_dot ds h.1)
-
-no_dots : (numbers : List ℕ) → AllByRecursion (λ n. n < 2 ^ 64) numbers → AllByRecursion (HasNo 46) (map decimal numbers)
-no_dots [] h = tt
-no_dots (n ∷ numbers) h = (digits_no_dot (decimal n) (digits_decimal own n h.0), no_dots numbers h.1)
 
 -- the pieces of a path's word
 pieces-path : (levels : ℕ) (p : Path) → 1 ≤ levels → (proper : IsPath levels p) → pieces 46 (path_word p) ≡ map decimal proper.numbers
@@ -121,16 +110,6 @@ take_small : (k : ℕ) (ns : List ℕ) → AllByRecursion (λ part. part ≤ 999
 take_small zero ns h = tt
 take_small (suc k) [] h = tt
 take_small (suc k) (n ∷ ns) h = (h.0, take_small k ns h.1)
-
--- the first numbers of a path are those of its front
-front_path : (ns : List ℕ) (k : ℕ) → k ≤ length ns → prefix (path_of ns) k ≡ path_of (take k ns)
-front_path ns k h =
-    let count : length (take k ns) ≡ k = length-take-le k ns h in
-    let front : take k (ns ++ replicate (3 - length ns) 0) ≡ take k ns = take-append-le k ns (replicate (3 - length ns) 0) h in
-    both k (length (take k ns)) (take k (ns ++ replicate (3 - length ns) 0)) (take k ns) (sym count) front
-  where
-    both : (m n : ℕ) (xs ys : List ℕ) → m ≡ n → xs ≡ ys → ◌≡◌ {A = Path} (record { len = m; parts = xs ++ replicate (3 - m) 0 }) (record { len = n; parts = ys ++ replicate (3 - n) 0 })
-    both m n xs ys e f = rw (e, f) refl
 
 pub all_paths : (levels : ℕ) (paths : List Path) (r : ℕ) (p : Path) → AllByRecursion (λ path. IsPath levels path) paths → slice_get paths r ≡ Some p → IsPath levels p
 all_paths levels [] r p all get = absurd (cc)

@@ -1,7 +1,6 @@
 //! Printing a report.
 ghost use Rattle.std.specs.Prelude.{◌≡◌, ℕ, ◌++◌, ◌∷◌, [], codes, decimal, map, length, slice_get, Ok, IfOk, OnErr, OnOk};
 ghost use Rattle.rl_text.specs.Spelling.{line_text, text_of};
-ghost use Rattle.rl_step.specs.Answers.{steps_made};
 ghost use Rattle.rl_place.specs.Places.{IsProper};
 ghost use Rattle.rl_history.specs.Naming.{naming_of, word_of, queue_word, member_word, cohort_word};
 ghost use Rattle.rl_history.specs.Reports.{ReportFits};
@@ -239,17 +238,6 @@ fn put_ranks(out: &mut Vec<u8>, ranks: &[Done]) -> Result<(), OutOfMemory>
     Ok(())
 }
 
-// How many steps were made.
-fn all_steps(steps: Steps) -> u64
-    ensures { result ≡ steps_made steps }
-{
-    u64::from(steps.moved)
-        + u64::from(steps.waiting)
-        + u64::from(steps.lost)
-        + u64::from(steps.busy)
-        + u64::from(steps.finished)
-}
-
 // `lost L busy Z finished F`.
 fn put_last_steps(out: &mut Vec<u8>, steps: Steps) -> Result<(), OutOfMemory>
     ensures { OnOk result (out.new.items ≡ out.old.items ++ spaced (last_steps_words steps)) }
@@ -263,7 +251,7 @@ fn put_last_steps(out: &mut Vec<u8>, steps: Steps) -> Result<(), OutOfMemory>
 fn put_steps(out: &mut Vec<u8>, steps: Steps) -> Result<(), OutOfMemory>
     ensures { OnOk result (out.new.items ≡ out.old.items ++ line_text (steps_words steps)) }
 {
-    put_first(out, b"steps", all_steps(steps))?;
+    put_first(out, b"steps", steps.made())?;
     put_named(out, b"moved", u64::from(steps.moved))?;
     put_named(out, b"waiting", u64::from(steps.waiting))?;
     put_last_steps(out, steps)?;

@@ -4,27 +4,6 @@ use Rattle.std.proofs.Common.{sym, ◌∙◌, ap, subst, inl, inr, ⊎_elim, ari
 use Rattle.std.proofs.lemmas.List.Elements.{All-cons, All-nil, All-head, All-tail}
 use Rattle.std.proofs.lemmas.Option.{same_Some, slice_get_within, get_or_from_slice_get}
 
--- after a write at r, an element stands at r and is the new one, or stands elsewhere and is an old one
-pub get_set_cases : {X : Type 0} (xs : List X) (r i : ℕ) (w u : X) → slice_get (slice_set xs r w) i ≡ Some u → ((i ≡ r) × (u ≡ w)) ⊎ ((i ≢ r) × (slice_get xs i ≡ Some u))
-get_set_cases [] r i w u h = cc
-get_set_cases (x ∷ xs) zero zero w u h = inl (refl, sym (same_Some _ _ h))
-get_set_cases (x ∷ xs) zero (suc i) w u h = inr (λ e. cc, h)
-get_set_cases (x ∷ xs) (suc r) zero w u h = inr (λ e. cc, h)
-get_set_cases (x ∷ xs) (suc r) (suc i) w u h =
-    ⊎_elim (λ p. inl (ap suc p.0, p.1)) (λ p. inr (λ e. p.0 (grind arith), p.1)) (get_set_cases xs r i w u h)
-
--- at the place of a write that was there stands what was written
-pub get_set_same : {X : Type 0} (xs : List X) (r : ℕ) (v w : X) → slice_get xs r ≡ Some v → slice_get (slice_set xs r w) r ≡ Some w
-get_set_same [] r v w h = cc
-get_set_same (x ∷ xs) zero v w h = refl
-get_set_same (x ∷ xs) (suc r) v w h = get_set_same xs r v w h
-
--- a write of what stands there changes nothing
-pub set_same_get : {X : Type 0} (xs : List X) (r : ℕ) (v : X) → slice_get xs r ≡ Some v → slice_set xs r v ≡ xs
-set_same_get [] r v h = refl
-set_same_get (x ∷ xs) zero v h = ap (λ z. z ∷ xs) (sym (same_Some _ _ h))
-set_same_get (x ∷ xs) (suc r) v h = ap (λ zs. x ∷ zs) (set_same_get xs r v h)
-
 -- a place within a list has an element
 pub some_at : {X : Type 0} (xs : List X) (r : ℕ) → r < length xs → (v : X) × (slice_get xs r ≡ Some v)
 some_at [] r h = absurd (omega arith)

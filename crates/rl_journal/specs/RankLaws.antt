@@ -10,7 +10,8 @@ use Rattle.rl_model.specs.declared.geom.Geom.{Geom}
 use Rattle.rl_model.specs.Call.{shard_of}
 use Rattle.rl_model.proofs.Counts.{count-append, count-cons}
 use Rattle.rl_journal.specs.Ranks.{IsOwn, IsInOrder, count_in, Asked, IsEntryOf, IsRankInOrder, AreAsked}
-use Rattle.rl_journal.specs.Lists.{get_set_cases, get_set_same, set_same_get, get_left}
+use Rattle.rl_word.specs.Places.{get_set_cases, get_set_same, set_same_get}
+use Rattle.rl_journal.specs.Lists.{get_left}
 
 -- the counts over all lists, where one list has one entry more
 count_more : (test : Entry → Bool) (ts : List (List Entry)) (s : ℕ) (t : List Entry) (e : Entry) → slice_get ts s ≡ Some t → count_in test (slice_set ts s (t ++ e ∷ [])) ≡ count_in test ts + cond (test e) 1 0

@@ -3,33 +3,13 @@
 ghost use Rattle.std.specs.Prelude.{◌≡◌, ◌+◌, ◌<◌, ◌≤◌, ◌^◌, length, sum, IfOk};
 ghost use Rattle.rl_model.specs.Geom.{GeomFits};
 ghost use Rattle.rl_work.specs.Site.{lock_base};
-ghost use Rattle.rl_asks.specs.ShardTables.{opening_held};
 ghost use Rattle.rl_machine.specs.Start.{first_shard};
 ghost use Rattle.rl_machine.specs.State.{running_shard};
 
 use crate::shard::ShardState;
-use rl_asks::{ShardCore, first_views, lock_base};
+use rl_asks::{ShardCore, first_views, first_words};
 use rl_step::{Flat, Words};
-use rl_word::Atom;
-use rl_work::opening_word;
 use std::alloc::{AllocError as OutOfMemory, Global};
-
-/// The words and cards of a shard: word 0 is 1, the volume is that of the empty table, and all else is 0.
-fn first_words<C: ShardCore>(alloc: Global, core: &C, nodes: u32) -> Result<Words, OutOfMemory>
-    requires fits { GeomFits (C.shard_table core.now).site.geom }
-    requires rooms { sum (C.shard_table core.now).site.rooms ≤ 20000 }
-    requires few { lock_base (C.shard_table core.now).site + (C.shard_table core.now).behind < 2 ^ 32 }
-    ensures { IfOk result (λ w. w ≡ opening_held (C.shard_table core.now).site (C.shard_table core.now).behind nodes) }
-{
-    let geom = core.geom();
-    let base = lock_base(core);
-    let mut words = Words::new(alloc, base + core.words(), nodes)?;
-    for word in 0..base {
-        let value = opening_word(geom, word);
-        words.apply(0, 0, Atom::Store { word, value });
-    }
-    Ok(words)
-}
 
 /// A shard's list of events has room for so many of each call at first. Few calls have more, and room in which nothing is put costs
 /// nothing, while a list that grows is copied.
@@ -58,7 +38,7 @@ pub fn opening<C: ShardCore>(
     ensures made { IfOk result (λ s. running_shard C.shard_table s ≡ first_shard (C.shard_table core) nodes rooms.now) }
     ensures core { IfOk result (λ s. s.core ≡ core) }
 {
-    let words = first_words(alloc, &core, nodes)?;
+    let words = Words::holding(alloc, first_words(alloc, &core)?, nodes)?;
     let views = first_views(alloc, &core, rooms)?;
     Ok(ShardState {
         core,

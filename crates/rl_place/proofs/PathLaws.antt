@@ -108,7 +108,8 @@ digits_no_dot : (ds : List ℕ) → AllDigits 10 ds → HasNo 46 ds
 digits_no_dot [] h = tt
 digits_no_dot (d ∷ ds) h = let digit = digit_at (d ∷ ds) 0 h (omega arith) in (ne_eqb d 46 (λ e. omega (arith, digit.0, e)), digits_no_dot ds h.1)
 
-no_dots : (numbers : List ℕ) → AllByRecursion (λ n. n < 2 ^ 64) numbers → AllByRecursion (HasNo 46) (map decimal numbers)
+-- no number's digits have a dot
+pub no_dots : (numbers : List ℕ) → AllByRecursion (λ n. n < 2 ^ 64) numbers → AllByRecursion (HasNo 46) (map decimal numbers)
 no_dots [] h = tt
 no_dots (n ∷ numbers) h = (digits_no_dot (decimal n) (digits_decimal own n h.0), no_dots numbers h.1)
 

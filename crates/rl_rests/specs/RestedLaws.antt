@@ -12,6 +12,7 @@ use Rattle.rl_step.specs.declared.events.Stepped.{Stepped}
 use Rattle.rl_step.specs.declared.events.Stepped.TheVariants.{Moved, Waiting, Lost, Busy, Finished}
 use Rattle.rl_step.specs.declared.tallies.Steps.{Steps}
 use Rattle.rl_step.specs.Answers.{steps_made}
+use Rattle.rl_step.specs.CoreLemmas.{length-do_words}
 use Rattle.rl_step.specs.Do.{TheWindow, do_words, do_cards, do_got}
 use Rattle.rl_asks.specs.declared.round.Round.{Round}
 use Rattle.rl_asks.specs.Asks.{block_shard, place_after}
@@ -29,19 +30,10 @@ use Rattle.rl_rests.specs.declared.last_rest.LastRest.{LastRest}
 use Rattle.rl_rests.specs.declared.last_rest.LastRest.TheVariants as last
 use Rattle.rl_rests.specs.Rested.{Rested, AllRested, KeepsNotes, IsForgotten}
 
--- an atom doesn't change how many words and cards there are
+-- an atom doesn't change how many cards there are
 length_either : (xs ys : List ℕ) (b : Bool) → length ys ≡ length xs → length (if b then ys else xs) ≡ length xs
 length_either xs ys true e = e
 length_either xs ys false e = refl
-
-length-do_words : (at : Atom) (ws : List ℕ) → length (do_words at ws) ≡ length ws
-length-do_words (atom.Load w) ws = refl
-length-do_words (atom.Store w v) ws = length-set ws w v
-length-do_words (atom.LocalCas w old new) ws = length_either ws (slice_set ws w new) (slice_index ws w == old) (length-set ws w new)
-length-do_words (atom.Take n) ws = refl
-length-do_words (atom.CardLoad w) ws = refl
-length-do_words (atom.CardStore w v) ws = length-set ws w v
-length-do_words (atom.Leave n) ws = refl
 
 length-do_cards : (j : ℕ) (at : Atom) (cs : List ℕ) → length (do_cards j at cs) ≡ length cs
 length-do_cards j (atom.Load w) cs = refl

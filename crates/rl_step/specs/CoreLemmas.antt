@@ -1,14 +1,28 @@
 -- Lemmas on what an atom of a core needs and changes.
-use Rattle.std.specs.Prelude.{◌≡◌, ℕ, ◌<◌, ◌^◌, List, length, get_or, slice_get, slice_set, Option, Some, refl}
+use Rattle.std.specs.Prelude.{◌≡◌, ℕ, ◌<◌, ◌^◌, ◌==◌, Bool, true, false, if◌then◌else◌, List, length, get_or, slice_get, slice_index, slice_set, Option, Some, refl}
 use Rattle.std.proofs.Common.{subst, sym, ap, ◌∙◌}
+use Rattle.std.proofs.lemmas.List.{length-set}
 use Rattle.std.proofs.lemmas.Option.{same_Some, slice_get-get_or, get_or_from_slice_get}
 use Rattle.rl_word.specs.declared.acts.Atom.{Atom}
 use Rattle.rl_word.specs.declared.acts.Atom.TheVariants.{Load, Store, LocalCas, Take, CardLoad, CardStore, Leave}
 use Rattle.rl_step.specs.declared.events.Event.{Event}
 use Rattle.rl_step.specs.declared.events.Stepped.{Stepped}
 use Rattle.rl_step.specs.declared.events.Stepped.TheVariants.{Finished}
-use Rattle.rl_step.specs.Do.{TheWindow, do_atom, do_got, CanDo}
+use Rattle.rl_step.specs.Do.{TheWindow, do_words, do_atom, do_got, CanDo}
 use Rattle.rl_step.specs.Core.{CoreTable, CoreLaws, Plans, MayGet, Performs, MadeFlat, card_word_of}
+
+-- an atom doesn't change how many words there are
+pub length-do_words : (at : Atom) (ws : List ℕ) → length (do_words at ws) ≡ length ws
+length-do_words (Load w) ws = refl
+length-do_words (Store w v) ws = length-set ws w v
+length-do_words (LocalCas w old new) ws = either (slice_index ws w == old) where
+  either : (b : Bool) → length (if b then slice_set ws w new else ws) ≡ length ws
+  either true = length-set ws w new
+  either false = refl
+length-do_words (Take n) ws = refl
+length-do_words (CardLoad w) ws = refl
+length-do_words (CardStore w v) ws = length-set ws w v
+length-do_words (Leave n) ws = refl
 
 -- the word of a card load or store is there
 pub card_word_there : (home rank : ℕ) (at : Atom) (ws cs : List ℕ) (w : ℕ) → CanDo home rank at ws cs → card_word_of at ≡ Some w → w < length ws

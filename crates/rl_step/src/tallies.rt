@@ -50,4 +50,15 @@ impl Steps {
             Stepped::Finished => self.finished += 1,
         }
     }
+
+    /// How many steps were counted.
+    pub fn made(self) -> u64
+        ensures { result ≡ steps_made self }
+    {
+        u64::from(self.moved)
+            + u64::from(self.waiting)
+            + u64::from(self.lost)
+            + u64::from(self.busy)
+            + u64::from(self.finished)
+    }
 }

@@ -27,8 +27,15 @@ impl Words {
     pub fn new(alloc: Global, words: u32, nodes: u32) -> Result<Words, OutOfMemory>
         ensures { IfOk result (λ w. w ≡ record { words = replicate words 0; cards = replicate nodes 0 }) }
     {
+        Words::holding(alloc, vec![in alloc; 0; words as usize]?, nodes)
+    }
+
+    /// A window that holds these values, with a free card for each of so many nodes.
+    pub fn holding(alloc: Global, values: Vec<u64>, nodes: u32) -> Result<Words, OutOfMemory>
+        ensures { IfOk result (λ w. w ≡ record { words = values.items; cards = replicate nodes 0 }) }
+    {
         Ok(Words {
-            words: vec![in alloc; 0; words as usize]?,
+            words: values,
             cards: vec![in alloc; 0; nodes as usize]?,
         })
     }

@@ -13,11 +13,12 @@ use Rattle.rl_step.specs.declared.events.Standing.{Standing}
 use Rattle.rl_step.specs.declared.events.Standing.TheVariants as standing
 use Rattle.rl_step.specs.declared.events.Stepped.TheVariants.{Moved, Busy}
 use Rattle.rl_step.specs.Lock.{Shift, holds_only}
+use Rattle.rl_step.specs.CoreLemmas.{length-do_words}
 use Rattle.rl_step.specs.Do.{do_words, do_cards}
 use Rattle.rl_work.specs.Site.{lock_base}
 use Rattle.rl_work.specs.Ways.{SameWork, IsWorkWord, IsWorkAtom}
 use Rattle.rl_whole.specs.Running.{LockAt}
-use Rattle.rl_whole.specs.ShiftLaws.{IsLow, above_stays, length-do_words}
+use Rattle.rl_whole.specs.ShiftLaws.{IsLow, above_stays}
 use Rattle.rl_whole.specs.declared.card_state.CardState.{CardState}
 use Rattle.rl_whole.specs.declared.card_state.CardState.TheVariants.{Free, InCard, Loaded, ToLeave}
 use Rattle.rl_whole.specs.declared.effect.Effect.{Effect}

@@ -1,6 +1,6 @@
 -- The lock's atoms on the window, whose last words are the lock's.
 use Rattle.std.specs.Prelude.{◌≡◌, ℕ, ◌+◌, ◌-◌, ◌<◌, ◌≤◌, ◌==◌, Bool, true, false, List, [], ◌∷◌, zero, suc, length, take, drop, if◌then◌else◌, nat_lt, slice_index, slice_set, refl}
-use Rattle.std.proofs.Common.{sym, ◌∙◌, ap, subst, arith, length-drop, length-take, length-set, get_or-drop, get_or-set_other}
+use Rattle.std.proofs.Common.{sym, ◌∙◌, ap, subst, arith, length-drop, length-take, get_or-drop, get_or-set_other}
 use Rattle.std.proofs.lemmas.List.{drop-set-add, get_or-take}
 use Rattle.std.proofs.lemmas.Bool.Decides.{nat_tests}
 use Rattle.rl_word.specs.declared.acts.Atom.{Atom}
@@ -44,18 +44,6 @@ shift_got base (atom.Take n) ws cs = refl
 shift_got base (atom.CardLoad w) ws cs = sym (get_or-drop base ws w 0)
 shift_got base (atom.CardStore w v) ws cs = refl
 shift_got base (atom.Leave n) ws cs = refl
-
-pub length-do_words : (at : Atom) (ws : List ℕ) → length (do_words at ws) ≡ length ws
-length-do_words (atom.Load w) ws = refl
-length-do_words (atom.Store w v) ws = length-set ws w v
-length-do_words (atom.LocalCas w old new) ws = either (slice_index ws w == old) where
-  either : (b : Bool) → length (if b then slice_set ws w new else ws) ≡ length ws
-  either true = length-set ws w new
-  either false = refl
-length-do_words (atom.Take n) ws = refl
-length-do_words (atom.CardLoad w) ws = refl
-length-do_words (atom.CardStore w v) ws = length-set ws w v
-length-do_words (atom.Leave n) ws = refl
 
 pub there : (base w : ℕ) (ws : List ℕ) → w < length (drop base ws) → base + w < length ws
 there base w ws h = omega (arith, length-drop base ws)

@@ -16,6 +16,7 @@ use Rattle.rl_step.specs.declared.events.Standing.TheVariants as standing
 use Rattle.rl_step.specs.declared.events.Stepped.{Stepped}
 use Rattle.rl_step.specs.declared.events.Stepped.TheVariants.{Finished}
 use Rattle.rl_step.specs.Lock.{LockTable, LockState, LockLaws, Deed, IsHolder, Rests, Suits, holds_only}
+use Rattle.rl_step.specs.CoreLemmas.{length-do_words}
 use Rattle.rl_step.specs.Do.{TheWindow, do_got, do_atom, do_words, CanDo}
 use Rattle.rl_step.specs.Core.{CoreLaws, Turned, home_at}
 use Rattle.rl_work.specs.declared.follow.Follow.{Follow}
@@ -31,7 +32,7 @@ use Rattle.rl_whole.specs.Split.{SplitState, SideTurned, Past, LockGood, lock_of
 use Rattle.rl_whole.specs.SplitLaws.{atom_keeps, atom_can, split_at, none_at}
 use Rattle.rl_whole.specs.AnswerLaws.{atom_goes_on}
 use Rattle.rl_whole.specs.CallLaws.{work_keeps, modes_after}
-use Rattle.rl_whole.specs.ShiftLaws.{IsLow, can_low, lock_words_made, lock_got, shift_cards, shift_home, there, length-do_words}
+use Rattle.rl_whole.specs.ShiftLaws.{IsLow, can_low, lock_words_made, lock_got, shift_cards, shift_home, there}
 use Rattle.rl_whole.specs.Bridge.{Moves, leaves_more, moves_leaves, is_work, no_work, IsOffLock, off_lock, same_work}
 use Rattle.rl_whole.specs.LearnLaws.{moves_by}
 use Rattle.rl_whole.specs.Whole.{side_of, shifted, lock_words, lock_or_work, work_plan, next_of, after_of, effect_turned, whole_turned, work_turned, work_events, touch_by, departure_by, followed, left_by, home_of_word, whole_table, split_of, work_side, counts, leaves, one_if, made_deeds, Good}

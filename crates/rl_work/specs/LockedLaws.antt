@@ -1,6 +1,6 @@
 -- Each block under its lock keeps the laws of a way of working.
-use Rattle.std.specs.Prelude.{◌≡◌, ℕ, zero, suc, ◌+◌, ◌<◌, ◌≤◌, ◌==◌, Bool, true, false, not, ◌&&◌, cond, List, [], ◌∷◌, length, replicate, count_by, take, slice_get, slice_index, slice_set, Some, None, refl}
-use Rattle.std.proofs.Common.{sym, ◌∙◌, ap, subst, inl, inr, ⊎_elim, arith, length-set, length-take}
+use Rattle.std.specs.Prelude.{◌≡◌, ℕ, zero, suc, ◌+◌, ◌<◌, ◌≤◌, ◌==◌, Bool, true, false, not, ◌&&◌, cond, List, [], ◌∷◌, length, replicate, count_by, take, slice_get, slice_set, Some, None, refl}
+use Rattle.std.proofs.Common.{sym, ◌∙◌, ap, subst, inl, inr, ⊎_elim, arith, length-take}
 use Rattle.std.proofs.lemmas.List.{length-map, take_at, get_or-take, append-nil}
 use Rattle.std.proofs.lemmas.Bool.Decides.{nat_tests}
 use Rattle.std.specs.FinMap as finite
@@ -17,6 +17,7 @@ use Rattle.rl_model.proofs.Counts.{count-append, count-cons}
 use Rattle.rl_step.specs.declared.events.Standing.{Standing}
 use Rattle.rl_step.specs.declared.events.Standing.TheVariants.{Out, Asking, Writer, Reader, Leaving}
 use Rattle.rl_step.specs.Lock.{IsHolder, Rests, Suits}
+use Rattle.rl_step.specs.CoreLemmas.{length-do_words}
 use Rattle.rl_step.specs.Do.{do_got, do_words, CanDo}
 use Rattle.rl_step.specs.Core.{home_at}
 use Rattle.rl_volume.specs.Volume.{IsVolume}
@@ -89,18 +90,6 @@ block_counts shares st (e ∷ es) h some rises s = omega (arith, count-cons (is_
   by_standing Writer h s = ap (λ b. cond {A = ℕ} b 1 0) (writer_counts shares e (calls_of es) rises.0 s)
   by_standing Reader h s = ap (λ b. cond {A = ℕ} b 1 0) (reader_counts shares e (calls_of es) rises.0 s)
   by_standing Leaving h s = absurd h
-
-length-do_words : (at : Atom) (ws : List ℕ) → length (do_words at ws) ≡ length ws
-length-do_words (atom.Load w) ws = refl
-length-do_words (atom.Store w v) ws = length-set ws w v
-length-do_words (atom.LocalCas w old new) ws = either (slice_index ws w == old) where
-  either : (b : Bool) → length (cond b (slice_set ws w new) ws) ≡ length ws
-  either true = length-set ws w new
-  either false = refl
-length-do_words (atom.Take n) ws = refl
-length-do_words (atom.CardLoad w) ws = refl
-length-do_words (atom.CardStore w v) ws = length-set ws w v
-length-do_words (atom.Leave n) ws = refl
 
 -- an atom that can be made on the first words of a list is made on them alone
 take_set_in : (n : ℕ) (l : List ℕ) (i v : ℕ) → i < n → take n (slice_set l i v) ≡ slice_set (take n l) i v

@@ -1,6 +1,5 @@
 //! Laps: the ranks of a machine take turns, one step each, again and again.
 ghost use Rattle.std.specs.Prelude.{◌≡◌, true, ◌≤◌, ◌<◌, length, IfOk};
-ghost use Rattle.rl_step.specs.Answers.{steps_made};
 ghost use Rattle.rl_machine.specs.Running.{running};
 ghost use Rattle.rl_rests.specs.Rested.{AllRested};
 ghost use Rattle.rmalock.specs.Laps.{has_work as has_work_at, any_has_work as any_has_work_at, may_step as may_step_at, goes_on as goes_on_at, turns, all_laps};
@@ -8,19 +7,7 @@ ghost use Rattle.rmalock.specs.Laps.{has_work as has_work_at, any_has_work as an
 use rl_asks::{Resting, ShardCore};
 use rl_machine::Machine;
 use rl_rests::{LastRest, no_rests, take_steps};
-use rl_step::Steps;
 use std::alloc::{AllocError as OutOfMemory, Global};
-
-/// How many steps were made.
-fn steps_made(steps: Steps) -> u64
-    ensures { result ≡ steps_made steps }
-{
-    u64::from(steps.moved)
-        + u64::from(steps.waiting)
-        + u64::from(steps.lost)
-        + u64::from(steps.busy)
-        + u64::from(steps.finished)
-}
 
 /// Whether a rank has an open call, or one left.
 #[tactic(auto, using(crate::proofs::LapLaws::or_false, crate::proofs::LapLaws::or_true))]
@@ -48,7 +35,7 @@ fn any_has_work<C: ShardCore>(machine: &Machine<C>, ranks: u32) -> bool
 fn may_step<C: ShardCore>(machine: &Machine<C>, most: u32) -> bool
     ensures { result ≡ may_step_at most (running C.shard_table machine.now) }
 {
-    steps_made(machine.steps()) < u64::from(most)
+    machine.steps().made() < u64::from(most)
 }
 
 /// Whether another lap is made, of all ranks and at most so many steps.

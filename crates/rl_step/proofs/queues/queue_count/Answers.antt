@@ -1,5 +1,5 @@
 -- A tree has a queue for each of its elements.
-use Rattle.std.proofs.Common.{◌≡◌, ℕ, length, None, Some, ap, sym, ◌∙◌, ⊎_elim, rules}
+use Rattle.std.proofs.Common.{◌≡◌, length, None, Some, ap, sym, ◌∙◌, ⊎_elim, rules}
 use Rattle.rl_word.specs.Shapes.{TheShape}
 use Rattle.rl_word.specs.declared.locks.LockName.{LockName}
 use Rattle.rl_step.specs.LockQueues.{queues_of}

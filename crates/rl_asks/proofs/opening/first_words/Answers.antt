@@ -3,7 +3,7 @@ use Rattle.std.proofs.Common.{◌≡◌, ◌+◌, ◌<◌, slice_index, slice_se
 use Rattle.rl_work.specs.Site.{lock_base}
 use Rattle.rl_work.specs.WorkGood.{opening_words}
 use Rattle.rl_asks.specs.Filling.{opened_none, opened_next, opened_all}
-use Rattle.rl_shard.proofs.opening.first_words.Goals as goal
+use Rattle.rl_asks.proofs.opening.first_words.Goals as goal
 
 pub loop-word-init : goal.loop-word-init
 loop-word-init g c =
