@@ -1,9 +1,8 @@
 //! Worked cases of `check`, with values from its definition.
 
-use crate::offline::offline;
-use crate::program::rmalock;
 use crate::tests::{HELD_ONCE, ONE_HOLD, ONE_RANK, named, words};
 use rl_io::{FixedSink, OpenGate, SureFiles};
+use rl_program::{offline, rmalock};
 use std::alloc::AllocError as OutOfMemory;
 use std::sync::Wait;
 use std::test::*;

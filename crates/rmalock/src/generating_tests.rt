@@ -1,8 +1,8 @@
 //! Placements and calls made from numbers, worked out by hand.
 
-use crate::generating::{Generator, generate};
 use rl_model::Call;
 use rl_place::{Lock, Path};
+use rl_program::generate;
 use std::test::*;
 
 /// The path of a node at the first level.
@@ -13,14 +13,8 @@ fn node(number: u32) -> Path {
     }
 }
 
-#[test]
-fn draws_of_one(rt: HostRuntime) {
-    let mut generator = Generator::new(1);
-    for high_bits in [16838, 5758, 10113, 17515, 31051] {
-        assert_eq!(rt; generator.draw(32_768), high_bits);
-    }
-}
-
+/// The generator that begins with 1 has the high bits 16838, 5758, 10113, 17515 and 31051: an add (16838 mod 8 is 6) of key 58 by 113, and
+/// a get (17515 mod 8 is 3) of key 51.
 #[test]
 fn two_calls_of_one_rank(rt: HostRuntime) {
     let (place, ops) = generate(rt.alloc(), 1, 1, 2).expect(&rt, "memory");

@@ -1,39 +1,24 @@
-//! The program.
+//! The program: the command line, the files and the output of the machine that it runs on, given to `rl_program`. The rest are its tests.
 #![tactic(auto)]
 
-mod answer;
 #[cfg(test)]
 mod caller_tests;
 #[cfg(test)]
 mod check_tests;
-mod checking;
-mod command;
-mod complaint;
-mod counts;
-mod generating;
 #[cfg(test)]
 mod generating_tests;
-mod laps;
 #[cfg(test)]
 mod library_tests;
 #[cfg(test)]
 mod lock_tests;
-mod making;
-mod offline;
-mod program;
-mod replaying;
 #[cfg(test)]
 mod report_tests;
-mod reporting;
 #[cfg(test)]
 mod robust_tests;
 #[cfg(test)]
 mod run_tests;
-mod running;
 #[cfg(test)]
 mod seat_tests;
-mod showing;
-mod summary;
 #[cfg(test)]
 mod tests;
 #[cfg(test)]
@@ -41,8 +26,8 @@ mod trials;
 #[cfg(test)]
 mod way_tests;
 
-use crate::program::rmalock;
 use rl_io::{OpenGate, RealFiles, RealOut};
+use rl_program::rmalock;
 use rl_replay::{say_why, words};
 use std::alloc::AllocError as OutOfMemory;
 use std::process::ExitCode;

@@ -1,12 +1,12 @@
 //! Reads and writes that fail, files that aren't there, and files that are cut off, spoilt or as long as they may be.
 ghost use Rattle.std.specs.Prelude.{◌≤◌};
 
-use crate::offline::offline;
 use crate::tests::{
     FAR_RANK, HELD_ONCE, NINE_STEPS, ONE_HOLD, ONE_RANK, files, look, named, replay_held,
     replay_of, run_through, words,
 };
 use rl_io::{FixedSink, MemFiles, MemSink, OpenGate, SureFiles};
+use rl_program::offline;
 use std::alloc::AllocError as OutOfMemory;
 use std::sync::Wait;
 use std::test::*;

@@ -1,9 +1,8 @@
 //! Worked cases of the program, with values from its definition.
 ghost use Rattle.std.specs.Prelude.{IsTrue};
 
-use crate::offline::offline;
-use crate::program::rmalock;
 use rl_io::{FixedSink, Gate, Sink, Source, SureFiles};
+use rl_program::{offline, rmalock};
 use std::alloc::AllocError as OutOfMemory;
 use std::process::Abort;
 use std::sync::Wait;

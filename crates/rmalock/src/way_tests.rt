@@ -3,13 +3,12 @@
 
 use crate::check_tests::legal;
 use crate::library_tests::journal_of;
-use crate::offline::offline;
-use crate::program::rmalock;
 use crate::run_tests::{read_own_writes, run_led_often};
 use crate::seat_tests::trial_and_seats;
 use crate::tests::{look, named, replay_of, words};
 use rl_io::{FixedSink, MemFiles, OpenGate};
 use rl_model::{Call, Entry, Reply};
+use rl_program::{offline, rmalock};
 use std::alloc::AllocError as OutOfMemory;
 use std::process::Abort;
 use std::sync::Wait;

@@ -1,0 +1,110 @@
+-- A sound run of a placement's lock keeps all that is promised of a replay.
+use Rattle.std.proofs.Common.{◌≡◌, ℕ, ◌<◌, List, [], length, get_or, ap, sym, subst, ◌∙◌}
+use Rattle.std.proofs.lemmas.List.{length-map}
+use Rattle.rl_word.specs.Shapes.{TheShape}
+use Rattle.rl_word.specs.declared.shapes.Knobs.{Knobs}
+use Rattle.rl_word.specs.declared.locks.LockName.{LockName}
+use Rattle.rl_model.specs.declared.geom.Geom.{Geom}
+use Rattle.rl_journal.specs.Legal.{IsLegal}
+use Rattle.rl_journal.specs.History.{IsReplay}
+use Rattle.rl_journal.specs.Ranks.{IsRankInOrder}
+use Rattle.rl_step.specs.LockQueues.{lock_under}
+use Rattle.rl_history.proofs.QueueLaws.{under_queues}
+use Rattle.rl_place.specs.LockWords.{name_of}
+use Rattle.rl_place.specs.Places.{ThePlace}
+use Rattle.rl_place.specs.Shapes.{shape_of, knobs_of}
+use Rattle.rl_ops.specs.declared.ops.Ops.{Ops}
+use Rattle.rl_ops.specs.declared.schedule.Schedule.{Schedule}
+use Rattle.rl_ops.specs.declared.schedule.Turn.{Turn}
+use Rattle.std.specs.FinMap as finite
+use Rattle.rl_work.specs.Site.{Site}
+use Rattle.rl_asks.specs.ShardTables.{ShardTable}
+use Rattle.rl_machine.specs.Running.{ShardRun, Running}
+use Rattle.rl_asks.specs.Asks.{asked_of}
+use Rattle.rl_machine.specs.Start.{start_of}
+use Rattle.rl_machine.specs.StartLaws.{shards_length}
+use Rattle.rl_machine.specs.Run.{calls_by, run_of, ranks_of, done_of, kept_by}
+use Rattle.rl_machine.specs.RunActs.{EachSays}
+use Rattle.rl_machine.specs.Promises.{journal_on, transcripts_on, history_on, IsSound, KeepsQueues, EachKeepsQueues}
+use Rattle.rl_cores.specs.Kinds.{Defined, Promised}
+use Rattle.rl_program.specs.Replay.{start_with, run_with}
+use Rattle.rl_program.specs.Headline.{IsKept}
+use Rattle.rl_program.proofs.RunLaws.{table_in, IsAlike, run_alike}
+
+-- What a machine is made from, by the parts of a placement and a schedule.
+module _ {V : Type 0} (defined : Defined V) (place : ThePlace) (ops : Ops) (schedule : Schedule) (shape : TheShape) (knobs : Knobs) (geom : Geom) (homes : List ℕ) (turns : List Turn)
+    (shape_is : shape ≡ shape_of place) (knobs_is : knobs ≡ knobs_of place.lock) (geom_is : geom ≡ place.geom) (homes_are : homes ≡ place.homes) (turns_are : turns ≡ schedule.turns) where
+  -- the run is that of the placement and the schedule
+  pub run_is : run_of (start_of defined shape knobs geom homes ops) (ranks_of turns) ≡ run_with defined place ops schedule
+  run_is =
+      let at : TheShape → Knobs → Geom → List ℕ → List Turn → Running V = λ s k g hs ts. run_of (start_of defined s k g hs ops) (ranks_of ts) in
+      ap (λ s. at s knobs geom homes turns) shape_is ∙ ap (λ k. at (shape_of place) k geom homes turns) knobs_is ∙ ap (λ g. at (shape_of place) (knobs_of place.lock) g homes turns) geom_is
+      ∙ ap (λ hs. at (shape_of place) (knobs_of place.lock) place.geom hs turns) homes_are ∙ ap (λ ts. at (shape_of place) (knobs_of place.lock) place.geom place.homes ts) turns_are
+
+  -- and what a kind of lock says of it
+  pub says_is : (promised : Promised) → EachSays promised shape knobs homes (start_of defined shape knobs geom homes ops) (ranks_of turns) →
+      EachSays promised (shape_of place) (knobs_of place.lock) place.homes (start_with defined place ops) (ranks_of schedule.turns)
+  says_is promised says =
+      let at : TheShape → Knobs → Geom → List ℕ → List Turn → Type 0 = λ s k g hs ts. EachSays promised s k hs (start_of defined s k g hs ops) (ranks_of ts) in
+      subst (λ ts. at (shape_of place) (knobs_of place.lock) place.geom place.homes ts) turns_are
+      (subst (λ hs. at (shape_of place) (knobs_of place.lock) place.geom hs turns) homes_are
+      (subst (λ g. at (shape_of place) (knobs_of place.lock) g homes turns) geom_is
+      (subst (λ k. at (shape_of place) k geom homes turns) knobs_is (subst (λ s. at s knobs geom homes turns) shape_is says))))
+
+-- A run of a machine that was made from the parts of a placement and a schedule.
+pub ran : {V : Type 0} (defined : Defined V) (place : ThePlace) (ops : Ops) (schedule : Schedule) (inside : ThePlace) (shape : TheShape) (knobs : Knobs) (homes : List ℕ) (turns : List Turn) (end : Running V) →
+    inside ≡ place → shape ≡ shape_of place → knobs ≡ knobs_of place.lock → homes ≡ inside.homes → turns ≡ schedule.turns → end ≡ run_of (start_of defined shape knobs inside.geom homes ops) (ranks_of turns) → end ≡ run_with defined place ops schedule
+ran defined place ops schedule inside shape knobs homes turns end same shape_is knobs_is homes_are turns_are run =
+    run ∙ run_is defined place ops schedule shape knobs inside.geom homes turns shape_is knobs_is (ap (λ (p : ThePlace). p.geom) same) (homes_are ∙ ap (λ (p : ThePlace). p.homes) same) turns_are
+
+-- The queues of a run, by the parts of a placement.
+pub keeps_is : {V : Type 0} (name : LockName) (place : ThePlace) (shape : TheShape) (knobs : Knobs) (homes : List ℕ) (m n : Running V) → name ≡ lock_under (name_of place.lock) → shape ≡ shape_of place → knobs ≡ knobs_of place.lock → homes ≡ place.homes →
+    m ≡ n → EachKeepsQueues name shape knobs homes m → EachKeepsQueues (name_of place.lock) (shape_of place) (knobs_of place.lock) place.homes n
+keeps_is name place shape knobs homes m n named shape_is knobs_is homes_are same keep s home get =
+    subst (λ qs. KeepsQueues qs n s) (under_queues (name_of place.lock) (shape_of place) home (knobs_of place.lock)) (under s home get) where
+      under : EachKeepsQueues (lock_under (name_of place.lock)) (shape_of place) (knobs_of place.lock) place.homes n
+      under =
+          subst (λ z. EachKeepsQueues (lock_under (name_of place.lock)) (shape_of place) (knobs_of place.lock) place.homes z) same
+          (subst (λ hs. EachKeepsQueues (lock_under (name_of place.lock)) (shape_of place) (knobs_of place.lock) hs m) homes_are
+          (subst (λ k. EachKeepsQueues (lock_under (name_of place.lock)) (shape_of place) k homes m) knobs_is
+          (subst (λ s. EachKeepsQueues (lock_under (name_of place.lock)) s knobs homes m) shape_is (subst (λ z. EachKeepsQueues z shape knobs homes m) named keep))))
+
+module _ {V : Type 0} (defined : Defined V) (place : ThePlace) (ops : Ops) (schedule : Schedule) where
+  abbrev first : Running V
+  first = start_with defined place ops
+
+  abbrev last : Running V
+  last = run_with defined place ops schedule
+
+  abbrev table_of : ℕ → Site → ShardTable V
+  table_of home = defined (shape_of place) home (knobs_of place.lock)
+
+  alike : IsAlike last first
+  alike = run_alike first (ranks_of schedule.turns)
+
+  -- the ranks' calls are those that were given
+  pub same_calls : last.calls ≡ ops.by_rank
+  same_calls = alike.calls
+
+  -- there are as many shards as homes
+  pub each_shard : length last.shards ≡ length place.homes
+  each_shard =
+      sym (length-map last.shards table_in) ∙ ap length alike.tables ∙ length-map first.shards table_in ∙ shards_length table_of (shape_of place).nodes place.geom ops.by_rank 0 place.homes
+
+  pub is_kept : (promised : Promised) → IsSound last → EachKeepsQueues (name_of place.lock) (shape_of place) (knobs_of place.lock) place.homes last →
+      EachSays promised (shape_of place) (knobs_of place.lock) place.homes first (ranks_of schedule.turns) → IsKept defined promised place ops schedule
+  is_kept promised sound queues further =
+      let in_order : (k : ℕ) → k < length ops.by_rank → IsRankInOrder place.geom k (asked_of (get_or ops.by_rank k []) (get_or ops.sizes k [])) (done_of last k) (kept_by last k) = λ k low.
+      let there : k < length last.calls = subst (λ l. k < length l) (sym alike.calls) low in
+      subst (λ geom. IsRankInOrder geom k (asked_of (get_or ops.by_rank k []) (get_or ops.sizes k [])) (done_of last k) (kept_by last k)) alike.geom
+      (subst (λ l. IsRankInOrder last.geom k (asked_of (get_or l k []) (get_or ops.sizes k [])) (done_of last k) (kept_by last k)) alike.calls
+      (subst (λ l. IsRankInOrder last.geom k (asked_of (calls_by last k) (get_or l k [])) (done_of last k) (kept_by last k)) alike.sizes (sound.order k there))) in
+      record {
+        exclusive = λ s S has. (sound.shards s S has).exclusive;
+        queues = queues;
+        further = further;
+        replies = λ s S has. subst (λ geom. IsReplay geom finite.empty 0 (history_on S)) alike.geom (sound.shards s S has).replayed;
+        legal = λ s S has. subst (λ geom. IsLegal geom (journal_on S) (transcripts_on S)) alike.geom (sound.shards s S has).legal;
+        sorted = λ s S has. (sound.shards s S has).sorted;
+        calls = in_order;
+      }

@@ -1,0 +1,49 @@
+-- One turn more.
+use Rattle.std.proofs.Common.{◌≡◌, ◌<◌, ◌≤◌, length, true, ap, sym, ◌∙◌, arith}
+use Rattle.std.proofs.lemmas.Bool.{ltb-true}
+use Rattle.rl_step.specs.Answers.{steps_made}
+use Rattle.rl_machine.specs.Running.{running}
+use Rattle.rl_machine.specs.Run.{stepped}
+use Rattle.rl_program.specs.Laps.{may_step, stepped_if, turns}
+use Rattle.rl_program.proofs.LapLaws.{turns_alike, turn_more}
+use Rattle.rl_program.proofs.laps.take_turns.Goals as goal
+use Rattle.rl_program.proofs.laps.take_turns.Goals.{then-may_step+in_ok-take_steps, else-may_step}
+
+pub take_steps-requires-clause-there : goal.take_steps-requires-clause-there
+take_steps-requires-clause-there g c =
+    let old = running g.C.ShardCore.shard_table c.args.machine.now in
+    let same : length c.loop-rank.machine.calls ≡ length old.calls = ap (λ m. length m.calls) c.loop-rank.invariant.0 ∙ ap length (turns_alike c.args.most old c.loop-rank.rank).calls in
+    let low : c.loop-rank.rank < c.args.ranks = c.loop-rank-test.true in
+    let there : c.args.ranks ≤ length old.calls = c.requires.there in
+    omega arith
+
+pub take_steps-requires-clause-few : goal.take_steps-requires-clause-few
+take_steps-requires-clause-few g c =
+    let now = running g.C.ShardCore.shard_table c.loop-rank.machine in
+    let less : steps_made now.steps < c.args.most = ltb-true (steps_made now.steps) c.args.most (sym c.may_step.ensures ∙ c.if-may_step.true) in
+    omega (arith, less, c.ranges.most.fits)
+
+pub take_steps-requires-clause-many : goal.take_steps-requires-clause-many
+take_steps-requires-clause-many g c =
+    let old = running g.C.ShardCore.shard_table c.args.machine.now in
+    let same : length c.loop-rank.machine.calls ≡ length old.calls = ap (λ m. length m.calls) c.loop-rank.invariant.0 ∙ ap length (turns_alike c.args.most old c.loop-rank.rank).calls in
+    c.loop-rank.invariant.1 ∙ c.requires.many ∙ sym same
+
+pub loop-rank-preserved : goal.loop-rank-preserved
+loop-rank-preserved g c =
+    let old = running g.C.ShardCore.shard_table c.args.machine.now in
+    let most = c.args.most in
+    let n = c.loop-rank.rank in
+    let is = c.loop-rank.invariant.0 in
+    let may = ap (may_step most) (sym is) ∙ sym c.may_step.ensures in
+    elim c.if-may_step.branch [
+      | then-may_step+in_ok-take_steps w ↦
+          let took = w.in_ok-take_steps.ensures in
+          rw w.machine-is
+          (rw w.rests-is
+          (took.run ∙ ap (λ m. stepped m n) is ∙ ap (λ b. stepped_if b (turns most old n) n) (sym (may ∙ w.if-may_step.true)) ∙ sym (turn_more most old n), took.many ∙ c.loop-rank.invariant.1, took.rested))
+      | else-may_step w ↦
+          rw w.machine-is
+          (rw w.rests-is
+          (is ∙ ap (λ b. stepped_if b (turns most old n) n) (sym (may ∙ w.if-may_step.false)) ∙ sym (turn_more most old n), c.loop-rank.invariant.1, c.loop-rank.invariant.2))
+    ]

@@ -1,0 +1,12 @@
+-- The ranks so far have taken their turns, and what is noted of each rank is true.
+use Rattle.std.proofs.Common.{◌≡◌, length}
+use Rattle.rl_machine.specs.Running.{running}
+use Rattle.rl_rests.specs.Rested.{AllRested}
+use Rattle.rl_program.specs.Laps.{turns}
+use Rattle.rl_program.proofs.laps.take_turns.Given as goal
+
+abbrev pub invariant-loop-rank : goal.invariant-loop-rank
+invariant-loop-rank g l =
+    (running g.C.ShardCore.shard_table l.machine ≡ turns l.most (running g.C.ShardCore.shard_table l.fn.machine) l.rank)
+    × (length l.rests.items ≡ length l.fn.rests.items)
+    × AllRested g.C.Resting.with_sight (running g.C.ShardCore.shard_table l.machine) l.rests.items

@@ -1,0 +1,85 @@
+-- The headline of a replay: what is true of the texts that are replayed, of the run, and of the report that is written.
+use Rattle.std.specs.Prelude.{◌≡◌, ◌<◌, ℕ, List, [], length, get_or, slice_get, Some, Ok}
+use Rattle.std.specs.FinMap as map
+use Rattle.rl_step.specs.Exclusion.{IsExclusive}
+use Rattle.rl_journal.specs.Legal.{IsLegal}
+use Rattle.rl_journal.specs.History.{IsReplay as IsReplayedByOneThread, IsSorted}
+use Rattle.rl_journal.specs.Ranks.{IsRankInOrder}
+use Rattle.rl_place.specs.LockWords.{name_of}
+use Rattle.rl_place.specs.Places.{ThePlace, IsProper}
+use Rattle.rl_place.specs.Shapes.{shape_of, knobs_of}
+use Rattle.rl_place.specs.Spelling.{place_spelling}
+use Rattle.rl_ops.specs.declared.ops.Ops.{Ops}
+use Rattle.rl_ops.specs.declared.schedule.Schedule.{Schedule}
+use Rattle.rl_ops.specs.Ops.{SpellsOps}
+use Rattle.rl_ops.specs.Schedule.{ScheduleFits, schedule_spelling}
+use Rattle.rl_replay.specs.Files.{Texts}
+use Rattle.rl_history.specs.Naming.{naming_of}
+use Rattle.rl_history.specs.Spelling.{report_spelling}
+use Rattle.rl_history.specs.Reading.{report_at}
+use Rattle.rl_check.specs.LawfulReplays.{IsLawfulReplay}
+use Rattle.rl_check.specs.Legal.{IsLegalReport}
+use Rattle.rl_machine.specs.Running.{ShardRun, Running}
+use Rattle.rl_machine.specs.ShardSteps.{events_of}
+use Rattle.rl_asks.specs.Asks.{asked_of}
+use Rattle.rl_machine.specs.Run.{ranks_of, done_of, kept_by}
+use Rattle.rl_machine.specs.RunActs.{EachSays}
+use Rattle.rl_machine.specs.Promises.{journal_on, transcripts_on, history_on, EachKeepsQueues}
+use Rattle.rl_cores.specs.Kinds.{Defined, Promised, kind_of}
+use Rattle.rl_program.specs.Replay.{start_with, run_with, report_of}
+
+-- of each shard of a machine
+abbrev pub OnShards : {V : Type 0} → Running V → (ShardRun V → Type 0) → Type 0
+OnShards m P = (s : ℕ) (S : ShardRun _) → slice_get m.shards s ≡ Some S → P S
+
+module _ {V : Type 0} (defined : Defined V) (promised : Promised) (place : ThePlace) (ops : Ops) (schedule : Schedule) where
+  abbrev m : Running V
+  m = run_with defined place ops schedule
+
+  -- What is promised of the run of a schedule over a placement and calls, for the kind of lock that is defined so, and promises this
+  -- beyond every lock. Here m is the machine at the end of the run; since all of it holds of every schedule, it holds at every moment.
+  pub record IsKept : Type 0 where
+    -- on no shard is a writer ever beside another holder; and who touches the table holds the lock, as a writer where it writes
+    pub exclusive : OnShards m (λ S. IsExclusive (events_of S.trace))
+    -- no queue with a budget passes its lock more often than that between two settlements, nor, in all, more often than that for each
+    -- settlement; each queue serves first who came first; and while no call is open there each was settled and passed as often as it was had
+    pub queues : EachKeepsQueues (name_of place.lock) (shape_of place) (knobs_of place.lock) place.homes m
+    -- what the kind of lock promises beyond that
+    pub further : EachSays promised (shape_of place) (knobs_of place.lock) place.homes (start_with defined place ops) (ranks_of schedule.turns)
+    -- one thread that makes the calls of a shard's history in order, from the empty table, gets the history's replies, `full` exactly
+    -- where a new key finds its bucket taken and no overflow cell left; and each entry looked at the number of updates before it
+    pub replies : OnShards m (λ S. IsReplayedByOneThread place.geom map.empty 0 (history_on S))
+    -- journal and transcripts: a batch is done as a whole or undone as a whole, nothing stands within it, and each rank's updates are
+    -- those that the journal has of it
+    pub legal : OnShards m (λ S. IsLegal place.geom (journal_on S) (transcripts_on S))
+    -- the history is in order: by place, gets and holds before the update, and of these by rank and number
+    pub sorted : OnShards m (λ S. IsSorted (history_on S))
+    -- each rank's entries on all shards are its first n calls, each once and in its order, and n is told as what it has done
+    pub calls : (k : ℕ) → k < length ops.by_rank → IsRankInOrder place.geom k (asked_of (get_or ops.by_rank k []) (get_or ops.sizes k [])) (done_of m k) (kept_by m k)
+
+-- of the kind of the placement's lock
+abbrev pub KeepsPromises : ThePlace → Ops → Schedule → Type 0
+KeepsPromises place ops schedule = IsKept (kind_of place.lock).defined (kind_of place.lock).promised place ops schedule
+
+-- These texts are replayed: they spell a placement, calls and a schedule, and this text is the report of their run, which keeps its
+-- promises. It is a report that is read again, and a check finds it legal.
+pub record IsReplay (texts : Texts) (text : List ℕ) : Type 0 where
+  pub place : ThePlace
+  pub ops : Ops
+  pub schedule : Schedule
+  -- the placement is proper, and the schedule is of its ranks
+  pub proper : IsProper place
+  pub fits : ScheduleFits (length place.paths) schedule
+  pub place_spelled : texts.place ≡ place_spelling place
+  pub calls_spelled : SpellsOps (length place.paths) place.geom.shards ops texts.calls
+  pub schedule_spelled : texts.schedule ≡ schedule_spelling schedule
+  pub bytes : text ≡ report_spelling (naming_of place) (report_of place ops schedule)
+  pub kept : KeepsPromises place ops schedule
+  -- the report keeps its limits; its entries are the history of a legal journal and legal transcripts, and hold so many of each rank's calls
+  -- as are told as done, whole blocks, each call once and in its order; its tallies count its events; and by these no writer was ever
+  -- beside another holder, and each queue with a budget kept it
+  pub lawful : IsLawfulReplay place ops (report_of place ops schedule)
+  -- so a check finds it legal
+  pub legal : IsLegalReport place ops (report_of place ops schedule)
+  -- and this text is read as this report
+  pub read : report_at (naming_of place) text ≡ Ok (report_of place ops schedule)

@@ -1,0 +1,20 @@
+//! The shape of the placement in a file.
+ghost use Rattle.std.specs.Prelude.{IsTrue};
+ghost use Rattle.rl_replay.specs.Reading.{WasRead, RisesWithFault};
+ghost use Rattle.rl_program.specs.Answer.{shown};
+
+use rl_io::Source;
+use rl_place::shape_text;
+use rl_replay::{Stop, read_placed};
+use std::alloc::Global;
+
+/// The text of the shape of the placement in a file, with any lock.
+#[tactic(auto, unfolding(crate::specs::Answer::shown))]
+pub fn shown<S: Source>(alloc: Global, source: &mut S, name: &str) -> Result<Vec<u8>, Stop>
+    requires { IsTrue (S.may_open source.old name.now) }
+    ensures shown { WasRead (S.file source.old name.now) (λ text. text.items) shown result }
+    ensures faults { RisesWithFault result (S.faults source.old) (S.faults source.new) }
+{
+    let place = read_placed(alloc, source, name)?;
+    Ok(shape_text(alloc, &place)?)
+}

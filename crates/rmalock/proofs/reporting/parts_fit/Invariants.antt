@@ -1,7 +1,0 @@
-use Rattle.std.proofs.Common.{ℕ, ◌<◌, get_or}
-use Rattle.rl_history.specs.Reports.{TheShard}
-use Rattle.rmalock.specs.Replay.{NumbersFit}
-use Rattle.rmalock.proofs.reporting.parts_fit.Given as goal
-
-abbrev pub invariant-loop-part : goal.invariant-loop-part
-invariant-loop-part l = (k : ℕ) (d : TheShard) → k < l.part-index → NumbersFit (get_or l.parts k d)
