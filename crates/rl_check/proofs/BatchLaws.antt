@@ -3,10 +3,10 @@ use Rattle.std.proofs.Common.{◌≡◌, ℕ, zero, suc, ◌+◌, ◌<◌, ◌�
 use Rattle.std.specs.Prelude.{slice_get}
 use Rattle.std.proofs.lemmas.Option.{same_Some, slice_get_within}
 use Rattle.std.proofs.lemmas.Bool.Decides.{nat_tests}
+use Rattle.rl_word.specs.Places.{some_at}
 use Rattle.rl_model.specs.declared.entry.Entry.{Entry}
 use Rattle.rl_journal.specs.Blocks.{is_last}
 use Rattle.rl_journal.specs.Legal.{updates}
-use Rattle.rl_journal.specs.Lists.{some_at}
 use Rattle.rl_check.specs.Entries.{before, GoesOn, Begins, MayFollow, IsWholeBatch}
 use Rattle.rl_check.specs.OneThread.{is_begun, BatchesFit, IsBroken}
 use Rattle.rl_check.proofs.Places.{below_next}

@@ -4,6 +4,7 @@ use Rattle.std.specs.Prelude.{slice_get, ◌↔◌}
 use Rattle.std.specs.List.{count_by}
 use Rattle.std.specs.Int.{from_bool}
 use Rattle.std.proofs.lemmas.Option.{same_Some, slice_get-get_or}
+use Rattle.rl_word.specs.Places.{some_at}
 use Rattle.rl_model.specs.declared.entry.Entry.{Entry}
 use Rattle.rl_model.specs.declared.entry.Reply.{Reply}
 use Rattle.rl_model.specs.declared.geom.Geom.{Geom}
@@ -11,7 +12,6 @@ use Rattle.rl_model.specs.Call.{shard_of}
 use Rattle.rl_model.specs.Table.{Table}
 use Rattle.rl_model.proofs.Counts.{count-append, count-cons}
 use Rattle.rl_journal.specs.Legal.{updates}
-use Rattle.rl_journal.specs.Lists.{some_at}
 use Rattle.rl_check.specs.Entries.{before, updates_before, StandsBefore, MayFollow, IsOfShard, IsInOrder, IsInBatch, IsAtPlace, HasReply}
 use Rattle.rl_check.specs.OneThread.{BatchesFit, Tells, IsToldTo}
 use Rattle.rl_check.specs.Finding.{IsGood, AreGood}

@@ -4,12 +4,12 @@ use Rattle.std.specs.Prelude.{slice_get}
 use Rattle.std.specs.List.{count_by}
 use Rattle.std.proofs.lemmas.Option.{same_Some, slice_get_within}
 use Rattle.std.proofs.Math.Seq.{take-add}
+use Rattle.rl_word.specs.Places.{some_at}
 use Rattle.rl_model.proofs.Counts.{count-cons, count-append}
 use Rattle.rl_model.specs.declared.entry.Entry.{Entry}
 use Rattle.rl_journal.specs.Blocks.{is_last}
 use Rattle.rl_journal.specs.Legal.{updates}
 use Rattle.rl_journal.specs.History.{Precedes, ByRank, Each, IsSorted}
-use Rattle.rl_journal.specs.Lists.{some_at}
 use Rattle.rl_place.specs.Places.{ThePlace}
 use Rattle.rl_history.specs.Naming.{naming_of}
 use Rattle.rl_history.specs.Reports.{TheShard, EntryFits, PartFits, ShardFits}

@@ -5,6 +5,7 @@ use Rattle.std.specs.Option.{is_some}
 use Rattle.std.proofs.lemmas.Option.{same_Some, slice_get_within, slice_get-get_or}
 use Rattle.std.proofs.lemmas.List.{get_or-set_same, get_or-set_other, append-nil, length-replicate}
 use Rattle.std.proofs.lemmas.Bool.Decides.{nat_tests}
+use Rattle.rl_word.specs.Places.{some_at}
 use Rattle.rl_step.specs.declared.events.Event.{Event}
 use Rattle.rl_step.specs.declared.events.Event.TheVariants.{Join, Announce, Pass, Settle, EnterW, EnterR, LeaveW, LeaveR}
 use Rattle.rl_step.specs.Exclusion.{writers_of, readers_of, writers_after, readers_after, nobody, Alone, TouchFits, ExclusiveFrom}
@@ -19,7 +20,6 @@ use Rattle.rl_word.specs.declared.locks.LockName.{LockName}
 use Rattle.rl_word.specs.declared.shapes.Knobs.{Knobs}
 use Rattle.rl_word.specs.Shapes.{TheShape}
 use Rattle.rl_step.specs.LockQueues.{queues_of}
-use Rattle.rl_journal.specs.Lists.{some_at}
 use Rattle.rl_history.specs.Tallies.{trace_of}
 use Rattle.rl_check.specs.Shards.{EventsHold}
 use Rattle.rl_check.specs.Tallying.{queue_in}

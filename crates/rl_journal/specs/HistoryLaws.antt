@@ -5,6 +5,7 @@ use Rattle.std.proofs.Common.{sym, ◌∙◌, ap, subst, inl, inr, arith, length
 use Rattle.std.proofs.lemmas.List.Elements.{All-head, All-tail, All-nil, All-cons, All-append}
 use Rattle.std.proofs.lemmas.List.{take_at, append-nil}
 use Rattle.std.proofs.lemmas.Bool.Decides.{nat_tests}
+use Rattle.rl_word.specs.Places.{some_at}
 use Rattle.rl_model.proofs.Counts.{count-append, count-cons}
 use Rattle.rl_model.specs.declared.call.Call.{Call}
 use Rattle.rl_model.specs.declared.call.Call.TheVariants.{Put, Get, Del, Add, Cas, Hold}
@@ -15,7 +16,7 @@ use Rattle.rl_model.specs.Table.{Table, apply, after_get}
 use Rattle.rl_journal.specs.Blocks.{half_after}
 use Rattle.rl_journal.specs.Legal.{table_after, map_at, updates, IsLegalBlock, AreLegalFrom, joined, IsLegalRead, IsLegal}
 use Rattle.rl_journal.specs.BlockLaws.{half_append, block_half, block_done, part_at, size_pos}
-use Rattle.rl_journal.specs.Lists.{some_at, get_left, filter_none, all_at}
+use Rattle.rl_journal.specs.Lists.{get_left, filter_none, all_at}
 use Rattle.rl_journal.specs.History.{looked_at, reads_at, history_from, history, IsReadAlone, IsReplayed, IsReplay}
 
 module _ (geom : Geom) where

@@ -6,13 +6,13 @@ use Rattle.std.proofs.lemmas.List.{take-append-le, take_all, append-nil}
 use Rattle.std.proofs.lemmas.List.Elements.{All-cons, All-nil, All-weaker, All-push, All-append, All-filter, filter-append}
 use Rattle.std.proofs.lemmas.Bool.Decides.{nat_tests}
 use Rattle.std.proofs.lemmas.Option.{slice_get-get_or}
+use Rattle.rl_word.specs.Places.{get_set_cases}
 use Rattle.rl_model.specs.declared.entry.Entry.{Entry}
 use Rattle.rl_model.specs.declared.geom.Geom.{Geom}
 use Rattle.rl_model.specs.Table.{Table, apply}
 use Rattle.rl_journal.specs.Blocks.{apply_block, calls_of, IsPart, AreParts, IsBlock}
 use Rattle.rl_journal.specs.Legal.{table_after, map_at, updates, is_of, IsAnswered, IsLegalBlock, AreLegalFrom, joined, IsLegalJournal, Begins, IsLegalRead, IsLegal}
 use Rattle.rl_journal.specs.Ranks.{Follows, IsInOrder}
-use Rattle.rl_word.specs.Places.{get_set_cases}
 use Rattle.rl_journal.specs.Lists.{get_cases, get_more_cases, filter_all, filter_none, passed}
 use Rattle.rl_journal.specs.BlockLaws.{block_done, table_behind, legal_more, joined_more, part_at}
 

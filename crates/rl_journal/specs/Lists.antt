@@ -1,14 +1,8 @@
--- Places of lists behind one another, after a write, and of those that pass a test.
-use Rattle.std.specs.Prelude.{◌≡◌, ◌≢◌, ◌⊎◌, ℕ, zero, suc, ◌+◌, ◌<◌, Bool, true, false, cond, List, [], ◌∷◌, ◌++◌, All, filter, length, slice_get, slice_set, Some, refl}
-use Rattle.std.proofs.Common.{sym, ◌∙◌, ap, subst, inl, inr, ⊎_elim, arith}
+-- Places of lists behind one another, and of those that pass a test.
+use Rattle.std.specs.Prelude.{◌≡◌, ◌⊎◌, ℕ, zero, suc, ◌+◌, ◌<◌, Bool, true, false, cond, List, [], ◌∷◌, ◌++◌, All, filter, length, slice_get, Some, refl}
+use Rattle.std.proofs.Common.{◌∙◌, ap, subst, inl, inr, ⊎_elim, arith}
 use Rattle.std.proofs.lemmas.List.Elements.{All-cons, All-nil, All-head, All-tail}
-use Rattle.std.proofs.lemmas.Option.{same_Some, slice_get_within, get_or_from_slice_get}
-
--- a place within a list has an element
-pub some_at : {X : Type 0} (xs : List X) (r : ℕ) → r < length xs → (v : X) × (slice_get xs r ≡ Some v)
-some_at [] r h = absurd (omega arith)
-some_at (x ∷ xs) zero h = (x, refl)
-some_at (x ∷ xs) (suc r) h = let k : r < length xs = omega arith in some_at xs r k
+use Rattle.std.proofs.lemmas.Option.{slice_get_within, get_or_from_slice_get}
 
 -- a place of two lists behind one another
 pub get_cases : {X : Type 0} (xs ys : List X) (p : ℕ) (y : X) → slice_get (xs ++ ys) p ≡ Some y → ((p < length xs) × (slice_get xs p ≡ Some y)) ⊎ ((i : ℕ) × (p ≡ length xs + i) × (slice_get ys i ≡ Some y))

@@ -5,12 +5,12 @@ use Rattle.std.proofs.lemmas.List.Elements.{All-head, All-tail, All-weaker, All-
 use Rattle.std.proofs.lemmas.Bool.Decides.{nat_tests}
 use Rattle.std.proofs.lemmas.Option.{same_Some}
 use Rattle.std.proofs.lemmas.List.{append-nil}
+use Rattle.rl_word.specs.Places.{get_set_cases, get_set_same, set_same_get}
 use Rattle.rl_model.specs.declared.entry.Entry.{Entry}
 use Rattle.rl_model.specs.declared.geom.Geom.{Geom}
 use Rattle.rl_model.specs.Call.{shard_of}
 use Rattle.rl_model.proofs.Counts.{count-append, count-cons}
 use Rattle.rl_journal.specs.Ranks.{IsOwn, IsInOrder, count_in, Asked, IsEntryOf, IsRankInOrder, AreAsked}
-use Rattle.rl_word.specs.Places.{get_set_cases, get_set_same, set_same_get}
 use Rattle.rl_journal.specs.Lists.{get_left}
 
 -- the counts over all lists, where one list has one entry more

@@ -5,7 +5,8 @@ ghost use Rattle.rl_journal.specs.Journal as spelt;
 
 use rl_model::{Call, Entry, Reply};
 
-fn kind(call: Call) -> u64
+/// The number that stands for what an update asks, from 1 to 4. A get and a hold, which aren't journaled, have 0.
+pub fn update_kind(call: Call) -> u64
     ensures is { result ≡ spelt.kind_of call }
     ensures low { result < 8 }
 {
@@ -18,7 +19,8 @@ fn kind(call: Call) -> u64
     }
 }
 
-fn key(call: Call) -> u64
+/// The key of a call; 0 for a hold.
+pub fn call_key(call: Call) -> u64
     ensures { result ≡ spelt.key_of call }
 {
     match call {
@@ -31,7 +33,8 @@ fn key(call: Call) -> u64
     }
 }
 
-fn first(call: Call) -> u64
+/// The first further number of a call: what is put or added, or the old value that is looked for.
+pub fn first_number(call: Call) -> u64
     ensures { result ≡ spelt.first_of call }
 {
     match call {
@@ -42,7 +45,8 @@ fn first(call: Call) -> u64
     }
 }
 
-fn second(call: Call) -> u64
+/// The second further number of a call: the new value of a compare and swap.
+pub fn second_number(call: Call) -> u64
     ensures { result ≡ spelt.second_of call }
 {
     match call {
@@ -51,7 +55,8 @@ fn second(call: Call) -> u64
     }
 }
 
-fn code(reply: Reply) -> u64
+/// The number that stands for a reply to an update, from 1 to 8. The two replies that no update gets have 0.
+pub fn reply_code(reply: Reply) -> u64
     ensures is { result ≡ spelt.code_of reply }
     ensures low { result < 16 }
 {
@@ -68,7 +73,8 @@ fn code(reply: Reply) -> u64
     }
 }
 
-fn value(reply: Reply) -> u64
+/// The value in a reply, or 0.
+pub fn reply_value(reply: Reply) -> u64
     ensures { result ≡ spelt.value_in reply }
 {
     match reply {
@@ -86,19 +92,20 @@ pub fn journal_value(entry: &Entry, word: u32) -> u64
     match word {
         0 => u64::from(entry.rank) * 0x1_0000_0000 + u64::from(entry.seq),
         1 => {
-            kind(entry.call)
-                + 8 * code(entry.reply)
+            update_kind(entry.call)
+                + 8 * reply_code(entry.reply)
                 + 128 * u64::from(entry.batch)
                 + 2048 * u64::from(entry.part)
         }
-        2 => key(entry.call),
-        3 => first(entry.call),
-        4 => second(entry.call),
-        _ => value(entry.reply),
+        2 => call_key(entry.call),
+        3 => first_number(entry.call),
+        4 => second_number(entry.call),
+        _ => reply_value(entry.reply),
     }
 }
 
-fn call(kind: u64, key: u64, first: u64, second: u64) -> Call
+/// The update with this kind, key and further numbers.
+pub fn update_of(kind: u64, key: u64, first: u64, second: u64) -> Call
     ensures { result ≡ spelt.call_of kind key first second }
 {
     match kind {
@@ -113,7 +120,8 @@ fn call(kind: u64, key: u64, first: u64, second: u64) -> Call
     }
 }
 
-fn reply(code: u64, value: u64) -> Reply
+/// The reply to an update with this code and value.
+pub fn reply_of(code: u64, value: u64) -> Reply
     ensures { result ≡ spelt.reply_of code value }
 {
     match code {
@@ -141,9 +149,9 @@ pub fn journal_entry(shard: u32, at: u32, words: [u64; 6]) -> Entry
         shard,
         rank: (who / 0x1_0000_0000) as u32,
         seq: (who % 0x1_0000_0000) as u32,
-        call: call(what % 8, key, first, second),
+        call: update_of(what % 8, key, first, second),
         at,
-        reply: reply(what / 8 % 16, value),
+        reply: reply_of(what / 8 % 16, value),
         batch: (what / 128 % 16) as u32,
         part: (what / 2048) as u32,
     }

@@ -14,4 +14,4 @@ same_entry shard rank seq at batch part c d a b e f = cc
 
 pub returns-clause-back : goal.returns-clause-back
 returns-clause-back c = λ entry may same.
-    same_entry _ _ _ _ _ _ _ _ _ _ c.call.ensures c.reply.ensures ∙ ap (entry_of c.args.shard c.args.at) same ∙ read_back c.args.shard c.args.at entry may
+    same_entry _ _ _ _ _ _ _ _ _ _ c.update_of.ensures c.reply_of.ensures ∙ ap (entry_of c.args.shard c.args.at) same ∙ read_back c.args.shard c.args.at entry may
