@@ -1,4 +1,4 @@
-//! The program: a run by threads, and all that never waits.
+//! The program: a run by threads, a check that may have threads, and all that never waits.
 ghost use Rattle.std.specs.Prelude.{◌≡◌, ◌≢◌, ◌≤◌, ◌<◌, map, string_bytes, Some, None};
 ghost use Rattle.rl_program.specs.Command.{form_of, run_of, run_named};
 ghost use Rattle.rl_program.specs.Answer.{MayRead, NamesNoFile, IsDone, StillTells, RisesWithFault};
@@ -6,7 +6,7 @@ ghost use Rattle.rl_program.specs.CheckAnswer.{MayReadCheck, IsCheckDone, check_
 ghost use Rattle.rl_program.specs.RunAnswer.{MayReadRun, WasRunAnswered, IsRunDone, run_name};
 
 use crate::answer::{Answer, refused};
-use crate::checking::{answer_check_in_threads, done};
+use crate::checking::{Threaded, answer_check, done};
 use crate::command::{RunFiles, check_files, run_files};
 use crate::complaint::Quit;
 use crate::offline::offline;
@@ -78,12 +78,13 @@ fn done_run<S: Source, K: Sink, G: Gate, R: Threads + Wait + Sync>(
     }
 }
 
-/// Does what the words of the command line ask for, and gives the status, as [`offline`] does; `run PLACE CALLS` it does itself.
+/// Does what the words of the command line ask for, and gives the status, as [`offline`] does; but `check PLACE CALLS REPORT` may have
+/// threads, and `run PLACE CALLS` it does itself.
 ///
-/// A run makes all calls of the file, a thread for each rank, on windows that the threads share, and writes a report of them: 0 after
-/// the report, 2 after the line that refuses a file, 3 where a file could not be read, 4 where a write failed, 5 for want of memory.
-/// It may wait, and forever: nothing says that the threads come to their steps. The gate stands at the ranks' calls and steps; the
-/// program's own is always open.
+/// A run makes all calls of the file, each rank in a thread of its own where one can be started, on windows that the threads share, and
+/// writes a report of them: 0 after the report, 2 after the line that refuses a file, 3 where a file could not be read, 4 where a write
+/// failed, 5 for want of memory. It may wait, and forever: nothing says that the threads come to their steps. The gate stands at the
+/// ranks' calls and steps; the program's own is always open.
 pub fn rmalock<S: Source, K: Sink, G: Gate, R: Threads + Wait + Sync>(
     rt: &R,
     alloc: Global,
@@ -112,7 +113,7 @@ pub fn rmalock<S: Source, K: Sink, G: Gate, R: Threads + Wait + Sync>(
         return done_run(rt, alloc, files, source, out, gate);
     }
     match check_files(words) {
-        Some(files) => done(answer_check_in_threads(rt, alloc, source, files), out),
+        Some(files) => done(answer_check(&Threaded { rt }, alloc, source, files), out),
         None => offline(alloc, words, source, out),
     }
 }

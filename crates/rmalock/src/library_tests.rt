@@ -1,23 +1,11 @@
 //! Calls of the library for which the program itself has no use, and a made run that is made twice.
 
-ghost use Rattle.std.specs.Prelude.{◌≡◌, ◌<◌, length};
-ghost use Rattle.rl_step.specs.LockQueues.{does_batches};
-ghost use Rattle.rl_place.specs.LockWords.{name_of};
-ghost use Rattle.rl_place.specs.Places.{IsProper};
-ghost use Rattle.rl_place.specs.Shapes.{shape_of, knobs_of};
-ghost use Rattle.rl_ops.specs.Ops.{OpsFit};
-ghost use Rattle.rl_replay.specs.Reading.{SuitsLock};
-
 use crate::tests::answer_of;
-use crate::trials::{has_room, read_both};
-use rl_asks::{Resting, ShardCore};
-use rl_cores::{CoreTask, over_lock};
-use rl_machine::Machine;
+use crate::trials::trial;
 use rl_model::{Call, Entry, Reply};
-use rl_ops::{ByRank, Ops, Schedule, Turn, Turns, read_call, schedule_text};
-use rl_place::Place;
-use rl_text::{Lines, Refusal, TEXT_LIMIT, TextErr, Why, number};
-use std::alloc::{AllocError as OutOfMemory, Global};
+use rl_ops::{ByRank, Schedule, Turn, Turns, read_call, schedule_text};
+use rl_text::{Lines, Refusal, TEXT_LIMIT, Why, number};
+use std::process::Abort;
 use std::test::*;
 
 /// The first line of a text, read as a call from its second word on, of a table of one shard.
@@ -68,88 +56,22 @@ fn lists_of_ones_own(rt: HostRuntime) -> Result<(), Fail> {
     Ok(())
 }
 
-/// The journal of shard 0 after a step of each of these ranks, one after the other.
-fn journal_after<C: ShardCore>(
-    alloc: Global,
-    mut machine: Machine<C>,
-    ranks: &[u8],
-) -> Result<Vec<Entry>, OutOfMemory>
-    requires some { 0 < length machine.shards }
-{
-    for digit in ranks {
-        let rank = u32::from(digit.saturating_sub(b'0'));
-        let there = machine.ops().by_rank.as_slice().len();
-        if (rank as usize) < there && has_room(machine.steps()) {
-            machine.step(rank)?;
-        }
-    }
-    machine.journal(alloc, 0)
-}
-
-/// The same from the start on, of this placement and these calls.
-fn journal_by<C: ShardCore>(
-    alloc: Global,
-    place: &Place,
-    ops: Ops,
-    ranks: &[u8],
-) -> Result<Vec<Entry>, OutOfMemory>
-    requires proper { IsProper place.now }
-    requires knobs { C.suits_knobs (shape_of place.now) (knobs_of place.now.lock) }
-    requires batches { C.batches ≡ does_batches (name_of place.now.lock) }
-    requires calls { OpsFit (length place.now.paths) place.now.geom.shards ops }
-    requires suits { SuitsLock place.now ops }
-{
-    let shape = place.shape(alloc)?;
-    let homes = place.homes.as_slice();
-    let machine: Machine<C> = Machine::new(alloc, &shape, place.knobs(), place.geom, homes, ops)?;
-    journal_after(alloc, machine, ranks)
-}
-
-/// The journal that the words spell after these steps, with the core of whichever lock the placement has.
-#[derive(Drop)]
-struct JournalTask<'a> {
-    alloc: Global,
-    ops: Ops,
-    ranks: &'a [u8],
-}
-
-impl CoreTask for JournalTask<'_> {
-    type Out = Result<Vec<Entry>, OutOfMemory>;
-
-    ghost takes = { λ t place. OpsFit (length place.paths) place.geom.shards t.ops × SuitsLock place t.ops };
-
-    ghost gives = { λ t place kind told. Unit {0} };
-
-    fn over<C: Resting>(self, place: &Place) -> Result<Vec<Entry>, OutOfMemory> {
-        journal_by::<C>(self.alloc, place, self.ops, self.ranks)
-    }
-}
-
-/// The journal of shard 0 that a machine's words spell, over the placement and the calls of these texts, after a step of each of these
-/// ranks, which come as digits.
-pub(crate) fn journal_of(
-    alloc: Global,
-    place: &str,
-    calls: &str,
-    ranks: &[u8],
-) -> Result<Vec<Entry>, TextErr> {
-    let (place, ops) = read_both(alloc, place, calls)?;
-    Ok(over_lock(&place, JournalTask { alloc, ops, ranks })?)
-}
-
 /// Six updates of one rank on a table of one bucket and one overflow cell: the journal that the words spell after them.
-fn small_journal(alloc: Global) -> Result<Vec<Entry>, TextErr> {
+fn small_journal<R: AllocGlobal + Abort>(rt: &R) -> Result<Vec<Entry>, Fail> {
     let place =
         "rmalock-place 1\nlevels 1\nlock spin\nshards 1\nbuckets 1\noverflow 1\nrank 0 at 0\nhome 0 0\nend\n";
     let calls =
         "rmalock-calls 1\n0 put 0 1\n0 put 1 2\n0 put 2 3\n0 put 1 9\n0 del 0\n0 put 2 3\nend\n";
-    let ranks = vec![in alloc; b'0'; 140]?;
-    journal_of(alloc, place, calls, ranks.as_slice())
+    let mut ranks = String::new(rt.alloc());
+    for _ in 0..140u32 {
+        ranks.push('0')?;
+    }
+    Ok(trial(rt, place, calls, &ranks)?.journal)
 }
 
 #[test]
 fn a_journal_by_its_words(rt: HostRuntime) -> Result<(), Fail> {
-    let journal = small_journal(rt.alloc())?;
+    let journal = small_journal(&rt)?;
     let done = [
         (Call::Put { key: 0, value: 1 }, Reply::New),
         (Call::Put { key: 1, value: 2 }, Reply::New),

@@ -264,6 +264,18 @@ fn a_reader_between_writers(rt: HostRuntime) -> Result<(), Fail> {
     Ok(())
 }
 
+/// Two readers beside each other: neither waits for the other, and after ten steps each has finished.
+#[test]
+fn two_readers_finish(rt: HostRuntime) -> Result<(), Fail> {
+    look(
+        &rt,
+        "rmalock-place 1\nlevels 1\nlock rw\nbudget 1\nwriters 1\nreaders 1000\ngroup 32\nshards 1\nbuckets 1\noverflow 0\nrank 0 at 0\nrank 1 at 0\nhome 0 0\nend\n",
+        "rmalock-calls 1\n0 get 0\n1 get 0\nend\n",
+        "0000011111111110000001",
+        "m m m<0 m m*0 m m m<1 m m*1 m*1>1 m m m m m*0>0 m m m m f f",
+    )
+}
+
 /// Two gets come and go, and the third finds the counter full: it has swapped the depart word to 0 and not yet taken the two off the arrive
 /// word, when the writer puts its mark up. So the writer waits until they are off. Behind the volume stand two tails, the next and the status
 /// word of the node and of two ranks, then the arrive word and the depart word, word 15.

@@ -2,7 +2,7 @@
 #![tactic(auto)]
 
 #[cfg(test)]
-mod caller_tests;
+mod callers;
 #[cfg(test)]
 mod check_tests;
 #[cfg(test)]
@@ -19,6 +19,8 @@ mod robust_tests;
 mod run_tests;
 #[cfg(test)]
 mod seat_tests;
+#[cfg(test)]
+mod signs;
 #[cfg(test)]
 mod tests;
 #[cfg(test)]

@@ -1,6 +1,5 @@
 //! Worked cases of runs by threads, with values from their definition, and gates that lead the ranks.
 
-use crate::caller_tests::{answers_alone, callers_told};
 use crate::check_tests::legal;
 use crate::tests::{look, named, run_through};
 use crate::trials::trial;
@@ -268,7 +267,7 @@ fn answer_of(sign: &str) -> u64 {
 }
 
 /// Runs these texts led by the turns of these ranks, and looks that the ranks got the answers that the machine gives for the same turns,
-/// of each kind so many; and that callers on one thread get them too.
+/// of each kind so many.
 fn run_led<R: Threads + Wait + Sync + AllocGlobal + Abort>(
     rt: &R,
     place: &str,
@@ -276,9 +275,7 @@ fn run_led<R: Threads + Wait + Sync + AllocGlobal + Abort>(
     ranks: &str,
     counts: &str,
 ) -> Result<Report, Fail> {
-    let told = trial(rt.alloc(), place, calls, ranks)?;
-    let alone = callers_told(rt.alloc(), place, calls, ranks)?;
-    assert_eq!(rt; alone, answers_alone(rt.alloc(), &told)?);
+    let told = trial(rt, place, calls, ranks)?.told;
     let gate = Led::new(rt, ranks)?;
     let report = report_of(rt, place, calls, &gate)?;
     assert_eq!(rt; gate.missed.load(Ordering::SeqCst), 0);
@@ -322,78 +319,104 @@ const HOLDS_OF_THREE: &str = "rmalock-calls 1\n0 hold 0\n1 hold 0\n2 hold 0\nend
 
 const HOLDS_OF_FOUR: &str = "rmalock-calls 1\n0 hold 0\n1 hold 0\n2 hold 0\n3 hold 0\nend\n";
 
-/// Runs that are led through the worked schedules of each lock.
+/// Runs that are led through these schedules: the lock, the ranks' nodes, the calls, the turns, and how often each answer comes.
+fn look_led<R: Threads + Wait + Sync + AllocGlobal + Abort>(
+    rt: &R,
+    cases: &[(&str, &str, &str, &str, &str)],
+) -> Result<(), Fail> {
+    for (lock, nodes, calls, ranks, counts) in cases {
+        let place = one_shard(rt, lock, SMALL, nodes)?;
+        run_led_often(rt, &place, calls, ranks, counts)?;
+    }
+    Ok(())
+}
+
+/// Runs that are led through the worked schedules: of the spin lock and of queues.
 #[test]
 fn runs_led_by_turns(rt: HostRuntime) -> Result<(), Fail> {
-    let cases = [
+    look_led(
+        &rt,
+        &[
+            (
+                "spin",
+                "00",
+                HOLDS_OF_TWO,
+                "001",
+                "moved 2 waiting 0 lost 0 busy 1",
+            ),
+            (
+                "spin",
+                "00",
+                HOLDS_OF_TWO,
+                "0000111",
+                "moved 6 waiting 0 lost 1 busy 0",
+            ),
+            (
+                "dmcs",
+                "00",
+                HOLDS_OF_TWO,
+                "0000001111111110000001001",
+                "moved 22 waiting 1 lost 2 busy 0",
+            ),
+            (
+                "mcs\nbudget 1",
+                "0011",
+                HOLDS_OF_THREE,
+                "0000000000001111111111222222222222222200011111111112",
+                "moved 50 waiting 0 lost 2 busy 0",
+            ),
+        ],
+    )
+}
+
+/// The same of two cohorts.
+#[test]
+fn cohorts_led_by_turns(rt: HostRuntime) -> Result<(), Fail> {
+    for (budgets, nodes, ranks, counts) in [
         (
-            "spin",
-            "00",
-            HOLDS_OF_TWO,
-            "001",
-            "moved 2 waiting 0 lost 0 busy 1",
-        ),
-        (
-            "spin",
-            "00",
-            HOLDS_OF_TWO,
-            "0000111",
-            "moved 6 waiting 0 lost 1 busy 0",
-        ),
-        (
-            "dmcs",
-            "00",
-            HOLDS_OF_TWO,
-            "0000001111111110000001001",
-            "moved 22 waiting 1 lost 2 busy 0",
-        ),
-        (
-            "alock\nbudget 1 1",
+            "1 1",
             "01",
-            HOLDS_OF_TWO,
             "11110000011111",
             "moved 13 waiting 1 lost 0 busy 0",
         ),
         (
-            "alock\nbudget 1 1",
+            "1 1",
             "01",
-            HOLDS_OF_TWO,
             "000111111010011",
             "moved 14 waiting 1 lost 0 busy 0",
         ),
         (
-            "alock\nbudget 0 0",
+            "0 0",
             "00",
-            HOLDS_OF_TWO,
             "0000011111000111",
             "moved 15 waiting 0 lost 1 busy 0",
         ),
+    ] {
+        let lock = format!(in rt.alloc(); "alock\nbudget {budgets}")?;
+        look_led(&rt, &[(&lock, nodes, HOLDS_OF_TWO, ranks, counts)])?;
+    }
+    Ok(())
+}
+
+/// The same of readers: between writers, and two beside each other.
+#[test]
+fn readers_led_by_turns(rt: HostRuntime) -> Result<(), Fail> {
+    for (nodes, calls, ranks, counts) in [
         (
-            "mcs\nbudget 1",
-            "0011",
-            HOLDS_OF_THREE,
-            "0000000000001111111111222222222222222200011111111112",
-            "moved 50 waiting 0 lost 2 busy 0",
-        ),
-        (
-            "rw\nbudget 1\nwriters 1\nreaders 1000\ngroup 32",
             "0120",
             "rmalock-calls 1\n0 hold 0\n1 hold 0\n2 hold 0\n3 get 0\nend\n",
             "0000000000000000001111111111111111222222222222222233333333333000000000111111111111111111333332222222",
             "moved 96 waiting 2 lost 2 busy 0",
         ),
-        // two readers beside each other
         (
-            "rw\nbudget 1\nwriters 1\nreaders 1000\ngroup 32",
             "00",
             "rmalock-calls 1\n0 get 0\n1 get 0\nend\n",
             "00000111111111100000",
             "moved 20 waiting 0 lost 0 busy 0",
         ),
-    ];
-    for (lock, nodes, calls, ranks, counts) in cases {
-        let place = one_shard(&rt, lock, SMALL, nodes)?;
-        run_led_often(&rt, &place, calls, ranks, counts)?;
+    ] {
+        let lock = "rw\nbudget 1\nwriters 1\nreaders 1000\ngroup 32";
+        look_led(&rt, &[(lock, nodes, calls, ranks, counts)])?;
     }
     Ok(())
 }

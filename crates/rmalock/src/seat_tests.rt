@@ -9,18 +9,19 @@ ghost use Rattle.rl_place.specs.Shapes.{shape_of, knobs_of};
 ghost use Rattle.rl_cores.specs.Fresh.{IsFresh};
 ghost use Rattle.rl_shard.specs.Shards.{IsOf, IsShardOf, AreOf, AreClosed, rank_at};
 
-use crate::trials::{answer_sign, trial};
+use crate::signs::{answer_sign, answers_alone};
+use crate::trials::{read_both, trial};
 use rl_asks::{Resting, ShardCore};
 use rl_cores::{
     AlockCore, CombineCore, CoreTask, DmcsCore, McsCore, RwCore, SeqCore, SpinCore, over_lock,
     settings_suit,
 };
 use rl_model::{Call, Entry, Geom, Reply};
-use rl_ops::{Room, read_ops};
-use rl_place::{Lock, Place, read_place};
+use rl_ops::Room;
+use rl_place::{Lock, Place};
 use rl_shard::{Closed, Seat, Shard};
 use rl_step::Stepped;
-use rl_text::{TEXT_LIMIT, TextErr};
+use rl_text::TextErr;
 use std::alloc::{AllocError as OutOfMemory, Global};
 use std::process::Abort;
 use std::test::Fail;
@@ -208,14 +209,7 @@ impl CoreTask for SeatsTask<'_> {
 
 /// The same of what a trial tells: its answers without the events, and how often the events settle and pass each queue.
 fn answers_told(alloc: Global, told: &str) -> Result<String, OutOfMemory> {
-    let mut text = String::new(alloc);
-    if told.len() > 0 {
-        for sign in told.split(' ') {
-            let answer = if sign.starts_with("m") { "m" } else { sign };
-            text.push_str(answer)?;
-            text.push_str(" ")?;
-        }
-    }
+    let mut text = answers_alone(alloc, told)?;
     let signs = told.as_bytes();
     for queue in 0..10u8 {
         let digit = b'0'.saturating_add(queue);
@@ -236,8 +230,8 @@ fn answers_told(alloc: Global, told: &str) -> Result<String, OutOfMemory> {
     Ok(text)
 }
 
-/// What the steps of these ranks tell, as the machine makes them. Where no rank has more calls than one, it looks that seats, all on this
-/// thread, answer the same, and that their tallies are those of the machine's events.
+/// What the steps of these ranks tell, as the machine and callers make them. Where no rank has more calls than one, it looks that seats, all
+/// on this thread, answer the same, and that their tallies are those of the machine's events.
 pub(crate) fn trial_and_seats<R: AllocGlobal + Abort>(
     rt: &R,
     place: &str,
@@ -245,13 +239,8 @@ pub(crate) fn trial_and_seats<R: AllocGlobal + Abort>(
     ranks: &str,
 ) -> Result<String, Fail> {
     let alloc = rt.alloc();
-    let told = trial(alloc, place, calls, ranks)?;
-    if place.len() >= TEXT_LIMIT as usize || calls.len() >= TEXT_LIMIT as usize {
-        return Err(TextErr::Memory.into());
-    }
-    let place = read_place(alloc, place.as_bytes())?;
-    let count = place.paths.len() as u32;
-    let ops = read_ops(alloc, count, place.geom.shards, calls.as_bytes())?;
+    let told = trial(rt, place, calls, ranks)?.told;
+    let (place, ops) = read_both(alloc, place, calls)?;
     let calls = ops.by_rank.as_slice();
     for own in calls {
         if own.len() > 1 {
@@ -374,12 +363,7 @@ fn closed_of<R: Threads + Sync + AllocGlobal>(
     calls: &str,
 ) -> Result<Option<Closed>, TextErr> {
     let alloc = rt.alloc();
-    if place.len() >= TEXT_LIMIT as usize || calls.len() >= TEXT_LIMIT as usize {
-        return Err(TextErr::Memory);
-    }
-    let place = read_place(alloc, place.as_bytes())?;
-    let count = place.paths.len() as u32;
-    let ops = read_ops(alloc, count, place.geom.shards, calls.as_bytes())?;
+    let (place, ops) = read_both(alloc, place, calls)?;
     let calls = ops.by_rank.as_slice();
     settings_suit();
     let closed = match &place.lock {

@@ -79,8 +79,8 @@ pub(crate) fn files<R: AllocGlobal>(
 }
 
 /// The status and the text of what this line asks for, over these files and a sink, which never fail.
-pub(crate) fn answer_of(
-    rt: &HostRuntime,
+pub(crate) fn answer_of<R: AllocGlobal>(
+    rt: &R,
     line: &[&str],
     held: Vec<(String, Vec<u8>)>,
 ) -> Result<(u8, Vec<u8>), OutOfMemory> {
@@ -92,16 +92,16 @@ pub(crate) fn answer_of(
 }
 
 /// The status and the text of `replay p c s`, over these files and a sink, which never fail.
-pub(crate) fn replay_held(
-    rt: &HostRuntime,
+pub(crate) fn replay_held<R: AllocGlobal>(
+    rt: &R,
     held: Vec<(String, Vec<u8>)>,
 ) -> Result<(u8, Vec<u8>), OutOfMemory> {
     answer_of(rt, &["replay", "p", "c", "s"], held)
 }
 
 /// The same over files of these texts. The lines of the schedule come without the first.
-pub(crate) fn replay_of(
-    rt: &HostRuntime,
+pub(crate) fn replay_of<R: AllocGlobal>(
+    rt: &R,
     place: &str,
     calls: &str,
     turns: &str,
@@ -136,48 +136,65 @@ fn one_rank_holds_once(rt: HostRuntime) -> Result<(), Fail> {
     Ok(())
 }
 
-/// The last lines of small replays: no calls, a busy card, a lost compare, finished steps, a rank that stops in the card.
-#[test]
-fn small_replays(rt: HostRuntime) -> Result<(), Fail> {
-    let none = "rmalock-calls 1\nend\n";
-    let cases = [
-        (
-            ONE_RANK,
-            none,
-            "end\n",
-            "shard 0 updates 0 entries 0\nrank 0 done 0 of 0\nsteps 0 moved 0 waiting 0 lost 0 busy 0 finished 0\nend\n",
-        ),
-        (
-            TWO_RANKS,
-            TWO_HOLDS,
-            "0 2\n1 1\nend\n",
-            "shard 0 updates 0 entries 0\nrank 0 done 0 of 1\nrank 1 done 0 of 1\nsteps 3 moved 2 waiting 0 lost 0 busy 1 finished 0\nend\n",
-        ),
-        (
-            TWO_RANKS,
-            TWO_HOLDS,
-            "0 4\n1 3\nend\n",
-            "shard 0 updates 0 entries 0\nevent 2 enter-w 0\nrank 0 done 0 of 1\nrank 1 done 0 of 1\nsteps 7 moved 6 waiting 0 lost 1 busy 0 finished 0\nend\n",
-        ),
-        (
-            ONE_RANK,
-            ONE_HOLD,
-            "0 9\n0 5\nend\n",
-            "event 4 leave-w 0\nrank 0 done 1 of 1\nsteps 14 moved 9 waiting 0 lost 0 busy 0 finished 5\nend\n",
-        ),
-        (
-            TWO_RANKS,
-            TWO_HOLDS,
-            "0 2\nstop 0\n1 3\nend\n",
-            "shard 0 updates 0 entries 0\nrank 0 done 0 of 1\nrank 1 done 0 of 1\nsteps 5 moved 2 waiting 0 lost 0 busy 3 finished 0\nend\n",
-        ),
-    ];
-    for (place, calls, turns, tail) in cases {
-        let (status, text) = replay_of(&rt, place, calls, turns)?;
+/// Looks at the last lines of the reports of replays.
+fn look_at_last_lines<R: AllocGlobal + Abort>(
+    rt: &R,
+    place: &str,
+    cases: &[(&str, &str, &str)],
+) -> Result<(), Fail> {
+    for (calls, turns, tail) in cases {
+        let (status, text) = replay_of(rt, place, calls, turns)?;
         assert_eq!(rt; status, 0);
         assert!(rt; text.as_slice().ends_with(tail.as_bytes()), "{turns}");
     }
     Ok(())
+}
+
+/// No calls, and finished steps.
+#[test]
+fn small_replays_of_one_rank(rt: HostRuntime) -> Result<(), Fail> {
+    look_at_last_lines(
+        &rt,
+        ONE_RANK,
+        &[
+            (
+                "rmalock-calls 1\nend\n",
+                "end\n",
+                "shard 0 updates 0 entries 0\nrank 0 done 0 of 0\nsteps 0 moved 0 waiting 0 lost 0 busy 0 finished 0\nend\n",
+            ),
+            (
+                ONE_HOLD,
+                "0 9\n0 5\nend\n",
+                "event 4 leave-w 0\nrank 0 done 1 of 1\nsteps 14 moved 9 waiting 0 lost 0 busy 0 finished 5\nend\n",
+            ),
+        ],
+    )
+}
+
+/// A busy card, a lost compare, a rank that stops in the card.
+#[test]
+fn small_replays_of_two_ranks(rt: HostRuntime) -> Result<(), Fail> {
+    look_at_last_lines(
+        &rt,
+        TWO_RANKS,
+        &[
+            (
+                TWO_HOLDS,
+                "0 2\n1 1\nend\n",
+                "shard 0 updates 0 entries 0\nrank 0 done 0 of 1\nrank 1 done 0 of 1\nsteps 3 moved 2 waiting 0 lost 0 busy 1 finished 0\nend\n",
+            ),
+            (
+                TWO_HOLDS,
+                "0 4\n1 3\nend\n",
+                "shard 0 updates 0 entries 0\nevent 2 enter-w 0\nrank 0 done 0 of 1\nrank 1 done 0 of 1\nsteps 7 moved 6 waiting 0 lost 1 busy 0 finished 0\nend\n",
+            ),
+            (
+                TWO_HOLDS,
+                "0 2\nstop 0\n1 3\nend\n",
+                "shard 0 updates 0 entries 0\nrank 0 done 0 of 1\nrank 1 done 0 of 1\nsteps 5 moved 2 waiting 0 lost 0 busy 3 finished 0\nend\n",
+            ),
+        ],
+    )
 }
 
 /// Six calls of one rank on a table of one bucket and one overflow cell: their entries, and the steps at which the first two enter and
@@ -319,49 +336,43 @@ fn readers_beside_each_other(rt: HostRuntime) -> Result<(), Fail> {
     Ok(())
 }
 
+/// Looks that a replay is refused with this line.
+fn look_refused<R: AllocGlobal + Abort>(
+    rt: &R,
+    place: &str,
+    calls: &str,
+    turns: &str,
+    line: &str,
+) -> Result<(), Fail> {
+    look(rt, replay_of(rt, place, calls, turns)?, 2, line);
+    Ok(())
+}
+
 /// The first file that is refused, with its place and cause.
 #[test]
-fn refusals(rt: HostRuntime) -> Result<(), Fail> {
-    let cases = [
-        (FAR_RANK, ONE_HOLD, "0 9\nend\n", "refused p 7 2 range\n"),
-        (TWO_SPACES, ONE_HOLD, "end\n", "refused p 2 2 number\n"),
-        (LEADING_ZEROS, ONE_HOLD, "end\n", "refused p 4 2 number\n"),
-        (
-            ONE_RANK,
-            "rmalock-calls 1\n0 hold 1\nend\n",
-            "0 9\nend\n",
-            "refused c 2 3 range\n",
-        ),
-        (
-            TWO_RANKS,
-            TWO_HOLDS,
-            "stop 0\n0 1\nend\n",
-            "refused s 3 1 order\n",
-        ),
-        (
-            TWO_RANKS,
-            TWO_HOLDS,
-            "stop 0\nstop 0\nend\n",
-            "refused s 3 2 repeat\n",
-        ),
-        (
-            TWO_RANKS,
-            TWO_HOLDS,
-            "stop 2\nend\n",
-            "refused s 2 2 range\n",
-        ),
-        (
-            TWO_RANKS,
-            TWO_HOLDS,
-            "stop 0 1\nend\n",
-            "refused s 2 3 extra\n",
-        ),
-        (ONE_RANK, ONE_HOLD, "0 9\n", "refused s 3 0 noend\n"),
-    ];
-    for (place, calls, turns, line) in cases {
-        look(&rt, replay_of(&rt, place, calls, turns)?, 2, line);
+fn refused_placements_and_calls(rt: HostRuntime) -> Result<(), Fail> {
+    for (place, line) in [
+        (FAR_RANK, "refused p 7 2 range\n"),
+        (TWO_SPACES, "refused p 2 2 number\n"),
+        (LEADING_ZEROS, "refused p 4 2 number\n"),
+    ] {
+        look_refused(&rt, place, ONE_HOLD, "0 9\nend\n", line)?;
     }
-    Ok(())
+    let calls = "rmalock-calls 1\n0 hold 1\nend\n";
+    look_refused(&rt, ONE_RANK, calls, "0 9\nend\n", "refused c 2 3 range\n")
+}
+
+#[test]
+fn refused_schedules(rt: HostRuntime) -> Result<(), Fail> {
+    for (turns, line) in [
+        ("stop 0\n0 1\nend\n", "refused s 3 1 order\n"),
+        ("stop 0\nstop 0\nend\n", "refused s 3 2 repeat\n"),
+        ("stop 2\nend\n", "refused s 2 2 range\n"),
+        ("stop 0 1\nend\n", "refused s 2 3 extra\n"),
+    ] {
+        look_refused(&rt, TWO_RANKS, TWO_HOLDS, turns, line)?;
+    }
+    look_refused(&rt, ONE_RANK, ONE_HOLD, "0 9\n", "refused s 3 0 noend\n")
 }
 
 #[test]

@@ -2,10 +2,10 @@
 //! by threads that are led, and by eight threads that go on as they come.
 
 use crate::check_tests::legal;
-use crate::library_tests::journal_of;
 use crate::run_tests::{read_own_writes, run_led_often};
 use crate::seat_tests::trial_and_seats;
 use crate::tests::{look, named, replay_of, words};
+use crate::trials::trial;
 use rl_io::{FixedSink, MemFiles, OpenGate};
 use rl_model::{Call, Entry, Reply};
 use rl_program::{offline, rmalock};
@@ -146,8 +146,7 @@ fn first_put(value: u64) -> Entry {
 #[test]
 fn a_journal_beside_a_get(rt: HostRuntime) -> Result<(), Fail> {
     let place = two_at_home(&rt, "seq")?;
-    let ranks = GET_BESIDE_A_WRITER.as_bytes();
-    let journal = journal_of(rt.alloc(), &place, PUT_AND_GET, ranks)?;
+    let journal = trial(&rt, &place, PUT_AND_GET, GET_BESIDE_A_WRITER)?.journal;
     assert_eq!(rt; journal.as_slice(), [first_put(7)].as_slice());
     Ok(())
 }
@@ -156,8 +155,7 @@ fn a_journal_beside_a_get(rt: HostRuntime) -> Result<(), Fail> {
 #[test]
 fn a_journal_by_one_for_both(rt: HostRuntime) -> Result<(), Fail> {
     let place = two_at_home(&rt, "combine")?;
-    let ranks = BOTH_CALLS_BY_ONE.as_bytes();
-    let journal = journal_of(rt.alloc(), &place, PUT_ONE_AND_GET, ranks)?;
+    let journal = trial(&rt, &place, PUT_ONE_AND_GET, BOTH_CALLS_BY_ONE)?.journal;
     assert_eq!(rt; journal.as_slice(), [first_put(1)].as_slice());
     Ok(())
 }

@@ -2,7 +2,7 @@
 use Rattle.std.proofs.Common.{◌≡◌, ◌<◌, length, slice_get, Some, ap, sym, ◌∙◌, rules}
 use Rattle.std.proofs.lemmas.Option.{slice_get-get_or}
 use Rattle.rmalock.proofs.SeatLists.{one_caller_changed}
-use Rattle.rmalock.proofs.caller_tests.step_of.Goals as goal
+use Rattle.rmalock.proofs.callers.step_of.Goals as goal
 
 pub step-requires : goal.step-requires
 step-requires g c =

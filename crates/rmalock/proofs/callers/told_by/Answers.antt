@@ -2,8 +2,8 @@
 use Rattle.std.proofs.Common.{sym, subst}
 use Rattle.rl_replay.proofs.SuitLaws.{sizes_suit}
 use Rattle.rl_run.specs.Runs.{AreCallers}
-use Rattle.rmalock.proofs.caller_tests.told_by.Goals as goal
-use Rattle.rmalock.proofs.caller_tests.told_by.Goals.{then-rank-len+in_ok-answer_sign+in_ok-push_str+in_ok-push_str-2, else-rank-len}
+use Rattle.rmalock.proofs.callers.told_by.Goals as goal
+use Rattle.rmalock.proofs.callers.told_by.Goals.{then-rank-len+in_ok-answer_sign+in_ok-push_str+in_ok-push_str-2, else-rank-len}
 
 pub begin_all-requires-clause-batches : goal.begin_all-requires-clause-batches
 begin_all-requires-clause-batches g c = sizes_suit c.args.place.now c.args.ops g.C.ShardCore.batches c.requires.batches c.requires.suits

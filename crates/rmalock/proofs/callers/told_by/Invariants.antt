@@ -1,6 +1,6 @@
 -- Each caller may go on.
 use Rattle.rl_run.specs.Runs.{AreCallers}
-use Rattle.rmalock.proofs.caller_tests.told_by.Given as goal
+use Rattle.rmalock.proofs.callers.told_by.Given as goal
 
 abbrev pub invariant-loop-digit : goal.invariant-loop-digit
 invariant-loop-digit g l = AreCallers g.C.ShardCore.shard_table g.C.ShardCore.good g.C.ShardCore.layout l.shared l.callers.items
