@@ -1,5 +1,5 @@
 -- The two seats of a window, before and after steps.
-use Rattle.std.proofs.Common.{◌≡◌, ℕ, zero, suc, List, [], ◌∷◌, ◌++◌, length, slice_get, Some, refl, ap, ◌∙◌, subst, arith}
+use Rattle.std.proofs.Common.{◌≡◌, ℕ, zero, suc, List, [], ◌∷◌, ◌++◌, slice_get, Some, refl, ap, ◌∙◌, subst}
 use Rattle.std.proofs.lemmas.Option.{same_Some}
 use Rattle.rl_step.specs.Do.{TheWindow}
 use Rattle.rl_window.specs.declared.window.Window.{Window}
@@ -16,10 +16,6 @@ module _ {C V : Type 0} (rule : C → TheWindow → List V → Type 0) (w : Wind
   pair_of xs ys zs a b A K ex ey ez =
       let e : xs ≡ a ∷ b ∷ [] = ex ∙ ap (λ l. l ++ b ∷ []) (ey ∙ ap (λ l. l ++ a ∷ []) ez) in
       record { all = subst (IsAll rule w) e A; kept = subst (AreKept rule w) e K }
-
-  pub empty : {X : Type 0} (l : List X) → length l ≡ 0 → l ≡ []
-  empty [] e = refl
-  empty (x ∷ xs) e = absurd (omega arith)
 
   all_at : (a b : WinSeat C V) → (a.rank ≡ 0) × IsSeatOf rule w a → (b.rank ≡ 1) × IsSeatOf rule w b → (i : ℕ) (s : WinSeat C V) → slice_get (a ∷ b ∷ []) i ≡ Some s → (s.rank ≡ i) × IsSeatOf rule w s
   all_at a b A B zero s e = subst (λ z. (z.rank ≡ 0) × IsSeatOf rule w z) (same_Some _ _ e) A

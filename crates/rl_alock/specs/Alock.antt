@@ -164,6 +164,6 @@ abbrev pub BoundsOvertaking : Cohorts → List Event → List Deed → Type 0
 BoundsOvertaking K t ds = (c : Cohort) → IsOvertakenAtMost (is_in K c) (cohort_no c) (budget_in K (other c) + 1) t
 
 -- TWO DOMAINS: which acts the ranks on the shard's home may make, and which all others.
-pub record KeepsDomains (K : Cohorts) : Type 0 where
+pub record HasTwoDomains (K : Cohorts) : Type 0 where
   pub home : (r : ℕ) (a : Act) → slice_index K.node_of r ≡ K.home → (alock_table K).may_make r a ≡ true → by_card a ≡ false
   pub away : (r : ℕ) (w old new : ℕ) → (slice_index K.node_of r ≡ K.home → ⊥) → (alock_table K).may_make r (LocalCas w old new) ≡ false

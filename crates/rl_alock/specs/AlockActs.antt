@@ -9,7 +9,7 @@ use Rattle.rl_step.specs.Lock.{LockState}
 use Rattle.rl_step.specs.Queues.{tenures}
 use Rattle.rl_step.specs.QueueLemmas.{tenures-append}
 use Rattle.rl_queue.specs.declared.view.Phase.{Phase}
-use Rattle.rl_queue.specs.declared.view.Phase.TheVariants.{Idle, Granted}
+use Rattle.rl_queue.specs.declared.view.Phase.TheVariants.{Idle}
 use Rattle.rl_queue.specs.Queue.{TheNames, Turn, status_word, plan_at, turn_at}
 use Rattle.rl_queue.specs.Lane.{served}
 use Rattle.rl_queue.specs.QueueLaws.{QueueGood, still_keeps}
@@ -68,14 +68,7 @@ pub not_announced : (p : Phase) → Announced p Announce → ⊥
 not_announced Idle h = h
 not_announced _ h = h
 
-pub granted_not : (left : ℕ) (st : Entry) → Announced (Granted left) st → ⊥
-granted_not left st h = h
-
 module _ (K : Cohorts) where
-  -- served in its own cohort's queue
-  served_in_own : (ws : List ℕ) (vs : List AlockView) (m : ℕ) → served (phase_at vs m) (status_at K ws m) ≡ true → served (phases_of K (cohort_of K m) vs m) (slice_index ws (status_word (names_of K (cohort_of K m)) m)) ≡ true
-  served_in_own ws vs m h = subst (λ z. served z (status_at K ws m) ≡ true) (sym (mine_is K (cohort_of K m) vs m refl)) h
-
   pub of_own : (ws : List ℕ) (vs : List AlockView) (c : Cohort) (m : ℕ) → cohort_of K m ≡ c → served (phases_of K c vs m) (slice_index ws (status_word (names_of K c) m)) ≡ true → served (phase_at vs m) (status_at K ws m) ≡ true
   of_own ws vs c m e h = subst (λ z. served z (status_at K ws m) ≡ true) (mine_is K c vs m e) h
 

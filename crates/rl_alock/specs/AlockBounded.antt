@@ -25,7 +25,6 @@ use Rattle.rl_alock.specs.Alock.{Cohorts, BoundsOvertaking, cohort_of, cohort_no
 use Rattle.rl_alock.specs.AlockGood.{InCohort, phase_at, entry_at, phases_of, Announced, status_at, AlockGood}
 use Rattle.rl_alock.specs.CohortLaws.{other_differs, other_cohort}
 use Rattle.rl_alock.specs.AlockViews.{phase_get, entry_get, mine_is}
-use Rattle.rl_alock.specs.AlockActs.{}
 use Rattle.rl_alock.specs.AlockKeeps.{none_listed, announced_listed, both_lines, by_test, load_same}
 use Rattle.rl_alock.specs.AlockLaws.{alock_laws}
 use Rattle.rl_alock.specs.AlockPots.{pot}

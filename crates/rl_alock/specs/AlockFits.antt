@@ -3,7 +3,7 @@ use Rattle.std.specs.Prelude.{◌≡◌, ◌↔◌, ℕ, zero, suc, ◌+◌, ◌
 use Rattle.std.proofs.Common.{sym, ◌∙◌, ap, subst, arith}
 use Rattle.std.proofs.lemmas.Option.{same_Some, get_or_from_slice_get}
 use Rattle.rl_word.specs.Places.{some_at}
-use Rattle.rl_word.specs.Acts.{Layout, IsLawful}
+use Rattle.rl_word.specs.Acts.{IsLawful}
 use Rattle.rl_word.specs.declared.classes.Class.TheVariants as class
 use Rattle.rl_word.specs.declared.acts.Act.{Act}
 use Rattle.rl_word.specs.declared.acts.Act.TheVariants.{Load, Store, LocalCas, CardCas}
@@ -116,10 +116,6 @@ plan_rests N c k Idle st f = (λ e. tt, λ t. refl)
 plan_rests N c k (Granted left) st f = (λ e. tt, λ t. refl)
 plan_rests N c k (Above succ) st f = absurd f
 plan_rests N c k _ st f = (λ e. cc, λ t. absurd t)
-
--- Where the words live, and which acts on them are lawful.
-pub layout_in : Cohorts → ℕ → Layout
-layout_in K nodes = record { node_of = K.node_of; nodes = nodes }
 
 pub spot_home : (K : Cohorts) (nodes : ℕ) (w : ℕ) → Seated (record { node_of = K.node_of; nodes = nodes }) → K.home < nodes → w < 3 + 2 * ranks_of K → (alock_spot K w).home < nodes
 spot_home K nodes zero seated homed lt = homed

@@ -33,7 +33,6 @@ use Rattle.rl_alock.specs.AlockWords.{named_in, victim_apart, cohorts_apart}
 use Rattle.rl_alock.specs.AlockTurns.{entry_all}
 use Rattle.rl_queue.specs.QueueTurns.{turn_all}
 use Rattle.rl_queue.specs.PhaseLaws.{first_busy}
-use Rattle.rl_alock.specs.AlockActs.{}
 use Rattle.rl_alock.specs.AlockPots.{pot, pot_victim, pot_first, head_pot, enters, act_pots, pot_of_head, head_is}
 use Rattle.rl_step.specs.Overtaking.{opened, one_more, window_after, window_of, Low, OvertakenFrom}
 use Rattle.rl_step.specs.OvertakingLaws.{window-append, overtaken-append}

@@ -2,7 +2,6 @@
 
 ghost use Rattle.std.specs.Prelude.{◌≡◌, ◌<◌, ◌≤◌, [], ◌∷◌, ◌++◌, false, length, refl, IfOk};
 ghost use Rattle.rl_word.specs.declared.locks.LockName.TheVariants as TheName;
-ghost use Rattle.rl_step.specs.Lock.{told_with};
 ghost use Rattle.rl_step.specs.LockQueues.{sits_at};
 ghost use Rattle.rl_queue.specs.Queue.{full_budget};
 ghost use Rattle.rl_queue.specs.RankWords.{Seated};

@@ -11,13 +11,13 @@ use Rattle.rl_step.specs.Lock.{Deed}
 use Rattle.rl_work.specs.Site.{lock_base}
 use Rattle.rl_asks.specs.Standings.{AloneIn}
 use Rattle.rl_asks.specs.ShardTables.{ShardTable, opening_held, first_views}
-use Rattle.rl_asks.specs.ShardLaws.{IsLaid, MayOpen, IsSeated, turned_by}
+use Rattle.rl_asks.specs.ShardLaws.{IsLaidAtSite, MayOpen, IsSeated, turned_by}
 
 module _ {V : Type 0} (T : ShardTable V) (good : TheWindow → List V → List Event → List Deed → Type 0) (layout : Layout) where
   -- the ranks may begin, each with room for so many entries: the words are laid out by the site and their numbers fit, and the site and
   -- these rooms have a number for each rank
   pub record MayBegin (rooms : List ℕ) : Type 0 where
-    pub laid : IsLaid T T.site
+    pub laid : IsLaidAtSite T T.site
     pub fits : GeomFits T.site.geom
     pub small : lock_base T.site + T.behind < 2 ^ 32
     pub updates : length T.site.rooms ≡ length layout.node_of

@@ -26,7 +26,7 @@ use Rattle.rl_asks.specs.Desks.{Desk, OpensBlock, Turns, entries_of}
 use Rattle.rl_asks.specs.ShardTables.{ShardTable, opening_held, first_views, journal_at, kept_in}
 
 -- the table is one of this site, its words are those of the site and those behind the journal, and the work's own are the last of these
-pub record IsLaid {V : Type 0} (T : ShardTable V) (site : Site) : Type 0 where
+pub record IsLaidAtSite {V : Type 0} (T : ShardTable V) (site : Site) : Type 0 where
   pub site_is : T.site ≡ site
   pub words_are : T.core.size ≡ lock_base site + T.behind
   pub own_last : T.own_at + T.own_words ≡ T.core.size
@@ -78,7 +78,7 @@ module _ {V : Type 0} (T : ShardTable V) (good : TheWindow → List V → List E
     -- ---- what keeps it good
 
     -- at the start nothing has happened
-    pub begins : (rooms : List ℕ) → IsLaid T T.site → GeomFits T.site.geom → lock_base T.site + T.behind < 2 ^ 32 → length T.site.rooms ≡ length layout.node_of → length layout.node_of < 2 ^ 32 → length rooms ≡ length layout.node_of →
+    pub begins : (rooms : List ℕ) → IsLaidAtSite T T.site → GeomFits T.site.geom → lock_base T.site + T.behind < 2 ^ 32 → length T.site.rooms ≡ length layout.node_of → length layout.node_of < 2 ^ 32 → length rooms ≡ length layout.node_of →
         good (opening_held T.site T.behind layout.nodes) (first_views T 0 rooms) [] []
     -- a rank makes its next atom
     pub atom_keeps : (h : TheWindow) (vs : List V) (t : List Event) (ds : List Deed) (r : ℕ) (v : V) (at : Atom) → IsSeated h vs t ds r v → T.core.next v ≡ Some at →

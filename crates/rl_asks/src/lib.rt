@@ -25,7 +25,7 @@ mod shard_core;
 
 pub use blocks::{block_from, block_shard};
 pub use laws::core_laws;
-pub use opening::{ENTRY_WORDS, first_views, first_words, lock_base};
+pub use opening::{first_views, first_words, lock_base};
 pub use resting::Resting;
 pub use round::{Leg, Round};
 pub use shard_core::{ShardCore, TellsAll};

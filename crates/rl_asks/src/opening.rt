@@ -8,11 +8,8 @@ ghost use Rattle.rl_asks.specs.ShardTables.{first_views};
 
 use crate::shard_core::ShardCore;
 use rl_model::Geom;
-use rl_work::{journal_base, opening_word};
+use rl_work::{ENTRY_WORDS, journal_base, opening_word};
 use std::alloc::{AllocError as OutOfMemory, Global};
-
-/// How many words an entry of a journal takes.
-pub const ENTRY_WORDS: u32 = 6;
 
 /// The number of the first word behind a journal with a place for each update that each rank may make.
 fn journal_end(geom: Geom, rooms: &[u32]) -> u32

@@ -17,7 +17,7 @@ ghost use Rattle.rl_step.specs.LockQueues.{queues_of, readers_share};
 ghost use Rattle.rl_work.specs.Site.{Site as TheSite, site_of};
 ghost use Rattle.rl_asks.specs.Desks.{entries_of};
 ghost use Rattle.rl_asks.specs.ShardTables.{ShardTable, journal_at};
-ghost use Rattle.rl_asks.specs.ShardLaws.{ShardCoreLaws, IsLaid};
+ghost use Rattle.rl_asks.specs.ShardLaws.{ShardCoreLaws, IsLaidAtSite};
 
 use rl_model::{Call, Entry, Geom};
 use rl_step::{Core, Standing, Words};
@@ -160,7 +160,7 @@ pub trait ShardCore: Core {
     ghost shard_laws: { (c : Self) → ShardCoreLaws (shard_table c) (good c) (cause c) (further c) (layout c) };
 
     /// As it is defined its words are laid out by the site.
-    ghost laid: { (shape : TheShape) (home : ℕ) (knobs : TheKnobs) (site : TheSite) → IsLaid (defined shape home knobs site) site };
+    ghost laid: { (shape : TheShape) (home : ℕ) (knobs : TheKnobs) (site : TheSite) → IsLaidAtSite (defined shape home knobs site) site };
 
     /// Its queues are those of the lock of that name: so their members and budgets are the placement's, and not the lock's own word.
     ghost has_queues: { (shape : TheShape) (home : ℕ) (knobs : TheKnobs) (site : TheSite) → (defined shape home knobs site).queues ≡ queues_of name shape home knobs };

@@ -7,7 +7,7 @@ use Rattle.rl_word.specs.Places.{some_at}
 use Rattle.rl_model.specs.declared.entry.Entry.{Entry}
 use Rattle.rl_journal.specs.Blocks.{is_last}
 use Rattle.rl_journal.specs.Legal.{updates}
-use Rattle.rl_check.specs.Entries.{before, GoesOn, Begins, MayFollow, IsWholeBatch}
+use Rattle.rl_check.specs.Entries.{before, GoesOnInBatch, IsFirstOfBlock, MayFollow, IsWholeBatch}
 use Rattle.rl_check.specs.OneThread.{is_begun, BatchesFit, IsBroken}
 use Rattle.rl_check.proofs.Places.{below_next}
 
@@ -34,16 +34,16 @@ module _ (entries : List Entry) where
     pub is_update : updates first ≡ true
     pub batch_is : first.batch ≡ e.batch
     pub part_is : first.part ≡ 0
-    pub goes_on : (j : ℕ) (d f : Entry) → from ≤ j → j + 1 < p + 1 → slice_get entries j ≡ Some d → slice_get entries (j + 1) ≡ Some f → GoesOn d f
+    pub goes_on : (j : ℕ) (d f : Entry) → from ≤ j → j + 1 < p + 1 → slice_get entries j ≡ Some d → slice_get entries (j + 1) ≡ Some f → GoesOnInBatch d f
 
-  start : (p : ℕ) (e : Entry) → Begins e → 1 ≤ e.batch → slice_get entries p ≡ Some e → Standing p e
+  start : (p : ℕ) (e : Entry) → IsFirstOfBlock e → 1 ≤ e.batch → slice_get entries p ≡ Some e → Standing p e
   start p e begins some get =
       ⊎_elim
       (λ z. absurd (omega arith))
       (λ q. let none = q.1 in record { from = p; place = omega arith; low = omega arith; first = e; begins = get; is_update = q.0; batch_is = refl; part_is = q.1; goes_on = λ j d f low high gd gf. absurd (omega arith) })
       begins
 
-  extend : (p : ℕ) (d e : Entry) → Standing p d → GoesOn d e → d.part + 1 < d.batch → slice_get entries p ≡ Some d → slice_get entries (suc p) ≡ Some e → Standing (suc p) e
+  extend : (p : ℕ) (d e : Entry) → Standing p d → GoesOnInBatch d e → d.part + 1 < d.batch → slice_get entries p ≡ Some d → slice_get entries (suc p) ≡ Some e → Standing (suc p) e
   extend p d e r g l gd ge =
       let part = g.part_is in let batch = g.batch_is in let place = r.place in
       record {
@@ -62,7 +62,7 @@ module _ (entries : List Entry) where
             let first : d ≡ a = same_Some _ _ (sym gd ∙ ap (slice_get entries) (sym same) ∙ ga) in
             let at : j + 1 ≡ suc p = omega arith in
             let second : e ≡ b = same_Some _ _ (sym ge ∙ ap (slice_get entries) (sym at) ∙ gb) in
-            subst (λ z. GoesOn z b) first (subst (GoesOn d) second g))
+            subst (λ z. GoesOnInBatch z b) first (subst (GoesOnInBatch d) second g))
             (below_next j p (omega arith));
       }
 
@@ -96,7 +96,7 @@ module _ (entries : List Entry) where
       let get_e : slice_get entries (i + k + 1) ≡ Some e = ap (slice_get entries) (sym at) ∙ get in
       let d = some_at entries (i + k) (let h = slice_get_within entries (i + k + 1) e get_e in omega arith) in
       let p : IsPartOf n k d.0 = part_of i n w k d.0 (omega arith) d.1 in
-      let g : GoesOn d.0 e = w.goes_on (i + k) d.0 e (omega arith) (omega arith) d.1 get_e in
+      let g : GoesOnInBatch d.0 e = w.goes_on (i + k) d.0 e (omega arith) (omega arith) d.1 get_e in
       let part = g.part_is in let before = p.part_is in
       record { batch_is = g.batch_is ∙ p.batch_is; part_is = omega arith; is_update = g.is_update }
 

@@ -1,5 +1,5 @@
 -- What the tests of an entry tell, by what the code has found.
-use Rattle.std.proofs.Common.{◌≡◌, ◌≢◌, ℕ, zero, suc, ◌+◌, ◌<◌, ◌≤◌, Bool, true, false, cond, List, [], ◌∷◌, length, take, get_or, Option, Some, None, IsTrue, refl, sym, ap, subst, ◌∙◌, ⊎_elim, arith}
+use Rattle.std.proofs.Common.{◌≡◌, ◌≢◌, ℕ, ◌+◌, ◌<◌, Bool, true, false, cond, List, [], ◌∷◌, length, take, get_or, Option, Some, None, IsTrue, refl, sym, ap, subst, ◌∙◌, ⊎_elim, arith}
 use Rattle.std.specs.Prelude.{slice_get, ◌↔◌}
 use Rattle.std.specs.List.{count_by}
 use Rattle.std.specs.Int.{from_bool}
@@ -26,16 +26,6 @@ pub counted_more : (entries : List Entry) (p : ℕ) (d : Entry) → p < length e
 counted_more entries p d low =
     ap (count_by updates) (take_more entries p (get_or entries p d) (slice_get-get_or entries p d low))
     ∙ count-append updates (take p entries) (get_or entries p d ∷ []) ∙ ap (λ n. updates_before entries p + n) (count-cons updates (get_or entries p d) [] ∙ omega arith)
-
-pub few_before : (entries : List Entry) (p : ℕ) → updates_before entries p ≤ p
-few_before [] zero = omega arith
-few_before [] (suc p) = omega arith
-few_before (e ∷ es) zero = omega arith
-few_before (e ∷ es) (suc p) =
-    elim (updates e) as (λ b. updates e ≡ b → count_by updates (e ∷ take p es) ≤ suc p) [
-      | true ↦ λ h. let one : ◌≡◌ {A = ℕ} (cond (updates e) 1 0) 1 = ap (λ b. cond {A = ℕ} b 1 0) h in omega (arith, few_before es p, count-cons updates e (take p es))
-      | false ↦ λ h. let one : ◌≡◌ {A = ℕ} (cond (updates e) 1 0) 0 = ap (λ b. cond {A = ℕ} b 1 0) h in omega (arith, few_before es p, count-cons updates e (take p es))
-    ] refl
 
 module _ (entries : List Entry) (p : ℕ) (d : Entry) (low : p < length entries) where
   abbrev e : Entry

@@ -10,7 +10,7 @@ use Rattle.rl_model.specs.declared.entry.Entry.{Entry}
 use Rattle.rl_model.specs.Call.{shard_of}
 use Rattle.rl_journal.specs.Blocks.{is_last}
 use Rattle.rl_journal.specs.Legal.{updates, is_of}
-use Rattle.rl_journal.specs.History.{Precedes, Each, IsSorted, AreOwn, IsReplay, TellsUpdatesBefore}
+use Rattle.rl_journal.specs.History.{Precedes, Each, IsSorted, AreOwn, IsReplayedByOneThread, TellsUpdatesBefore}
 use Rattle.rl_journal.specs.HistoryLaws.{replayed}
 use Rattle.rl_journal.specs.HistoryPlaces.{places_told}
 use Rattle.rl_journal.specs.HistorySorted.{history_sorted}
@@ -80,8 +80,8 @@ module _ (place : ThePlace) (s home : ℕ) (S : TheShard) (L : TellsHistory plac
   told : TellsUpdatesBefore es
   told = subst TellsUpdatesBefore (sym L.in_order) (places_told place.geom (journal_in es) ts L.legal)
 
-  replay : IsReplay place.geom finite.empty 0 es
-  replay = subst (IsReplay place.geom finite.empty 0) (sym L.in_order) (replayed place.geom (journal_in es) ts L.legal)
+  replay : IsReplayedByOneThread place.geom finite.empty 0 es
+  replay = subst (IsReplayedByOneThread place.geom finite.empty 0) (sym L.in_order) (replayed place.geom (journal_in es) ts L.legal)
 
   placed : ((k : ℕ) (e : Entry) → slice_get es k ≡ Some e → IsPlaced place.geom es alone k e) × (is_begun (before es (length es)) ≡ false)
   placed = replay_placed place.geom es alone 0 replay.blocks replay.split replay.replayed
@@ -89,9 +89,6 @@ module _ (place : ThePlace) (s home : ℕ) (S : TheShard) (L : TellsHistory plac
   in_order : (p : ℕ) (d e : Entry) → before es p ≡ Some d → slice_get es p ≡ Some e → StandsBefore d e
   in_order zero d e gd ge = absurd (cc)
   in_order (suc p) d e gd ge = stands_first d e (sorted_next es p d e sorted gd ge)
-
-  pub journal_whole : (p : ℕ) → p ≡ length es → journal_in (take p es) ≡ journal_in es
-  journal_whole p end = ap journal_in (take_whole es p end)
 
   pub shard_passes : (replay : Bool) → TalliesHold place replay home S → PairsHold place replay S → ((p : ℕ) → EventsHold (queues_at place home) S.events p) → (p : ℕ) (t : Test) → ShardPasses place replay s home S p t
   shard_passes replay tallies pairs events p test.Shard = λ e get. of_shard p e get

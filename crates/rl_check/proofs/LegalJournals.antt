@@ -21,7 +21,7 @@ use Rattle.rl_history.specs.Reports.{TheShard, PartFits, ShardFits}
 use Rattle.rl_history.specs.Lawful.{journal_in}
 use Rattle.rl_check.specs.declared.illegal.Test.{Test}
 use Rattle.rl_check.specs.declared.illegal.Test.TheVariants as test
-use Rattle.rl_check.specs.Entries.{before, updates_before, table_before, GoesOn, Begins, MayFollow, IsWholeBatch, IsAnswered}
+use Rattle.rl_check.specs.Entries.{before, updates_before, table_before, GoesOnInBatch, IsFirstOfBlock, MayFollow, IsWholeBatch, IsAnswered}
 use Rattle.rl_check.specs.OneThread.{is_begun}
 use Rattle.rl_check.specs.Shards.{ShardPasses}
 use Rattle.rl_check.proofs.Places.{below_next, take_more, in_stretch, length_stretch}
@@ -78,12 +78,12 @@ module _ (place : ThePlace) (replay : Bool) (s home : ℕ) (S : TheShard) (fit :
   part_fits : (p : ℕ) (e : Entry) → slice_get es p ≡ Some e → PartFits e.batch e.part
   part_fits p e get = (entry_fits place replay s home S fit T p e get).part
 
-  goes_on_from : (p : ℕ) (d f : Entry) → slice_get es p ≡ Some d → slice_get es (suc p) ≡ Some f → is_last d ≡ false → GoesOn d f
+  goes_on_from : (p : ℕ) (d f : Entry) → slice_get es p ≡ Some d → slice_get es (suc p) ≡ Some f → is_last d ≡ false → GoesOnInBatch d f
   goes_on_from p d f gd gf more = (subst (λ o. MayFollow o f) gd ((T (suc p) test.Batch).0 f gf)).1 more
 
   -- ---- a batch that begins
 
-  module _ (i : ℕ) (e : Entry) (get : slice_get es i ≡ Some e) (begins : Begins e) (two : 2 ≤ e.batch) where
+  module _ (i : ℕ) (e : Entry) (get : slice_get es i ≡ Some e) (begins : IsFirstOfBlock e) (two : 2 ≤ e.batch) where
     is_update : updates e ≡ true
     is_update = ⊎_elim (λ z. absurd (omega arith)) (λ q. q.0) begins
 
@@ -120,7 +120,7 @@ module _ (place : ThePlace) (replay : Bool) (s home : ℕ) (S : TheShard) (fit :
         (λ end. absurd (let last : is_last d.0 ≡ true = (T (length es) test.Batch).1 refl d.0 (ap (before es) (sym end) ∙ d.1.there) in let bad : true ≡ false = sym last ∙ more in cc))
         (below_next (suc (i + k)) (length es) (omega arith)) in
         let f = some_at es (suc (i + k)) next in
-        let g : GoesOn d.0 f.0 = goes_on_from (i + k) d.0 f.0 d.1.there f.1 more in
+        let g : GoesOnInBatch d.0 f.0 = goes_on_from (i + k) d.0 f.0 d.1.there f.1 more in
         let at : i + suc k ≡ suc (i + k) = omega arith in (
           f.0,
           record {
@@ -292,7 +292,7 @@ module _ (place : ThePlace) (replay : Bool) (s home : ℕ) (S : TheShard) (fit :
         | true ↦ λ h.
             let low : i < length es = grind (arith, nat_tests) in
             let e = some_at es i low in
-            let begins : Begins e.0 = begins_here place replay s home S fit T i e.0 e.1 none in
+            let begins : IsFirstOfBlock e.0 = begins_here place replay s home S fit T i e.0 e.1 none in
             ⊎_elim
             (λ q.
             one_more i t table e.0 e.1 q.0 q.1

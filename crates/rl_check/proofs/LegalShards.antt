@@ -15,7 +15,7 @@ use Rattle.rl_history.specs.Naming.{naming_of}
 use Rattle.rl_history.specs.Reports.{TheShard, EntryFits, PartFits, ShardFits}
 use Rattle.rl_check.specs.declared.illegal.Test.{Test}
 use Rattle.rl_check.specs.declared.illegal.Test.TheVariants as test
-use Rattle.rl_check.specs.Entries.{before, updates_before, StandsBefore, Begins, MayFollow}
+use Rattle.rl_check.specs.Entries.{before, updates_before, StandsBefore, IsFirstOfBlock, MayFollow}
 use Rattle.rl_check.specs.OneThread.{is_begun}
 use Rattle.rl_check.specs.Shards.{ShardPasses}
 use Rattle.rl_check.proofs.EntryFacts.{one_of_all}
@@ -136,11 +136,11 @@ module _ (place : ThePlace) (replay : Bool) (s home : ℕ) (S : TheShard) (fit :
 
   -- ---- blocks
 
-  begins_if : (o : Option Entry) (e : Entry) → MayFollow o e → is_begun o ≡ false → Begins e
+  begins_if : (o : Option Entry) (e : Entry) → MayFollow o e → is_begun o ≡ false → IsFirstOfBlock e
   begins_if None e m none = m
   begins_if (Some d) e m none = m.0 (elim (is_last d) as (λ b. not b ≡ false → b ≡ true) [ true ↦ λ _. refl | false ↦ λ z. absurd (cc) ] none)
 
-  pub begins_here : (p : ℕ) (e : Entry) → slice_get es p ≡ Some e → is_begun (before es p) ≡ false → Begins e
+  pub begins_here : (p : ℕ) (e : Entry) → slice_get es p ≡ Some e → is_begun (before es p) ≡ false → IsFirstOfBlock e
   begins_here p e get none = begins_if (before es p) e ((T p test.Batch).0 e get) none
 
   read_begins : (o : Option Entry) (e : Entry) → MayFollow o e → updates e ≡ false → e.batch ≡ 0
@@ -154,5 +154,5 @@ module _ (place : ThePlace) (replay : Bool) (s home : ℕ) (S : TheShard) (fit :
   pub read_alone : (p : ℕ) (e : Entry) → slice_get es p ≡ Some e → updates e ≡ false → e.batch ≡ 0
   read_alone p e get miss = read_begins (before es p) e ((T p test.Batch).0 e get) miss
 
-  pub first_part : (e : Entry) → Begins e → PartFits e.batch e.part → e.part ≡ 0
+  pub first_part : (e : Entry) → IsFirstOfBlock e → PartFits e.batch e.part → e.part ≡ 0
   first_part e b f = ⊎_elim (λ z. ⊎_elim (λ q. q.1) (λ q. let two = q.0 in absurd (omega arith)) f) (λ q. q.1) b

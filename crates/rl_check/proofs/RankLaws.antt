@@ -1,5 +1,5 @@
 -- The tests of a rank, by what the code has found.
-use Rattle.std.proofs.Common.{◌≡◌, ◌≢◌, ℕ, zero, suc, ◌+◌, ◌<◌, ◌≤◌, Bool, true, false, cond, List, [], ◌∷◌, length, drop, get_or, Option, Some, None, replicate, IsTrue, refl, sym, ap, subst, ◌∙◌, inl, inr, ⊎_elim, arith, add-one}
+use Rattle.std.proofs.Common.{◌≡◌, ◌≢◌, ℕ, zero, suc, ◌+◌, ◌<◌, ◌≤◌, Bool, true, false, cond, List, [], ◌∷◌, length, drop, get_or, Option, Some, None, replicate, IsTrue, refl, sym, ap, subst, ◌∙◌, inr, ⊎_elim, arith, add-one}
 use Rattle.std.specs.Prelude.{slice_get, slice_set, ◌↔◌}
 use Rattle.std.specs.List.{count_by}
 use Rattle.std.proofs.lemmas.List.{at_drop_more, at_drop_all}
@@ -184,10 +184,6 @@ slot_told own slots i s are low is = are i s (slice_get-get_or slots i s low ∙
 -- ---- what is told of the end
 
 module _ (calls : List Call) (sizes : List ℕ) (sized : length sizes ≡ length calls) (n : ℕ) (d : Done) (done : d.done ≡ n) (given : d.given ≡ length calls) where
-  pub all_done : (replay : Bool) → n ≡ length calls → IsDone replay calls sizes n d
-  all_done true all = record { done = done; given = given; ends = inl all }
-  all_done false all = record { done = done; given = given; ends = all }
-
   pub done_within : (replay : Bool) → n ≢ length calls → replay ≡ true → n < length sizes → IsTrue (nat_lt 0 (get_or sizes n 0)) ↔ IsDone replay calls sizes n d
   done_within false more e low = absurd (cc)
   done_within true more e low = (

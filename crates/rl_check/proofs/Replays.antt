@@ -15,7 +15,7 @@ use Rattle.rl_journal.specs.Legal.{updates, table_after, joined, IsLegalBlock}
 use Rattle.rl_journal.specs.History.{IsReplayed}
 use Rattle.rl_journal.specs.Lists.{get_cases, get_left, filter_all}
 use Rattle.rl_history.specs.Lawful.{journal_in}
-use Rattle.rl_check.specs.Entries.{before, table_before, Begins, MayFollow, IsInBatch, IsAnswered, HasReply}
+use Rattle.rl_check.specs.Entries.{before, table_before, IsFirstOfBlock, MayFollow, IsInBatch, IsAnswered, HasReply}
 use Rattle.rl_check.specs.OneThread.{is_begun}
 use Rattle.rl_check.proofs.BatchLaws.{is_the_last, ends_here}
 use Rattle.rl_check.proofs.TableLaws.{behind, after_call}
@@ -73,7 +73,7 @@ module _ (geom : Geom) (es : List Entry) (alone : (p : ℕ) (e : Entry) → slic
 
   -- ---- what that says of the tests
 
-  begins_free : (o : Option Entry) (e : Entry) → is_begun o ≡ false → Begins e → MayFollow o e
+  begins_free : (o : Option Entry) (e : Entry) → is_begun o ≡ false → IsFirstOfBlock e → MayFollow o e
   begins_free None e none b = b
   begins_free (Some d) e none b = ((λ _. b), (λ l. absurd (let bad : true ≡ false = sym (ap not l) ∙ none in cc)))
 

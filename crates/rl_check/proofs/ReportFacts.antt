@@ -5,22 +5,12 @@ use Rattle.std.specs.List.{AllByRecursion, list_any}
 use Rattle.std.specs.Option.{is_some}
 use Rattle.std.proofs.lemmas.List.{length-map}
 use Rattle.std.proofs.lemmas.Option.{same_Some, slice_get-get_or, get_or_from_slice_get}
-use Rattle.rl_word.specs.Shapes.{TheShape}
 use Rattle.rl_step.specs.declared.events.Event.{Event}
 use Rattle.rl_step.specs.declared.events.Event.TheVariants.{Join, Announce, Pass, Settle, Touch, EnterW, EnterR, LeaveW, LeaveR}
-use Rattle.rl_step.specs.LockQueues.{queues_of, element_queues}
-use Rattle.rl_place.specs.declared.path.Path.{Path}
-use Rattle.rl_place.specs.declared.lock.Lock.{Lock}
-use Rattle.rl_place.specs.declared.lock.Lock.TheVariants as lock
-use Rattle.rl_place.specs.LockWords.{name_of}
-use Rattle.rl_place.specs.Numbering.{same_path, seen_after, prefixes_to, elements_after, element_paths}
-use Rattle.rl_place.specs.Paths.{IsPath, root_path, prefix}
-use Rattle.rl_place.specs.Places.{ThePlace, IsProper}
-use Rattle.rl_place.specs.Shapes.{shape_of, knobs_of}
+use Rattle.rl_place.specs.Places.{ThePlace}
 use Rattle.rl_history.specs.Naming as naming
-use Rattle.rl_history.specs.Naming.{TheNaming, queue_names, naming_of, EventFits}
+use Rattle.rl_history.specs.Naming.{TheNaming, naming_of, EventFits}
 use Rattle.rl_history.specs.Reports.{TheShard, TheReport, EachAfter, StepFits, step_of, ShardFits, ShardsFit, ReportFits}
-use Rattle.rl_history.specs.Lawful.{queues_at}
 use Rattle.rl_check.specs.declared.illegal.Test.{Test}
 use Rattle.rl_check.specs.Shards.{ShardPasses}
 use Rattle.rl_check.specs.Legal.{PassesOn}

@@ -12,7 +12,6 @@ use Rattle.rl_check.specs.declared.illegal.Illegal.{Illegal}
 use Rattle.rl_check.specs.Faults.{IsFirstIn, IsFirst}
 use Rattle.rl_check.specs.Legal.{PassesOn, PassesBy, Passes}
 use Rattle.rl_check.specs.Threads.{Found, NothingBefore, IsFirstOf}
-use Rattle.rl_check.proofs.Places.{below_next}
 use Rattle.rl_check.proofs.ReportFirst.{ShardsPass, RanksPass, shard_first, rank_first, no_first}
 
 -- each is as it is by its number

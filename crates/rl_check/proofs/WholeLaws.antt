@@ -5,15 +5,15 @@ use Rattle.std.proofs.lemmas.Option.{same_Some, slice_get-get_or}
 use Rattle.rl_model.specs.declared.entry.Entry.{Entry}
 use Rattle.rl_model.specs.Call.{is_update}
 use Rattle.rl_journal.specs.Legal.{updates}
-use Rattle.rl_check.specs.Entries.{GoesOn, IsWholeBatch}
+use Rattle.rl_check.specs.Entries.{GoesOnInBatch, IsWholeBatch}
 use Rattle.rl_check.proofs.Places.{below_next}
 
 abbrev pub GoOn : List Entry → ℕ → ℕ → Type 0
-GoOn entries i j = (k : ℕ) (d e : Entry) → i ≤ k → k + 1 < j → slice_get entries k ≡ Some d → slice_get entries (k + 1) ≡ Some e → GoesOn d e
+GoOn entries i j = (k : ℕ) (d e : Entry) → i ≤ k → k + 1 < j → slice_get entries k ≡ Some d → slice_get entries (k + 1) ≡ Some e → GoesOnInBatch d e
 
 module _ (entries : List Entry) (i : ℕ) where
   -- one entry more goes on
-  pub one_more : (j : ℕ) (d e : Entry) → i + 1 ≤ j → slice_get entries (j - 1) ≡ Some d → slice_get entries j ≡ Some e → GoesOn d e → GoOn entries i j → GoOn entries i (j + 1)
+  pub one_more : (j : ℕ) (d e : Entry) → i + 1 ≤ j → slice_get entries (j - 1) ≡ Some d → slice_get entries j ≡ Some e → GoesOnInBatch d e → GoOn entries i j → GoOn entries i (j + 1)
   one_more j d e low gd ge g so_far k a b from to ga gb =
       ⊎_elim
       (λ less. so_far k a b from less ga gb)
@@ -21,7 +21,7 @@ module _ (entries : List Entry) (i : ℕ) where
       let at : j - 1 ≡ k = omega arith in
       let first : d ≡ a = same_Some _ _ (sym gd ∙ ap (slice_get entries) at ∙ ga) in
       let second : e ≡ b = same_Some _ _ (sym ge ∙ ap (slice_get entries) (sym same) ∙ gb) in
-      subst (λ z. GoesOn z b) first (subst (GoesOn d) second g))
+      subst (λ z. GoesOnInBatch z b) first (subst (GoesOnInBatch d) second g))
       (below_next (k + 1) j (omega arith))
 
   -- all of them have
@@ -38,6 +38,6 @@ module _ (entries : List Entry) (i : ℕ) where
         let same : (get_or entries i o).batch ≡ e.batch = ap (λ (z : Entry). z.batch) (same_Some _ _ (sym (slice_get-get_or entries i o low) ∙ get)) in
         ((λ _. subst (IsWholeBatch entries i) same w), (λ _. refl))
 
-    pub one_more_by : (j : ℕ) (b : Bool) → i + 1 ≤ j → j < length entries → IsTrue b ↔ GoesOn (get_or entries (j - 1) o) (get_or entries j o) → b ≡ true → GoOn entries i j → GoOn entries i (j + 1)
+    pub one_more_by : (j : ℕ) (b : Bool) → i + 1 ≤ j → j < length entries → IsTrue b ↔ GoesOnInBatch (get_or entries (j - 1) o) (get_or entries j o) → b ≡ true → GoOn entries i j → GoOn entries i (j + 1)
     one_more_by j b low here is so on =
         one_more j (get_or entries (j - 1) o) (get_or entries j o) low (slice_get-get_or entries (j - 1) o (omega arith)) (slice_get-get_or entries j o here) (is.0 so) on

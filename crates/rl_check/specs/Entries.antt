@@ -36,7 +36,7 @@ StandsBefore e f =
 -- ---- batches
 
 -- e goes on with the batch of d: it is an update of the same rank and batch, with number and part one more
-pub record GoesOn (d e : Entry) : Type 0 where
+pub record GoesOnInBatch (d e : Entry) : Type 0 where
   pub is_update : updates e ≡ true
   pub rank_is : e.rank ≡ d.rank
   pub batch_is : e.batch ≡ d.batch
@@ -44,13 +44,13 @@ pub record GoesOn (d e : Entry) : Type 0 where
   pub part_is : e.part ≡ d.part + 1
 
 -- a call alone, or the first update of a batch
-abbrev pub Begins : Entry → Type 0
-Begins e = (e.batch ≡ 0) ⊎ ((updates e ≡ true) × (e.part ≡ 0))
+abbrev pub IsFirstOfBlock : Entry → Type 0
+IsFirstOfBlock e = (e.batch ≡ 0) ⊎ ((updates e ≡ true) × (e.part ≡ 0))
 
 -- e may stand behind another entry: where that one has begun a batch and isn't its last, it goes on with it; else it begins a block
 abbrev pub MayFollow : Option Entry → Entry → Type 0
-MayFollow None e = Begins e
-MayFollow (Some d) e = (is_last d ≡ true → Begins e) × (is_last d ≡ false → GoesOn d e)
+MayFollow None e = IsFirstOfBlock e
+MayFollow (Some d) e = (is_last d ≡ true → IsFirstOfBlock e) × (is_last d ≡ false → GoesOnInBatch d e)
 
 -- the n entries from place i on are a whole batch
 pub record IsWholeBatch (entries : List Entry) (i n : ℕ) : Type 0 where
@@ -61,7 +61,7 @@ pub record IsWholeBatch (entries : List Entry) (i n : ℕ) : Type 0 where
   pub part_is : first.part ≡ 0
   pub some : 1 ≤ n
   pub there : i + n ≤ length entries
-  pub goes_on : (j : ℕ) (d e : Entry) → i ≤ j → j + 1 < i + n → slice_get entries j ≡ Some d → slice_get entries (j + 1) ≡ Some e → GoesOn d e
+  pub goes_on : (j : ℕ) (d e : Entry) → i ≤ j → j + 1 < i + n → slice_get entries j ≡ Some d → slice_get entries (j + 1) ≡ Some e → GoesOnInBatch d e
 
 -- ---- the tests, at place p
 

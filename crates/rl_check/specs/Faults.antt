@@ -25,7 +25,7 @@ number_of test.Done = 11
 
 -- the places of this test are those of events, which are looked at after all entries
 abbrev pub is_of_events : Test → Bool
-is_of_events t = number_of t == 8
+is_of_events t = number_of t == number_of test.Events
 
 -- of the tests of one shard or rank the test t at place p comes before the test u at place q
 abbrev pub IsEarlier : ℕ → Test → ℕ → Test → Type 0

@@ -59,10 +59,10 @@ IsFirstAt P (Some f) = (P f.0 f.1 → ⊥) × ((p : ℕ) (t : Test) → IsEarlie
 
 -- what is found of a run's shard behind its entries, which leave this table
 abbrev pub FoundOfRun : List QueueOf → Bool → TheShard → Table → Option Test → Type 0
-FoundOfRun queues shares S table None = AreTallied queues shares S.entries S.queues × (S.pairs ≡ finite.entries table)
-FoundOfRun queues shares S table (Some test.Tally) = AreTallied queues shares S.entries S.queues → ⊥
-FoundOfRun queues shares S table (Some test.Pairs) = AreTallied queues shares S.entries S.queues × (S.pairs ≡ finite.entries table → ⊥)
-FoundOfRun queues shares S table (Some _) = ⊥
+FoundOfRun queues spares S table None = AreTallied queues spares S.entries S.queues × (S.pairs ≡ finite.entries table)
+FoundOfRun queues spares S table (Some test.Tally) = AreTallied queues spares S.entries S.queues → ⊥
+FoundOfRun queues spares S table (Some test.Pairs) = AreTallied queues spares S.entries S.queues × (S.pairs ≡ finite.entries table → ⊥)
+FoundOfRun queues spares S table (Some _) = ⊥
 
 abbrev pub AreCounted : TheShard → Type 0
 AreCounted S = S.queues ≡ tallies_from 0 (length S.queues) (trace_of S.events)

@@ -25,6 +25,6 @@ queue_in Seq shape home knobs q = cohort_in shape home knobs q
 queue_in Combine shape home knobs q = cohort_in shape home knobs q
 
 -- the budget is kept in all, and the queue was settled and passed as often as it was had
-pub record IsTallied (shares : Bool) (entries : List Entry) (tallies : List Tally) (q : ℕ) (d : QueueOf) : Type 0 where
+pub record IsTallied (spares : Bool) (entries : List Entry) (tallies : List Tally) (q : ℕ) (d : QueueOf) : Type 0 where
   pub budget : (B : ℕ) → d.budget ≡ Some B → IsWithinBudget (tally_at q tallies) B
-  pub tenures : (tally_at q tallies).settled + (tally_at q tallies).passed ≡ tenures_of shares entries tallies d
+  pub tenures : (tally_at q tallies).settled + (tally_at q tallies).passed ≡ tenures_of spares entries tallies d

@@ -1,7 +1,7 @@
 //! The order of entries, where a batch goes on, and what one thread gets for a batch.
 ghost use Rattle.std.specs.Prelude.{◌≡◌, ◌↔◌, ◌<◌, length, slice_get, Some, IsTrue, IfOk, OnOk};
 ghost use Rattle.rl_journal.specs.Blocks.{stops, any_stops, only_first, in_turn, apply_batch, calls_of, is_last};
-ghost use Rattle.rl_check.specs.Entries.{GoesOn, Begins, MayFollow, StandsBefore, IsWholeBatch};
+ghost use Rattle.rl_check.specs.Entries.{GoesOnInBatch, IsFirstOfBlock, MayFollow, StandsBefore, IsWholeBatch};
 ghost use Rattle.rl_check.specs.OneThread.{is_begun};
 ghost use Rattle.rl_check.specs.Only.{told_next};
 ghost use Rattle.std.specs.Option.{option_copied};
@@ -27,7 +27,7 @@ pub fn stands_before(first: &Entry, second: &Entry) -> bool
 
 // Whether an entry goes on with the batch of the one before it.
 fn goes_on(before: &Entry, entry: &Entry) -> bool
-    ensures { IsTrue result ↔ GoesOn before.now entry.now }
+    ensures { IsTrue result ↔ GoesOnInBatch before.now entry.now }
 {
     entry.call.is_update()
         && entry.rank == before.rank
@@ -47,7 +47,7 @@ fn is_last(entry: &Entry) -> bool
 
 // Whether an entry is a call alone, or the first update of a batch.
 fn begins(entry: &Entry) -> bool
-    ensures { IsTrue result ↔ Begins entry.now }
+    ensures { IsTrue result ↔ IsFirstOfBlock entry.now }
 {
     entry.batch == 0 || (entry.call.is_update() && entry.part == 0)
 }

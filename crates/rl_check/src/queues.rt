@@ -2,8 +2,8 @@
 ghost use Rattle.std.specs.Prelude.{◌≡◌, ◌↔◌, ◌<◌, ◌+◌, ◌==◌, ℕ, count_by, length, nat_lt, slice_get, slice_index, Some, None, IsTrue, true, false, if◌then◌else◌, ◌&&◌};
 ghost use Rattle.std.specs.Option.{option_copied};
 ghost use Rattle.rl_word.specs.Shapes.{IsProper};
-ghost use Rattle.rl_step.specs.LockQueues.{queues_of, spares_gets, element_budget, is_at, parent_of, leaf_of, stands, same, sits_at};
-ghost use Rattle.rl_step.specs.Queues.{QueueOf, IsWithinBudget};
+ghost use Rattle.rl_step.specs.LockQueues.{spares_gets, element_budget, is_at, parent_of, leaf_of, stands, same, sits_at};
+ghost use Rattle.rl_step.specs.Queues.{IsWithinBudget};
 ghost use Rattle.rl_journal.specs.Blocks.{is_tenure};
 ghost use Rattle.rl_journal.specs.Tenures.{AreTallied, is_had_by, settled_if};
 ghost use Rattle.rl_model.specs.Table.{sum_below};

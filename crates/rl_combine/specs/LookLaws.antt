@@ -11,7 +11,7 @@ use Rattle.rl_work.specs.declared.stage.Stage.{Stage as BlockStage}
 use Rattle.rl_work.specs.declared.stage.Stage.TheVariants as block
 use Rattle.rl_work.specs.Site.{places, volume_of}
 use Rattle.rl_work.specs.Transcript.{TheTranscript}
-use Rattle.rl_work.specs.Ways.{IsLaid, IsOwnTranscript, look, transcripts_from, GoesOn, AtomWork, journal_by}
+use Rattle.rl_work.specs.Ways.{IsLaid, IsOwnTranscript, look, transcripts_from, BlockGoesOn, AtomWork, journal_by}
 use Rattle.rl_work.specs.Work.{more_entries}
 use Rattle.rl_work.specs.WorkGood.{WorkSide as Seat, transcripts, is_writing, FitsAt as BlockFits}
 use Rattle.rl_work.specs.RuleLaws.{journal_is, always_legal, always_sorted}
@@ -115,7 +115,7 @@ module _ (S : CombineSite) (node : ℕ → ℕ) (words vs : List ℕ) (k : ℕ) 
   owes_one o = ap (λ (l : List Entry). is_open a.stage && (length l == 0)) o.one
 
   goes_look : IsSameCall a b → transcript S words k a ≡ y.work.transcript.items → transcript S vs k b ≡ u.work.transcript.items → u.work.transcript ≡ y.work.transcript → owes S vs k b ≡ owes S words k a →
-      GoesOn (look (combine_table S node) words k a) (look (combine_table S node) vs k b)
+      BlockGoesOn (look (combine_table S node) words k a) (look (combine_table S node) vs k b)
   goes_look c before after stays owed =
       record {
         same_calls = ap (λ (o : Opened). o.call ∷ []) c.same;

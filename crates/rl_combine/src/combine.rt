@@ -16,13 +16,13 @@ use crate::posts::{
     post_value,
 };
 use crate::side::CombineSide;
-use crate::stage::{ENTRY_WORDS, Stage};
+use crate::stage::Stage;
 use rl_journal::journal_value;
 use rl_model::{Call, Entry, Geom};
 use rl_step::{Stepped, Words};
 use rl_volume::{Write, next_read};
 use rl_word::{Atom, Mode, Shape};
-use rl_work::{COUNT_WORD, Site, VOLUME_BASE, Work, WorkStep, journal_base};
+use rl_work::{COUNT_WORD, ENTRY_WORDS, Site, VOLUME_BASE, Work, WorkStep, journal_base};
 use std::alloc::{AllocError as OutOfMemory, Global};
 use std::marker::Model;
 

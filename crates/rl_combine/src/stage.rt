@@ -6,10 +6,7 @@ ghost use Rattle.rl_combine.specs.Combine as model;
 
 use crate::posts::{ANSWER_WORDS, CALL_WORDS};
 use rl_word::Mode;
-use rl_work::Follow;
-
-/// How many words an entry has in the journal.
-pub(crate) const ENTRY_WORDS: u32 = 6;
+use rl_work::{ENTRY_WORDS, Follow};
 
 /// Where a rank stands in its call. Each but the first says which atom is next.
 ///

@@ -12,7 +12,7 @@ use Rattle.rl_shard.specs.declared.shard.Shard.{Shard}
 use Rattle.rl_shard.specs.declared.seat.Seat.{Seat}
 use Rattle.rl_shard.specs.declared.counting.CountedView.{CountedView}
 use Rattle.rl_shard.specs.Counting.{first_counted}
-use Rattle.rl_shard.specs.Shards.{IsShardOf, IsOf, AreOf, IsClosed, AreClosed, table_at, counted_at, view_at, rank_at}
+use Rattle.rl_shard.specs.Shards.{IsShardOf, IsOf, AreOf, AreClosed, table_at, counted_at, view_at, rank_at}
 use Rattle.rl_asks.specs.Filling.{first_at}
 use Rattle.rl_shard.proofs.OpeningLaws.{fresh}
 use Rattle.rl_cores.specs.Fresh.{IsFresh, AreTwo, AreFreshTwo}
@@ -31,10 +31,6 @@ module _ {C V : Type 0} (table : C → ShardTable V) (good : GoodOf C V) (layout
       let all = ap length ex ∙ length-append ys (b ∷ []) in
       let front = ap length ey ∙ length-append (z ∷ zs) (a ∷ []) in
       absurd (omega arith)
-
-  pub one_of : {X : Type 0} (xs zs : List X) (a : X) → xs ≡ zs ++ a ∷ [] → length xs ≡ 1 → xs ≡ a ∷ []
-  one_of xs [] a e n = e
-  one_of xs (z ∷ zs) a e n = let all = ap length e ∙ length-append (z ∷ zs) (a ∷ []) in absurd (omega arith)
 
   -- each seat of a new shard whose ranks have room for one call each
   pub fresh_at : (seats : List (Seat C V)) (geom : Geom) (number queues : ℕ) (rooms updates : List ℕ) → (table_at table shard).site ≡ site_with geom number updates → ((room rank : ℕ) → IsNewDesk room ((table_at table shard).own ((table_at table shard).first room rank))) →

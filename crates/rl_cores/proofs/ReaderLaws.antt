@@ -137,9 +137,6 @@ module _ (V : Type 0) (base : ℕ) (table : LockTable V) (at : SeqSite) (node : 
     -- and who owes the entry of a get is at work on it
     owes_gets : (r : ℕ) (x : WholeView V TheSeqWork) → slice_get vs r ≡ Some x → (key : ℕ) → (T.own x).owes ≡ true → x.work.work.calls ≡ Get key ∷ [] → is_getting x.work.stage ≡ true
     owes_gets r x has key owes calls = by_stage x.work.stage refl owes where
-      no_update : asks_update x.work.work.calls ≡ false
-      no_update = ap asks_update calls
-
       never : (st : SeqStage) → x.work.stage ≡ st → locked_at (stand table x) x.work.work st ≡ record { standing = stand table x; work = x.work.work } → stores x.work.work.stage ≡ true → ⊥
       never st e same writes =
           let y : WorkSide = record { standing = stand table x; work = x.work.work } in

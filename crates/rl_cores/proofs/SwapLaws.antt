@@ -3,7 +3,7 @@ use Rattle.std.proofs.Common.{◌≡◌, ◌≢◌, ℕ, true, false, slice_inde
 use Rattle.rl_word.specs.declared.acts.Act.{Act}
 use Rattle.rl_word.specs.declared.acts.Act.TheVariants as act
 use Rattle.rl_step.specs.Lock.{no_local}
-use Rattle.rl_alock.specs.Alock.{Cohorts, KeepsDomains, alock_table}
+use Rattle.rl_alock.specs.Alock.{Cohorts, HasTwoDomains, alock_table}
 use Rattle.rl_asks.specs.Domains.{IsLocalAct, UsesLocals}
 
 no_swap : (r : ℕ) (a : Act) → IsLocalAct a → no_local r a ≡ true → ⊥
@@ -17,7 +17,7 @@ no_swap r (act.CardAdd w d) is may = is
 pub uses_none : (r : ℕ) → UsesLocals no_local r → ⊥
 uses_none r u = no_swap r u.0 u.1 u.2
 
-pub never_away : (K : Cohorts) → KeepsDomains K → (r : ℕ) → slice_index K.node_of r ≢ K.home → UsesLocals (alock_table K).may_make r → ⊥
+pub never_away : (K : Cohorts) → HasTwoDomains K → (r : ℕ) → slice_index K.node_of r ≢ K.home → UsesLocals (alock_table K).may_make r → ⊥
 never_away K law r far u = by_act u.0 u.1 u.2 where
   by_act : (a : Act) → IsLocalAct a → (alock_table K).may_make r a ≡ true → ⊥
   by_act (act.Load w) is may = is

@@ -4,37 +4,19 @@ use Rattle.std.specs.List.{join_with_byte}
 use Rattle.std.proofs.lemmas.Grind.{flat_map-append}
 use Rattle.std.proofs.lemmas.List.{append-nil}
 use Rattle.rl_text.specs.Spelling.{line_text, text_of}
-use Rattle.rl_model.specs.declared.call.Call.{Call}
-use Rattle.rl_model.specs.declared.call.Call.TheVariants.{Put, Get, Del, Add, Cas, Hold}
 use Rattle.rl_model.specs.declared.entry.Entry.{Entry}
-use Rattle.rl_ops.specs.CallSpelling.{call_words}
 use Rattle.rl_history.specs.Printing.{spaced}
 use Rattle.std.proofs.Math.Seq.{take-suc}
 use Rattle.rl_step.specs.declared.tallies.Tally.{Tally}
 use Rattle.rl_history.specs.declared.report.Done.{Done}
 use Rattle.rl_history.specs.Naming.{TheNaming, TheQueueName}
 use Rattle.rl_history.specs.Reports.{TheShard}
-use Rattle.rl_history.specs.Spelling.{reply_words, part_words, answer_words, entry_words, queue_words, queue_line, queue_lines, rank_words, rank_lines, shard_lines, shards_lines}
+use Rattle.rl_history.specs.Spelling.{answer_words, entry_words, queue_words, queue_line, queue_lines, rank_words, rank_lines, shard_lines, shards_lines}
 
 -- words after the first one
 pub join-spaced : (w : List ℕ) (ws : List (List ℕ)) → join_with_byte 32 (w ∷ ws) ≡ w ++ spaced ws
 join-spaced w [] = sym (append-nil w)
 join-spaced w (v ∷ ws) = ap (λ z. w ++ 32 ∷ z) (join-spaced v ws)
-
--- the words of a call
-call-spaced : (c : Call) → spaced (call_words c) ≡ 32 ∷ join_with_byte 32 (call_words c)
-call-spaced (Put key value) = ap (λ z. 32 ∷ z) (sym (join-spaced (codes "put") (decimal key ∷ decimal value ∷ [])))
-call-spaced (Get key) = ap (λ z. 32 ∷ z) (sym (join-spaced (codes "get") (decimal key ∷ [])))
-call-spaced (Del key) = ap (λ z. 32 ∷ z) (sym (join-spaced (codes "del") (decimal key ∷ [])))
-call-spaced (Add key by) = ap (λ z. 32 ∷ z) (sym (join-spaced (codes "add") (decimal key ∷ decimal by ∷ [])))
-call-spaced (Cas key old new) = ap (λ z. 32 ∷ z) (sym (join-spaced (codes "cas") (decimal key ∷ decimal old ∷ decimal new ∷ [])))
-call-spaced (Hold shard) = ap (λ z. 32 ∷ z) (sym (join-spaced (codes "hold") (decimal shard ∷ [])))
-
--- a call, a reply and a part
-pub answer-spaced : (e : Entry) → spaced (answer_words e) ≡ 32 ∷ (join_with_byte 32 (call_words e.call) ++ 32 ∷ (codes "=" ++ (spaced (reply_words e.reply) ++ spaced (part_words e.batch e.part))))
-answer-spaced e =
-    flat_map-append (λ (w : List ℕ). 32 ∷ w) (call_words e.call) _ ∙ ap (λ z. z ++ 32 ∷ (codes "=" ++ spaced (reply_words e.reply ++ part_words e.batch e.part))) (call-spaced e.call)
-    ∙ ap (λ z. 32 ∷ (join_with_byte 32 (call_words e.call) ++ 32 ∷ (codes "=" ++ z))) (flat_map-append (λ (w : List ℕ). 32 ∷ w) (reply_words e.reply) (part_words e.batch e.part))
 
 -- a line of an entry
 pub entry_line : (e : Entry) → line_text (entry_words e) ≡ (codes "entry" ++ spaced (decimal e.at ∷ decimal e.rank ∷ decimal e.seq ∷ answer_words e)) ++ 10 ∷ []

@@ -35,12 +35,6 @@ filter_seen p (r ∷ rs) =
 pub up_to_within : (count : ℕ) (rs : List (Bor Entry)) → up_to count (seen rs) ≤ length rs
 up_to_within count rs = rw length-map at (up_to_inside count (seen rs))
 
--- one more that looked at the count or an earlier one, and the first that didn't
-pub up_to_more : (count i : ℕ) (rs : List (Bor Entry)) (d : Bor Entry) → i < length rs → (get_or rs i d).now.at ≤ count → up_to count (seen (drop i rs)) ≡ 1 + up_to count (seen (drop (i + 1) rs))
-up_to_more count i rs d lt low =
-    let hit : leb (get_or rs i d).now.at count ≡ true = grind (arith, nat_tests) in
-    rw (drop-cons rs i d, add-one) (ap (λ b. cond {A = ℕ} b (1 + up_to count (seen (drop (suc i) rs))) 0) hit)
-
 pub up_to_stops : (count i : ℕ) (rs : List (Bor Entry)) (d : Bor Entry) → i < length rs → count < (get_or rs i d).now.at → up_to count (seen (drop i rs)) ≡ 0
 up_to_stops count i rs d lt high =
     let miss : leb (get_or rs i d).now.at count ≡ false = grind (arith, nat_tests) in

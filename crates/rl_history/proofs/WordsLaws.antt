@@ -14,10 +14,6 @@ pub test-takes : (b : Bool) (d : Refusal) (u : Unit {0}) → or_refused b d ≡ 
 test-takes true d u e = refl
 test-takes false d u e = absurd (cc)
 
-pub test-again : (b : Bool) (d : Refusal) → b ≡ true → or_refused b d ≡ Ok tt
-test-again true d e = refl
-test-again false d e = absurd (cc)
-
 -- no value is a refusal
 pub refused_ok : {X : Type 0} (d : Refusal) (x : X) → ◌≡◌ {A = Result X Refusal} (Err d) (Ok x) → ⊥
 refused_ok d x e = cc

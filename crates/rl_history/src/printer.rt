@@ -2,9 +2,9 @@
 ghost use Rattle.std.specs.Prelude.{◌≡◌, ℕ, ◌++◌, ◌∷◌, [], codes, decimal, map, length, slice_get, Ok, IfOk, OnErr, OnOk};
 ghost use Rattle.rl_text.specs.Spelling.{line_text, text_of};
 ghost use Rattle.rl_place.specs.Places.{IsProper};
-ghost use Rattle.rl_history.specs.Naming.{naming_of, word_of, queue_word, member_word, cohort_word};
+ghost use Rattle.rl_history.specs.Naming.{naming_of, queue_word, member_word, cohort_word};
 ghost use Rattle.rl_history.specs.Reports.{ReportFits};
-ghost use Rattle.rl_history.specs.Spelling.{reply_words, part_words, answer_words, entry_words, queue_words, queue_line, queue_lines, pair_words, event_words, event_line, event_lines, is_printed, shard_words, shard_lines, shards_lines, rank_words, rank_lines, last_steps_words, steps_words, steps_lines, mode_word, sizes_words, body_lines, report_lines, report_spelling};
+ghost use Rattle.rl_history.specs.Spelling.{queue_words, queue_line, queue_lines, pair_words, event_words, event_line, event_lines, is_printed, shard_words, shard_lines, shards_lines, rank_words, rank_lines, last_steps_words, steps_words, steps_lines, mode_word, sizes_words, body_lines, report_spelling};
 ghost use Rattle.rl_history.specs.Reading.{report_at};
 ghost use Rattle.rl_history.specs.Printing.{spaced};
 

@@ -1,14 +1,10 @@
 -- Writes one after the other, and reads one after the other.
-use Rattle.std.proofs.Common.{◌≡◌, ℕ, ◌+◌, ◌-◌, ◌≤◌, List, [], ◌++◌, length, take, drop, Option, Some, None, refl, sym, ap, ◌∙◌, append_assoc, add_assoc, arith}
-use Rattle.std.proofs.lemmas.List.{append-nil, take-append-drop, take_all, length-drop, length-append, drop_at, nil_from_length}
+use Rattle.std.proofs.Common.{◌≡◌, ℕ, ◌+◌, ◌-◌, ◌≤◌, List, ◌++◌, length, take, drop, Option, Some, None, refl, sym, ap, ◌∙◌, append_assoc, add_assoc, arith}
+use Rattle.std.proofs.lemmas.List.{take-append-drop, take_all, length-drop}
 use Rattle.std.proofs.Math.Seq.{take-add}
-use Rattle.rl_io.specs.Outside.{Appends, GoesOn, Reads, IsRead, Gave, IsTail, IsWhole, IsLonger}
+use Rattle.rl_io.specs.Outside.{Appends, GoesOn, Reads, IsRead, IsTail}
 
 -- ---- writing
-
-pub Appends-nothing : (w : Option (List ℕ)) → Appends w [] w
-Appends-nothing None = tt
-Appends-nothing (Some w) = (w, refl, sym (append-nil w))
 
 same_some : (v w : List ℕ) → ◌≡◌ {A = Option (List ℕ)} (Some v) (Some w) → v ≡ w
 same_some v w e = cc
@@ -46,41 +42,6 @@ GoesOn-more tells_on fewer old new n most within so_far m told =
 pub IsTail-reads : (left after : Option (List ℕ)) (n : ℕ) (old new : List ℕ) → Reads left n old new after → IsTail left after
 IsTail-reads None after n old new reads = reads
 IsTail-reads (Some left) after n old new reads = (take n left, drop n left, reads.1, sym (take-append-drop n left))
-
-pub IsTail-self : (left : Option (List ℕ)) → IsTail left left
-IsTail-self None = refl
-IsTail-self (Some left) = ([], left, refl, refl)
-
--- at the start nothing is read, and the whole file is left
-pub IsRead-start : (file : Option (List ℕ)) → IsRead file [] file
-IsRead-start None = refl
-IsRead-start (Some text) = (text, refl, refl)
-
--- one piece more
-pub IsRead-more : (file left after : Option (List ℕ)) (bytes piece : List ℕ) → IsRead file bytes left → Gave left piece after → IsRead file (bytes ++ piece) after
-IsRead-more None left after bytes piece so_far gave = untold (rw so_far at gave)
-  where
-    untold : Gave None piece after → after ≡ None
-    untold e = e
-IsRead-more (Some text) left after bytes piece so_far gave =
-    let g : Gave (Some so_far.0) piece after = rw so_far.1 at gave in
-    (g.0, g.1, so_far.2 ∙ ap (λ (w : List ℕ). bytes ++ w) g.2 ∙ sym (append_assoc bytes piece g.0))
-
-whole_at : (text bytes piece rest tail : List ℕ) (after : Option (List ℕ)) → text ≡ bytes ++ rest → after ≡ Some tail → rest ≡ piece ++ tail → tail ≡ [] → (text ≡ bytes ++ piece) × (after ≡ Some [])
-whole_at text bytes piece rest tail after t a r none = (rw (t, r, none) (ap (λ (w : List ℕ). bytes ++ w) (append-nil piece)), rw (a, none) refl)
-
--- after an empty piece the file is read whole
-pub IsWhole-end : (file left after : Option (List ℕ)) (bytes piece : List ℕ) → IsRead file bytes left → Gave left piece after → length piece ≡ 0 → IsWhole file (bytes ++ piece) after
-IsWhole-end None left after bytes piece so_far gave empty = IsRead-more None left after bytes piece so_far gave
-IsWhole-end (Some text) left after bytes piece so_far gave empty =
-    let g : Gave (Some so_far.0) piece after = rw so_far.1 at gave in
-    whole_at text bytes piece so_far.0 g.0 after so_far.2 g.1 g.2 (g.3 (nil_from_length piece empty))
-
--- after one byte more than the limit the file is longer than it
-pub IsLonger-end : (file left : Option (List ℕ)) (bytes : List ℕ) (most : ℕ) → IsRead file bytes left → length bytes ≡ most + 1 → IsLonger file most left
-IsLonger-end None left bytes most so_far e = so_far
-IsLonger-end (Some text) left bytes most so_far e =
-    (omega (arith, e, ap length so_far.2, length-append bytes so_far.0), so_far.1 ∙ ap (λ (w : List ℕ). Some w) (sym (rw (so_far.2, ← e) (drop_at bytes so_far.0 (length bytes) refl))))
 
 -- a tail of what was left is a tail of the file
 pub IsTail-then : (file left after : Option (List ℕ)) (bytes : List ℕ) → IsRead file bytes left → IsTail left after → IsTail file after

@@ -1,6 +1,6 @@
 // Files that are read whole, and texts that are written whole.
 ghost use Rattle.std.specs.Prelude.{◌≡◌, ◌≤◌, ◌<◌, ◌+◌, ℕ, List, [], ◌++◌, ◌⊎◌, Some, length, take, IfOk, OnOk, OnErr, IsErrOf, IsTrue};
-ghost use Rattle.rl_io.specs.Outside.{Appends, GoesOn, IsRead, Gave, IsTail, IsWhole, IsLonger, SameFiles};
+ghost use Rattle.rl_io.specs.Outside.{Appends, GoesOn, Gave, IsTail, IsWhole, IsLonger, SameFiles};
 ghost use Rattle.rl_io.specs.Whole.{RisesWithFault, is_fault};
 
 use crate::outside::{Failed, Sink, Source};

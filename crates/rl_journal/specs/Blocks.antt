@@ -95,8 +95,8 @@ pub record IsBlock (rank batch seq at : ℕ) (b : List Entry) : Type 0 where
   pub few : batch ≤ 8
   pub not_one : batch ≡ 1 → ⊥
 
--- An entry that stands for a tenure of its shard's lock by a writer: it begins a block; where readers share the lock, a get has it as
--- a reader, and is none.
+-- An entry that stands for a tenure of its shard's lock by a writer: it begins a block; where gets are spared, a get is none: it has
+-- the lock as a reader, or goes without it.
 abbrev pub is_tenure : Bool → Entry → Bool
 is_tenure true e = (e.part == 0) && not (reads e.call)
 is_tenure false e = e.part == 0

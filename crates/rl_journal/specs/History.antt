@@ -38,7 +38,7 @@ IsReplayed geom t n (b ∷ bs) =
     ((r : IsReadAlone geom t n b) × IsReplayed geom (apply geom r.entry.call t).0 n bs) ⊎ (IsLegalBlock geom t n b × IsReplayed geom (table_after geom t b) (n + length b) bs)
 
 -- entries split wholly into such blocks
-pub record IsReplay (geom : Geom) (t : Table) (n : ℕ) (es : List Entry) : Type 0 where
+pub record IsReplayedByOneThread (geom : Geom) (t : Table) (n : ℕ) (es : List Entry) : Type 0 where
   pub blocks : List (List Entry)
   pub split : joined blocks ≡ es
   pub replayed : IsReplayed geom t n blocks

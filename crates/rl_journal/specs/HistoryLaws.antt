@@ -17,7 +17,7 @@ use Rattle.rl_journal.specs.Blocks.{half_after}
 use Rattle.rl_journal.specs.Legal.{table_after, map_at, updates, IsLegalBlock, AreLegalFrom, joined, IsLegalRead, IsLegal}
 use Rattle.rl_journal.specs.BlockLaws.{half_append, block_half, block_done, part_at, size_pos}
 use Rattle.rl_journal.specs.Lists.{get_left, filter_none, all_at}
-use Rattle.rl_journal.specs.History.{looked_at, reads_at, history_from, history, IsReadAlone, IsReplayed, IsReplay}
+use Rattle.rl_journal.specs.History.{looked_at, reads_at, history_from, history, IsReadAlone, IsReplayed, IsReplayedByOneThread}
 
 module _ (geom : Geom) where
   -- a call that is no update leaves the table
@@ -40,11 +40,11 @@ module _ (geom : Geom) where
     pub answered : e.reply ≡ (apply geom e.call t).1
 
   -- such entries may come before what is replayed
-  reads_replay : (t : Table) (n : ℕ) (es rest : List Entry) → All (IsRead t n) es → IsReplay geom t n rest → IsReplay geom t n (es ++ rest)
+  reads_replay : (t : Table) (n : ℕ) (es rest : List Entry) → All (IsRead t n) es → IsReplayedByOneThread geom t n rest → IsReplayedByOneThread geom t n (es ++ rest)
   reads_replay t n [] rest all later = later
   reads_replay t n (e ∷ es) rest all later =
       let r : IsRead t n e = All-head (IsRead t n) e es all in
-      let on : IsReplay geom t n (es ++ rest) = reads_replay t n es rest (All-tail (IsRead t n) e es all) later in
+      let on : IsReplayedByOneThread geom t n (es ++ rest) = reads_replay t n es rest (All-tail (IsRead t n) e es all) later in
       let alone : IsReadAlone geom t n (e ∷ []) = record { entry = e; alone = refl; is = r.is; place = r.place; answered = r.answered } in
       record {
         blocks = (e ∷ []) ∷ on.blocks;
@@ -52,7 +52,7 @@ module _ (geom : Geom) where
         replayed = inl (alone, subst (λ m. IsReplayed geom m n on.blocks) (sym (read_leaves e.call t r.is)) on.replayed);
       }
 
-  block_replay : (t : Table) (n : ℕ) (b rest : List Entry) → IsLegalBlock geom t n b → IsReplay geom (table_after geom t b) (n + length b) rest → IsReplay geom t n (b ++ rest)
+  block_replay : (t : Table) (n : ℕ) (b rest : List Entry) → IsLegalBlock geom t n b → IsReplayedByOneThread geom (table_after geom t b) (n + length b) rest → IsReplayedByOneThread geom t n (b ++ rest)
   block_replay t n b rest legal on = record { blocks = b ∷ on.blocks; split = ap (λ z. b ++ z) on.split; replayed = inr (legal, on.replayed) }
 
   module _ (journal : List Entry) (ts : List (List Entry)) (legal : IsLegal geom journal ts) where
@@ -112,12 +112,12 @@ module _ (geom : Geom) where
 
     -- from a block on
     from_blocks : (front : List Entry) (t : Table) (bs : List (List Entry)) → front ++ joined bs ≡ journal → half_after geom finite.empty [] front ≡ (t, []) → AreLegalFrom geom t (length front) bs →
-        IsReplay geom t (length front) (history_from ts (length front) (joined bs))
+        IsReplayedByOneThread geom t (length front) (history_from ts (length front) (joined bs))
     from_blocks front t [] e half all =
         let n : ℕ = length front in
         let short : take n journal ≡ front = ap (take n) (sym e) ∙ take_at front [] n refl in
         let here : map_at geom journal n ≡ t = ap (table_after geom finite.empty) short ∙ ap (λ z. z.0) half in
-        subst (IsReplay geom t n) (append-nil (reads_at n ts))
+        subst (IsReplayedByOneThread geom t n) (append-nil (reads_at n ts))
         (reads_replay t n (reads_at n ts) [] (subst (λ m. All (IsRead m n) (reads_at n ts)) here (all_kept n ts legal.reads_are)) (record { blocks = []; split = refl; replayed = tt }))
     from_blocks front t ([] ∷ bs) e half all = let w = all.0.is.whole in let p = (size_pos geom all.0.batch).1 in absurd (omega arith)
     from_blocks front t ((x ∷ xs) ∷ bs) e half all =
@@ -130,9 +130,9 @@ module _ (geom : Geom) where
         let long : length (front ++ b) ≡ n + length b = length-append front b in
         let whole : half_after geom t [] b ≡ (table_after geom t b, []) = block_half geom l.rank l.batch l.seq n t b l.is ∙ ap (λ z. (z, [])) (sym (block_done geom l.rank l.batch l.seq n t b l.is)) in
         let half_on : half_after geom finite.empty [] (front ++ b) ≡ (table_after geom t b, []) = half_append geom finite.empty [] front b ∙ ap (λ z. half_after geom z.0 z.1 b) half ∙ whole in
-        let on : IsReplay geom (table_after geom t b) (length (front ++ b)) (history_from ts (length (front ++ b)) rest) =
+        let on : IsReplayedByOneThread geom (table_after geom t b) (length (front ++ b)) (history_from ts (length (front ++ b)) rest) =
         from_blocks (front ++ b) (table_after geom t b) bs (append_assoc front b rest ∙ e) half_on (subst (λ m. AreLegalFrom geom (table_after geom t b) m bs) (sym long) all.1) in
-        let on_at : IsReplay geom (table_after geom t b) (n + length b) (history_from ts (n + length b) rest) = subst (λ m. IsReplay geom (table_after geom t b) m (history_from ts m rest)) long on in
+        let on_at : IsReplayedByOneThread geom (table_after geom t b) (n + length b) (history_from ts (n + length b) rest) = subst (λ m. IsReplayedByOneThread geom (table_after geom t b) m (history_from ts m rest)) long on in
         let within : (i : ℕ) → i < length xs → reads_at (n + 1 + i) ts ≡ [] = λ i h.
         let f = some_at xs i h in
         none_in (n + 1 + i) f.0
@@ -142,17 +142,13 @@ module _ (geom : Geom) where
         let split : n + 1 + length xs ≡ n + length b = omega arith in
         let order : history_from ts n (b ++ rest) ≡ reads_at n ts ++ (b ++ history_from ts (n + length b) rest) =
         ap (λ z. reads_at n ts ++ x ∷ z) (unbroken (n + 1) xs rest within ∙ ap (λ m. xs ++ history_from ts m rest) split) in
-        subst (IsReplay geom t n) (sym order)
+        subst (IsReplayedByOneThread geom t n) (sym order)
         (reads_replay t n (reads_at n ts) (b ++ history_from ts (n + length b) rest) (subst (λ m. All (IsRead m n) (reads_at n ts)) here (all_kept n ts legal.reads_are))
         (block_replay t n b (history_from ts (n + length b) rest) l on_at))
 
     -- the law
-    pub replayed : IsReplay geom finite.empty 0 (history journal ts)
-    replayed = subst (λ z. IsReplay geom finite.empty 0 (history_from ts 0 z)) legal.journal_is.split (from_blocks [] finite.empty legal.journal_is.blocks legal.journal_is.split refl legal.journal_is.legal)
-
--- how many entries of the history pass a test: those of the journal, and the gets and holds of the transcripts
-abbrev pub reads_of : List Entry → List Entry
-reads_of t = filter (λ e. not (updates e)) t
+    pub replayed : IsReplayedByOneThread geom finite.empty 0 (history journal ts)
+    replayed = subst (λ z. IsReplayedByOneThread geom finite.empty 0 (history_from ts 0 z)) legal.journal_is.split (from_blocks [] finite.empty legal.journal_is.blocks legal.journal_is.split refl legal.journal_is.legal)
 
 -- the gets and holds that looked at counts from p on, of so many
 abbrev pub reads_within : ℕ → ℕ → (Entry → Bool) → List (List Entry) → ℕ

@@ -10,7 +10,7 @@ use Rattle.rl_model.specs.declared.geom.Geom.{Geom}
 use Rattle.rl_model.specs.Table.{Table, apply}
 use Rattle.rl_journal.specs.Blocks.{IsPart}
 use Rattle.rl_journal.specs.Legal.{table_after, updates, joined, IsLegalBlock, IsLegal}
-use Rattle.rl_journal.specs.History.{history, IsReadAlone, IsReplayed, IsReplay, TellsUpdatesBefore}
+use Rattle.rl_journal.specs.History.{history, IsReadAlone, IsReplayed, IsReplayedByOneThread, TellsUpdatesBefore}
 use Rattle.rl_journal.specs.Lists.{get_cases}
 use Rattle.rl_journal.specs.BlockLaws.{part_at}
 use Rattle.rl_journal.specs.HistoryLaws.{replayed}
@@ -80,6 +80,6 @@ module _ (geom : Geom) where
   -- so every place of a history is told
   pub places_told : (journal : List Entry) (ts : List (List Entry)) → IsLegal geom journal ts → TellsUpdatesBefore (history journal ts)
   places_told journal ts legal i e get =
-      let r : IsReplay geom finite.empty 0 (history journal ts) = replayed geom journal ts legal in
+      let r : IsReplayedByOneThread geom finite.empty 0 (history journal ts) = replayed geom journal ts legal in
       let there : slice_get (joined r.blocks) i ≡ Some e = ap (λ z. slice_get z i) r.split ∙ get in
       by_blocks finite.empty 0 r.blocks r.replayed i e there ∙ omega arith ∙ ap (λ z. count_by updates (take i z)) r.split

@@ -8,7 +8,7 @@ ghost use Rattle.rl_model.specs.Table.{Table};
 ghost use Rattle.rl_journal.specs.Blocks.{any_stops, in_turn, calls_of, replies_of};
 ghost use Rattle.rl_journal.specs.Legal.{table_after, updates, is_of, AnotherStops, IsLegalBlock, IsLegal, IsLegalJournal};
 ghost use Rattle.rl_journal.specs.Ranks.{IsOwn, count_in};
-ghost use Rattle.rl_journal.specs.History.{history, IsReplay, TellsUpdatesBefore, AreOwn, IsSorted};
+ghost use Rattle.rl_journal.specs.History.{history, IsReplayedByOneThread, TellsUpdatesBefore, AreOwn, IsSorted};
 ghost use Rattle.rl_journal.specs.Journal.{spelled, Agrees, journal_in};
 
 /// What is proved of a legal block: all of its calls or none. There is nothing to run.
@@ -26,7 +26,7 @@ pub fn block_laws()
 /// What is proved of a journal and the ranks' transcripts, where they are legal. There is nothing to run.
 pub fn history_laws()
     // From the empty table the blocks of the history give every entry its reply, one after the other.
-    ensures replayed { (geom : Geom) (journal : List Entry) (ts : List (List Entry)) → IsLegal geom journal ts → IsReplay geom map.empty 0 (history journal ts) }
+    ensures replayed { (geom : Geom) (journal : List Entry) (ts : List (List Entry)) → IsLegal geom journal ts → IsReplayedByOneThread geom map.empty 0 (history journal ts) }
     // Every entry's place is the number of updates before it.
     ensures places { (geom : Geom) (journal : List Entry) (ts : List (List Entry)) → IsLegal geom journal ts → TellsUpdatesBefore (history journal ts) }
     // The history has each entry as often as the transcripts have it, whatever test counts them.

@@ -15,14 +15,13 @@ use Rattle.rl_step.specs.Queues.{QueueOf}
 use Rattle.rl_step.specs.QueuePromises.{KeepQueues, CountTenures}
 use Rattle.rl_step.specs.Lock.{Deed, HandsOn}
 use Rattle.rl_ops.specs.Ops.{total_calls}
-use Rattle.rl_ops.specs.Room.{calls_on}
 use Rattle.rl_work.specs.Site.{Site}
 use Rattle.rl_asks.specs.OpsBridge.{CanBegin}
 use Rattle.rl_asks.specs.ShardTables.{ShardTable}
-use Rattle.rl_asks.specs.ShardLaws.{GoodOf, CauseOf, FurtherOf, LawsOf, IsLaid}
+use Rattle.rl_asks.specs.ShardLaws.{GoodOf, CauseOf, FurtherOf, LawsOf, IsLaidAtSite}
 use Rattle.rl_machine.specs.Running.{ShardRun, Running, TheShard, TheMachine, shard_run, running, cores_of}
 use Rattle.rl_machine.specs.ShardSteps.{events_of}
-use Rattle.rl_machine.specs.Start.{site_of, first_shard, first_shards, start}
+use Rattle.rl_machine.specs.Start.{site_of, first_shards, start}
 use Rattle.rl_machine.specs.StartLaws.{shard_first, shards_length, AreCores, start_good}
 use Rattle.rl_machine.specs.Run.{on_shard, run_of, trace_of, AreThere}
 use Rattle.rl_machine.specs.RunActs.{run_acts, acts_on, SaysOn}
@@ -67,7 +66,7 @@ module _ (C V : Type 0) (table : C → ShardTable V) (good : GoodOf C V) (cause 
   all_cores tables nodes geom homes calls sizes m made =
       length-map m.shards (λ (x : TheShard C V). x.core) ∙ sym (length-map m.shards (shard_run table)) ∙ ap (λ (z : Running V). length z.shards) made ∙ shards_length tables nodes geom calls 0 homes
 
-  module _ (tables : ℕ → Site → ShardTable V) (laid : (home : ℕ) (site : Site) → IsLaid (tables home site) site) (is : Layout) (geom : Geom) (homes : List ℕ) (calls : List (List Call)) (sizes : List (List ℕ)) (cores : List C)
+  module _ (tables : ℕ → Site → ShardTable V) (laid : (home : ℕ) (site : Site) → IsLaidAtSite (tables home site) site) (is : Layout) (geom : Geom) (homes : List ℕ) (calls : List (List Call)) (sizes : List (List ℕ)) (cores : List C)
       (are : AreCores C V table good cause further layout laws tables is geom homes calls cores)
       (all : length cores ≡ length homes) (fits : GeomFits geom) (many : length homes ≡ geom.shards) (ranks : length calls ≡ length is.node_of) (few_ranks : length is.node_of ≤ 32) (can : CanBegin geom calls sizes)
       (takes : (home : ℕ) (site : Site) → (tables home site).batches ≡ false → (k i : ℕ) → slice_index (get_or sizes k []) i ≤ 1) where
@@ -122,7 +121,7 @@ module _ (C V : Type 0) (table : C → ShardTable V) (good : GoodOf C V) (cause 
         }
 
   -- a machine that is the start keeps all that is true of a machine
-  pub is_machine : (tables : ℕ → Site → ShardTable V) → ((home : ℕ) (site : Site) → IsLaid (tables home site) site) → (is : Layout) (geom : Geom) (homes : List ℕ) (calls : List (List Call)) (sizes : List (List ℕ)) (m : TheMachine C V) →
+  pub is_machine : (tables : ℕ → Site → ShardTable V) → ((home : ℕ) (site : Site) → IsLaidAtSite (tables home site) site) → (is : Layout) (geom : Geom) (homes : List ℕ) (calls : List (List Call)) (sizes : List (List ℕ)) (m : TheMachine C V) →
       running table m ≡ start tables is.nodes geom homes calls sizes →
       EachCore (λ home core. layout core ≡ is) homes (cores_of m) → GeomFits geom → length homes ≡ geom.shards → length calls ≡ length is.node_of → length is.node_of ≤ 32 → CanBegin geom calls sizes → ((home : ℕ) (site : Site) → (tables home site).batches ≡ false → (k i : ℕ) → slice_index (get_or sizes k []) i ≤ 1) → total_calls calls ≤ 20000 →
       IsMachine C V table good m

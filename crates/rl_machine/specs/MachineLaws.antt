@@ -65,10 +65,6 @@ made_length : {V : Type 0} (S : ShardRun V) (k step : ℕ) (x : V) (o : Option A
 made_length S k step x None = refl
 made_length S k step x (Some at) = length-set S.views k (S.table.core.after x (do_got at S.held.words S.held.cards)).view
 
-made_others : {V : Type 0} (S : ShardRun V) (k step j : ℕ) (x : V) (o : Option Atom) → j ≢ k → slice_get (makes S k step x o).views j ≡ slice_get S.views j
-made_others S k step j x None ne = refl
-made_others S k step j x (Some at) ne = get_set_other S.views k j (S.table.core.after x (do_got at S.held.words S.held.cards)).view ne
-
 module _ (C V : Type 0) (table : C → ShardTable V) (good : GoodOf C V) (cause : CauseOf C V) (further : FurtherOf C) (layout : C → Layout) (laws : LawsOf C V table good cause further layout) (cores : List C) where
   abbrev Fine : List (List Deed) → Running V → Type 0
   Fine acts m = MachineGood C V table good cores acts m

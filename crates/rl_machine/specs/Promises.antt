@@ -3,7 +3,7 @@ use Rattle.std.specs.Prelude.{◌≡◌, ◌<◌, ◌≤◌, ℕ, List, length, 
 use Rattle.std.specs.FinMap as map
 use Rattle.rl_model.specs.declared.geom.Geom.{Geom}
 use Rattle.rl_journal.specs.Legal.{IsLegal}
-use Rattle.rl_journal.specs.History.{history, IsReplay, IsSorted}
+use Rattle.rl_journal.specs.History.{history, IsReplayedByOneThread, IsSorted}
 use Rattle.rl_journal.specs.Ranks.{IsRankInOrder}
 use Rattle.rl_word.specs.Shapes.{TheShape}
 use Rattle.rl_word.specs.declared.locks.LockName.{LockName}
@@ -58,16 +58,16 @@ module _ {V : Type 0} where
     pub legal : IsLegal geom (journal_on S) (transcripts_on S)
     -- so from the empty table the calls of the history, in order, give every entry its reply, and `full` exactly where a new key
     -- finds its bucket taken and no overflow cell left
-    pub replayed : IsReplay geom map.empty 0 (history_on S)
+    pub replayed : IsReplayedByOneThread geom map.empty 0 (history_on S)
     pub sorted : IsSorted (history_on S)
 
   -- of a machine: each shard is sound, and each rank's entries on all shards are its first calls, each once, in its order
   pub record IsSound (m : Running V) : Type 0 where
     pub shards : (s : ℕ) (S : ShardRun V) → slice_get m.shards s ≡ Some S → IsShardSound m.geom S
     pub order : (k : ℕ) → k < length m.calls → IsRankInOrder m.geom k (asked_of (calls_by m k) (sizes_by m k)) (done_of m k) (kept_by m k)
-    -- those that it has opened, less the block that it is at work on
+    -- a rank has done no more calls than it has opened
     pub done : (k : ℕ) → k < length m.calls → done_of m k ≤ slice_index m.opened k
-    -- so they are whole blocks
+    -- the calls that it has done are whole blocks
     pub whole : (k : ℕ) → k < length m.calls → BeginsAt (calls_by m k) (sizes_by m k) (done_of m k)
     pub given : (k : ℕ) → k < length m.calls → slice_index m.opened k ≤ length (calls_by m k)
     -- each rank has a view on each shard, and who enters, leaves or touches is a rank that there is

@@ -1,13 +1,10 @@
 -- A rank that rests: its steps count one answer, and change nothing else.
 use Rattle.std.specs.Prelude.{◌≡◌, ℕ, ◌+◌, [], Option, Some, None}
-use Rattle.rl_word.specs.declared.acts.Atom.{Atom}
 use Rattle.rl_step.specs.declared.events.Stepped.{Stepped}
 use Rattle.rl_step.specs.declared.events.Stepped.TheVariants.{Moved, Waiting, Lost, Busy, Finished}
 use Rattle.rl_step.specs.declared.tallies.Steps.{Steps}
 use Rattle.rl_step.specs.Answers.{counted}
-use Rattle.rl_step.specs.Do.{TheWindow, do_atom, do_got}
 use Rattle.rl_machine.specs.Running.{Running}
-use Rattle.rl_asks.specs.ShardTables.{ShardTable}
 use Rattle.rl_machine.specs.Run.{stepped, answer_of_step}
 
 -- so many more of the answer's kind
@@ -24,5 +21,5 @@ with_steps m counts = record { shards = m.shards; geom = m.geom; calls = m.calls
 
 -- rank k rests with this answer: its next step is answered so, and whatever was counted so far, a step of it counts the answer and
 -- changes nothing else
-abbrev pub Rests : {V : Type 0} → Running V → ℕ → Stepped → Type 0
-Rests m k answer = (answer_of_step m k ≡ answer) × ((counts : Steps) → stepped (with_steps m counts) k ≡ with_steps m (counted answer counts))
+abbrev pub RestsWith : {V : Type 0} → Running V → ℕ → Stepped → Type 0
+RestsWith m k answer = (answer_of_step m k ≡ answer) × ((counts : Steps) → stepped (with_steps m counts) k ≡ with_steps m (counted answer counts))

@@ -1,10 +1,9 @@
 -- What a rank that rests does in so many steps is counted at once.
-use Rattle.std.specs.Prelude.{◌≡◌, ℕ, zero, suc, ◌+◌, ◌++◌, ◌≤◌, Bool, true, false, not, ◌&&◌, List, replicate, slice_get, slice_set, Option, Some, None, IfSome, refl}
+use Rattle.std.specs.Prelude.{◌≡◌, ℕ, zero, suc, ◌+◌, ◌++◌, ◌≤◌, Bool, true, false, not, ◌&&◌, List, replicate, slice_get, slice_set, Option, Some, None, refl}
 use Rattle.std.proofs.Common.{sym, ◌∙◌, ap, arith}
 use Rattle.std.proofs.lemmas.List.{append-nil}
 use Rattle.rl_word.specs.Places.{set_same_get}
 use Rattle.rl_word.specs.declared.acts.Atom.{Atom}
-use Rattle.rl_word.specs.Acts.{Layout}
 use Rattle.rl_step.specs.declared.events.Stepped.{Stepped}
 use Rattle.rl_step.specs.declared.events.Stepped.TheVariants.{Moved, Waiting, Lost, Busy, Finished}
 use Rattle.rl_step.specs.declared.tallies.Steps.{Steps}
@@ -19,7 +18,7 @@ use Rattle.rl_machine.specs.Run.{changed, changed_if, on_shard, place_of, opens,
 use Rattle.rl_machine.specs.EventOrderLaws.{told_more}
 use Rattle.rl_machine.specs.MachineGood.{MachineGood, IsMachine}
 use Rattle.rl_asks.specs.Idle.{IsIdle}
-use Rattle.rl_machine.specs.Rest.{counted_more, with_steps, Rests}
+use Rattle.rl_machine.specs.Rest.{counted_more, with_steps, RestsWith}
 
 -- no more of an answer, and one more before the others
 pub more_none : (a : Stepped) (s : Steps) → counted_more a 0 s ≡ s
@@ -37,12 +36,12 @@ one_before (Busy b h) n s = let e : s.busy + 1 + n ≡ s.busy + suc n = omega ar
 one_before Finished n s = let e : s.finished + 1 + n ≡ s.finished + suc n = omega arith in ap (λ m. record { moved = s.moved; waiting = s.waiting; lost = s.lost; busy = s.busy; finished = m }) e
 
 module _ {V : Type 0} where
-  rest_on : (m : Running V) (k : ℕ) (a : Stepped) (n : ℕ) (counts : Steps) → Rests m k a → run_of (with_steps m counts) (replicate n k) ≡ with_steps m (counted_more a n counts)
+  rest_on : (m : Running V) (k : ℕ) (a : Stepped) (n : ℕ) (counts : Steps) → RestsWith m k a → run_of (with_steps m counts) (replicate n k) ≡ with_steps m (counted_more a n counts)
   rest_on m k a zero counts r = ap (with_steps m) (sym (more_none a counts))
   rest_on m k a (suc n) counts r = ap (λ u. run_of u (replicate n k)) (r.1 counts) ∙ rest_on m k a n (counted a counts) r ∙ ap (with_steps m) (one_before a n counts)
 
   -- so many steps of a rank that rests count so many answers
-  pub rest_run : (m : Running V) (k : ℕ) (a : Stepped) (n : ℕ) → Rests m k a → run_of m (replicate n k) ≡ with_steps m (counted_more a n m.steps)
+  pub rest_run : (m : Running V) (k : ℕ) (a : Stepped) (n : ℕ) → RestsWith m k a → run_of m (replicate n k) ≡ with_steps m (counted_more a n m.steps)
   rest_run m k a n r = rest_on m k a n m.steps r
 
   -- an atom that is idle, or none, leaves the shard as it was
@@ -61,7 +60,7 @@ module _ {V : Type 0} where
 
   -- a rank that opens no block, and whose atom is idle, or that has none, rests
   pub idle_rests : (m : Running V) (k : ℕ) (S : ShardRun V) (x : V) (answer : Stepped) → slice_get m.shards (place_of m k) ≡ Some S → slice_get S.views k ≡ Some x → opens m k ≡ false →
-      IsIdle S.table S.held k x (S.table.core.next x) answer → Rests m k answer
+      IsIdle S.table S.held k x (S.table.core.next x) answer → RestsWith m k answer
   idle_rests m k S x answer has has_view shut idle =
       let told : atom_answer m k ≡ answer =
       ap (on_shard Finished (answer_on k)) has ∙ ap (answer_at S) has_view ∙ (idle_makes S k 0 x (S.table.core.next x) answer has_view idle).1 in
@@ -73,11 +72,6 @@ module _ {V : Type 0} where
             ∙ ap (λ z. record { shards = z; geom = m.geom; calls = m.calls; sizes = m.sizes; opened = m.opened; steps = counted (atom_answer m k) counts }) (shards (steps_made counts))
             ∙ ap (λ a. with_steps m (counted a counts)) told,
       )
-
--- what follows of the value by two facts follows of it if it is there
-pub if_both : {X : Type 0} {P Q R : X → Type 0} (o : Option X) → ((x : X) → P x → Q x → R x) → IfSome o P → IfSome o Q → IfSome o R
-if_both None f g h = h
-if_both (Some x) f g h = f x g h
 
 -- no block is opened where a call is open, nor where none is left
 pub open_shuts : (b left : Bool) → b ≡ true → (not b && left) ≡ false

@@ -6,8 +6,8 @@ use Rattle.rl_step.specs.Do.{TheWindow}
 use Rattle.rl_asks.specs.declared.round.Round.{Round}
 use Rattle.rl_asks.specs.Idle.{IdleWhile, IsNamed}
 use Rattle.rl_asks.specs.Rounds.{IsRound}
-use Rattle.rl_machine.specs.declared.step_end.Told.{Told}
-use Rattle.rl_machine.specs.declared.step_end.Told.TheVariants.{GotOn, HeldOff, Waits, Finished}
+use Rattle.rl_machine.specs.declared.step_end.StepOutcome.{StepOutcome}
+use Rattle.rl_machine.specs.declared.step_end.StepOutcome.TheVariants.{GotOn, HeldOff, Waits, Finished}
 use Rattle.rl_machine.specs.Running.{ShardRun, Running}
 use Rattle.rl_machine.specs.Run.{calls_by, place_of}
 
@@ -50,7 +50,7 @@ pub record IsOver {V : Type 0} (m : Running V) (k : ℕ) : Type 0 where
 
 -- what the end of rank k's step, which stands on shard s, tells of it: it is about to take the card of that node, whoever is in it, or
 -- it has nothing left to do
-abbrev pub Tells : {V : Type 0} → Running V → ℕ → ℕ → Told → Type 0
+abbrev pub Tells : {V : Type 0} → Running V → ℕ → ℕ → StepOutcome → Type 0
 Tells m k s GotOn = Unit {0}
 Tells m k s (HeldOff node) = RestsAt m k s (Busy node 0)
 Tells m k s Waits = Unit {0}

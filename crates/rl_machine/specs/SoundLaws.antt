@@ -21,7 +21,7 @@ use Rattle.rl_machine.specs.ShardSteps.{events_of, desk_at, desk_on, kept_on, op
 use Rattle.rl_machine.specs.Run.{desks_by, on_shard, calls_by, sizes_by, place_of, kept_by, done_of, IsAllClosed, IsShut}
 use Rattle.rl_machine.specs.BlockEnds.{rest_begins, work_begins}
 use Rattle.rl_machine.specs.MachineGood.{IsShardOf, MachineGood}
-use Rattle.rl_machine.specs.MachineLaws.{Found, found_at, laws_of, seated}
+use Rattle.rl_machine.specs.MachineLaws.{found_at, laws_of, seated}
 use Rattle.rl_machine.specs.Promises.{journal_on, transcripts_on, IsShardSound, IsSound}
 
 -- the entries of a rank's desks

@@ -15,7 +15,7 @@ use Rattle.rl_asks.specs.Asks.{AreBlocks, place_after}
 use Rattle.rl_asks.specs.RankGood.{IsFreshDesk, RankGood}
 use Rattle.rl_asks.specs.RankLaws.{rank_begins}
 use Rattle.rl_asks.specs.ShardTables.{ShardTable}
-use Rattle.rl_asks.specs.ShardLaws.{GoodOf, CauseOf, FurtherOf, LawsOf, IsLaid, IsSeated, IsDeskOf, IsNewDesk, ShardCoreLaws}
+use Rattle.rl_asks.specs.ShardLaws.{GoodOf, CauseOf, FurtherOf, LawsOf, IsLaidAtSite, IsSeated, IsDeskOf, IsNewDesk, ShardCoreLaws}
 use Rattle.rl_asks.specs.Filling.{first_at, first_length}
 use Rattle.rl_machine.specs.Running.{ShardRun, Running}
 use Rattle.rl_machine.specs.ShardSteps.{desk_at, desk_on}
@@ -67,7 +67,7 @@ module _ (C V : Type 0) (table : C → ShardTable V) (good : GoodOf C V) (cause 
   AreCores tables layout_is geom homes calls cores =
       (s home : ℕ) (core : C) → slice_get homes s ≡ Some home → slice_get cores s ≡ Some core → (table core ≡ tables home (site_of geom calls s)) × (layout core ≡ layout_is)
 
-  module _ (tables : ℕ → Site → ShardTable V) (laid : (home : ℕ) (site : Site) → IsLaid (tables home site) site) (layout_is : Layout) (geom : Geom) (homes : List ℕ) (calls : List (List Call)) (sizes : List (List ℕ)) (cores : List C)
+  module _ (tables : ℕ → Site → ShardTable V) (laid : (home : ℕ) (site : Site) → IsLaidAtSite (tables home site) site) (layout_is : Layout) (geom : Geom) (homes : List ℕ) (calls : List (List Call)) (sizes : List (List ℕ)) (cores : List C)
       (are : AreCores tables layout_is geom homes calls cores) (fits : GeomFits geom) (all : length cores ≡ length homes) (many : length homes ≡ geom.shards) (ranks : length calls ≡ length layout_is.node_of) (few_ranks : length layout_is.node_of ≤ 32)
       (blocks : (k : ℕ) → AreBlocks geom (get_or calls k []) (get_or sizes k [])) (few : (k : ℕ) → length (get_or calls k []) ≤ 2 ^ 32) (room : (s : ℕ) → sum (map (updates_on geom s) calls) ≤ 20000)
       (takes : (home : ℕ) (site : Site) → (tables home site).batches ≡ false → (k i : ℕ) → slice_index (get_or sizes k []) i ≤ 1) where
@@ -79,7 +79,7 @@ module _ (C V : Type 0) (table : C → ShardTable V) (good : GoodOf C V) (cause 
       pub shard_is : S ≡ first_shard (table core) layout_is.nodes (map (calls_on geom s) calls)
       pub layout_same : layout core ≡ layout_is
       pub site_is : (table core).site ≡ site_of geom calls s
-      pub laid_out : IsLaid (table core) (table core).site
+      pub laid_out : IsLaidAtSite (table core) (table core).site
 
     first_shard_is : (s : ℕ) (S : ShardRun V) (core : C) → slice_get first.shards s ≡ Some S → slice_get cores s ≡ Some core → IsFirstShard s S core
     first_shard_is s S core get getC =
@@ -91,7 +91,7 @@ module _ (C V : Type 0) (table : C → ShardTable V) (good : GoodOf C V) (cause 
               ∙ ap (λ T. first_shard T layout_is.nodes (map (calls_on geom s) calls)) (sym c.0);
           layout_same = c.1;
           site_is = ap (λ T. T.site) c.0 ∙ (laid q.0 (site_of geom calls s)).site_is;
-          laid_out = let l = laid q.0 (site_of geom calls s) in subst (λ T. IsLaid T T.site) (sym c.0) (record { site_is = refl; words_are = l.words_are ∙ ap (λ z. lock_base z + (tables q.0 (site_of geom calls s)).behind) (sym l.site_is); own_last = l.own_last });
+          laid_out = let l = laid q.0 (site_of geom calls s) in subst (λ T. IsLaidAtSite T T.site) (sym c.0) (record { site_is = refl; words_are = l.words_are ∙ ap (λ z. lock_base z + (tables q.0 (site_of geom calls s)).behind) (sym l.site_is); own_last = l.own_last });
         }
 
     -- all is true of it that is true of a shard

@@ -1,17 +1,13 @@
 -- What is true of a machine's shards is true of the code's.
-use Rattle.std.specs.Prelude.{◌≡◌, ℕ, zero, suc, ◌-◌, ◌<◌, ◌≤◌, List, [], ◌∷◌, length, map, sum, get_or, slice_get, slice_set, Some}
+use Rattle.std.specs.Prelude.{◌≡◌, ℕ, zero, suc, ◌<◌, ◌≤◌, List, [], ◌∷◌, length, map, sum, get_or, slice_get, slice_set, Some}
 use Rattle.std.proofs.Common.{sym, ◌∙◌, ap, subst, arith}
 use Rattle.std.proofs.lemmas.List.{length-map}
 use Rattle.std.proofs.lemmas.Option.{slice_get_within}
 use Rattle.rl_word.specs.Places.{get_map, map_set, set_same_get, some_at}
-use Rattle.rl_model.specs.declared.call.Call.{Call}
-use Rattle.rl_model.specs.declared.geom.Geom.{Geom}
-use Rattle.rl_model.specs.Call.{shard_of}
 use Rattle.rl_asks.specs.ShardLaws.{GoodOf}
 use Rattle.rl_asks.specs.ShardTables.{ShardTable}
 use Rattle.rl_machine.specs.declared.shard.ShardState.{ShardState}
 use Rattle.rl_machine.specs.declared.state.MachineState.{MachineState}
-use Rattle.rl_asks.specs.Asks.{call_shard, place_after}
 use Rattle.rl_asks.specs.OpsBridge.{few_updates}
 use Rattle.rl_machine.specs.Running.{TheShard, shard_run, running, cores_of}
 use Rattle.rl_machine.specs.MachineGood.{IsMachine}
@@ -71,11 +67,6 @@ module _ (C V : Type 0) (table : C → ShardTable V) (good : GoodOf C V) (m : Ma
   many = sym (length_views m.shards.items) ∙ is.is_good.many where
     length_views : (items : List (ShardState C V)) → length (map (shard_run table) (map shard_view items)) ≡ length items
     length_views items = length-map (map shard_view items) (shard_run table) ∙ length-map items shard_view
-
--- where a rank stands that has opened a call
-pub place_is : (geom : Geom) (calls : List Call) (n : ℕ) (call : Call) → 0 < n → slice_get calls (n - 1) ≡ Some call → place_after geom calls n ≡ shard_of geom call
-place_is geom calls zero call h e = absurd (omega arith)
-place_is geom calls (suc n) call h e = let at : suc n - 1 ≡ n = omega arith in ap (call_shard geom) (ap (slice_get calls) (sym at) ∙ e)
 
 -- a list that isn't empty is there
 pub is_listed : {X : Type 0} (lists : List (List X)) (k : ℕ) → 0 < length (get_or lists k []) → k < length lists

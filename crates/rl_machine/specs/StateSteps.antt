@@ -16,7 +16,7 @@ use Rattle.rl_machine.specs.Run.{opens, opened_if, block_opened, only_counted, a
 use Rattle.rl_machine.specs.RunActs.{step_acts}
 use Rattle.rl_machine.specs.MachineLaws.{block_good, stepped_good}
 use Rattle.rl_machine.specs.ReplayLaws.{stepped_one}
-use Rattle.rl_machine.specs.Rest.{Rests}
+use Rattle.rl_machine.specs.Rest.{RestsWith}
 use Rattle.rl_machine.specs.TurnRests.{busy_rests, over_rests}
 use Rattle.rl_machine.specs.StepCauses.{opens_once, step_cause, step_finished, step_busy}
 use Rattle.rl_machine.specs.MachineGood.{IsMachine, MachineGood}
@@ -108,16 +108,16 @@ module _ (C V : Type 0) (table : C → ShardTable V) (good : GoodOf C V) (cause 
         ∙ ap (only_counted (block_opened (running table n) k)) (sym q)
 
     -- it rests so then
-    pub held_told : (after : Running V) → after ≡ stepped (running table m) k → (node holder : ℕ) → answer ≡ Busy node holder → Rests after k answer
+    pub held_told : (after : Running V) → after ≡ stepped (running table m) k → (node holder : ℕ) → answer ≡ Busy node holder → RestsWith after k answer
     held_told after made node holder q =
-        subst (Rests after k) (sym q)
-        (subst (λ u. Rests u k (Busy node holder)) (sym (made ∙ ap (λ z. stepped (running table z) k) value))
+        subst (RestsWith after k) (sym q)
+        (subst (λ u. RestsWith u k (Busy node holder)) (sym (made ∙ ap (λ z. stepped (running table z) k) value))
         (busy_rests C V table good cause further layout laws (cores_of n) before.acts (running table n) k before.is_good low node holder (sym told_there ∙ q)))
 
-    pub over_told : (after : Running V) → after ≡ stepped (running table m) k → answer ≡ Finished → Rests after k answer
+    pub over_told : (after : Running V) → after ≡ stepped (running table m) k → answer ≡ Finished → RestsWith after k answer
     over_told after made q =
-        subst (Rests after k) (sym q)
-        (subst (λ u. Rests u k Finished) (sym (made ∙ ap (λ z. stepped (running table z) k) value))
+        subst (RestsWith after k) (sym q)
+        (subst (λ u. RestsWith u k Finished) (sym (made ∙ ap (λ z. stepped (running table z) k) value))
         (over_rests C V table good cause further layout laws (cores_of n) before.acts (running table n) k before.is_good low (sym told_there ∙ q)))
 
     -- it counts one answer, and leaves the calls

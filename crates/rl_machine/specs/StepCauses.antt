@@ -26,7 +26,7 @@ use Rattle.rl_machine.specs.MachineGood.{MachineGood}
 use Rattle.rl_machine.specs.MachineLaws.{Found, found_at, laws_of, seated, not_open, OpensAt, opens_at, block_good, opened_calls}
 use Rattle.rl_machine.specs.SoundLaws.{kept_desks}
 use Rattle.rl_asks.specs.Idle.{IsIdle}
-use Rattle.rl_machine.specs.Rest.{Rests}
+use Rattle.rl_machine.specs.Rest.{RestsWith}
 use Rattle.rl_machine.specs.RestLaws.{idle_makes, idle_rests}
 use Rattle.rl_machine.specs.Causes.{cause_at, cause_on, AtomCause, StepCause, IsFinished}
 
@@ -260,7 +260,7 @@ module _ (C V : Type 0) (table : C → ShardTable V) (good : GoodOf C V) (cause 
     step_finished = (finished_if (opens m k) refl fine_opened still_there, if_finished)
 
     -- a rank that is finished rests so
-    pub finished_rests : IsFinished m k → Rests m k Finished
+    pub finished_rests : IsFinished m k → RestsWith m k Finished
     finished_rests f =
         let t : Stands acts m k = stands_there acts m k g h in
         let S : ShardRun V = t.found.shard in

@@ -1,10 +1,10 @@
 -- What an answer tells of a rank, in short.
 use Rattle.rl_step.specs.declared.events.Stepped.{Stepped}
 use Rattle.rl_step.specs.declared.events.Stepped.TheVariants as answer
-use Rattle.rl_machine.specs.declared.step_end.Told.{Told}
-use Rattle.rl_machine.specs.declared.step_end.Told.TheVariants.{GotOn, HeldOff, Waits, Finished}
+use Rattle.rl_machine.specs.declared.step_end.StepOutcome.{StepOutcome}
+use Rattle.rl_machine.specs.declared.step_end.StepOutcome.TheVariants.{GotOn, HeldOff, Waits, Finished}
 
-abbrev pub told_by : Stepped → Told
+abbrev pub told_by : Stepped → StepOutcome
 told_by answer.Moved = GotOn
 told_by (answer.Waiting word value) = Waits
 told_by (answer.Lost guess seen) = GotOn

@@ -27,4 +27,4 @@ mod state;
 mod step_end;
 
 pub use machine::{Machine, NextAtom, RestAt, RoundAt, rules, soundness};
-pub use step_end::{StepEnd, Told};
+pub use step_end::{StepEnd, StepOutcome};

@@ -13,7 +13,7 @@ ghost use Rattle.rl_machine.specs.Records.{journal_at, transcripts_at, owned_by,
 ghost use Rattle.rl_machine.specs.Run.{done_of, stepped, answer_of_step, has_open_call, trace_of, kept_by, run_of, AreThere};
 ghost use Rattle.rl_machine.specs.Running.{running, cores_of};
 ghost use Rattle.rl_machine.specs.Start.{start_of};
-ghost use Rattle.rl_machine.specs.Rest.{Rests, counted_more, with_steps};
+ghost use Rattle.rl_machine.specs.Rest.{RestsWith, counted_more, with_steps};
 ghost use Rattle.rl_machine.specs.Rested.{Tells};
 ghost use Rattle.rl_machine.specs.RunActs.{EachSays};
 
@@ -105,12 +105,12 @@ impl<C: ShardCore> Machine<C> {
     /// one atom is made.
     ///
     /// The answer is `Busy` where the atom was a Take and another rank was in the card of that node, which changes nothing;
-    /// `Lost` where it was the compare of a compare-and-swap, which saw another value than its guess; `Waiting` where it was
-    /// the last of a waiting round, whose test isn't met; `Finished` exactly where the rank has no open call and none left,
-    /// and no atom was made; and else `Moved`. Every answer counts as a step. The events are kept with the number of the
-    /// step, from 0; fewer than 4,294,967,295 steps were made so far. That a card's compare-and-swap is several atoms,
-    /// between which the home's own ranks may act, is what remote memory of today does. Refused only for want of memory,
-    /// and then nothing has changed.
+    /// `Lost` where it was the compare of a compare-and-swap, which saw another value than its guess, or where a get that reads
+    /// without the lock saw another version at its end than at its beginning; `Waiting` where it was the last of a waiting
+    /// round, whose test isn't met; `Finished` exactly where the rank has no open call and none left, and no atom was made; and
+    /// else `Moved`. Every answer counts as a step. The events are kept with the number of the step, from 0; fewer than
+    /// 4,294,967,295 steps were made so far. That a card's compare-and-swap is several atoms, between which the home's own ranks
+    /// may act, is what remote memory of today does. Refused only for want of memory, and then nothing has changed.
     pub fn step(&mut self, rank: u32) -> Result<Stepped, OutOfMemory>
         requires there { rank < length self.old.calls }
         requires few { steps_made self.old.steps < 2 ^ 32 - 1 }
@@ -121,8 +121,8 @@ impl<C: ShardCore> Machine<C> {
         ensures answer { IfOk result (λ answer. answer ≡ answer_of_step (running C.shard_table self.old) rank) }
         ensures cause { IfOk result (StepCause C.cause (cores_of self.old) (running C.shard_table self.old) rank) }
         ensures finished { IfOk result (λ answer. (answer ≡ Stepped.Finished) ↔ IsFinished (running C.shard_table self.old) rank) }
-        ensures held_off { IfOk result (λ answer. (node holder : ℕ) → answer ≡ Stepped.Busy node holder → Rests (running C.shard_table self.new) rank answer) }
-        ensures over { IfOk result (λ answer. answer ≡ Stepped.Finished → Rests (running C.shard_table self.new) rank answer) }
+        ensures held_off { IfOk result (λ answer. (node holder : ℕ) → answer ≡ Stepped.Busy node holder → RestsWith (running C.shard_table self.new) rank answer) }
+        ensures over { IfOk result (λ answer. answer ≡ Stepped.Finished → RestsWith (running C.shard_table self.new) rank answer) }
         ensures busy { IfOk result (OnlyCountsBusy (running C.shard_table self.old) rank (running C.shard_table self.new)) }
         ensures kept { OnErr result (self.new ≡ self.old) }
     {

@@ -6,10 +6,10 @@ ghost use Rattle.rl_machine.specs.Promises.{journal_on, transcripts_on};
 ghost use Rattle.rl_machine.specs.State.{running_shard, IsGood};
 
 use crate::shard::ShardState;
-use rl_asks::{ENTRY_WORDS, ShardCore, TellsAll};
+use rl_asks::{ShardCore, TellsAll};
 use rl_journal::journal_entry;
 use rl_model::Entry;
-use rl_work::{COUNT_WORD, journal_base};
+use rl_work::{COUNT_WORD, ENTRY_WORDS, journal_base};
 use std::alloc::{AllocError as OutOfMemory, Global};
 
 /// How many updates were done on the shard.

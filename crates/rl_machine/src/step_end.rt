@@ -11,12 +11,12 @@ pub struct StepEnd {
     /// The shard where its rank stands after it.
     pub place: u32,
     /// What its answer tells of the rank.
-    pub told: Told,
+    pub told: StepOutcome,
 }
 
 /// What the answer of a step tells of its rank.
 #[derive(Clone, Copy, PartialEq, Eq, Debug)]
-pub enum Told {
+pub enum StepOutcome {
     /// It got on: Moved or Lost.
     GotOn,
     /// It is about to take the card of this node, which was held: Busy.
@@ -28,13 +28,13 @@ pub enum Told {
 }
 
 /// What an answer tells.
-pub fn what_is_told(answer: Stepped) -> Told
+pub fn what_is_told(answer: Stepped) -> StepOutcome
     ensures { result ≡ told_by answer }
 {
     match answer {
-        Stepped::Moved | Stepped::Lost { .. } => Told::GotOn,
-        Stepped::Busy { node, .. } => Told::HeldOff { node },
-        Stepped::Waiting { .. } => Told::Waits,
-        Stepped::Finished => Told::Finished,
+        Stepped::Moved | Stepped::Lost { .. } => StepOutcome::GotOn,
+        Stepped::Busy { node, .. } => StepOutcome::HeldOff { node },
+        Stepped::Waiting { .. } => StepOutcome::Waits,
+        Stepped::Finished => StepOutcome::Finished,
     }
 }

@@ -6,7 +6,7 @@ use Rattle.rl_tree.specs.declared.rooted.Rooted.{Rooted}
 use Rattle.rl_tree.specs.declared.view.TreeView.{TreeView}
 use Rattle.rl_tree.specs.Tree.{TheTree, tree_learn, at_hook}
 use Rattle.rl_tree.specs.Elements.{tree_of}
-use Rattle.rl_tree.specs.Fits.{IsPlaced, MayPlan, MayLearn}
+use Rattle.rl_tree.specs.Fits.{IsPlaced, MayPlan, TreeMayLearn}
 use Rattle.rl_tree.specs.TreeShape.{IsWellShaped}
 use Rattle.rl_tree.specs.TreeFacts.{JoinsAtMost, TreeFacts}
 use Rattle.rl_tree.specs.TreeLaws.{tree_facts}
@@ -35,8 +35,8 @@ module _ (K : Rooted) (levels : ℕ) (S : IsWellShaped K levels) (unlimited : K.
     pub plans_it : MayPlan K v
     plans_it = plans v (record { state = h.state; rank = h.rank; is_good = h.is_good; has = h.has })
 
-    pub learns_it : MayLearn K v got
-    learns_it = subst (MayLearn K v) (sym h.gives) (F.may_learn h.is_good.inside h.state.words h.state.views h.state.trace h.rank v h.act (planned K levels S F unlimited h.state h.rank v h.act step))
+    pub learns_it : TreeMayLearn K v got
+    learns_it = subst (TreeMayLearn K v) (sym h.gives) (F.may_learn h.is_good.inside h.state.words h.state.views h.state.trace h.rank v h.act (planned K levels S F unlimited h.state h.rank v h.act step))
 
     pub placed_after : at_hook (tree_learn (tree_of K) v got).view ≡ true → IsPlaced K (tree_learn (tree_of K) v got).view
     placed_after on =

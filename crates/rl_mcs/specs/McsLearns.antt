@@ -45,10 +45,6 @@ pub record TurnFits (K : Rooted) (r : ℕ) (v : TreeView) (u : Told TreeView) : 
   pub few : length (all_events u) ≤ 8
   pub names : AllNamed (queues_from K 0 (how_many K)) (λ c. false) (all_events u)
 
--- a join before what goes on from the hook
-abbrev Goes : ℕ → Standing → Standing → List Event → Type 0
-Goes r s s' es = Shift r s s' (holds_only es)
-
 still_asks : (r : ℕ) (s : Standing) (es : List Event) → Shift r s Asking es → s ≡ Asking
 still_asks r Asking es h = refl
 still_asks r Out es h = absurd h

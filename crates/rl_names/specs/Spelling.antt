@@ -70,7 +70,8 @@ atom_words naming map (atom.CardLoad w) found = codes "card-load" ∷ (word_word
 atom_words naming map (atom.CardStore w v) found = codes "card-store" ∷ (word_words naming map w ++ codes ":=" ∷ decimal v ∷ [])
 atom_words naming map (atom.Leave n) found = codes "leave" ∷ codes "card" ∷ decimal n ∷ []
 
--- the answer of a step: what a compare guessed that was lost, and which rank is in a card that is busy
+-- the answer of a step: what was guessed where a compare was lost, or a get that reads without the lock, and which rank is in a card
+-- that is busy
 abbrev pub answer_words : Stepped → List (List ℕ)
 answer_words answer.Moved = codes "moved" ∷ []
 answer_words (answer.Waiting w v) = codes "waiting" ∷ []

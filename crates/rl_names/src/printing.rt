@@ -204,7 +204,8 @@ pub fn put_atom(
     }
 }
 
-/// The words of a step's answer: what a compare guessed that was lost, and which rank is in a card that is busy.
+/// The words of a step's answer: what was guessed where a compare was lost, or a get that reads without the lock, and which rank is
+/// in a card that is busy.
 pub fn put_answer(out: &mut Vec<u8>, answer: Stepped) -> Result<(), OutOfMemory>
     ensures { OnOk result (out.new.items ≡ out.old.items ++ spaced (answer_words answer)) }
 {

@@ -11,10 +11,7 @@ use rl_history::Naming;
 use rl_model::Geom;
 use rl_place::Place;
 use rl_word::LockName;
-use rl_work::{COUNT_WORD, VOLUME_BASE, journal_base};
-
-/// How many words the journal has for an entry.
-const ENTRY_WORDS: u32 = 6;
+use rl_work::{COUNT_WORD, ENTRY_WORDS, VOLUME_BASE, journal_base};
 
 /// How many words a rank has to post a call.
 const POST_WORDS: u32 = 9;

@@ -18,10 +18,6 @@ use Rattle.rl_ops.proofs.RankLemmas.{told, lists_from-told}
 
 -- ---- the loops
 
--- one thing printed, and what is left
-pub printed-next : (out total : List ℕ) (one rest : List (List (List ℕ))) → out ++ text_of (one ++ rest) ≡ total → (out ++ text_of one) ++ text_of rest ≡ total
-printed-next out total one rest e = append_assoc out (text_of one) (text_of rest) ∙ ap (λ (t : List ℕ). out ++ t) (sym (flat_map-append line_text one rest)) ∙ e
-
 -- a pair is left where something is left of both
 pub zip-none : {X Y : Type 0} (xs : List X) (ys : List Y) → (length xs ≡ 0) ⊎ (length ys ≡ 0) → zip xs ys ≡ []
 zip-none [] ys e = refl

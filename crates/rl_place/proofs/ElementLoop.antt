@@ -1,14 +1,8 @@
--- The numbering of groups, as the loops make it.
-use Rattle.std.proofs.Common.{◌≡◌, ℕ, zero, suc, ◌+◌, ◌<◌, Bool, true, false, not, cond, ltb, List, [], ◌∷◌, ◌++◌, length, map, take, get_or, fold, Option, Some, None, refl, ap, ◌∙◌, add-one, arith}
+-- A list that a loop makes item by item, and the place of what isn't found.
+use Rattle.std.proofs.Common.{◌≡◌, ℕ, zero, suc, ◌+◌, ◌<◌, Bool, true, false, not, cond, ltb, List, [], ◌∷◌, ◌++◌, length, map, take, get_or, Option, Some, None, refl, ap, ◌∙◌, add-one, arith}
 use Rattle.std.specs.List.{position, position_or_len}
 use Rattle.std.proofs.lemmas.Bool.{ltb-false}
-use Rattle.std.proofs.lemmas.List.Sums.{fold-append, prefix_len-le-length}
-use Rattle.rl_place.specs.declared.path.Path.{Path}
-use Rattle.rl_place.specs.Paths.{prefix}
-use Rattle.rl_place.specs.Numbering.{seen_after, prefixes_to}
-
-pub groups-more : (seen : List Path) (path : Path) (i : ℕ) → fold seen_after seen (prefixes_to path (i + 1)) ≡ seen_after (fold seen_after seen (prefixes_to path i)) (prefix path (i + 1))
-groups-more seen path i = rw add-one (fold-append seen_after seen (prefixes_to path i) (prefix path (suc i) ∷ []))
+use Rattle.std.proofs.lemmas.List.Sums.{prefix_len-le-length}
 
 not_placed : (b : Bool) (n : ℕ) → ◌≡◌ {A = Option ℕ} (cond b (Some n) None) None → b ≡ false
 not_placed true n e = absurd cc

@@ -9,10 +9,6 @@ use Rattle.rl_text.specs.Reading.{◌>>=◌}
 abbrev pub with_front : {X : Type 0} → List X → Result (List X) Refusal → Result (List X) Refusal
 with_front front read = read >>= λ more. Ok (front ++ more)
 
-pub with_front-nil : {X : Type 0} (read : Result (List X) Refusal) → with_front [] read ≡ read
-with_front-nil (Ok more) = refl
-with_front-nil (Err refusal) = refl
-
 pub with_front-one : {X : Type 0} (front : List X) (x : X) (read : Result (List X) Refusal) → with_front front (read >>= λ more. Ok (x ∷ more)) ≡ with_front (front ++ x ∷ []) read
 with_front-one {X = X} front x (Ok more) = ap (λ (xs : List X). Ok xs) (simp append_assoc)
 with_front-one front x (Err refusal) = refl
@@ -21,10 +17,6 @@ with_front-one front x (Err refusal) = refl
 
 abbrev pub with_lines : {X : Type 0} → List X → Result (List X × Left) Refusal → Result (List X × Left) Refusal
 with_lines front read = read >>= λ more. Ok (front ++ more.0, more.1)
-
-pub with_lines-nil : {X : Type 0} (read : Result (List X × Left) Refusal) → with_lines [] read ≡ read
-with_lines-nil (Ok more) = refl
-with_lines-nil (Err refusal) = refl
 
 pub with_lines-one : {X : Type 0} (front : List X) (x : X) (read : Result (List X × Left) Refusal)
     → with_lines front (read >>= λ more. Ok (x ∷ more.0, more.1)) ≡ with_lines (front ++ x ∷ []) read

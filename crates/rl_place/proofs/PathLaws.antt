@@ -46,9 +46,6 @@ first_numbers levels numbers count = subst (λ (n : ℕ). take n (numbers ++ rep
 
 -- ---- the limit of the numbers
 
-within : (part : ℕ) → Bool
-within part = leb part MOST_PART
-
 small-numbers : (numbers zeros : List ℕ) → list_all (λ part. leb part MOST_PART) (numbers ++ zeros) ≡ true → AllByRecursion (λ part. part ≤ MOST_PART) numbers
 small-numbers [] zeros e = tt
 small-numbers (n ∷ numbers) zeros e = let p = both (leb n MOST_PART) (list_all (λ part. leb part MOST_PART) (numbers ++ zeros)) e in (leb-true n MOST_PART p.0, small-numbers numbers zeros p.1)

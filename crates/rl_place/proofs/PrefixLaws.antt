@@ -3,7 +3,7 @@ use Rattle.std.proofs.Common.{◌≡◌, ℕ, zero, suc, ◌-◌, ◌≤◌, Lis
 use Rattle.std.proofs.lemmas.List.{take-append-le, length-take-le}
 use Rattle.std.proofs.Math.Seq.{take-length}
 use Rattle.rl_place.specs.declared.path.Path.{Path}
-use Rattle.rl_place.specs.Paths.{IsPath, path_of, prefix, root_path}
+use Rattle.rl_place.specs.Paths.{IsPath, path_of, prefix}
 
 -- a path of these numbers and no others
 abbrev pub IsTrim : Path → Type 0
@@ -48,6 +48,3 @@ prefix-prefix p n m trim less most =
     let fewer : n ≤ length (take m ns) = omega (arith, length-take-le m ns few, less) in
     ap (λ (q : Path). prefix (prefix q m) n) trim.1 ∙ ap (λ (q : Path). prefix q n) (front_path ns m few) ∙ front_path (take m ns) n fewer ∙ ap path_of (take-take ns n m less)
     ∙ sym (ap (λ (q : Path). prefix q n) trim.1 ∙ front_path ns n (omega arith))
-
-pub prefix-none : (p : Path) → prefix p 0 ≡ root_path
-prefix-none p = refl

@@ -1,8 +1,8 @@
 //! The spelling of a path: its numbers between single dots.
 ghost use Rattle.std.specs.Prelude.{◌≡◌, ◌≤◌, ◌<◌, ◌∷◌, [], OnErr};
-ghost use Rattle.rl_text.specs.Printing.{Puts, StandsBefore};
+ghost use Rattle.rl_text.specs.Printing.{Puts, StillStands};
 ghost use Rattle.rl_text.specs.LineWords.{stepped};
-ghost use Rattle.rl_place.specs.Paths.{IsPath, path_word, path_at, parts_of, filled, numbers_of};
+ghost use Rattle.rl_place.specs.Paths.{path_word, path_at, parts_of, filled, numbers_of};
 
 use crate::limits::MOST_PART;
 use crate::path::Path;
@@ -86,7 +86,7 @@ pub fn path_of(words: &mut LineWords<'_>, levels: u32) -> Result<Path, Refusal>
 // Appends the numbers of a path. After want of memory some of them may stand there.
 fn put_parts(path: Path, text: &mut Vec<u8>) -> Result<(), OutOfMemory>
     ensures puts { Puts result text.old text.new (path_word path) }
-    ensures err { OnErr result (StandsBefore text.old text.new) }
+    ensures err { OnErr result (StillStands text.old text.new) }
 {
     let [first, second, third] = path.parts;
     if path.len == 0 {

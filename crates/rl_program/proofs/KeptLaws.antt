@@ -6,7 +6,7 @@ use Rattle.rl_word.specs.declared.shapes.Knobs.{Knobs}
 use Rattle.rl_word.specs.declared.locks.LockName.{LockName}
 use Rattle.rl_model.specs.declared.geom.Geom.{Geom}
 use Rattle.rl_journal.specs.Legal.{IsLegal}
-use Rattle.rl_journal.specs.History.{IsReplay}
+use Rattle.rl_journal.specs.History.{IsReplayedByOneThread}
 use Rattle.rl_journal.specs.Ranks.{IsRankInOrder}
 use Rattle.rl_step.specs.LockQueues.{lock_under}
 use Rattle.rl_history.proofs.QueueLaws.{under_queues}
@@ -19,7 +19,7 @@ use Rattle.rl_ops.specs.declared.schedule.Turn.{Turn}
 use Rattle.std.specs.FinMap as finite
 use Rattle.rl_work.specs.Site.{Site}
 use Rattle.rl_asks.specs.ShardTables.{ShardTable}
-use Rattle.rl_machine.specs.Running.{ShardRun, Running}
+use Rattle.rl_machine.specs.Running.{Running}
 use Rattle.rl_asks.specs.Asks.{asked_of}
 use Rattle.rl_machine.specs.Start.{start_of}
 use Rattle.rl_machine.specs.StartLaws.{shards_length}
@@ -103,7 +103,7 @@ module _ {V : Type 0} (defined : Defined V) (place : ThePlace) (ops : Ops) (sche
         exclusive = λ s S has. (sound.shards s S has).exclusive;
         queues = queues;
         further = further;
-        replies = λ s S has. subst (λ geom. IsReplay geom finite.empty 0 (history_on S)) alike.geom (sound.shards s S has).replayed;
+        replies = λ s S has. subst (λ geom. IsReplayedByOneThread geom finite.empty 0 (history_on S)) alike.geom (sound.shards s S has).replayed;
         legal = λ s S has. subst (λ geom. IsLegal geom (journal_on S) (transcripts_on S)) alike.geom (sound.shards s S has).legal;
         sorted = λ s S has. (sound.shards s S has).sorted;
         calls = in_order;

@@ -2,10 +2,7 @@
 use Rattle.std.proofs.Common.{◌≡◌, ℕ, zero, suc, ◌+◌, ◌-◌, ◌<◌, ◌≤◌, min, length, Bool, true, false, ◌||◌, ◌⊎◌, inl, inr, refl, sym, ap, ◌∙◌, add-one, arith}
 use Rattle.std.proofs.lemmas.Bool.{lt-ltb, le-ltb}
 use Rattle.rl_word.specs.Places.{same_or_not}
-use Rattle.rl_step.specs.Answers.{steps_made}
 use Rattle.rl_machine.specs.Running.{Running}
-use Rattle.rl_machine.specs.Run.{stepped}
-use Rattle.rl_machine.specs.ReplayLaws.{stepped_one}
 use Rattle.rl_program.specs.Laps.{has_work, any_has_work, may_step, stepped_if, turns, goes_on, next_lap, laps}
 use Rattle.rl_program.proofs.RunLaws.{IsAlike, alike_then, stepped_alike}
 
@@ -18,10 +15,6 @@ or_false true = refl
 or_false false = refl
 
 module _ {V : Type 0} (m : Running V) where
-  -- none of the first ranks has work, and neither has the next
-  pub none_more : (rank : ℕ) → any_has_work m rank ≡ false → has_work m rank ≡ false → any_has_work m (rank + 1) ≡ false
-  none_more rank none next = rw (add-one, none) next
-
   -- one of them has it
   pub one_has : (ranks rank : ℕ) → rank < ranks → has_work m rank ≡ true → any_has_work m ranks ≡ true
   one_has zero rank low has = absurd (omega arith)

@@ -5,7 +5,6 @@ use Rattle.std.specs.Str.{bytes_eq}
 use Rattle.rl_text.specs.Spelling.{line_text}
 use Rattle.rl_text.specs.declared.causes.Refusal.{Refusal}
 use Rattle.rl_place.specs.Places.{ThePlace, IsProper}
-use Rattle.rl_ops.specs.declared.ops.Ops.{Ops}
 use Rattle.rl_ops.specs.Ops.{OpsFit}
 use Rattle.rl_history.specs.Naming.{naming_of}
 use Rattle.rl_history.specs.Reports.{TheReport, ReportFits}

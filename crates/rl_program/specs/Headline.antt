@@ -3,7 +3,7 @@ use Rattle.std.specs.Prelude.{◌≡◌, ◌<◌, ℕ, List, [], length, get_or,
 use Rattle.std.specs.FinMap as map
 use Rattle.rl_step.specs.Exclusion.{IsExclusive}
 use Rattle.rl_journal.specs.Legal.{IsLegal}
-use Rattle.rl_journal.specs.History.{IsReplay as IsReplayedByOneThread, IsSorted}
+use Rattle.rl_journal.specs.History.{IsReplayedByOneThread, IsSorted}
 use Rattle.rl_journal.specs.Ranks.{IsRankInOrder}
 use Rattle.rl_place.specs.LockWords.{name_of}
 use Rattle.rl_place.specs.Places.{ThePlace, IsProper}

@@ -1,7 +1,7 @@
 -- The headline of a run: what is true of the texts that are run, and of the report that is written.
 use Rattle.std.specs.Prelude.{◌≡◌, ℕ, List, length, slice_get, Some, Ok}
 use Rattle.std.specs.FinMap as map
-use Rattle.rl_journal.specs.History.{IsReplay as IsReplayedByOneThread}
+use Rattle.rl_journal.specs.History.{IsReplayedByOneThread}
 use Rattle.rl_place.specs.Places.{ThePlace, IsProper}
 use Rattle.rl_place.specs.Spelling.{place_spelling}
 use Rattle.rl_ops.specs.declared.ops.Ops.{Ops}

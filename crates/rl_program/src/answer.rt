@@ -1,9 +1,7 @@
 // What the program answers: a status, and the bytes that belong to it.
 ghost use Rattle.std.specs.Prelude.{◌≡◌, ◌≢◌, ◌≤◌, map, string_bytes, IsTrue, IfOk, IfErr, Ok, Err, Option, Some};
-ghost use Rattle.rl_place.specs.declared.limits.TheConstants.{MOST_RANKS};
-ghost use Rattle.rl_ops.specs.declared.ops.TheConstants.{MOST_CALLS};
 ghost use Rattle.rl_replay.specs.Files.{named, refused_line};
-ghost use Rattle.rl_program.specs.Command.{Replay, Make, Show, asked, form_of, usage_text};
+ghost use Rattle.rl_program.specs.Command.{Replay, Make, Show, form_of, usage_text};
 ghost use Rattle.rl_program.specs.Answer.{MayRead, NamesNoFile, TheAnswer, RisesWithFault, WasAnswered};
 
 use crate::command::{Form, form_of_words};

@@ -1,8 +1,7 @@
--- The words of ranks: which number each is, and that all are 0 at first; and that ranks of a proper shape sit well.
+-- The words of ranks: which number each is, and that all are 0 at first.
 use Rattle.std.specs.Prelude.{◌≡◌, ℕ, zero, suc, ◌+◌, ◌*◌, ◌<◌, [], ◌∷◌, ◌++◌, length, replicate, slice_index, refl}
 use Rattle.std.proofs.Common.{◌∙◌, ap, arith}
-use Rattle.rl_word.specs.Shapes.{TheShape, IsProper, layout_of}
-use Rattle.rl_queue.specs.RankWords.{every_second, Seated}
+use Rattle.rl_queue.specs.RankWords.{every_second}
 
 -- number m of every second number
 pub every_second_at : (from n m : ℕ) → m < n → slice_index (every_second from n) m ≡ from + 2 * m
@@ -30,7 +29,3 @@ pub all_zero : (size w : ℕ) → slice_index (replicate size 0) w ≡ 0
 all_zero zero w = refl
 all_zero (suc size) zero = refl
 all_zero (suc size) (suc w) = all_zero size w
-
--- the ranks of a proper shape sit on nodes that are there
-pub seated_in : (shape : TheShape) → IsProper shape → Seated (layout_of shape)
-seated_in shape proper = record { few = proper.few; sits = proper.sits }

@@ -4,7 +4,7 @@ ghost use Rattle.std.proofs.Common.{rules};
 ghost use Rattle.std.specs.Prelude.{◌≡◌, ◌<◌, ◌≤◌, length, refl, IfOk};
 ghost use Rattle.rl_word.specs.declared.locks.LockName.TheVariants as TheName;
 ghost use Rattle.rl_step.specs.Lock.{no_more};
-ghost use Rattle.rl_queue.specs.Dmcs.{dmcs_table, dmcs_names, dmcs_learn, dmcs_turn, DmcsGood};
+ghost use Rattle.rl_queue.specs.Dmcs.{dmcs_table, dmcs_names, DmcsGood};
 ghost use Rattle.rl_queue.specs.RankWords.{Seated};
 ghost use Rattle.rl_queue.specs.DmcsLaws.{dmcs_laws};
 

@@ -3,7 +3,7 @@
 ghost use Rattle.std.specs.Prelude.{◌≡◌, ◌↔◌, ℕ, ◌+◌, ◌-◌, ◌<◌, ◌^◌, [], None, length};
 ghost use Rattle.rl_queue.specs.QueueFits.{MakesActs};
 ghost use Rattle.rl_step.specs.Lock.{told_with};
-ghost use Rattle.rl_queue.specs.Queue.{TheNames, PlanFits, GotFits, swap_act, code_of, code_left, look_at, plan_at, turn_at, told_by, at_phase, IsGranted, settled_at, leave_at, resume_at, stage_at};
+ghost use Rattle.rl_queue.specs.Queue.{PlanFits, GotFits, swap_act, code_of, code_left, look_at, plan_at, turn_at, told_by, at_phase, IsGranted, settled_at, leave_at, resume_at, stage_at};
 ghost use Rattle.rl_queue.specs.Standings.{standing_of};
 
 use crate::view::{Phase, QueueView, Stage};

@@ -37,8 +37,8 @@ abbrev pub AreTexts : (List ℕ → Option (List ℕ)) → Names → Texts → T
 AreTexts file names texts = Fits (file names.place) texts.place × Fits (file names.calls) texts.calls × Fits (file names.schedule) texts.schedule
 
 -- the source may open the files of these names
-abbrev pub MayOpen : (List ℕ → Bool) → Names → Type 0
-MayOpen may_open names = IsTrue (may_open names.place) × IsTrue (may_open names.calls) × IsTrue (may_open names.schedule)
+abbrev pub MayOpenFiles : (List ℕ → Bool) → Names → Type 0
+MayOpenFiles may_open names = IsTrue (may_open names.place) × IsTrue (may_open names.calls) × IsTrue (may_open names.schedule)
 
 -- what the files spell, or the first complaint
 unfoldable pub spelled : Texts → Result Replay Complaint

@@ -4,7 +4,7 @@ ghost use Rattle.rl_place.specs.Places.{IsProper};
 ghost use Rattle.rl_ops.specs.Ops.{OpsFit};
 ghost use Rattle.rl_ops.specs.Schedule.{ScheduleFits};
 ghost use Rattle.rl_replay.specs.Reading.{RisesWithFault, SuitsLock};
-ghost use Rattle.rl_replay.specs.Files.{named, MayOpen, WereRead};
+ghost use Rattle.rl_replay.specs.Files.{named, MayOpenFiles, WereRead};
 
 use crate::complaint::Stop;
 use crate::files::Files;
@@ -31,7 +31,7 @@ pub fn read_replay<S: Source>(
     source: &mut S,
     files: Files<'_>,
 ) -> Result<Replay, Stop>
-    requires { MayOpen (S.may_open source.old) (named files) }
+    requires { MayOpenFiles (S.may_open source.old) (named files) }
     ensures read { WereRead (S.file source.old) (named files.entry) result }
     ensures proper { IfOk result (λ replay. IsProper replay.place) }
     ensures calls { IfOk result (λ replay. OpsFit (length replay.place.paths) replay.place.geom.shards replay.ops) }

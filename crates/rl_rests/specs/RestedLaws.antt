@@ -13,7 +13,7 @@ use Rattle.rl_step.specs.declared.events.Stepped.TheVariants.{Moved, Waiting, Lo
 use Rattle.rl_step.specs.declared.tallies.Steps.{Steps}
 use Rattle.rl_step.specs.Answers.{steps_made}
 use Rattle.rl_step.specs.CoreLemmas.{length-do_words}
-use Rattle.rl_step.specs.Do.{TheWindow, do_words, do_cards, do_got}
+use Rattle.rl_step.specs.Do.{TheWindow, do_cards, do_got}
 use Rattle.rl_asks.specs.declared.round.Round.{Round}
 use Rattle.rl_asks.specs.Asks.{block_shard, place_after}
 use Rattle.rl_asks.specs.Idle.{IsIdle, IdleWhile, IsNamed, Shows}
@@ -23,7 +23,7 @@ use Rattle.rl_machine.specs.Running.{ShardRun, Running, TheMachine, shard_run, r
 use Rattle.rl_machine.specs.ShardSteps.{opened_at, opened_on, makes, made_at, atom_on, open_at, open_on}
 use Rattle.rl_machine.specs.Run.{changed_if, on_shard, calls_by, next_block, place_of, has_open_call, opens, opened_if, block_opened, stepped, run_of}
 use Rattle.rl_machine.specs.Records.{window_of}
-use Rattle.rl_machine.specs.Rest.{counted_more, with_steps, Rests}
+use Rattle.rl_machine.specs.Rest.{counted_more, with_steps, RestsWith}
 use Rattle.rl_machine.specs.RestLaws.{open_shuts, done_shuts, idle_rests, rest_run}
 use Rattle.rl_machine.specs.Rested.{RestsAt, IsOver, IsInRound}
 use Rattle.rl_rests.specs.declared.last_rest.LastRest.{LastRest}
@@ -205,14 +205,14 @@ module _ {V : Type 0} where
   window_at m s S h has is = same_Some _ _ (sym is ∙ ap (on_shard None (λ (T : ShardRun V). Some T.held)) has)
 
   -- a rank that rested rests, where the window of its shard shows it
-  pub still_rests : (m : Running V) (k s : ℕ) (answer a : Stepped) (r : RestsAt m k s answer) → Shows r.shard.held answer a → Rests m k a
+  pub still_rests : (m : Running V) (k s : ℕ) (answer a : Stepped) (r : RestsAt m k s answer) → Shows r.shard.held answer a → RestsWith m k a
   still_rests m k s answer a r shows =
       let at_place : slice_get m.shards (place_of m k) ≡ Some r.shard = ap (slice_get m.shards) r.stands ∙ r.has in
       let is_in : has_open_call m k ≡ true = ap (on_shard false (open_on k)) at_place ∙ ap (open_at r.shard.table) r.seen ∙ r.in_call in
       idle_rests m k r.shard r.view a at_place r.seen (open_shuts (has_open_call m k) (nat_lt (slice_index m.opened k) (length (calls_by m k))) is_in) (r.idle r.shard.held a shows)
 
   -- and one that has nothing left to do rests for ever
-  pub over_rests : (m : Running V) (k : ℕ) → IsOver m k → Rests m k Finished
+  pub over_rests : (m : Running V) (k : ℕ) → IsOver m k → RestsWith m k Finished
   over_rests m k r =
       let few : length (calls_by m k) ≤ slice_index m.opened k = r.none_left in
       let none_is_left : nat_lt (slice_index m.opened k) (length (calls_by m k)) ≡ false = grind (arith, nat_tests) in
@@ -224,14 +224,8 @@ module _ {V : Type 0} where
   held_by_another m k s n holder other r = record { shard = r.shard; view = r.view; stands = r.stands; has = r.has; seen = r.seen; in_call = r.in_call; named = r.named; idle = r.idle }
 
   -- so many answers counted are so many steps
-  pub counted_run : (m now : Running V) (k n : ℕ) (a : Stepped) → Rests m k a → now ≡ with_steps m (counted_more a n m.steps) → now ≡ run_of m (replicate n k)
+  pub counted_run : (m now : Running V) (k n : ℕ) (a : Stepped) → RestsWith m k a → now ≡ with_steps m (counted_more a n m.steps) → now ≡ run_of m (replicate n k)
   counted_run m now k n a rests is = is ∙ sym (rest_run m k a n rests)
-
--- the elements of a list of equal ones
-one_alike : {Sight : Type 0} (z : LastRest Sight) (n k : ℕ) (r : LastRest Sight) → slice_get (replicate n z) k ≡ Some r → r ≡ z
-one_alike z zero k r get = cc
-one_alike z (suc n) zero r get = cc
-one_alike z (suc n) (suc k) r get = one_alike z n k r get
 
 module _ {V Sight : Type 0} (seeing : V → Sight → V) where
   rested_other : (m : Running V) (k j : ℕ) (r : LastRest Sight) → k ≢ j → Rested seeing m k r → Rested seeing (stepped m j) k r
@@ -256,10 +250,6 @@ module _ {V Sight : Type 0} (seeing : V → Sight → V) where
 
   pub keeps_with : (m now : Running V) (counts : Steps) → now ≡ with_steps m counts → KeepsNotes seeing m now
   keeps_with m now counts is = λ rests all. subst (λ (u : Running V). AllRested seeing u rests) (sym is) (λ k r get. rested_with m counts k r (all k r get))
-
-  -- of a rank of which nothing is known nothing is said
-  pub none_rested : (m : Running V) (n : ℕ) → AllRested seeing m (replicate n last.Unknown)
-  none_rested m n = λ k r get. subst (Rested seeing m k) (sym (one_alike last.Unknown n k r get)) tt
 
   -- what is noted of a rank after its steps, and what was noted of the others
   pub all_noted : (m : Running V) (rests : List (LastRest Sight)) (j n : ℕ) (z : LastRest Sight) → Rested seeing (run_of m (replicate n j)) j z → AllRested seeing m rests → AllRested seeing (run_of m (replicate n j)) (slice_set rests j z)

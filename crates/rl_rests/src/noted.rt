@@ -11,7 +11,7 @@ ghost use Rattle.rl_rests.specs.Rested.{Rested, AllRested, KeepsNotes, IsForgott
 use crate::last_rest::LastRest;
 use crate::rounds::go_round;
 use rl_asks::Resting;
-use rl_machine::{Machine, RestAt, StepEnd, Told};
+use rl_machine::{Machine, RestAt, StepEnd, StepOutcome};
 use rl_step::Stepped;
 
 /// So many steps of a rank that was seen to be about to take the card of a node, on a shard: where another rank is in it still, each is
@@ -186,13 +186,13 @@ fn rest_after<C: Resting>(machine: &Machine<C>, rank: u32, end: StepEnd) -> Last
     ensures { Rested C.with_sight (running C.shard_table machine.now) rank result }
 {
     match end.told {
-        Told::GotOn => LastRest::Unknown,
-        Told::HeldOff { node } => LastRest::HeldOff {
+        StepOutcome::GotOn => LastRest::Unknown,
+        StepOutcome::HeldOff { node } => LastRest::HeldOff {
             shard: end.place,
             node,
         },
-        Told::Waits => seen_waiting(machine, rank),
-        Told::Finished => LastRest::Finished,
+        StepOutcome::Waits => seen_waiting(machine, rank),
+        StepOutcome::Finished => LastRest::Finished,
     }
 }
 

@@ -17,7 +17,7 @@ ghost use Rattle.rl_machine.specs.Start.{start_of};
 use crate::last_rest::{LastRest, no_rests};
 use crate::noted::{forget, look, take_noted};
 use rl_asks::Resting;
-use rl_machine::{Machine, Told, soundness};
+use rl_machine::{Machine, StepOutcome, soundness};
 use rl_model::Geom;
 use rl_ops::{Ops, Turn};
 use rl_word::{Knobs, Shape};
@@ -42,7 +42,7 @@ fn step_in_full<C: Resting>(
 {
     forget(rests, rank);
     let end = machine.step_told(rank)?;
-    if end.told == Told::GotOn {
+    if end.told == StepOutcome::GotOn {
         return Ok(true);
     }
     look(machine, rests, rank, end);

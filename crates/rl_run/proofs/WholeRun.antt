@@ -26,7 +26,6 @@ use Rattle.rl_ops.specs.Ops.{OpsFit, EachOfBlocks, total_calls}
 use Rattle.rl_asks.specs.OpsBridge.{each_blocks}
 use Rattle.rl_asks.specs.AskLaws.{few_calls}
 use Rattle.rl_history.specs.declared.report.Done.{Done}
-use Rattle.rl_history.specs.Naming.{naming_of}
 use Rattle.rl_history.specs.Reports.{TheShard}
 use Rattle.rl_history.specs.Lawful.{IsLawful}
 use Rattle.rl_shard.specs.declared.closed.Closed.{Closed}
@@ -34,8 +33,8 @@ use Rattle.rl_shard.specs.declared.shard.Shard.{Shard}
 use Rattle.rl_shard.specs.declared.seat.Seat.{Seat}
 use Rattle.rl_shard.specs.Shards.{IsShardOf}
 use Rattle.rl_run.specs.declared.caller.Caller.{Caller}
-use Rattle.rl_run.specs.Told.{NumbersFit, AreClosedShards, all_done, part_of}
-use Rattle.rl_run.specs.Runs.{AreNew, AreCallers, HaveBegun, HasRun, MayWork, made_of, wanted, told}
+use Rattle.rl_run.specs.Told.{ToldNumbersFit, AreClosedShards, all_done, part_of}
+use Rattle.rl_run.specs.Runs.{AreNew, AreCallers, HaveBegun, HasRun, CallerMayWork, made_of, wanted, told}
 use Rattle.rl_run.specs.RunLaws.{are_callers, wanted_long}
 use Rattle.rl_run.specs.EndLaws.{closed_shards}
 use Rattle.rl_run.specs.ReportLaws.{updates_few, lawful}
@@ -69,7 +68,7 @@ module _ {C V : Type 0} (D : TheShape → ℕ → Knobs → Site → ShardTable 
     as_many : length cs ≡ length ops.by_rank
     as_many = sym (length-map cs made_of) ∙ ap length made ∙ wanted_long place.geom 0 ops.by_rank ops.sizes rows long new_place.ranks
 
-    are_callers_of : All (MayWork table good layout) cs → AreCallers table good layout shards cs
+    are_callers_of : All (CallerMayWork table good layout) cs → AreCallers table good layout shards cs
     are_callers_of may =
         are_callers D table good layout (shape_of place) (knobs_of place.lock) place.geom place.homes ops.by_rank ops.sizes shards rows new_place proper.geom all_place long
         (λ k. let f = few_calls ops.by_rank k 20000 fit.few in omega arith) (each_blocks place.geom proper.geom ops.by_rank ops.sizes fit.blocks)
@@ -78,7 +77,7 @@ module _ {C V : Type 0} (D : TheShape → ℕ → Knobs → Site → ShardTable 
     rooted : All (IsShardOf table (length cs)) shards
     rooted k d within = subst (λ n. IsShardOf table n (get_or shards k d)) (sym as_many) (new_place.each k (get_or shards k d) (slice_get-get_or shards k d within)).is_shard
 
-    pub begun : All (MayWork table good layout) cs → HaveBegun D table good layout place ops shards cs
+    pub begun : All (CallerMayWork table good layout) cs → HaveBegun D table good layout place ops shards cs
     begun may = record { rows = rows; new = new_place; all = all_place; made = made; rooted = rooted; callers = are_callers_of may }
 
 module _ {C V : Type 0} (D : TheShape → ℕ → Knobs → Site → ShardTable V) (table : C → ShardTable V) (good : GoodOf C V) (layout : C → Layout)
@@ -99,7 +98,7 @@ module _ {C V : Type 0} (D : TheShape → ℕ → Knobs → Site → ShardTable 
       let ok = e.journal.ok in
       omega (arith, ok, few)
 
-  pub run_lawful : (parts : List TheShard) (done : List Done) → parts ≡ map part_of (map told ends) → done ≡ all_done ops → All NumbersFit (map told ends) → IsLawful place ops (record { shards = parts; done = done; steps = None })
+  pub run_lawful : (parts : List TheShard) (done : List Done) → parts ≡ map part_of (map told ends) → done ≡ all_done ops → All ToldNumbersFit (map told ends) → IsLawful place ops (record { shards = parts; done = done; steps = None })
   run_lawful parts done parts_are done_is numbers =
       subst (λ p. IsLawful place ops (record { shards = p; done = done; steps = None })) (sym parts_are)
       (subst (λ d. IsLawful place ops (record { shards = map part_of (map told ends); done = d; steps = None })) (sym done_is) (lawful place ops proper fit (map told ends) are numbers))
@@ -109,17 +108,17 @@ module _ {C V : Type 0} (D : TheShape → ℕ → Knobs → Site → ShardTable 
 abbrev IsShort : Closed → Type 0
 IsShort e = vec_len e.journal < 2 ^ 32
 
-pub next_part : (ends rest all : List Closed) (e : Closed) (p : TheShard) (parts : List TheShard) → ends ≡ e ∷ rest → p ≡ part_of (told e) → NumbersFit (told e) → All IsShort ends →
-    parts ++ map part_of (map told ends) ≡ map part_of (map told all) → (All NumbersFit (map told ends) → All NumbersFit (map told all)) →
-    All IsShort rest × ((parts ++ p ∷ []) ++ map part_of (map told rest) ≡ map part_of (map told all)) × (All NumbersFit (map told rest) → All NumbersFit (map told all))
+pub next_part : (ends rest all : List Closed) (e : Closed) (p : TheShard) (parts : List TheShard) → ends ≡ e ∷ rest → p ≡ part_of (told e) → ToldNumbersFit (told e) → All IsShort ends →
+    parts ++ map part_of (map told ends) ≡ map part_of (map told all) → (All ToldNumbersFit (map told ends) → All ToldNumbersFit (map told all)) →
+    All IsShort rest × ((parts ++ p ∷ []) ++ map part_of (map told rest) ≡ map part_of (map told all)) × (All ToldNumbersFit (map told rest) → All ToldNumbersFit (map told all))
 next_part ends rest all e p parts is part fit short so_far numbers = (
   All-tail IsShort e rest (subst (All IsShort) is short),
   append_assoc parts (p ∷ []) (map part_of (map told rest)) ∙ ap (λ z. parts ++ z ∷ map part_of (map told rest)) part ∙ ap (λ l. parts ++ map part_of (map told l)) (sym is) ∙ so_far,
-  λ others. numbers (subst (λ l. All NumbersFit (map told l)) (sym is) (All-cons NumbersFit (told e) (map told rest) fit others)),
+  λ others. numbers (subst (λ l. All ToldNumbersFit (map told l)) (sym is) (All-cons ToldNumbersFit (told e) (map told rest) fit others)),
 )
 
-pub none_left : (ends all : List Closed) → length ends ≡ 0 → (All NumbersFit (map told ends) → All NumbersFit (map told all)) → All NumbersFit (map told all)
-none_left [] all e numbers = numbers (All-nil NumbersFit)
+pub none_left : (ends all : List Closed) → length ends ≡ 0 → (All ToldNumbersFit (map told ends) → All ToldNumbersFit (map told all)) → All ToldNumbersFit (map told all)
+none_left [] all e numbers = numbers (All-nil ToldNumbersFit)
 none_left (x ∷ ends) all e numbers = absurd (omega (arith, e))
 
 -- ---- what each rank has done

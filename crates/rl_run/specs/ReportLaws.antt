@@ -25,7 +25,7 @@ use Rattle.rl_history.specs.Lawful.{journal_in, transcript_in, transcripts_in, I
 use Rattle.rl_history.proofs.QueueLaws.{queues_long}
 use Rattle.rl_run.specs.EntriesFit.{HasTranscripts, HasDone, same_journal, same_transcripts, rank_of_it, as_many, few_here, few_updates, entry_fits}
 use Rattle.rl_run.specs.RowLaws.{same_maps}
-use Rattle.rl_run.specs.Told.{ToldShard, told_of, part_of, report_of, NumbersFit, IsClosedShard, AreClosedShards}
+use Rattle.rl_run.specs.Told.{ToldShard, told_of, part_of, report_of, ToldNumbersFit, IsClosedShard, AreClosedShards}
 use Rattle.rl_run.specs.ToldLaws.{all_by_place, few_entries, ranks_there, pairs_fit}
 
 module _ (place : ThePlace) (ops : Ops) (proper : IsProper place) (fit : OpsFit (length place.paths) place.geom.shards ops) (es : List ToldShard) (are : AreClosedShards place ops es) where
@@ -67,7 +67,7 @@ module _ (place : ThePlace) (ops : Ops) (proper : IsProper place) (fit : OpsFit 
     pub updates_few : length e.journal ≤ 20000
     updates_few = few_updates place ops fit es calls_of all_done s e has has_transcripts
 
-    pub shard_fits : NumbersFit e → ShardFits (naming_of place) false s (part_of e)
+    pub shard_fits : ToldNumbersFit e → ShardFits (naming_of place) false s (part_of e)
     shard_fits numbers =
         record {
           few_updates = updates_few;
@@ -82,13 +82,13 @@ module _ (place : ThePlace) (ops : Ops) (proper : IsProper place) (fit : OpsFit 
 
   -- ---- the report
 
-  shards_fit : All NumbersFit es → (from : ℕ) (rest : List ToldShard) → ((i : ℕ) (e : ToldShard) → slice_get rest i ≡ Some e → slice_get es (from + i) ≡ Some e) → ShardsFit (naming_of place) false from (map part_of rest)
+  shards_fit : All ToldNumbersFit es → (from : ℕ) (rest : List ToldShard) → ((i : ℕ) (e : ToldShard) → slice_get rest i ≡ Some e → slice_get es (from + i) ≡ Some e) → ShardsFit (naming_of place) false from (map part_of rest)
   shards_fit numbers from [] at = tt
   shards_fit numbers from (e ∷ rest) at =
       let none : from + 0 ≡ from = omega arith in
       let here : slice_get es from ≡ Some e = ap (slice_get es) (sym none) ∙ at 0 e refl in
       let home = some_at place.homes from (let h = slice_get_within es from e here in let a = are.all in let b = proper.each_shard in omega arith) in (
-        shard_fits from home.0 e home.1 here (all_at NumbersFit es from e numbers here),
+        shard_fits from home.0 e home.1 here (all_at ToldNumbersFit es from e numbers here),
         shards_fit numbers (from + 1) rest (λ i f get. let next : from + 1 + i ≡ from + suc i = omega arith in ap (slice_get es) next ∙ at (suc i) f get),
       )
 
@@ -97,7 +97,7 @@ module _ (place : ThePlace) (ops : Ops) (proper : IsProper place) (fit : OpsFit 
   done_fit n (l ∷ lists) few low =
       let both = sum_by-cons (λ (c : List Call). length c) l lists in ((omega arith, omega arith), done_fit n lists (omega arith) low)
 
-  pub lawful : All NumbersFit es → IsLawful place ops (report_of ops es)
+  pub lawful : All ToldNumbersFit es → IsLawful place ops (report_of ops es)
   lawful numbers =
       record {
         fits = record {

@@ -27,7 +27,7 @@ use Rattle.rl_run.specs.Rows.{IsRow, IsColumn, with_column}
 use Rattle.rl_run.specs.RowLaws.{grid_more, with_column_long}
 use Rattle.rl_run.specs.declared.caller.Caller.{Caller}
 use Rattle.rl_run.specs.Callers.{IsReady, who, seats_of}
-use Rattle.rl_run.specs.Runs.{IsNewSeat, IsNewShard, AreNew, AreCallers, MayWork, made_of, wanted}
+use Rattle.rl_run.specs.Runs.{IsNewSeat, IsNewShard, AreNew, AreCallers, CallerMayWork, made_of, wanted}
 
 index_of_map : {X : Type 0} (f : X → ℕ) (l : List X) (k : ℕ) (d : X) → k < length l → slice_index (map f l) k ≡ f (get_or l k d)
 index_of_map f [] k d h = absurd (omega arith)
@@ -160,7 +160,7 @@ module _ {C V : Type 0} (D : TheShape → ℕ → Knobs → Site → ShardTable 
             record { closed = q.closed; nothing = q.nothing; room = omega arith };
       }
 
-  pub are_callers : (cs : List (Caller C V)) → map made_of cs ≡ wanted geom 0 calls sizes rows → All (MayWork table good layout) cs → AreCallers table good layout shards cs
+  pub are_callers : (cs : List (Caller C V)) → map made_of cs ≡ wanted geom 0 calls sizes rows → All (CallerMayWork table good layout) cs → AreCallers table good layout shards cs
   are_callers cs made may r c get =
       let w = wanted_at geom 0 calls sizes rows r (made_of c) long new.ranks (ap (λ l. slice_get l r) (sym made) ∙ get_map made_of cs r c get) in
       let first : 0 + r ≡ r = omega arith in
@@ -168,5 +168,5 @@ module _ {C V : Type 0} (D : TheShape → ℕ → Knobs → Site → ShardTable 
       let Q : ℕ × List Call × List ℕ × Geom → Type 0 = λ z. IsReady table good layout shards z.3 z.0 z.1 z.2 (seats_of c) in
       let mine : Q (who c) = subst Q (sym is) (ready r (seats_of c) w.1) in (
         ap (λ (z : ℕ × List Call × List ℕ × Geom). z.0) is,
-        all_at (MayWork table good layout) cs r c may get shards mine,
+        all_at (CallerMayWork table good layout) cs r c may get shards mine,
       )

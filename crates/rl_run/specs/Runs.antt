@@ -55,8 +55,8 @@ module _ {C V : Type 0} where
     IsShutSeat w r t = (rank_at t ≡ r) × IsOf table good layout w t × IsClosed table w t
 
     -- a caller may work on any shards on which it is ready
-    abbrev pub MayWork : Caller C V → Type 0
-    MayWork c = (shards : List (Shard C V)) → IsReady table good layout shards c.geom c.rank c.calls.items c.sizes.items c.seats.items → IsCaller table good layout shards c
+    abbrev pub CallerMayWork : Caller C V → Type 0
+    CallerMayWork c = (shards : List (Shard C V)) → IsReady table good layout shards c.geom c.rank c.calls.items c.sizes.items c.seats.items → IsCaller table good layout shards c
 
   -- a shard of a table that was just made: its core is that of its home and its site, which has the ranks' places
   pub record IsNewShard (defined : TheShape → ℕ → Knobs → Site → ShardTable V) (table : C → ShardTable V) (shape : TheShape) (knobs : Knobs) (geom : Geom) (homes : List ℕ) (calls : List (List Call)) (s : ℕ) (w : Shard C V) : Type 0 where

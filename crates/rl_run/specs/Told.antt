@@ -40,7 +40,7 @@ abbrev pub report_of : Ops → List ToldShard → TheReport
 report_of ops es = record { shards = map part_of es; done = all_done ops; steps = None }
 
 -- the numbers fit the machine's
-pub record NumbersFit (e : ToldShard) : Type 0 where
+pub record ToldNumbersFit (e : ToldShard) : Type 0 where
   pub replies : All (λ f. ReplyFits f.reply) (history e.journal e.transcripts)
   pub tallies : All TallyFits e.queues
   pub pairs : All (λ p. (p.0 < 2 ^ 64) × (p.1 < 2 ^ 64)) e.pairs

@@ -7,7 +7,7 @@ ghost use Rattle.rl_word.specs.Shapes.{IsProper};
 ghost use Rattle.rl_place.specs.Places.{IsProper as IsProperPlace};
 ghost use Rattle.rl_place.specs.Shapes.{shape_of, knobs_of};
 ghost use Rattle.rl_ops.specs.Ops.{OpsFit, total_calls};
-ghost use Rattle.rl_run.specs.Runs.{AreNew, HaveBegun, MayWork, made_of, wanted};
+ghost use Rattle.rl_run.specs.Runs.{AreNew, HaveBegun, CallerMayWork, made_of, wanted};
 
 use crate::caller::Caller;
 use crate::rows::deal_seats;
@@ -75,7 +75,7 @@ pub fn callers_of<C: ShardCore>(
     requires rows { vec_len rows ≡ vec_len calls }
     requires few { vec_len calls ≤ 32 }
     ensures made { IfOk result (λ callers. map made_of callers.items ≡ wanted geom 0 (map vec_items calls.items) (map vec_items sizes.items) (map vec_items rows.items)) }
-    ensures may { IfOk result (λ callers. All (MayWork C.shard_table C.good C.layout) callers.items) }
+    ensures may { IfOk result (λ callers. All (CallerMayWork C.shard_table C.good C.layout) callers.items) }
 {
     let mut callers = Vec::with_capacity(alloc, calls.len())?;
     let mut rank = 0;

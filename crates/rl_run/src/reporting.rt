@@ -2,9 +2,8 @@
 
 ghost use Rattle.std.specs.Prelude.{◌≡◌, ◌<◌, ◌^◌, All, map, IfOk, vec_len};
 ghost use Rattle.rl_history.specs.Reports.{ReplyFits, TallyFits};
-ghost use Rattle.rl_journal.specs.History.{history};
 ghost use Rattle.rl_run.specs.Runs.{told};
-ghost use Rattle.rl_run.specs.Told.{NumbersFit, part_of};
+ghost use Rattle.rl_run.specs.Told.{ToldNumbersFit, part_of};
 
 use rl_history::{ShardReport, merge};
 use rl_model::Entry;
@@ -64,7 +63,7 @@ fn pairs_fit(pairs: &[(u64, u64)])
 pub fn part_of(alloc: Global, closed: Closed) -> Result<ShardReport, OutOfMemory>
     requires { vec_len closed.journal < 2 ^ 32 }
     ensures part { IfOk result (λ part. part ≡ part_of (told closed)) }
-    ensures numbers { IfOk result (λ _. NumbersFit (told closed)) }
+    ensures numbers { IfOk result (λ _. ToldNumbersFit (told closed)) }
 {
     let Closed {
         journal,

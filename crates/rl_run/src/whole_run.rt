@@ -8,7 +8,7 @@ ghost use Rattle.rl_step.specs.LockQueues.{readers_share, lock_under, spares_get
 ghost use Rattle.rl_ops.specs.Ops.{OpsFit, total_calls};
 ghost use Rattle.rl_history.specs.Lawful.{IsLawful};
 ghost use Rattle.rl_run.specs.Runs.{told};
-ghost use Rattle.rl_run.specs.Told.{NumbersFit, all_done, part_of as part_told};
+ghost use Rattle.rl_run.specs.Told.{ToldNumbersFit, all_done, part_of as part_told};
 
 use crate::opening::begin_all;
 use crate::reporting::part_of;
@@ -43,7 +43,7 @@ fn all_dones(alloc: Global, ops: &Ops) -> Result<Vec<Done>, OutOfMemory>
 fn parts_of(alloc: Global, mut ends: Vec<Closed>) -> Result<Vec<ShardReport>, OutOfMemory>
     requires { All (λ e. vec_len e.journal < 2 ^ 32) ends.items }
     ensures parts { IfOk result (λ parts. parts.items ≡ map part_told (map told ends.items)) }
-    ensures numbers { IfOk result (λ _. All NumbersFit (map told ends.items)) }
+    ensures numbers { IfOk result (λ _. All ToldNumbersFit (map told ends.items)) }
 {
     let mut parts = Vec::new(alloc);
     while ends.len() > 0 {

@@ -7,7 +7,7 @@ use Rattle.rl_queue.specs.RankWordLaws.{length-every_second}
 use Rattle.rl_tree.specs.declared.view.TreeView.{TreeView}
 use Rattle.rl_tree.specs.Tree.{tree_learn, tree_resume, at_hook, with_entry, has_above}
 use Rattle.rl_tree.specs.Elements.{ranks_in, tree_of}
-use Rattle.rl_tree.specs.Fits.{MayPlan, MayLearn}
+use Rattle.rl_tree.specs.Fits.{MayPlan, TreeMayLearn}
 use Rattle.rl_tree.specs.TreeShape.{IsWellShaped}
 use Rattle.rl_tree.specs.TreeFacts.{PlansAct, TreeFacts}
 use Rattle.rl_tree.specs.TreeLaws.{tree_facts}
@@ -116,8 +116,8 @@ module _ (K : Shared) (levels : ℕ) (S : IsWellShaped K.rooted levels) (limited
             planned = subst (λ b. plan_of K v b ≡ Some h.act) rests h.planned;
           }
 
-      pub learns_tree : MayLearn K.rooted v.tree got
-      learns_tree = subst (MayLearn K.rooted v.tree) (sym h.gives) (F.may_learn h.is_good.inside h.state.words (trees h.state.views) h.state.trace h.rank v.tree h.act plans_act)
+      pub learns_tree : TreeMayLearn K.rooted v.tree got
+      learns_tree = subst (TreeMayLearn K.rooted v.tree) (sym h.gives) (F.may_learn h.is_good.inside h.state.words (trees h.state.views) h.state.trace h.rank v.tree h.act plans_act)
 
       pub few_told : length (with_entry (tree_learn (tree_of K.rooted) v.tree got)).events ≤ 8
       few_told =

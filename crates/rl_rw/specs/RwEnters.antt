@@ -88,9 +88,6 @@ module _ (mine : ℕ → Bool) where
   abbrev Fits : Shared → ℕ → Act → ℕ → List Event → Type 0
   Fits K g a got es = MayEnter mine (arrive_word (counters_of K) g) K.readers a got es
 
-  still_fits : (K : Shared) (g : ℕ) (a : Act) (got : ℕ) (es : List Event) → Still es → Fits K g a got es
-  still_fits K g a got es h = inl h
-
   arrive_fits : (K : Shared) (v : RwView) (g : ℕ) (a : Act) (got : ℕ) → (mine v.tree.rank ≡ true → v.counter.counter ≡ g) → counter_act (counters_of K) v.counter.counter Arrive ≡ Some a →
       Fits K g a got (from_counter K v Arrive (counter_turn (counters_of K) Arrive got).doing (counter_turn (counters_of K) Arrive got).waits).events
   arrive_fits K v g a got own pl = at (nat_lt got K.readers) refl where

@@ -22,7 +22,7 @@ use Rattle.rl_tree.specs.declared.view.TreeView.{TreeView}
 use Rattle.rl_tree.specs.declared.rooted.Rooted.{Rooted}
 use Rattle.rl_tree.specs.Tree.{at_hook, tree_standing, tree_learn, has_above}
 use Rattle.rl_tree.specs.Elements.{ranks_in, tree_of, how_many, leaf_of, out_at}
-use Rattle.rl_tree.specs.TreeShape.{IsWellShaped, IsLaid, levels_of}
+use Rattle.rl_tree.specs.TreeShape.{IsWellShaped, IsTreeLaid, levels_of}
 use Rattle.rl_tree.specs.TreeLaid.{laid_shaped}
 use Rattle.rl_tree.specs.TreeLaws.{tree_facts}
 use Rattle.rl_tree.specs.TreeGood.{GoodAt}
@@ -237,7 +237,7 @@ pub sound_of : (K : Shared) (levels : ℕ) → IsWellShaped K.rooted levels → 
 sound_of K levels S limited few grouped = record { limited = limited; few = few; seats = S.ranks; grouped = grouped; small = S.few; seated = S.seated }
 
 -- so all laws hold of a tree as a lock keeps it, with a budget of the root, at most 1000 readers to a counter, and groups of a rank at least
-pub laws_of : (rooted : Rooted) (readers group : ℕ) → IsLaid rooted (levels_of rooted.shape) → has_above rooted.root ≡ true → readers ≤ 1000 → 0 < group →
+pub laws_of : (rooted : Rooted) (readers group : ℕ) → IsTreeLaid rooted (levels_of rooted.shape) → has_above rooted.root ≡ true → readers ≤ 1000 → 0 < group →
     LockLaws (rw_table (shared_of rooted readers group)) (RwGood (shared_of rooted readers group) (levels_of rooted.shape)) (BoundsBatches (shared_of rooted readers group)) (layout_of rooted.shape)
 laws_of rooted readers group laid limited few grouped =
     let S : IsWellShaped rooted (levels_of rooted.shape) = laid_shaped rooted (levels_of rooted.shape) laid in

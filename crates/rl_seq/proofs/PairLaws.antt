@@ -26,7 +26,7 @@ use Rattle.rl_seq.specs.SeqLaws.{seq_laws}
 use Rattle.rl_seq.specs.Site.{SeqSite, place_of}
 use Rattle.rl_seq.specs.SeqGood.{SeqRank, SeqGood}
 use Rattle.rl_seq.specs.SeqWork.{TheSeqWork, asks, is_open, seq_block, seq_atom, seq_after, seq_table}
-use Rattle.rl_seq.specs.TwoRanks.{Moves, IsOfTwo, new_rank, pair, number, two_place}
+use Rattle.rl_seq.specs.TwoRanks.{WorksBeside, IsOfTwo, new_rank, pair, number, two_place}
 use Rattle.rl_seq.specs.declared.way.SeqWork.{SeqWork}
 
 there : (first : Bool) (mover other : SeqRank) → slice_get (pair first mover other) (number first) ≡ Some mover
@@ -38,7 +38,7 @@ moved true mover other y = refl
 moved false mover other y = refl
 
 -- how two ranks may stand beside each other, where one moves
-never_both : (m o : Standing) → Moves m o → IsHolder m → IsHolder o → ⊥
+never_both : (m o : Standing) → WorksBeside m o → IsHolder m → IsHolder o → ⊥
 never_both Out o q h k = h
 never_both Asking o q h k = h
 never_both Writer Out q h k = k
@@ -49,7 +49,7 @@ never_both Writer Leaving q h k = k
 never_both Reader o q h k = q
 never_both Leaving o q h k = h
 
-never_reads : (m o : Standing) → Moves m o → (m ≡ Reader → ⊥) × (o ≡ Reader → ⊥)
+never_reads : (m o : Standing) → WorksBeside m o → (m ≡ Reader → ⊥) × (o ≡ Reader → ⊥)
 never_reads Out Out q = (λ e. cc, λ e. cc)
 never_reads Out Asking q = (λ e. cc, λ e. cc)
 never_reads Out Writer q = (λ e. cc, λ e. cc)
@@ -64,7 +64,7 @@ never_reads Writer Leaving q = (λ e. cc, λ e. cc)
 never_reads Reader o q = absurd q
 never_reads Leaving o q = absurd q
 
-does_rest : (m o : Standing) → Moves m o → Rests m
+does_rest : (m o : Standing) → WorksBeside m o → Rests m
 does_rest Out o q = tt
 does_rest Asking o q = absurd q
 does_rest Writer o q = tt
@@ -84,7 +84,7 @@ module _ (at : SeqSite) (home : ℕ) (first : Bool) (words : List ℕ) (mover ot
   side : IsSide (seq_table at home) (SeqGood at) words (pair first mover other) (number first) mover
   side = record { is_good = good; laid = laid; there = there first mover other }
 
-  module _ (moves : Moves mover.standing other.standing) where
+  module _ (moves : WorksBeside mover.standing other.standing) where
     holds_as : (x y : SeqRank) → x ≡ y → IsHolder x.standing → IsHolder y.standing
     holds_as x y e h = subst (λ (z : SeqRank). IsHolder z.standing) e h
 

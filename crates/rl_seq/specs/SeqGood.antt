@@ -89,7 +89,7 @@ pub record IsReadingOut (site : Site) (words : List ℕ) (now rank : ℕ) (st : 
   pub wants : wanted site.geom w ≡ next
   pub named : AreWanted site.geom w.calls w.seen.pairs
 
--- the version is even, and has counted at most the updates
+-- the version is even, and at most twice the count of updates
 pub record IsEven (now count : ℕ) : Type 0 where
   pub even : now % 2 ≡ 0
   pub few : now ≤ 2 * count

@@ -19,15 +19,15 @@ number true = 0
 number false = 1
 
 -- a rank that stands so beside another makes atoms of the work
-abbrev pub Moves : Standing → Standing → Type 0
-Moves Out Out = Unit {0}
-Moves Out Asking = Unit {0}
-Moves Out Writer = Unit {0}
-Moves Out Leaving = Unit {0}
-Moves Writer Out = Unit {0}
-Moves Writer Asking = Unit {0}
-Moves Writer Leaving = Unit {0}
-Moves _ _ = ⊥
+abbrev pub WorksBeside : Standing → Standing → Type 0
+WorksBeside Out Out = Unit {0}
+WorksBeside Out Asking = Unit {0}
+WorksBeside Out Writer = Unit {0}
+WorksBeside Out Leaving = Unit {0}
+WorksBeside Writer Out = Unit {0}
+WorksBeside Writer Asking = Unit {0}
+WorksBeside Writer Leaving = Unit {0}
+WorksBeside _ _ = ⊥
 
 -- a rank without a block, with room for one entry
 abbrev pub new_rank : Geom → SeqRank

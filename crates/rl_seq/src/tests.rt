@@ -10,7 +10,7 @@ ghost use Rattle.rl_work.specs.EndLaws.{IsPlain};
 ghost use Rattle.rl_work.specs.Ways.{IsLaid, opening_words, standing_after, standing_done, opened_standing};
 ghost use Rattle.rl_seq.specs.SeqWork as model;
 ghost use Rattle.rl_seq.specs.SeqGood.{SeqGood};
-ghost use Rattle.rl_seq.specs.TwoRanks.{IsOfTwo, Moves, new_rank, number, pair, two_place};
+ghost use Rattle.rl_seq.specs.TwoRanks.{IsOfTwo, WorksBeside, new_rank, number, pair, two_place};
 
 use crate::{SeqSide, SeqWork};
 use rl_model::{Call, Geom, Reply};
@@ -89,7 +89,7 @@ fn number(first: bool) -> u32
 fn step(way: &SeqWork, words: &mut [u64], first: bool, mover: &mut Rank, other: &Rank) -> WorkStep
     requires good { SeqGood (two_place way.now.geom way.now.behind) words.old (pair first mover.old other.now) }
     requires laid { IsLaid (model.seq_table (two_place way.now.geom way.now.behind) way.now.home) words.old }
-    requires moves { Moves mover.old.standing other.now.standing }
+    requires moves { WorksBeside mover.old.standing other.now.standing }
     requires two { IsOfTwo way.now }
     ensures good { SeqGood (two_place way.now.geom way.now.behind) words.new (pair first mover.new other.now) }
     ensures laid { IsLaid (model.seq_table (two_place way.now.geom way.now.behind) way.now.home) words.new }
@@ -120,7 +120,7 @@ fn steps(
 )
     requires good { SeqGood (two_place way.now.geom way.now.behind) words.old (pair first mover.old other.now) }
     requires laid { IsLaid (model.seq_table (two_place way.now.geom way.now.behind) way.now.home) words.old }
-    requires moves { Moves mover.old.standing other.now.standing }
+    requires moves { WorksBeside mover.old.standing other.now.standing }
     requires two { IsOfTwo way.now }
     ensures good { SeqGood (two_place way.now.geom way.now.behind) words.new (pair first mover.new other.now) }
     ensures laid { IsLaid (model.seq_table (two_place way.now.geom way.now.behind) way.now.home) words.new }
@@ -147,7 +147,7 @@ fn hindered(
 )
     requires good { SeqGood (two_place way.now.geom way.now.behind) words.old (pair first mover.old other.now) }
     requires laid { IsLaid (model.seq_table (two_place way.now.geom way.now.behind) way.now.home) words.old }
-    requires moves { Moves mover.old.standing other.now.standing }
+    requires moves { WorksBeside mover.old.standing other.now.standing }
     requires two { IsOfTwo way.now }
     ensures good { SeqGood (two_place way.now.geom way.now.behind) words.new (pair first mover.new other.now) }
     ensures laid { IsLaid (model.seq_table (two_place way.now.geom way.now.behind) way.now.home) words.new }
@@ -171,7 +171,7 @@ fn last(
 )
     requires good { SeqGood (two_place way.now.geom way.now.behind) words.old (pair first mover.old other.now) }
     requires laid { IsLaid (model.seq_table (two_place way.now.geom way.now.behind) way.now.home) words.old }
-    requires moves { Moves mover.old.standing other.now.standing }
+    requires moves { WorksBeside mover.old.standing other.now.standing }
     requires two { IsOfTwo way.now }
     ensures good { SeqGood (two_place way.now.geom way.now.behind) words.new (pair first mover.new other.now) }
     ensures laid { IsLaid (model.seq_table (two_place way.now.geom way.now.behind) way.now.home) words.new }

@@ -21,7 +21,7 @@ use Rattle.rl_work.specs.Site.{Site, lock_base}
 use Rattle.rl_work.specs.WorkGood.{opening_words}
 use Rattle.rl_work.specs.OpeningLaws.{opening_size}
 use Rattle.rl_asks.specs.ShardTables.{ShardTable, site_with, opening_held, first_views}
-use Rattle.rl_asks.specs.ShardLaws.{GoodOf, CauseOf, FurtherOf, LawsOf, ShardCoreLaws, IsLaid}
+use Rattle.rl_asks.specs.ShardLaws.{GoodOf, CauseOf, FurtherOf, LawsOf, ShardCoreLaws, IsLaidAtSite}
 use Rattle.rl_shard.specs.declared.counting.CountedView.{CountedView}
 use Rattle.rl_shard.specs.Tallies.{no_tally, tally_at}
 use Rattle.rl_shard.specs.Queues.{AreMembersThere}
@@ -63,7 +63,7 @@ few_words : (geom : Geom) (size : ℕ) (site : Site) → GeomFits geom → site.
 few_words geom size site fits is small few =
     let b = fits.buckets in let o = fits.overflow in let eb = ap (λ z. z.buckets) is in let eo = ap (λ z. z.overflow) is in omega arith
 
-module _ (V : Type 0) (T : ShardTable V) (good : TheWindow → List V → List Event → List Deed → Type 0) (cause : TheWindow → V → Option Atom → Stepped → Type 0) (further : List Event → List Deed → Type 0) (layout : Layout) (laws : ShardCoreLaws T good cause further layout) (fits : GeomFits T.site.geom) (laid : IsLaid T T.site) (low : lock_base T.site + T.behind < 2 ^ 32) (few : length layout.node_of < 2 ^ 32)
+module _ (V : Type 0) (T : ShardTable V) (good : TheWindow → List V → List Event → List Deed → Type 0) (cause : TheWindow → V → Option Atom → Stepped → Type 0) (further : List Event → List Deed → Type 0) (layout : Layout) (laws : ShardCoreLaws T good cause further layout) (fits : GeomFits T.site.geom) (laid : IsLaidAtSite T T.site) (low : lock_base T.site + T.behind < 2 ^ 32) (few : length layout.node_of < 2 ^ 32)
     (ranks : length T.site.rooms ≡ length layout.node_of) (rooms : List ℕ) (all : length rooms ≡ length layout.node_of) (queues : ℕ) (many : queues ≡ length T.queues) (members : AreMembersThere T.queues (length layout.node_of)) where
   -- the rule at the start
   pub first_counts : CountGood T good layout (opening_held T.site T.behind layout.nodes) (first_counted T queues rooms)
@@ -96,13 +96,13 @@ words_some site behind words e = let n = ap length e ∙ length-append (opening_
 
 -- a core that was just made may begin
 module _ (C V : Type 0) (table : C → ShardTable V) (good : GoodOf C V) (cause : CauseOf C V) (further : FurtherOf C) (layout : C → Layout) (laws : LawsOf C V table good cause further layout) where
-  is_start : (core : C) (T : ShardTable V) (geom : Geom) (shard : ℕ) (updates rooms : List ℕ) (is : Layout) (queues : ℕ) → table core ≡ T → IsLaid T (site_with geom shard updates) → layout core ≡ is → GeomFits geom → sum updates ≤ 20000 →
+  is_start : (core : C) (T : ShardTable V) (geom : Geom) (shard : ℕ) (updates rooms : List ℕ) (is : Layout) (queues : ℕ) → table core ≡ T → IsLaidAtSite T (site_with geom shard updates) → layout core ≡ is → GeomFits geom → sum updates ≤ 20000 →
       length updates ≡ length is.node_of → length rooms ≡ length is.node_of → 0 < length is.node_of → length is.node_of ≤ 32 → queues ≡ length T.queues → AreMembersThere T.queues (length is.node_of) → IsStart table good layout core is.nodes queues rooms
   is_start core T geom shard updates rooms is queues made laid lay fits few all_updates all_rooms some few_ranks many members =
       let K : ShardTable V = table core in
       let site_is : K.site ≡ site_with geom shard updates = ap (λ z. z.site) made ∙ laid.site_is in
       let core_fits : GeomFits K.site.geom = subst GeomFits (sym (ap (λ z. z.geom) site_is)) fits in
-      let core_laid : IsLaid K K.site = subst (λ z. IsLaid z z.site) (sym made) (record { site_is = refl; words_are = laid.words_are ∙ ap (λ z. lock_base z + T.behind) (sym laid.site_is); own_last = laid.own_last }) in
+      let core_laid : IsLaidAtSite K K.site = subst (λ z. IsLaidAtSite z z.site) (sym made) (record { site_is = refl; words_are = laid.words_are ∙ ap (λ z. lock_base z + T.behind) (sym laid.site_is); own_last = laid.own_last }) in
       let core_few : sum K.site.rooms ≤ 20000 = subst (λ z. sum z ≤ 20000) (sym (ap (λ z. z.rooms) site_is)) few in
       let nodes_are : length (layout core).node_of ≡ length is.node_of = ap (λ (l : Layout). length l.node_of) lay in
       let sited : length K.site.rooms ≡ length (layout core).node_of = ap (λ z. length z.rooms) site_is ∙ all_updates ∙ sym nodes_are in
@@ -126,7 +126,7 @@ module _ (C V : Type 0) (table : C → ShardTable V) (good : GoodOf C V) (cause 
 
   -- of a machine over the lock of this name, as it is defined for a shape
   pub is_placed : (core : C) (name : LockName) (T : ShardTable V) (shape : TheShape) (home : ℕ) (knobs : Knobs) (geom : Geom) (shard : ℕ) (updates rooms : List ℕ) (queues : ℕ) → T.queues ≡ queues_of name shape home knobs →
-      table core ≡ T → IsLaid T (site_with geom shard updates) → layout core ≡ layout_of shape → GeomFits geom → sum updates ≤ 20000 → length updates ≡ length shape.node_of → length rooms ≡ length shape.node_of → 0 < length shape.node_of → length shape.node_of ≤ 32 →
+      table core ≡ T → IsLaidAtSite T (site_with geom shard updates) → layout core ≡ layout_of shape → GeomFits geom → sum updates ≤ 20000 → length updates ≡ length shape.node_of → length rooms ≡ length shape.node_of → 0 < length shape.node_of → length shape.node_of ≤ 32 →
       queues ≡ length (queues_of name shape home knobs) → IsStart table good layout core shape.nodes queues rooms
   is_placed core name T shape home knobs geom shard updates rooms queues own made laid lay fits few all_updates all_rooms some few_ranks many =
       is_start core T geom shard updates rooms (layout_of shape) queues made laid lay fits few all_updates all_rooms some few_ranks (many ∙ ap length (sym own))

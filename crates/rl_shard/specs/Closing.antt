@@ -24,7 +24,7 @@ module _ {V : Type 0} (T : ShardTable V) where
   entries_in x = entries_of (T.own x.whole)
 
   -- all parts but the tallies are empty, and have room for what a shard of so many ranks can leave
-  pub record HasRoom (ranks : ℕ) (e : Closed) : Type 0 where
+  pub record IsEmptyWithRoom (ranks : ℕ) (e : Closed) : Type 0 where
     pub journal : (e.journal.items ≡ []) × (sum T.site.rooms ≤ vec_capacity e.journal)
     pub pairs : (e.pairs.items ≡ []) × (T.site.geom.buckets + T.site.geom.overflow ≤ vec_capacity e.pairs)
     pub transcripts : (e.transcripts.items ≡ []) × (ranks ≤ vec_capacity e.transcripts)

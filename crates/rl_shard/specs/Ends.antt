@@ -4,7 +4,7 @@ use Rattle.std.specs.FinMap as finite
 use Rattle.rl_model.specs.declared.entry.Entry.{Entry}
 use Rattle.rl_journal.specs.Blocks.{is_tenure}
 use Rattle.rl_journal.specs.Legal.{IsLegal, table_after}
-use Rattle.rl_journal.specs.History.{history, IsReplay, IsSorted}
+use Rattle.rl_journal.specs.History.{history, IsReplayedByOneThread, IsSorted}
 use Rattle.rl_work.specs.WorkGood.{IsOwnTranscript}
 use Rattle.rl_asks.specs.ShardTables.{ShardTable}
 use Rattle.rl_shard.specs.declared.shard.Shard.{Shard}
@@ -38,7 +38,7 @@ module _ {C V : Type 0} where
       -- journal and transcripts are legal: a batch all or nothing, each reply that of a one-thread table at its place
       pub legal : IsLegal (table_at table shard).site.geom e.journal.items (transcripts_of e)
       -- so from the empty table the calls of the history, in order, give every entry its reply
-      pub replayed : IsReplay (table_at table shard).site.geom finite.empty 0 (history_of e)
+      pub replayed : IsReplayedByOneThread (table_at table shard).site.geom finite.empty 0 (history_of e)
       pub sorted : IsSorted (history_of e)
       -- the pairs are the table after the whole journal, by rising key
       pub pairs_are : e.pairs.items ≡ finite.entries (table_after (table_at table shard).site.geom finite.empty e.journal.items)

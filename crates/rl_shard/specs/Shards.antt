@@ -4,7 +4,6 @@ use Rattle.rl_word.specs.Acts.{Layout}
 use Rattle.rl_word.specs.declared.acts.Atom.{Atom}
 use Rattle.rl_model.specs.declared.entry.Entry.{Entry}
 use Rattle.rl_model.specs.Geom.{GeomFits}
-use Rattle.rl_step.specs.declared.events.Standing.{Standing}
 use Rattle.rl_step.specs.declared.tallies.Tally.{Tally}
 use Rattle.rl_asks.specs.Desks.{Desk, entries_of}
 use Rattle.rl_asks.specs.ShardTables.{ShardTable}
@@ -52,10 +51,6 @@ module _ {C V : Type 0} where
       pub some : 0 < ranks
       pub fits : GeomFits (table_at shard).site.geom
       pub few : sum (table_at shard).site.rooms ≤ 20000
-
-    -- how the rank stands at the lock
-    abbrev pub standing_at : Shard C V → Seat C V → Standing
-    standing_at shard s = (table_at shard).standing (view_at s)
 
     -- the rank's desk at the shard, as its own view has it, and its entries there
     abbrev pub desk_at : Shard C V → Seat C V → Desk

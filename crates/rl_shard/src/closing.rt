@@ -2,26 +2,24 @@
 
 ghost use Rattle.std.specs.Prelude.{◌≡◌, ◌+◌, ◌*◌, ◌<◌, ◌≤◌, ◌++◌, ℕ, [], length, map, min, sum, take, slice_get, slice_index, Some, IfOk, vec_items, vec_len, vec_capacity};
 ghost use Rattle.std.specs.FinMap as finite;
-ghost use Rattle.rl_model.specs.Geom.{GeomFits};
-ghost use Rattle.rl_journal.specs.Legal.{table_after};
 ghost use Rattle.rl_work.specs.Site.{journal_base};
 ghost use Rattle.rl_asks.specs.ShardTables.{journal_at};
-ghost use Rattle.rl_shard.specs.Tallies.{full, tally_at};
-ghost use Rattle.rl_shard.specs.Shards.{IsShardOf, core_at, table_at, tallies_at};
+ghost use Rattle.rl_shard.specs.Tallies.{full};
+ghost use Rattle.rl_shard.specs.Shards.{IsShardOf, table_at, tallies_at};
 ghost use Rattle.rl_shard.specs.Ends.{all_settled, all_passed};
-ghost use Rattle.rl_shard.specs.Closing.{inner_of, seated, entries_in, IsLeft, pairs_left, HasRoom, AreTotals};
+ghost use Rattle.rl_shard.specs.Closing.{inner_of, seated, entries_in, IsLeft, pairs_left, IsEmptyWithRoom, AreTotals};
 
 use crate::closed::Closed;
 use crate::counting::{CountedView, Counting};
 use crate::seat::Seat;
 use crate::shard::Shard;
-use rl_asks::{ENTRY_WORDS, ShardCore};
+use rl_asks::ShardCore;
 use rl_journal::journal_entry;
 use rl_model::Entry;
 use rl_step::Tally;
 use rl_volume::{content_into, volume_words};
 use rl_window::WinSeat;
-use rl_work::{COUNT_WORD, VOLUME_BASE, journal_base};
+use rl_work::{COUNT_WORD, ENTRY_WORDS, VOLUME_BASE, journal_base};
 use std::alloc::{AllocError as OutOfMemory, Global};
 
 /// The memory for a close.
@@ -81,7 +79,7 @@ pub fn take_parts<C: ShardCore>(
     seats: &[Seat<C>],
 ) -> Result<Parts<C>, OutOfMemory>
     requires shard { IsShardOf C.shard_table (length seats.now) shard.now }
-    ensures room { IfOk result (λ p. HasRoom (table_at C.shard_table shard.now) (length seats.now) p.closed) }
+    ensures room { IfOk result (λ p. IsEmptyWithRoom (table_at C.shard_table shard.now) (length seats.now) p.closed) }
     ensures inner { IfOk result (λ p. (p.inner.items ≡ []) × (length seats.now ≤ vec_capacity p.inner)) }
     ensures queues { IfOk result (λ p. (s : _) → slice_get seats.now 0 ≡ Some s → AreTotals seats.now (length (tallies_at s)) p.closed.queues.items) }
 {
@@ -189,7 +187,7 @@ pub fn finish<C: ShardCore>(
     mut closed: Closed,
 ) -> Closed
     requires left { IsLeft (C.shard_table core.now) (C.good core.now) words.now }
-    requires room { HasRoom (C.shard_table core.now) (vec_len views) closed }
+    requires room { IsEmptyWithRoom (C.shard_table core.now) (vec_len views) closed }
     ensures journal { result.journal.items ≡ journal_at (C.shard_table core.now) words.now }
     ensures pairs { result.pairs.items ≡ pairs_left (C.shard_table core.now) words.now }
     ensures transcripts { map vec_items result.transcripts.items ≡ map (entries_in (C.shard_table core.now)) views.items }

@@ -112,7 +112,8 @@ impl<C: ShardCore> Seat<C> {
     /// The seat is the shard's. Other answers:
     ///
     /// - Waiting: the atom was the last load of a waiting round and gave this value of this word, and the round's test isn't met.
-    /// - Lost: the atom compared this guess with the word and saw another value.
+    /// - Lost: the atom compared this guess with the word and saw another value; or a get that reads without the lock began with
+    ///   this version and saw another one at its end.
     /// - Busy: the atom would take this node's card, and this rank was in it.
     /// - Moved: none of these.
     ///

@@ -3,7 +3,7 @@
 ghost use Rattle.std.specs.Prelude.{◌≡◌, ◌≢◌, ◌+◌, [], Some, None};
 ghost use Rattle.rl_step.specs.declared.events.Stepped.TheVariants.{Finished};
 ghost use Rattle.rl_step.specs.Core.{Performs};
-ghost use Rattle.rl_window.specs.Seats.{IsSeatOf, IsKept, core_of, view_of, seat_rank, last_view, table_steps};
+ghost use Rattle.rl_window.specs.Seats.{IsSeatOf, IsKept, core_of, view_of, seat_rank, table_steps};
 
 use arrayvec::ArrayVec;
 use rl_step::{Core, Event, Stepped, advance};

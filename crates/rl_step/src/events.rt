@@ -5,9 +5,9 @@ ghost use Rattle.std.specs.Prelude.{◌≡◌};
 /// How a rank stands to its shard's lock.
 #[derive(Clone, Copy, PartialEq, Eq, Debug)]
 pub enum Standing {
-    /// It has no call open.
+    /// It has no call open. By its view of the lock alone: it hasn't asked for it.
     Out,
-    /// It has asked for the lock and doesn't hold it yet.
+    /// It has asked for the lock and doesn't hold it yet; or its call is open without the lock, as a get's under optimistic readers.
     Asking,
     /// It holds the lock, alone.
     Writer,
@@ -56,7 +56,8 @@ pub enum Stepped {
     Moved,
     /// The last load of a waiting round gave this value of this word, and the rank has to wait on.
     Waiting { word: u32, value: u64 },
-    /// A compare-and-swap saw another value than it guessed.
+    /// A compare-and-swap saw another value than it guessed; or a get that reads without the lock saw another version at its end
+    /// than the one that it began with, and begins again.
     Lost { guess: u64, seen: u64 },
     /// A take found another rank in the card of this node.
     Busy { node: u32, holder: u32 },

@@ -1,10 +1,9 @@
 -- Sections of a text: lines that others follow.
 use Rattle.std.proofs.Common.{◌≡◌, ℕ, ◌+◌, true, List, [], ◌∷◌, ◌++◌, Ok, refl, sym, subst}
-use Rattle.std.specs.List.{join_with_byte}
 use Rattle.rl_text.specs.Rows.{Row, Left, words}
 use Rattle.rl_text.specs.Reading.{next_left, next_row}
-use Rattle.rl_text.proofs.TextLaws.{IsLine, AreLines, IsPlain}
-use Rattle.rl_text.proofs.WordLaws.{words-made, next-takes, next-again, ok_is}
+use Rattle.rl_text.proofs.TextLaws.{IsLine, AreLines}
+use Rattle.rl_text.proofs.WordLaws.{next-takes, next-again, ok_is}
 use Rattle.rl_text.proofs.FromLaws.{from_bind}
 
 -- the first rows are these lines, and the rest come after them
@@ -30,13 +29,6 @@ Lines-followed [] [] p = refl
 Lines-followed [] (ws ∷ lines) p = absurd p
 Lines-followed (row ∷ rows) [] p = absurd p
 Lines-followed (row ∷ rows) (ws ∷ lines) p = (p.0, Lines-followed rows lines p.1)
-
--- the line that is made of these words
-abbrev pub row_made : ℕ → List (List ℕ) → Row
-row_made n ws = record { number = n; text = join_with_byte 32 ws; ended = true }
-
-pub IsLine-made : (n : ℕ) (ws : List (List ℕ)) → IsPlain ws → IsLine (row_made n ws) ws
-IsLine-made n ws plain = record { ended = refl; words = words-made n ws plain }
 
 -- the first line of a section
 pub record Headed (rows : List Row) (ws : List (List ℕ)) (lines : List (List (List ℕ))) (rest : List Row) : Type 0 where

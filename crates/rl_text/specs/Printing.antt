@@ -7,8 +7,8 @@ abbrev pub Puts : {E : Type 0} → Result (Unit {0}) E → Vec ℕ → Vec ℕ �
 Puts result old new text = OnOk result (new.items ≡ old.items ++ text)
 
 -- what was there before still stands, and whatever comes after it
-abbrev pub StandsBefore : Vec ℕ → Vec ℕ → Type 0
-StandsBefore old new = take (length old.items) new.items ≡ old.items
+abbrev pub StillStands : Vec ℕ → Vec ℕ → Type 0
+StillStands old new = take (length old.items) new.items ≡ old.items
 
 -- the text was written at a place of a line, after what stands before it, and the line is as long as it was
 abbrev pub Writes : List ℕ → List ℕ → ℕ → ℕ → List ℕ → Type 0

@@ -1,7 +1,7 @@
 //! Printers of what the readers read.
 ghost use Rattle.std.specs.Prelude.{◌≡◌, decimal, OnErr};
 ghost use Rattle.std.specs.List.{join_with_byte};
-ghost use Rattle.rl_text.specs.Printing.{Puts, StandsBefore};
+ghost use Rattle.rl_text.specs.Printing.{Puts, StillStands};
 ghost use Rattle.rl_text.specs.Spelling.{refusal_words};
 
 use crate::causes::Refusal;
@@ -38,7 +38,7 @@ pub fn put_number(out: &mut Vec<u8>, n: u64) -> Result<(), OutOfMemory>
 // Appends a refusal word by word. After want of memory some of the words may stand there.
 fn put_words(out: &mut Vec<u8>, refusal: Refusal) -> Result<(), OutOfMemory>
     ensures puts { Puts result out.old out.new (join_with_byte 32 (refusal_words refusal)) }
-    ensures err { OnErr result (StandsBefore out.old out.new) }
+    ensures err { OnErr result (StillStands out.old out.new) }
 {
     put_number(out, u64::from(refusal.line))?;
     out.push(b' ')?;

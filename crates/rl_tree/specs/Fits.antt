@@ -32,5 +32,5 @@ abbrev pub GotFitsBy : Option ℕ → Phase → Bool → ℕ → Type 0
 GotFitsBy B p true got = StatusFits B got
 GotFitsBy B p false got = GotFits p got
 
-abbrev pub MayLearn : Rooted → TreeView → ℕ → Type 0
-MayLearn K v got = GotFitsBy (names_at (tree_of K) v v.level).budget v.phase v.query got
+abbrev pub TreeMayLearn : Rooted → TreeView → ℕ → Type 0
+TreeMayLearn K v got = GotFitsBy (names_at (tree_of K) v v.level).budget v.phase v.query got

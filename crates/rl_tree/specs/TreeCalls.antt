@@ -172,9 +172,6 @@ module _ (K : Rooted) (levels : ℕ) (T : IsTreed K levels) (v : TreeView) (ov :
         (λ k b. put_away g.phase Q N p (path (tree_of K) v.leaf k) (works_for (tree_of K) v k) (inl (el_apart K levels T v ov hv k v.level (omega arith) lw (omega arith))) ∙ g.by.below v.rank v k has b ∙ ap (λ z. below_by (way_of z v.phase) (behind_at v.behind k)) asks)
         (put_here g.phase Q N p) gated spent_now ten
 
-  no_below : (k : ℕ) → k < 0 → (X : Type 0) → X
-  no_below k b X = absurd (omega arith)
-
   leaf_there : v.leaf < how_many K
   leaf_there = leaf_el 0 (omega arith)
 

@@ -17,7 +17,7 @@ use Rattle.rl_tree.specs.declared.view.TreeView.{TreeView}
 use Rattle.rl_tree.specs.Tree.{has_above, path, at_level, tree_plan, tree_learn, at_hook, tree_resume, tree_standing, entry_if}
 use Rattle.rl_tree.specs.declared.rooted.Rooted.{Rooted}
 use Rattle.rl_tree.specs.Elements.{how_many, ranks_in, leaf_of, of_tree, names_in, tree_of, tree_spot, queue_at, queues_from, out_at}
-use Rattle.rl_tree.specs.Fits.{IsPlaced, MayPlan, MayLearn}
+use Rattle.rl_tree.specs.Fits.{IsPlaced, MayPlan, TreeMayLearn}
 use Rattle.rl_tree.specs.TreeGood.{IsGrantedAt, InQueue, GoodAt}
 
 -- How the root's gate moves with an act of the tree: it is as open as before; but a rank that comes to the hook to come in finds it shut
@@ -192,7 +192,7 @@ module _ (K : Rooted) (levels : ℕ) where
   MayAllPlan = (inside : Bool) (ws : List ℕ) (vs : List TreeView) (t : List Event) (r : ℕ) (v : TreeView) → Viewed inside ws vs t r v → MayPlan K v
 
   abbrev pub MayAllLearn : Type 0
-  MayAllLearn = (inside : Bool) (ws : List ℕ) (vs : List TreeView) (t : List Event) (r : ℕ) (v : TreeView) (a : Act) → Planned inside ws vs t r v a → MayLearn K v (told a (slice_index ws (word_of a)))
+  MayAllLearn = (inside : Bool) (ws : List ℕ) (vs : List TreeView) (t : List Event) (r : ℕ) (v : TreeView) (a : Act) → Planned inside ws vs t r v a → TreeMayLearn K v (told a (slice_index ws (word_of a)))
 
   -- what an act tells, and what goes on from the hook, is as the laws of a lock ask
   abbrev pub LearnsFit : Type 0

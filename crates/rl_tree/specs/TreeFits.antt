@@ -16,7 +16,7 @@ use Rattle.rl_tree.specs.declared.rooted.Rooted.{Rooted}
 use Rattle.rl_tree.specs.declared.view.TreeView.{TreeView}
 use Rattle.rl_tree.specs.Tree.{path, works_for, plan_by}
 use Rattle.rl_tree.specs.Elements.{how_many, ranks_in, leaf_of, is_node, of_elements, names_in, tree_of}
-use Rattle.rl_tree.specs.Fits.{IsPlaced, acting, MayPlan, StatusFits, GotFitsBy, MayLearn}
+use Rattle.rl_tree.specs.Fits.{IsPlaced, acting, MayPlan, StatusFits, GotFitsBy, TreeMayLearn}
 use Rattle.rl_tree.specs.TreeGood.{Tells, IsGrantedAt, InQueue, TreeGood}
 use Rattle.rl_tree.specs.TreeParts.{is_child}
 use Rattle.rl_tree.specs.TreeWords.{member_is}
@@ -91,7 +91,7 @@ module _ (K : Rooted) (levels : ℕ) (S : IsWellShaped K levels) (inside : Bool)
         let g : TreeGood K levels ws vs t = x.is_good.tree in
         plan_fits (names_in K q) (InQueue K q) ws (g.phase q) (g.line q) t (g.ended q) m v.phase (g.by.queue q (there v.level within)) (phase_here K levels S ws vs t x.is_good.tree x.all r v x.has e) mine (words_alike K levels S q) (λ y i. words_for K levels S q y i)
 
-  pub may_learn : (a : Act) → plan_by (tree_of K) v v.query ≡ Some a → MayLearn K v (told a (slice_index ws (word_of a)))
+  pub may_learn : (a : Act) → plan_by (tree_of K) v v.query ≡ Some a → TreeMayLearn K v (told a (slice_index ws (word_of a)))
   may_learn a planned = by v.query refl planned where
     by : (b : Bool) → v.query ≡ b → plan_by (tree_of K) v b ≡ Some a → GotFitsBy (names_in K q).budget v.phase b (told a (slice_index ws (word_of a)))
     by true e pl =

@@ -10,9 +10,9 @@ use Rattle.rl_tree.specs.declared.rooted.Rooted.{Rooted}
 use Rattle.rl_tree.specs.Elements.{how_many, ranks_in, leaf_of, names_in, tree_of}
 use Rattle.rl_tree.specs.TreeProper.{root_free, rising, seated, path_root, is_treed, depth_same, levels_are, reached, first_there}
 use Rattle.rl_tree.specs.TreeSize.{few_elements}
-use Rattle.rl_tree.specs.TreeShape.{IsTreed, IsWellShaped, IsBudgeted, levels_of, level_in, IsLaid}
+use Rattle.rl_tree.specs.TreeShape.{IsTreed, IsWellShaped, IsBudgeted, levels_of, level_in, IsTreeLaid}
 
-pub laid_shaped : (K : Rooted) (levels : ℕ) → IsLaid K levels → IsWellShaped K levels
+pub laid_shaped : (K : Rooted) (levels : ℕ) → IsTreeLaid K levels → IsWellShaped K levels
 laid_shaped K levels d =
     record {
       treed = record {
@@ -45,8 +45,8 @@ laid_shaped K levels d =
       has_budget (suc e) p lt up = d.budgeted (suc e) (omega arith) lt
 
 -- A PROPER SHAPE that holds the home, with a budget on every element but the root, is laid so; the root's budget is modest, if it has one.
-pub proper_laid : (K : Rooted) → IsProper K.shape → K.home < K.shape.nodes → IsBudgeted K.shape → ((b : ℕ) → K.root ≡ Some b → b ≤ 1000) → IsLaid K (levels_of K.shape)
-proper_laid K proper homed budgeted low = subst (IsLaid K) (sym (levels_are K proper)) laid where
+pub proper_laid : (K : Rooted) → IsProper K.shape → K.home < K.shape.nodes → IsBudgeted K.shape → ((b : ℕ) → K.root ≡ Some b → b ≤ 1000) → IsTreeLaid K (levels_of K.shape)
+proper_laid K proper homed budgeted low = subst (IsTreeLaid K) (sym (levels_are K proper)) laid where
   T : IsTreed K proper.levels
   T = is_treed K proper
 
@@ -71,7 +71,7 @@ proper_laid K proper homed budgeted low = subst (IsLaid K) (sym (levels_are K pr
     at None h f = cc
     at (Some x) h f = proper.budgets (suc q) b x h f
 
-  laid : IsLaid K proper.levels
+  laid : IsTreeLaid K proper.levels
   laid =
       record {
         there = T.there;

@@ -30,9 +30,6 @@ at_stands (x ∷ xs) (suc n) e h = or_true (x == e) (stands xs e) (at_stands xs 
   or_true false b q = q
 
 module _ (K : Rooted) (P : IsProper K.shape) where
-  abbrev es : List Element
-  es = K.shape.elements
-
   parent_is : (e p : ℕ) → IsParent K.shape.elements p e → parent_of (slice_get K.shape.elements e) ≡ Some p
   parent_is e p k = ap parent_of k.1 ∙ k.2
 

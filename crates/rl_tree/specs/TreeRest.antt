@@ -74,9 +74,6 @@ module _ (K : Rooted) (levels : ℕ) (S : IsWellShaped K levels) where
     L : ℕ → List ℕ
     L = g.tree.line
 
-    us : List ℕ
-    us = slice_set ws w x
-
     same : (y : ℕ) → y < of_tree K → slice_index (slice_set ws w x) y ≡ slice_index ws y
     same y lt = get_or-set_other ws w y x 0 (λ e. absurd (omega arith))
 

@@ -61,7 +61,7 @@ abbrev pub level_in : Rooted → ℕ → ℕ → ℕ
 level_in K levels e = levels - steps_up K.shape.elements (how_many K) e
 
 -- The same as one fact about the lists, with nothing in it but facts: so a lock can keep it.
-pub record IsLaid (K : Rooted) (levels : ℕ) : Type 0 where
+pub record IsTreeLaid (K : Rooted) (levels : ℕ) : Type 0 where
   pub there : (r j : ℕ) → r < ranks_in K → j ≤ levels → path (tree_of K) (leaf_of K r) j < how_many K
   pub deep : (r j : ℕ) → r < ranks_in K → j ≤ levels → level_in K levels (path (tree_of K) (leaf_of K r) j) ≡ j
   pub up : (r j : ℕ) → r < ranks_in K → j < levels → parent_of (slice_get K.shape.elements (path (tree_of K) (leaf_of K r) j)) ≡ Some (path (tree_of K) (leaf_of K r) (suc j))

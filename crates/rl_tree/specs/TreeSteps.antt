@@ -42,10 +42,6 @@ inside_granted : (T : TheTree) (v : TreeView) (w left : ℕ) → (n : ℕ) × (i
 inside_granted T v zero left = (left, refl)
 inside_granted T v (suc w) left = (full_budget (names_at T v 0).budget, refl)
 
-settles_same : (T : TheTree) (v : TreeView) (w : ℕ) (p : Phase) (j : ℕ) → settles_below T (at_level v w p) j ≡ settles_below T v j
-settles_same T v w p zero = refl
-settles_same T v w p (suc j) = ap (λ z. event.Settle (names_at T v j).queue (works_for T v j) ∷ z) (settles_same T v w p j)
-
 pub resume_entry : (s : Option ℕ) (m : ℕ) → entry_if false (resume_at (Above s)) m ≡ []
 resume_entry None m = refl
 resume_entry (Some s) m = refl
@@ -135,9 +131,6 @@ module _ (K : Rooted) (levels : ℕ) (S : IsWellShaped K levels) (ws : List ℕ)
 
   abbrev turn : ℕ → ℕ → ℕ → Phase → Act → Turn
   turn r l w p a = turn_at (names_in K (path (tree_of K) l w)) (member_at (tree_of K) r l w) p (told a (slice_index ws (word_of a)))
-
-  abbrev Is : ℕ → ℕ → ℕ → Phase → List (Option ℕ) → Act → Type 0
-  Is r l w p b a = Acting K levels o ws vs t r l w p b a
 
   abbrev Goal : ℕ → ℕ → ℕ → Phase → List (Option ℕ) → Act → Turn → Type 0
   Goal r l w p b a y = Steps K levels o (slice_set ws (word_of a) (written a (slice_index ws (word_of a)))) vs t (going r l w p b) (walk_turn (tree_of K) (going r l w p b) w y)

@@ -2,7 +2,7 @@
 
 ghost use Rattle.std.specs.Prelude.{◌≡◌, ◌<◌};
 ghost use Rattle.rl_tree.specs.Elements.{of_tree, tree_spot};
-ghost use Rattle.rl_tree.specs.TreeShape.{IsLaid, levels_of};
+ghost use Rattle.rl_tree.specs.TreeShape.{IsTreeLaid, levels_of};
 
 use rl_word::{Class, Shape, Spot};
 
@@ -19,7 +19,7 @@ pub struct Rooted {
 impl Rooted {
     /// How many words the tree has.
     pub(crate) fn words(&self) -> u32
-        requires { IsLaid self.now (levels_of self.now.shape) }
+        requires { IsTreeLaid self.now (levels_of self.now.shape) }
         ensures { result ≡ of_tree self.now }
     {
         let elements = self.shape.elements.len() as u32;
@@ -28,7 +28,7 @@ impl Rooted {
 
     /// The class of a word, and where it lives.
     pub(crate) fn spot(&self, word: u32) -> Spot
-        requires laid { IsLaid self.now (levels_of self.now.shape) }
+        requires laid { IsTreeLaid self.now (levels_of self.now.shape) }
         requires there { word < of_tree self.now }
         ensures { result ≡ tree_spot self.now word }
     {

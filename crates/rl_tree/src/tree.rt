@@ -5,7 +5,7 @@ ghost use Rattle.rl_word.specs.Shapes.{IsProper};
 ghost use Rattle.rl_step.specs.LockQueues.{stands};
 ghost use Rattle.rl_queue.specs.RankWords.{every_second};
 ghost use Rattle.rl_tree.specs.Elements.{how_many, ranks_in, leaf_of, of_tree, names_by, names_in, all_names, upto, tree_of, tree_spot, out_at};
-ghost use Rattle.rl_tree.specs.TreeShape.{IsBudgeted, IsLaid, levels_of};
+ghost use Rattle.rl_tree.specs.TreeShape.{IsBudgeted, IsTreeLaid, levels_of};
 
 use crate::rooted::Rooted;
 use crate::view::TreeView;
@@ -25,7 +25,7 @@ pub struct Tree {
     queues: Vec<QueueNames>,
     /// The spot of each word.
     spots: Vec<Spot>,
-    ghost laid: { IsLaid rooted (levels_of rooted.shape) },
+    ghost laid: { IsTreeLaid rooted (levels_of rooted.shape) },
     ghost named: { queues.items ≡ all_names rooted.shape rooted.root },
     ghost placed: { spots.items ≡ upto (tree_spot rooted) (of_tree rooted) },
 }
@@ -110,7 +110,7 @@ fn names_for_all(
 
 /// The spots of all words.
 fn spots_of(alloc: Global, rooted: &Rooted) -> Result<Vec<Spot>, OutOfMemory>
-    requires { IsLaid rooted.now (levels_of rooted.now.shape) }
+    requires { IsTreeLaid rooted.now (levels_of rooted.now.shape) }
     ensures { IfOk result (λ spots. spots.items ≡ upto (tree_spot rooted.now) (of_tree rooted.now)) }
 {
     let mut spots = Vec::new(alloc);

@@ -7,7 +7,7 @@ ghost use Rattle.rl_queue.specs.Queue.{full_budget, resume_at};
 ghost use Rattle.rl_queue.specs.Lane.{told_left};
 ghost use Rattle.rl_tree.specs.Tree.{path, is_none, behind_at, leaves_behind, member_at as the_member, inside_from, settles_below, comes_in as the_entry, goes_up as the_rise, gives_up as the_release, goes_down as the_descent, walk as the_walk, tree_plan, tree_standing, tree_learn, at_hook, resume_by, entry_if};
 ghost use Rattle.rl_tree.specs.Elements.{how_many, tree_of};
-ghost use Rattle.rl_tree.specs.Fits.{IsPlaced, MayPlan, MayLearn, StatusFits};
+ghost use Rattle.rl_tree.specs.Fits.{IsPlaced, MayPlan, TreeMayLearn, StatusFits};
 
 use crate::tree::Tree;
 use crate::view::TreeView;
@@ -260,7 +260,7 @@ impl Tree {
     #[inline(always)]
     pub fn learn(&self, view: &mut TreeView, got: u64, events: &mut ArrayVec<Event, 8>) -> bool
         requires fits { MayPlan self.now.rooted view.old }
-        requires got { MayLearn self.now.rooted view.old got }
+        requires got { TreeMayLearn self.now.rooted view.old got }
         requires none { events.old.items ≡ [] }
         ensures { record { view = view.new; events = events.new.items; waits = result } ≡ tree_learn (tree_of self.now.rooted) view.old got }
     {

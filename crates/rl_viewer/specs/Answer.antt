@@ -6,7 +6,7 @@ use Rattle.rl_replay.specs.declared.complaint.Complaint.{Complaint}
 use Rattle.rl_replay.specs.declared.complaint.Stop.{Stop}
 use Rattle.rl_replay.specs.declared.replay.Replay.{Replay}
 use Rattle.rl_replay.specs.Reading.{EndsEarly}
-use Rattle.rl_replay.specs.Files.{Texts, AreTexts, MayOpen, name_of, spelled, refused_line}
+use Rattle.rl_replay.specs.Files.{Texts, AreTexts, MayOpenFiles, name_of, spelled, refused_line}
 use Rattle.rl_viewer.specs.declared.asking.Window.{Window}
 use Rattle.rl_viewer.specs.Asking.{TheAsked}
 
@@ -28,7 +28,7 @@ AreTold file (Some asked) texts = AreTexts file asked.names texts
 -- the source may open the files that are named
 abbrev pub MayRead : (List ℕ → Bool) → Option TheAsked → Type 0
 MayRead may_open None = Unit {0}
-MayRead may_open (Some asked) = MayOpen may_open asked.names
+MayRead may_open (Some asked) = MayOpenFiles may_open asked.names
 
 -- What a viewer did is what belongs to the bytes of the named files.
 pub record IsDone (shows : Replay → Window → List ℕ → Type 0) (usage : List ℕ) (file : List ℕ → Option (List ℕ)) (asked : Option TheAsked) (status : ℕ) (before after : Option (List ℕ)) : Type 0 where

@@ -6,7 +6,7 @@ ghost use Rattle.rl_ops.specs.Ops.{OpsFit};
 ghost use Rattle.rl_ops.specs.Schedule.{ScheduleFits};
 ghost use Rattle.rl_replay.specs.declared.replay.Replay.{Replay};
 ghost use Rattle.rl_replay.specs.Reading.{RisesWithFault, SuitsLock};
-ghost use Rattle.rl_replay.specs.Files.{named, MayOpen};
+ghost use Rattle.rl_replay.specs.Files.{named, MayOpenFiles};
 ghost use Rattle.rl_viewer.specs.declared.asking.Window.{Window};
 ghost use Rattle.rl_viewer.specs.Asking.{the_asked, asked_by};
 ghost use Rattle.rl_viewer.specs.Answer.{MayRead, WasShown, IsDone};
@@ -37,7 +37,7 @@ fn shown<V: Viewer, S: Source>(
     source: &mut S,
     asked: Asked<'_>,
 ) -> Result<Vec<u8>, Stop>
-    requires may_open { MayOpen (S.may_open source.old) (named asked.files) }
+    requires may_open { MayOpenFiles (S.may_open source.old) (named asked.files) }
     requires few { asked.window.to ≤ 2000000 }
     ensures shown { WasShown V.shows (S.file source.old) (the_asked asked.entry) result }
     ensures faults { RisesWithFault result (S.faults source.old) (S.faults source.new) }

@@ -18,7 +18,7 @@ use Rattle.rl_whole.specs.declared.card_state.CardState.{CardState}
 use Rattle.rl_whole.specs.declared.card_state.CardState.TheVariants.{Free, InCard, Loaded, ToLeave}
 use Rattle.rl_whole.specs.declared.whole.WholeView.{WholeView}
 use Rattle.rl_whole.specs.Running.{LockAt, Goods, BothLaws}
-use Rattle.rl_whole.specs.Split.{lock_of, view_of, card_atom, side_atom, card_in, card_of}
+use Rattle.rl_whole.specs.Split.{lock_of, view_of, card_atom, card_in, card_of}
 use Rattle.rl_whole.specs.Whole.{side_of, split_of, shifted, lock_or_work, work_plan, work_side, next_of, Good}
 use Rattle.rl_whole.specs.WholeLaws.{next_either, works_at}
 use Rattle.rl_whole.specs.WholeOwes.{plan_there}

@@ -14,13 +14,12 @@ use Rattle.rl_word.specs.declared.acts.Atom.TheVariants as atom
 use Rattle.rl_word.specs.Acts.{word_of, written, told, by_card, Layout}
 use Rattle.rl_step.specs.declared.events.Event.{Event}
 use Rattle.rl_step.specs.declared.events.Stepped.{Stepped}
-use Rattle.rl_step.specs.Lock.{LockState, LockLaws, Deed, IsLoad, PlansLoad}
+use Rattle.rl_step.specs.Lock.{Deed, IsLoad, PlansLoad}
 use Rattle.rl_step.specs.Do.{TheWindow, do_got}
 use Rattle.rl_whole.specs.Running.{LockAt, Goods, BothLaws}
 use Rattle.rl_whole.specs.declared.card_state.CardState.{CardState}
 use Rattle.rl_whole.specs.declared.card_state.CardState.TheVariants.{Free, InCard, Loaded, ToLeave}
-use Rattle.rl_whole.specs.declared.effect.Effect.{Effect}
-use Rattle.rl_whole.specs.declared.effect.Effect.TheVariants.{Work, Stay, Learn}
+use Rattle.rl_whole.specs.declared.effect.Effect.TheVariants.{Learn}
 use Rattle.rl_whole.specs.declared.whole.WholeView.{WholeView}
 use Rattle.rl_whole.specs.Split.{SplitState, lock_of, view_of, home_of, plan_home, first_atom, card_atom, side_atom, skips, guess_of, answer_of, effect_at, turned_by, card_after, StandsStill}
 use Rattle.rl_whole.specs.SplitActs.{bool_cases, card_cases, plain_cases, first_card, plain_got, after_plain, after_take, after_busy, after_load, after_skip}
@@ -30,7 +29,7 @@ use Rattle.rl_whole.specs.ShiftLaws.{shift_got}
 use Rattle.rl_whole.specs.WholeLaws.{next_either, works_at, work_answers, after_work, lock_turned}
 use Rattle.rl_whole.specs.WholeOwes.{plan_there}
 use Rattle.rl_whole.specs.Bridge.{no_work}
-use Rattle.rl_whole.specs.Causes.{Compares, Cause, GoesOn, HasToWait, HasLost, IsWork}
+use Rattle.rl_whole.specs.Causes.{Compares, Cause, LockMoves, HasToWait, HasLost, IsWork}
 use Rattle.rl_work.specs.Ways.{WorkTable, IsWorkAtom, AnswersAs, IsNextLoad, IsWorkAtom}
 
 -- a plain act whose first atom is a load loads its word; no first atom of a plain act is a Take
@@ -115,7 +114,7 @@ plain_told a g got e s = plain_cases (λ b. skips b got ≡ true → told b g �
 
 -- the cause of an answer of the lock's atom
 abbrev LockCause : {V K : Type 0} → LockAt V K → TheWindow → V → Atom → Stepped → Type 0
-LockCause L h v at Moved = GoesOn L h v at
+LockCause L h v at Moved = LockMoves L h v at
 LockCause L h v at (Waiting word value) = HasToWait L h v at word value
 LockCause L h v at (Lost guess seen) = HasLost L h v at guess seen
 LockCause L h v at (Busy node holder) = (at ≡ atom.Take node) × (slice_index h.cards node ≡ holder + 1)
@@ -129,7 +128,7 @@ BeginsAgain L h v =
 
 module _ (V K : Type 0) (L : LockAt V K) (h : TheWindow) (v : V) (rounds : BeginsAgain L h v) where
   -- an atom that neither compares nor loads goes on, but for a Take
-  plain_sailing : (at : Atom) → ((node : ℕ) → at ≡ atom.Take node → slice_index h.cards node ≡ 0) → (IsCompare at → ⊥) → ((word : ℕ) → at ≡ atom.Load word → ⊥) → GoesOn L h v at
+  plain_sailing : (at : Atom) → ((node : ℕ) → at ≡ atom.Take node → slice_index h.cards node ≡ 0) → (IsCompare at → ⊥) → ((word : ℕ) → at ≡ atom.Load word → ⊥) → LockMoves L h v at
   plain_sailing at free no_compare no_load =
       record {
         free = free;
@@ -204,7 +203,7 @@ module _ (V K : Type 0) (L : LockAt V K) (h : TheWindow) (v : V) (rounds : Begin
       let found : got ≡ slice_index h.cards n = eg ∙ ap (λ z. do_got z (drop L.base h.words) h.cards) take in
       ⊎_elim
       (λ q. subst (λ z. CauseOf (shifted L.base (first_atom L.table a)) z.stepped) (sym (after_take V L.table r v a got bc q.0))
-      (subst (GoesOn L h v) (sym (ap (shifted L.base) take))
+      (subst (LockMoves L h v) (sym (ap (shifted L.base) take))
       (plain_sailing (atom.Take n) (λ node e. let same : n ≡ node = cc in ap (slice_index h.cards) (sym same) ∙ sym found ∙ q.1) (λ c. c) (λ word e. cc))))
       (λ q. subst (λ z. CauseOf (shifted L.base (first_atom L.table a)) z.stepped) (sym (after_busy V L.table r v a got bc q.0))
       (ap (shifted L.base) take, (let other : got ≢ 0 = q.1 in let same : slice_index h.cards n ≡ got = sym found in grind (arith, other, same))))
@@ -246,7 +245,7 @@ module _ (V K : Type 0) (L : LockAt V K) (h : TheWindow) (v : V) (rounds : Begin
   lock_cause : (r : ℕ) (p : Option Act) (c : CardState) (b : Atom) → L.table.plan v ≡ p → StandsStill (drop L.base h.words) p c → card_atom L.table p c ≡ Some b →
       CauseOf (shifted L.base b) (card_after L.table r v p c (do_got b (drop L.base h.words) h.cards)).stepped
   lock_cause r p (ToLeave n) b pl k e =
-      subst (λ z. GoesOn L h v (shifted L.base z)) (same_Some _ _ e) (plain_sailing (atom.Leave n) (λ node q. cc) (λ c. c) (λ word q. cc))
+      subst (λ z. LockMoves L h v (shifted L.base z)) (same_Some _ _ e) (plain_sailing (atom.Leave n) (λ node q. cc) (λ c. c) (λ word q. cc))
   lock_cause r None Free b pl k e = cc
   lock_cause r None InCard b pl k e = cc
   lock_cause r None (Loaded g) b pl k e = cc
@@ -288,7 +287,7 @@ lock_gives L h x at b is (Busy node holder) c = c
 lock_gives L h x at b is Finished c = absurd c
 
 -- the cause of an answer of the work
-work_gives : {V K : Type 0} (L : LockAt V K) (h : TheWindow) (x : WholeView V K) (at : Atom) → IsWork L x at → GoesOn L h x.side.view at → (s : Stepped) → (L.work.after x.rank x.work (do_got at h.words h.cards)).stepped ≡ s →
+work_gives : {V K : Type 0} (L : LockAt V K) (h : TheWindow) (x : WholeView V K) (at : Atom) → IsWork L x at → LockMoves L h x.side.view at → (s : Stepped) → (L.work.after x.rank x.work (do_got at h.words h.cards)).stepped ≡ s →
     AnswersAs at (do_got at h.words h.cards) (L.work.next x.rank (L.work.after x.rank x.work (do_got at h.words h.cards)).work) (L.work.after x.rank x.work (do_got at h.words h.cards)).follow s → Cause L h x (Some at) s
 work_gives L h x at is goes Moved e a = (goes, λ w. e)
 work_gives L h x at is goes (Waiting word value) e a =
@@ -336,7 +335,7 @@ module _ (V K : Type 0) (L : LockAt V K) (good : Goods V K) (further : List Even
       let away = none_at V L.table good.lock further layout laws.lock (lock_words L h.words) (L.table.plan x.side.view) x.side.card (g.lock_part.still r x.side (get_map side_of vs r x has)) q.0 in
       let works = works_at V K L good further layout laws home h vs g r x has at q.1 q.2 in
       let plain : IsWorkAtom L.work at = laws.work.plain h.words (map (work_side L.table) vs) r (work_side L.table x) at works in
-      let goes : GoesOn L h x.side.view at =
+      let goes : LockMoves L h x.side.view at =
       record {
         free = λ node e. absurd (work_no_take L.work at node plain e);
         won = λ guess seen l. let bad : None ≡ Some l.act = sym away.0 ∙ l.planned in cc;

@@ -43,7 +43,7 @@ pub record HasToWait {V K : Type 0} (L : LockAt V K) (h : TheWindow) (v : V) (at
   pub again : PlansLoad (L.table.plan (L.table.learn v value).view)
 
 -- it goes on: no Take that found the card held, no compare that was lost, no test of a waiting round that isn't met
-pub record GoesOn {V K : Type 0} (L : LockAt V K) (h : TheWindow) (v : V) (at : Atom) : Type 0 where
+pub record LockMoves {V K : Type 0} (L : LockAt V K) (h : TheWindow) (v : V) (at : Atom) : Type 0 where
   pub free : (node : ℕ) → at ≡ atom.Take node → slice_index h.cards node ≡ 0
   pub won : (guess seen : ℕ) → HasLost L h v at guess seen → ⊥
   pub met : (word value : ℕ) → HasToWait L h v at word value → ⊥
@@ -81,7 +81,7 @@ Cause L h x None (Waiting w value) = ⊥
 Cause L h x None (Lost guess seen) = ⊥
 Cause L h x None (Busy node holder) = ⊥
 Cause L h x None Finished = Unit {0}
-Cause L h x (Some at) Moved = GoesOn L h x.side.view at × WorkMoves L h x at
+Cause L h x (Some at) Moved = LockMoves L h x.side.view at × WorkMoves L h x at
 Cause L h x (Some at) (Waiting word value) = HasToWait L h x.side.view at word value ⊎ WorkWaits L h x at word value
 Cause L h x (Some at) (Lost guess seen) = HasLost L h x.side.view at guess seen ⊎ WorkLost L h x at guess seen
 Cause L h x (Some at) (Busy node holder) = (at ≡ atom.Take node) × (slice_index h.cards node ≡ holder + 1)

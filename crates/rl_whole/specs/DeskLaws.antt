@@ -3,28 +3,28 @@ use Rattle.std.specs.Prelude.{◌≡◌, ◌⊎◌, ℕ, zero, suc, ◌+◌, ◌
 use Rattle.std.proofs.Common.{sym, ◌∙◌, ap, subst, inl, inr, ⊎_elim, arith}
 use Rattle.std.proofs.lemmas.List.Elements.{All-cons, All-nil, All-head, All-tail}
 use Rattle.rl_model.proofs.Counts.{count-append}
-use Rattle.rl_word.specs.Places.{get_map, get_set_cases, one_at}
+use Rattle.rl_word.specs.Places.{get_set_cases, one_at}
 use Rattle.rl_word.specs.Acts.{Layout}
 use Rattle.rl_word.specs.declared.acts.Atom.{Atom}
 use Rattle.rl_model.specs.declared.call.Call.{Call}
 use Rattle.rl_model.specs.declared.entry.Entry.{Entry}
 use Rattle.rl_journal.specs.Legal.{updates}
 use Rattle.rl_journal.specs.Lists.{get_left}
-use Rattle.rl_journal.specs.Ranks.{IsInOrder, IsOwn}
+use Rattle.rl_journal.specs.Ranks.{IsOwn}
 use Rattle.rl_step.specs.declared.events.Event.{Event}
 use Rattle.rl_step.specs.Lock.{Deed}
 use Rattle.rl_step.specs.Do.{TheWindow, do_got, do_words}
 use Rattle.rl_work.specs.Site.{Site}
-use Rattle.rl_work.specs.Ways.{Look, GoesOn, EndsWork, AtomWork, IsOpen, IsOwnTranscript, Takes, look, own_look, opened_look}
-use Rattle.rl_asks.specs.Desks.{Desk, KeepsBlock, EndsBlock, OpensBlock, Turns, entries_of}
+use Rattle.rl_work.specs.Ways.{Look, BlockGoesOn, EndsWork, AtomWork, IsOpen, IsOwnTranscript, Takes, look, own_look, opened_look}
+use Rattle.rl_asks.specs.Desks.{KeepsBlock, EndsBlock, OpensBlock, Turns}
 use Rattle.rl_asks.specs.ShardLaws.{IsDeskOf, IsNewDesk}
 use Rattle.rl_whole.specs.declared.card_state.CardState.TheVariants.{Free}
 use Rattle.rl_whole.specs.declared.whole.WholeView.{WholeView}
 use Rattle.rl_whole.specs.Running.{LockAt, Goods, BothLaws}
 use Rattle.rl_whole.specs.Opening.{first_view, opened_in}
 use Rattle.rl_whole.specs.OpenLaws.{closed_parts, shut_is_none}
-use Rattle.rl_whole.specs.Whole.{Good, after_of, desk_by, is_at_work, is_open, look_of, next_of, own_desk, told_desk, work_side}
-use Rattle.rl_whole.specs.WholeLaws.{keeps_at, own_after, work_at}
+use Rattle.rl_whole.specs.Whole.{Good, after_of, desk_by, is_at_work, is_open, next_of, own_desk, told_desk, work_side}
+use Rattle.rl_whole.specs.WholeLaws.{keeps_at, work_at}
 use Rattle.rl_whole.specs.WorkEnds.{atom_work, atom_turn}
 
 -- where a rank keeps all its entries itself both desks are one
@@ -38,7 +38,7 @@ keeps_all L words r x same =
 way_of : (shard rank : ℕ) (p q : Bool) (a b : Look) → AtomWork shard rank a b → KeepsBlock (desk_by p a) (desk_by q b) ⊎ EndsBlock shard rank (desk_by p a) (desk_by q b)
 way_of shard rank p q a b w =
     ⊎_elim
-    (λ (g : GoesOn a b). inl (record {
+    (λ (g : BlockGoesOn a b). inl (record {
       same_calls = g.same_calls;
       same_seq = g.same_seq;
       same_kept = ap (λ z. record { items = z; room = b.room }) g.same_items ∙ ap (λ z. record { items = a.items; room = z }) g.same_room;

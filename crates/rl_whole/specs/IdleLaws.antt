@@ -2,7 +2,6 @@
 -- the work by which the rank waits on.
 use Rattle.std.specs.Prelude.{[], Bool, ◌≡◌, ℕ, ◌+◌, ◌++◌, ◌-◌, ◌^◌, ◌<◌, ◌==◌, true, false, List, length, if◌then◌else◌, slice_index, slice_set, Some, None, refl}
 use Rattle.std.proofs.Common.{sym, ◌∙◌, ap, subst, ⊎_elim, arith}
-use Rattle.std.proofs.lemmas.Bool.Decides.{eqb_tells}
 use Rattle.rl_word.specs.Acts.{Layout, word_of, by_card}
 use Rattle.rl_word.specs.declared.acts.Act.{Act}
 use Rattle.rl_word.specs.declared.acts.Act.TheVariants as act
@@ -22,16 +21,12 @@ use Rattle.rl_whole.specs.declared.effect.Effect.TheVariants as effect
 use Rattle.rl_whole.specs.declared.whole.WholeView.{WholeView}
 use Rattle.rl_whole.specs.Running.{LockAt, Goods, BothLaws}
 use Rattle.rl_whole.specs.SplitActs.{begins_so}
-use Rattle.rl_whole.specs.Split.{home_of, card_atom, effect_at, answer_of, plan_home, skips, HolderFits}
+use Rattle.rl_whole.specs.Split.{home_of, card_atom, effect_at, answer_of, plan_home, skips}
 use Rattle.rl_whole.specs.Whole.{Good, lock_or_work, work_plan, shifted_answer, is_open, next_of, after_of, effect_turned, after_effect, touch_by, work_turned, whole_table}
 use Rattle.rl_whole.specs.WholeLaws.{whole_laws}
-use Rattle.rl_whole.specs.WholeOwes.{holder_fits, may_learn, may_turn, plan_there}
+use Rattle.rl_whole.specs.WholeOwes.{may_learn, may_turn, plan_there}
 use Rattle.rl_whole.specs.OpenLaws.{shut_is_none}
 use Rattle.rl_whole.specs.WholeShards.{whole_shard}
-
--- a card with a number in it isn't free
-pub not_free : (n : ℕ) → (n ≡ 0 → ⊥) → (n == 0) ≡ false
-not_free n some = ⊎_elim (λ q. absurd (some q.1)) (λ q. q.0) (eqb_tells n 0)
 
 -- a rank with an atom is in a call
 isnt_false : (b : Bool) → (b ≡ false → ⊥) → b ≡ true
@@ -72,21 +67,6 @@ module _ {V K : Type 0} (L : LockAt V K) (x : WholeView V K) (a : Act) (planned 
   module _ (good : Goods V K) (further : List Event → List Deed → Type 0) (layout : Layout) (laws : BothLaws L good further layout) (home : ℕ) (may : MayBe (Good L good layout) x) where
     plans : Plans (whole_table L home) (Good L good layout) may.held may.views may.rank x (atom.Take node)
     plans = record { is_ruled = may.is_ruled; has = may.has; planned = take_next }
-
-    -- the card is there, and what is in it is a rank's number and one
-    pub node_there : node < length may.held.cards
-    node_there = (whole_laws V K L good further layout laws home).can may.held may.views may.rank x (atom.Take node) plans
-
-    -- the call is open
-    pub take_open : is_open L x ≡ true
-    take_open = open_with V K L good further layout laws home x may (atom.Take node) take_next
-
-    pub rank_fits : slice_index may.held.cards node < 2 ^ 32 + 1
-    rank_fits =
-        let may_get : MayGet (whole_table L home) (Good L good layout) x (slice_index may.held.cards node) =
-        record { held = may.held; views = may.views; rank = may.rank; atom = atom.Take node; plans = plans; gives = refl } in
-        let fits = holder_fits V K L good further layout laws home x (slice_index may.held.cards node) may_get in
-        subst (λ q. HolderFits q Free (slice_index may.held.cards node)) planned (subst (λ c. HolderFits (L.table.plan x.side.view) c (slice_index may.held.cards node)) free fits) card
 
 module _ {V K : Type 0} (L : LockAt V K) (x : WholeView V K) (w : ℕ) (planned : L.table.plan x.side.view ≡ Some (act.Load w)) (free : x.side.card ≡ Free) where
   pub load_next : next_of L x ≡ Some (atom.Load (L.base + w))

@@ -9,17 +9,16 @@ use Rattle.rl_word.specs.declared.classes.Mode.{Mode}
 use Rattle.rl_word.specs.declared.classes.Mode.TheVariants as mode
 use Rattle.rl_word.specs.declared.acts.Atom.{Atom}
 use Rattle.rl_model.specs.declared.call.Call.{Call}
-use Rattle.rl_model.specs.declared.entry.Entry.{Entry}
 use Rattle.rl_model.specs.Geom.{GeomFits}
 use Rattle.rl_step.specs.declared.events.Event.{Event}
 use Rattle.rl_step.specs.declared.events.Standing.{Standing}
 use Rattle.rl_step.specs.declared.events.Standing.TheVariants.{Out, Asking, Writer, Reader, Leaving}
-use Rattle.rl_step.specs.Lock.{LockLaws, Deed, Rests, first_views}
+use Rattle.rl_step.specs.Lock.{Deed, Rests, first_views}
 use Rattle.rl_step.specs.Do.{TheWindow}
 use Rattle.rl_step.specs.Core.{MayBe}
 use Rattle.rl_work.specs.Site.{lock_base}
 use Rattle.rl_work.specs.OpeningLaws.{opening_size}
-use Rattle.rl_work.specs.Ways.{WorkSide, TheTranscript, GoesOnAt, IsFirst, IsOpen, IsSide, Takes, look, opened_look, opening_words, opened_mode, opened_standing}
+use Rattle.rl_work.specs.Ways.{WorkSide, TheTranscript, GoesOnAt, IsFirst, IsOpen, IsSide, Takes, opening_words, opened_mode, opened_standing}
 use Rattle.rl_whole.specs.declared.card_state.CardState.{CardState}
 use Rattle.rl_whole.specs.declared.card_state.CardState.TheVariants.{Free, InCard, Loaded, ToLeave}
 use Rattle.rl_whole.specs.Running.{LockAt, Goods, BothLaws}
@@ -29,7 +28,7 @@ use Rattle.rl_whole.specs.declared.whole.WholeView.{WholeView}
 use Rattle.rl_whole.specs.Split.{SplitState, LockGood, card_atom, side_atom, lock_of, view_of}
 use Rattle.rl_whole.specs.SplitLaws.{split_at, none_at}
 use Rattle.rl_whole.specs.CallLaws.{opening_good, ask_keeps}
-use Rattle.rl_whole.specs.Whole.{side_of, work_side, split_of, lock_words, next_of, lock_or_work, work_plan, is_at_work, is_open, look_of, counts, leaves, Good}
+use Rattle.rl_whole.specs.Whole.{side_of, work_side, split_of, lock_words, next_of, lock_or_work, work_plan, is_at_work, is_open, counts, leaves, Good}
 use Rattle.rl_whole.specs.WholeLaws.{own_after, laid_by, work_at}
 
 none_is : (o : Option Atom) → is_some o ≡ false → o ≡ None
@@ -219,18 +218,6 @@ module _ (V K : Type 0) (L : LockAt V K) (good : Goods V K) (further : List Even
             refl,
             parts.0,
           )
-
-      -- what the ranks' work looks like then
-      pub opened_looks : look_of L h.words (opened_in L c seq x) ≡ opened_look (look_of L h.words x) c seq
-      opened_looks =
-          subst (λ n. look L.work h.words n (L.work.opens n x.work c seq) ≡ opened_look (look L.work h.words n x.work) c seq) (sym (g.own r x has))
-          (laws.work.opened h.words (map (work_side L.table) vs) r (work_side L.table x) c seq (work_at V K L good further layout laws home h vs g r x has) parts.0 parts.2 o takes).0
-
-    -- where no block is open the rank keeps all its entries itself
-    pub closed_keeps : next_of L x ≡ None → L.work.transcript h.words x.rank x.work ≡ (L.work.kept x.work).items
-    closed_keeps e =
-        subst (λ n. L.work.transcript h.words n x.work ≡ (L.work.kept x.work).items) (sym (g.own r x has))
-        (laws.work.closed h.words (map (work_side L.table) vs) r (work_side L.table x) (work_at V K L good further layout laws home h vs g r x has) (closed_parts e).2).0
 
   pub closed_is_out : (x : WholeView V K) → MayBe (Good L good layout) x → next_of L x ≡ None → L.table.standing x.side.view ≡ Out
   closed_is_out x m e = (closed_parts m.held m.views m.rank x m.is_ruled m.has e).0

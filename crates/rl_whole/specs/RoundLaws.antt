@@ -21,7 +21,7 @@ use Rattle.rl_whole.specs.Split.{answer_of}
 use Rattle.rl_whole.specs.Whole.{Good, shifted_answer, next_of, after_of, effect_turned, after_effect, whole_table}
 use Rattle.rl_whole.specs.WholeLaws.{whole_laws}
 use Rattle.rl_whole.specs.IdleLaws.{load_next, load_means, load_open}
-use Rattle.rl_whole.specs.SeenLoads.{with_lock, IsAtLoad, IsSeen}
+use Rattle.rl_whole.specs.SeenLoads.{with_lock, IsAtLoad, IsSeenLoad}
 use Rattle.rl_whole.specs.WholeShards.{whole_shard}
 
 -- a list of which none is counted is empty
@@ -33,7 +33,7 @@ pub none_there : {X : Type 0} (xs : List X) → (length xs == 0) ≡ true → xs
 none_there xs e = ⊎_elim (λ q. no_length xs q.1) (λ q. let bad : true ≡ false = sym e ∙ q.0 in cc) (eqb_tells (length xs) 0)
 
 -- a load that was seen is made so whatever the window is, while its word has the value
-module _ {V K : Type 0} (L : LockAt V K) (home : ℕ) (h : TheWindow) (x : WholeView V K) (leg : Leg V) (s : IsSeen L h x.side.view leg) (free : x.side.card ≡ Free) where
+module _ {V K : Type 0} (L : LockAt V K) (home : ℕ) (h : TheWindow) (x : WholeView V K) (leg : Leg V) (s : IsSeenLoad L h x.side.view leg) (free : x.side.card ≡ Free) where
   seen_next : next_of L x ≡ Some (atom.Load (L.base + s.load))
   seen_next = load_next L x s.load s.planned free
 
@@ -61,7 +61,7 @@ module _ {V K : Type 0} (L : LockAt V K) (home : ℕ) (h : TheWindow) (x : Whole
 
 module _ {V K : Type 0} (L : LockAt V K) (good : Goods V K) (further : List Event → List Deed → Type 0) (layout : Layout) (laws : BothLaws L good further layout) (home : ℕ) (x : WholeView V K) (may : MayBe (Good L good layout) x) (free : x.side.card ≡ Free) where
   -- the view after a load that was seen may be there
-  after_leg : (leg : Leg V) → IsSeen L may.held x.side.view leg → MayBe (Good L good layout) (with_lock x leg.sight)
+  after_leg : (leg : Leg V) → IsSeenLoad L may.held x.side.view leg → MayBe (Good L good layout) (with_lock x leg.sight)
   after_leg leg s =
       let at : Atom = atom.Load (L.base + s.load) in
       let is : slice_index may.held.words (L.base + s.load) ≡ leg.value = ap (slice_index may.held.words) (sym s.word) ∙ s.shows in
@@ -78,16 +78,16 @@ module _ {V K : Type 0} (L : LockAt V K) (good : Goods V K) (further : List Even
         has = get_set_same may.views may.rank x (with_lock x leg.sight) may.has;
       }
 
-  pub at_next : (h : TheWindow) → may.held ≡ h → (leg : Leg V) → IsSeen L h x.side.view leg → IsAtLoad (Good L good layout) h leg.sight
+  pub at_next : (h : TheWindow) → may.held ≡ h → (leg : Leg V) → IsSeenLoad L h x.side.view leg → IsAtLoad (Good L good layout) h leg.sight
   unfolding after_leg
-  at_next h held leg s = record { view = with_lock x leg.sight; may = after_leg leg (subst (λ w. IsSeen L w x.side.view leg) (sym held) s); held = held; is = refl; free = free }
+  at_next h held leg s = record { view = with_lock x leg.sight; may = after_leg leg (subst (λ w. IsSeenLoad L w x.side.view leg) (sym held) s); held = held; is = refl; free = free }
 
   -- two loads that were seen, of which the second leads back, are a round
-  pub round_seen : (h : TheWindow) → may.held ≡ h → (here there : Leg V) → IsSeen L h x.side.view here → IsSeen L h here.sight there → there.sight ≡ x.side.view → (k : ℕ) →
+  pub round_seen : (h : TheWindow) → may.held ≡ h → (here there : Leg V) → IsSeenLoad L h x.side.view here → IsSeenLoad L h here.sight there → there.sight ≡ x.side.view → (k : ℕ) →
       IsRound (whole_shard L home) with_lock (length h.words) k x (record { here = here; there = there })
   round_seen h held here there a b back k =
       let y : WholeView V K = with_lock x here.sight in
-      let after : MayBe (Good L good layout) y = after_leg here (subst (λ w. IsSeen L w x.side.view here) (sym held) a) in
+      let after : MayBe (Good L good layout) y = after_leg here (subst (λ w. IsSeenLoad L w x.side.view here) (sym held) a) in
       record {
         back = ap (with_lock x) back;
         in_call = load_open L x a.load a.planned free good further layout laws home may;

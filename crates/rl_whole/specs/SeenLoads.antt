@@ -21,7 +21,7 @@ pub record IsAtLoad {V K : Type 0} (rule : TheWindow → List (WholeView V K) �
   pub free : view.side.card ≡ Free
 
 -- the view v of the lock plans the load of the leg's word, which has its value here, and learns from it as the leg says
-pub record IsSeen {V K : Type 0} (L : LockAt V K) (h : TheWindow) (v : V) (leg : Leg V) : Type 0 where
+pub record IsSeenLoad {V K : Type 0} (L : LockAt V K) (h : TheWindow) (v : V) (leg : Leg V) : Type 0 where
   pub load : ℕ
   pub planned : L.table.plan v ≡ Some (Load load)
   pub word : leg.word ≡ L.base + load

@@ -55,19 +55,6 @@ shift_home L home w low =
     let f : nat_lt w L.table.size ≡ true = grind (arith, nat_tests) in
     rw (e, d, f) refl
 
--- and leaves the words below base as they were
-pub below_stays : (base : ℕ) (at : Atom) (ws : List ℕ) (u : ℕ) → u < base → slice_index (do_words (shifted base at) ws) u ≡ slice_index ws u
-below_stays base (atom.Load w) ws u h = refl
-below_stays base (atom.Store w v) ws u h = get_or-set_other ws (base + w) u v 0 (λ e. absurd (omega arith))
-below_stays base (atom.LocalCas w old new) ws u h = either (slice_index ws (base + w) == old) where
-  either : (b : Bool) → slice_index (if b then slice_set ws (base + w) new else ws) u ≡ slice_index ws u
-  either true = get_or-set_other ws (base + w) u new 0 (λ e. absurd (omega arith))
-  either false = refl
-below_stays base (atom.Take n) ws u h = refl
-below_stays base (atom.CardLoad w) ws u h = refl
-below_stays base (atom.CardStore w v) ws u h = get_or-set_other ws (base + w) u v 0 (λ e. absurd (omega arith))
-below_stays base (atom.Leave n) ws u h = refl
-
 -- the word of an atom is one of the first so many, if it has one
 abbrev pub IsLow : ℕ → Atom → Type 0
 IsLow n (atom.Load w) = w < n

@@ -1,16 +1,16 @@
 -- What an atom does to its rank's standing, and that at most one rank stands as writer.
 use Rattle.std.specs.Prelude.{◌≡◌, ℕ, List, [], map, slice_get, slice_set, Option, Some, None, refl}
 use Rattle.std.proofs.Common.{sym, ◌∙◌, ap, subst}
-use Rattle.rl_word.specs.Places.{get_map, get_map_back, map_set, one_at}
+use Rattle.rl_word.specs.Places.{get_map, get_map_back, one_at}
 use Rattle.rl_word.specs.Acts.{Layout}
 use Rattle.rl_word.specs.declared.acts.Atom.{Atom}
 use Rattle.rl_word.specs.declared.classes.Mode.{Mode}
 use Rattle.rl_step.specs.declared.events.Event.{Event}
 use Rattle.rl_step.specs.declared.events.Standing.{Standing}
 use Rattle.rl_step.specs.declared.events.Standing.TheVariants.{Out, Writer, Reader}
-use Rattle.rl_step.specs.Lock.{LockState, LockLaws, Deed, IsHolder}
-use Rattle.rl_step.specs.Do.{TheWindow, do_atom, do_got}
-use Rattle.rl_step.specs.Core.{MayBe, MayGet}
+use Rattle.rl_step.specs.Lock.{Deed, IsHolder}
+use Rattle.rl_step.specs.Do.{TheWindow, do_got}
+use Rattle.rl_step.specs.Core.{MayGet}
 use Rattle.rl_work.specs.Ways.{AsksOut, TouchesAs}
 use Rattle.rl_asks.specs.Standings.{AloneIn}
 use Rattle.rl_whole.specs.Running.{LockAt, Goods, BothLaws}
@@ -22,7 +22,7 @@ use Rattle.rl_whole.specs.LearnLaws.{learns_at}
 use Rattle.rl_whole.specs.Opening.{asked_if}
 use Rattle.rl_whole.specs.WholeShards.{stand}
 use Rattle.rl_whole.specs.Whole.{side_of, work_side, split_of, followed, work_events, next_of, after_of, whole_table, effect_turned, Good}
-use Rattle.rl_whole.specs.WholeLaws.{keeps_at, followed_stands}
+use Rattle.rl_whole.specs.WholeLaws.{followed_stands}
 use Rattle.rl_whole.specs.WholeOwes.{work_rests, work_made, work_asks, got_is}
 use Rattle.rl_whole.specs.Changes.{Change, shift_change, change_refl, work_change}
 

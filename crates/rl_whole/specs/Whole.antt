@@ -19,7 +19,7 @@ use Rattle.rl_step.specs.declared.events.Standing.{Standing}
 use Rattle.rl_step.specs.declared.events.Standing.TheVariants as standing
 use Rattle.rl_step.specs.declared.events.Stepped.{Stepped}
 use Rattle.rl_step.specs.declared.events.Stepped.TheVariants.{Moved, Waiting, Lost, Busy, Finished}
-use Rattle.rl_step.specs.Lock.{LockTable, LockState, Deed}
+use Rattle.rl_step.specs.Lock.{LockTable, Deed}
 use Rattle.rl_step.specs.Do.{TheWindow}
 use Rattle.rl_step.specs.Core.{CoreTable, Turned}
 use Rattle.rl_step.specs.declared.cores.Plan.{Plan}

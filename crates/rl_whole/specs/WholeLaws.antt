@@ -13,7 +13,6 @@ use Rattle.rl_word.specs.declared.classes.Mode.TheVariants as mode
 use Rattle.rl_step.specs.declared.events.Event.{Event}
 use Rattle.rl_step.specs.declared.events.Standing.{Standing}
 use Rattle.rl_step.specs.declared.events.Standing.TheVariants as standing
-use Rattle.rl_step.specs.declared.events.Stepped.{Stepped}
 use Rattle.rl_step.specs.declared.events.Stepped.TheVariants.{Finished}
 use Rattle.rl_step.specs.Lock.{LockTable, LockState, LockLaws, Deed, IsHolder, Rests, Suits, holds_only}
 use Rattle.rl_step.specs.CoreLemmas.{length-do_words}
@@ -22,20 +21,20 @@ use Rattle.rl_step.specs.Core.{CoreLaws, Turned, home_at}
 use Rattle.rl_work.specs.declared.follow.Follow.{Follow}
 use Rattle.rl_work.specs.declared.follow.Follow.TheVariants.{On, Ask, Over}
 use Rattle.rl_work.specs.Site.{lock_base}
-use Rattle.rl_work.specs.Ways.{WorkSide, Worked, IsApart, IsLaid, IsSide, Works, IsWorkAtom, AsksOut, AnswersAs, SameWork, side_turned, side_after as work_side_after, standing_after, standing_done, mode_after, tenure_of}
+use Rattle.rl_work.specs.Ways.{WorkSide, Worked, IsApart, IsLaid, IsSide, Works, IsWorkAtom, AsksOut, AnswersAs, side_turned, standing_after, standing_done, mode_after, tenure_of}
 use Rattle.rl_whole.specs.declared.card_state.CardState.TheVariants.{Free}
 use Rattle.rl_whole.specs.declared.effect.Effect.{Effect}
 use Rattle.rl_whole.specs.declared.effect.Effect.TheVariants as effect
 use Rattle.rl_whole.specs.Running.{LockAt, Goods, BothLaws}
 use Rattle.rl_whole.specs.declared.whole.WholeView.{WholeView}
-use Rattle.rl_whole.specs.Split.{SplitState, SideTurned, Past, LockGood, lock_of, view_of, side_atom, side_after, home_of, moved, departure, turned_by, effect_at, plan_home, grown}
+use Rattle.rl_whole.specs.Split.{SplitState, SideTurned, Past, lock_of, view_of, side_atom, side_after, home_of, moved, turned_by, effect_at, plan_home, grown}
 use Rattle.rl_whole.specs.SplitLaws.{atom_keeps, atom_can, split_at, none_at}
 use Rattle.rl_whole.specs.AnswerLaws.{atom_goes_on}
 use Rattle.rl_whole.specs.CallLaws.{work_keeps, modes_after}
 use Rattle.rl_whole.specs.ShiftLaws.{IsLow, can_low, lock_words_made, lock_got, shift_cards, shift_home, there}
 use Rattle.rl_whole.specs.Bridge.{Moves, leaves_more, moves_leaves, is_work, no_work, IsOffLock, off_lock, same_work}
 use Rattle.rl_whole.specs.LearnLaws.{moves_by}
-use Rattle.rl_whole.specs.Whole.{side_of, shifted, lock_words, lock_or_work, work_plan, next_of, after_of, effect_turned, whole_turned, work_turned, work_events, touch_by, departure_by, followed, left_by, home_of_word, whole_table, split_of, work_side, counts, leaves, one_if, made_deeds, Good}
+use Rattle.rl_whole.specs.Whole.{side_of, shifted, lock_words, lock_or_work, work_plan, next_of, after_of, effect_turned, whole_turned, work_turned, work_events, departure_by, followed, left_by, home_of_word, whole_table, split_of, work_side, counts, leaves, one_if, made_deeds, Good}
 
 -- each view is still its rank's own after one rank's view was changed
 pub own_after : {V K : Type 0} (vs : List (WholeView V K)) (r : ℕ) (x y : WholeView V K) → ((i : ℕ) (u : WholeView V K) → slice_get vs i ≡ Some u → u.rank ≡ i) → slice_get vs r ≡ Some x → y.rank ≡ x.rank →

@@ -10,7 +10,7 @@ use Rattle.rl_word.specs.declared.acts.Atom.TheVariants as atom
 use Rattle.rl_step.specs.declared.events.Event.{Event}
 use Rattle.rl_step.specs.declared.events.Stepped.TheVariants.{Moved, Busy}
 use Rattle.rl_whole.specs.Split.{answer_of}
-use Rattle.rl_step.specs.Lock.{LockState, LockLaws, Deed, Rests, MayStep, MayLearn}
+use Rattle.rl_step.specs.Lock.{Deed, Rests, MayStep, MayLearn}
 use Rattle.rl_step.specs.Do.{TheWindow, do_got}
 use Rattle.rl_step.specs.Core.{MayBe, MayGet}
 use Rattle.rl_whole.specs.declared.card_state.CardState.TheVariants.{Free, InCard, Loaded, ToLeave}
@@ -24,9 +24,8 @@ use Rattle.rl_whole.specs.Split.{SplitState, LockGood, side_atom, home_of, lock_
 use Rattle.rl_whole.specs.SplitActs.{first_card}
 use Rattle.rl_whole.specs.ShiftLaws.{lock_got}
 use Rattle.rl_whole.specs.Whole.{side_of, work_side, lock_or_work, work_plan, whole_table, split_of, lock_words, Good, IsShiftable, IsAnswerShiftable}
-use Rattle.rl_model.specs.Geom.{GeomFits}
 use Rattle.rl_whole.specs.LearnLaws.{learns_at}
-use Rattle.rl_whole.specs.WholeLaws.{laid, apart, work_at, works_at as at_work, next_either, lock_low}
+use Rattle.rl_whole.specs.WholeLaws.{work_at, works_at as at_work, next_either, lock_low}
 use Rattle.rl_whole.specs.AnswerLaws.{answer_shifts}
 use Rattle.rl_work.specs.Ways.{Works, MayWork, MayTurn, AsksOut}
 
@@ -189,9 +188,6 @@ module _ (V K : Type 0) (L : LockAt V K) (good : Goods V K) (further : List Even
       subst (λ n. AsksOut (L.work.after n x.work got).follow (L.table.standing x.side.view)) (sym (g.own m.rank x m.plans.has))
       (subst (λ k. AsksOut (L.work.after m.rank x.work k).follow (L.table.standing x.side.view)) (sym m.gives)
       (laws.work.follows m.held.words m.held.cards (map (work_side L.table) m.views) m.rank (work_side L.table x) m.atom (work_made x got m e)).0)
-
-  pub geom_fits : (x : WholeView V K) → MayBe (Good L good layout) x → GeomFits L.work.site.geom
-  geom_fits x m = let g = m.is_ruled in (laws.work.fits m.held.words (map (work_side L.table) m.views) g.work_part).0
 
   word_there : (p : Option Act) (w : ℕ) → ((a : Act) → p ≡ Some a → word_of a < L.table.size) → plan_word p ≡ Some w → w < L.table.size
   word_there None w k e = cc

@@ -13,7 +13,6 @@ use Rattle.rl_word.specs.declared.acts.Act.TheVariants as act
 use Rattle.rl_word.specs.declared.acts.Atom.{Atom}
 use Rattle.rl_word.specs.declared.acts.Atom.TheVariants as atom
 use Rattle.rl_model.specs.declared.call.Call.{Call}
-use Rattle.rl_model.specs.declared.entry.Entry.{Entry}
 use Rattle.rl_model.specs.Geom.{GeomFits}
 use Rattle.rl_journal.specs.Legal.{IsLegal, table_after}
 use Rattle.rl_journal.specs.History.{history, IsSorted}
@@ -22,11 +21,10 @@ use Rattle.rl_volume.specs.Volume.{IsVolume}
 use Rattle.rl_step.specs.declared.events.Event.{Event}
 use Rattle.rl_step.specs.declared.events.Standing.{Standing}
 use Rattle.rl_step.specs.declared.events.Standing.TheVariants.{Out, Asking, Writer, Reader, Leaving}
-use Rattle.rl_step.specs.declared.events.Stepped.{Stepped}
-use Rattle.rl_step.specs.declared.events.Stepped.TheVariants.{Busy, Finished}
+use Rattle.rl_step.specs.declared.events.Stepped.TheVariants.{Busy}
 use Rattle.rl_step.specs.Core.{MayBe, Turned}
 use Rattle.rl_step.specs.Do.{TheWindow, do_atom, do_got}
-use Rattle.rl_step.specs.Exclusion.{IsExclusive, ExclusiveFrom, writers_of, readers_of, nobody}
+use Rattle.rl_step.specs.Exclusion.{writers_of, readers_of, nobody}
 use Rattle.rl_step.specs.ExclusionLaws.{exclusive_append, writers_append, readers_append, is_exclusive}
 use Rattle.rl_step.specs.Lock.{LockTable, LockState, Deed, AllOut, Rests}
 use Rattle.rl_step.specs.Queues.{IsFifo, settled, passed, tenures}
@@ -34,13 +32,12 @@ use Rattle.rl_step.specs.QueueLemmas.{within_bound}
 use Rattle.rl_step.specs.QueuePromises.{KeepQueues, KeepBudgets, CountTenures}
 use Rattle.rl_work.specs.Site.{Site, lock_base, places, volume_of}
 use Rattle.rl_work.specs.Ways.{WorkSide, WorkTable, GoesOnAt, transcripts_from}
-use Rattle.rl_asks.specs.Desks.{Desk, Turns, entries_of}
 use Rattle.rl_asks.specs.Domains.{IsLocalAct}
 use Rattle.rl_asks.specs.Idle.{IsIdle}
 use Rattle.rl_asks.specs.EventRanks.{AreByRanks}
 use Rattle.rl_asks.specs.Standings.{AloneIn, leaves}
 use Rattle.rl_asks.specs.ShardTables.{ShardTable, opening_held, first_views, journal_at, kept_in}
-use Rattle.rl_asks.specs.ShardLaws.{IsLaid, IsSeated, MayOpen, ShardCoreLaws}
+use Rattle.rl_asks.specs.ShardLaws.{IsLaidAtSite, IsSeated, MayOpen, ShardCoreLaws}
 use Rattle.rl_whole.specs.declared.card_state.CardState.{CardState}
 use Rattle.rl_whole.specs.declared.card_state.CardState.TheVariants.{Free, InCard, Loaded, ToLeave}
 use Rattle.rl_whole.specs.declared.whole.WholeView.{WholeView}
@@ -65,7 +62,7 @@ use Rattle.rl_whole.specs.Alone.{unhindered, take_unshifted}
 -- as it is defined its words lie by the site
 pub laid_with : {V K : Type 0} (lock : TheShape → ℕ → Knobs → LockTable V) (work : TheShape → ℕ → Site → ℕ → WorkTable K) →
     ((shape : TheShape) (home : ℕ) (site : Site) (behind : ℕ) → ((work shape home site behind).site ≡ site) × ((work shape home site behind).behind ≡ behind)) →
-    (shape : TheShape) (home : ℕ) (knobs : Knobs) (site : Site) → IsLaid (whole_shard (lock_with (kinds lock work shape home knobs) site) home) site
+    (shape : TheShape) (home : ℕ) (knobs : Knobs) (site : Site) → IsLaidAtSite (whole_shard (lock_with (kinds lock work shape home knobs) site) home) site
 laid_with lock work placed shape home knobs site =
     let p = placed shape home site (lock_base site + (lock shape home knobs).size) in
     record { site_is = p.0; words_are = omega arith; own_last = let b = p.1 in omega arith }
@@ -146,7 +143,7 @@ module _ (V K : Type 0) (L : LockAt V K) (good : Goods V K) (further : List Even
 
   -- ---- what keeps it good
 
-  begins : (rooms : List ℕ) → IsLaid T L.work.site → GeomFits L.work.site.geom → lock_base L.work.site + (L.table.size + L.work.size) < 2 ^ 32 → length L.work.site.rooms ≡ length layout.node_of → length layout.node_of < 2 ^ 32 → length rooms ≡ length layout.node_of →
+  begins : (rooms : List ℕ) → IsLaidAtSite T L.work.site → GeomFits L.work.site.geom → lock_base L.work.site + (L.table.size + L.work.size) < 2 ^ 32 → length L.work.site.rooms ≡ length layout.node_of → length layout.node_of < 2 ^ 32 → length rooms ≡ length layout.node_of →
       G (opening_held L.work.site (L.table.size + L.work.size) layout.nodes) (first_views T 0 rooms) [] []
   begins rooms is_laid fits low ranks few all =
       let base : L.base ≡ lock_base L.work.site = let w = is_laid.words_are in omega arith in

@@ -5,17 +5,16 @@ use Rattle.rl_word.specs.Places.{get_map, map_set, get_set_cases, one_at}
 use Rattle.rl_word.specs.Acts.{Layout}
 use Rattle.rl_word.specs.declared.acts.Atom.{Atom}
 use Rattle.rl_step.specs.declared.events.Event.{Event}
-use Rattle.rl_step.specs.declared.events.Standing.{Standing}
 use Rattle.rl_step.specs.Lock.{Deed, Rests}
 use Rattle.rl_step.specs.Do.{TheWindow, do_got, do_words}
-use Rattle.rl_work.specs.Ways.{WorkSide, Worked, SameWork, Works, look, own_look, side_after}
-pub use Rattle.rl_work.specs.Ways.{Look, GoesOn, EndsWork, AtomWork}
+use Rattle.rl_work.specs.Ways.{Worked, SameWork, Works, look, own_look, side_after}
+pub use Rattle.rl_work.specs.Ways.{Look, BlockGoesOn, EndsWork, AtomWork}
 use Rattle.rl_whole.specs.Running.{LockAt, Goods, BothLaws}
 use Rattle.rl_whole.specs.declared.whole.WholeView.{WholeView}
 use Rattle.rl_whole.specs.Split.{side_atom}
 use Rattle.rl_whole.specs.Bridge.{same_work}
 use Rattle.rl_whole.specs.Whole.{work_side, shifted, followed, look_of, next_of, after_of, Good}
-use Rattle.rl_whole.specs.WholeLaws.{next_either, works_at, lock_low, work_at, laid, own_after, after_work, after_lock, followed_stands}
+use Rattle.rl_whole.specs.WholeLaws.{next_either, works_at, lock_low, work_at, own_after, after_work, after_lock, followed_stands}
 
 -- looks that are one
 pub same_looks : (shard rank : ℕ) (a b : Look) → b ≡ a → AtomWork shard rank a b
@@ -30,9 +29,6 @@ same_looks shard rank a b e =
 
 module _ (V K : Type 0) (L : LockAt V K) (good : Goods V K) (further : List Event → List Deed → Type 0) (layout : Layout) (laws : BothLaws L good further layout) (home : ℕ) where
   module _ (h : TheWindow) (vs : List (WholeView V K)) (r : ℕ) (x : WholeView V K) (at : Atom) (g : Good L good layout h vs) (has : slice_get vs r ≡ Some x) (e : next_of L x ≡ Some at) where
-    abbrev got : ℕ
-    got = do_got at h.words h.cards
-
     abbrev after : WholeView V K
     after = (after_of L x (do_got at h.words h.cards)).view
 

@@ -4,7 +4,7 @@ ghost use Rattle.std.specs.Prelude.{◌≡◌, ℕ, length, IfSome};
 ghost use Rattle.rl_asks.specs.Rounds.{IsRound};
 ghost use Rattle.rl_step.specs.Core.{MayBe};
 ghost use Rattle.rl_whole.specs.Running.{lock_at, tables, goods};
-ghost use Rattle.rl_whole.specs.SeenLoads.{with_lock, IsAtLoad, IsSeen};
+ghost use Rattle.rl_whole.specs.SeenLoads.{with_lock, IsAtLoad, IsSeenLoad};
 ghost use Rattle.rl_whole.specs.Whole.{rule_of};
 ghost use Rattle.rl_whole.specs.WholeShards.{shard_at};
 
@@ -25,7 +25,7 @@ fn seen_leg<A: Algo, W: Work>(
     words: &Words,
 ) -> Option<Leg<A::View>>
     requires { IsAtLoad (rule_of (tables A.table W.table) (goods A.good W.good) A.layout core.now) words.now view }
-    ensures { IfSome result (IsSeen (lock_at (tables A.table W.table) core.now) words.now view) }
+    ensures { IfSome result (IsSeenLoad (lock_at (tables A.table W.table) core.now) words.now view) }
 {
     let Act::Load { word } = core.algo.plan(view)? else {
         return None;

@@ -23,7 +23,7 @@ use arrayvec::ArrayVec;
 use rl_model::{Call, Geom};
 use rl_step::{Algo, Core, Event, Plan, Standing, Stepped};
 use rl_word::{Act, Atom, Knobs, Shape};
-use rl_work::{Follow, Site, Work, journal_base};
+use rl_work::{ENTRY_WORDS, Follow, Site, Work, journal_base};
 use std::alloc::{AllocError as OutOfMemory, Global};
 
 /// What a rank knows between two of its atoms.
@@ -211,9 +211,6 @@ impl<A: Algo, W: Work> Core for Whole<A, W> {
     ghost laws = { λ c. whole_laws _ _ (lock_at (tables A.table W.table) c) (good_at (goods A.good W.good) c) (A.further c.algo) (A.layout c.algo) (record { lock = A.laws c.algo; work = W.laws c.work }) c.home };
 }
 
-/// How many words an entry of a journal takes.
-pub const ENTRY_WORDS: u32 = 6;
-
 /// The places of a journal: one for each update of each rank.
 fn places(rooms: &[u32]) -> u32
     requires few { sum rooms.now ≤ 20000 }
@@ -286,7 +283,7 @@ impl<A: Algo, W: Work> Whole<A, W> {
     }
 
     /// Opens a block, where none is open: a call alone, or the calls of a batch. `seq` is the number of its first call. The
-    /// lock is asked for in the block's mode. Takes no memory.
+    /// lock is asked for in the mode that the work says, or not yet, where the work begins without it. Takes no memory.
     #[inline(always)]
     pub fn ask_for(&self, view: &mut WholeView<A::View, W::Side>, calls: &[Call], seq: u32)
         requires few { length calls.now ≤ 8 }

@@ -17,7 +17,7 @@ use Rattle.rl_window.specs.declared.knows.RankKnows.{RankKnows}
 use Rattle.rl_window.specs.declared.knows.Knows.{Knows}
 use Rattle.rl_window.specs.declared.knows.Knows.TheVariants.{Root, Rank, Spent}
 use Rattle.rl_window.specs.Rule.{sized, MayBeAt, Keeps, Fits, IsRuled}
-use Rattle.rl_window.specs.Plays.{after_step, Moves, Told, IsRankAt, last_of, steps_of}
+use Rattle.rl_window.specs.Plays.{after_step, Moves, MovesWhereTold, IsRankAt, last_of, steps_of}
 use Rattle.rl_window.specs.AtomLengths.{as_many_words, as_many_cards}
 use Rattle.rl_window.proofs.Effects.{IsAtom, loads, card_loads, stores, card_stores, exchanges, takes, leaves}
 
@@ -117,17 +117,17 @@ module _ {C V : Type 0} where
     pub allowed : (key : Setup C V) (slots id : ℕ) (core : C) (size nodes rank : ℕ) (v : V) (a : Atom) (i : ℕ) (f g : ℕ → ℕ) (told : Option V) (me : Me ℕ (Knows C V))
         → told ≡ Some v → IsRankAt core size nodes rank v me → Keeps (rule core) rank (last_of v me.0) v → (table core).next v ≡ Some a
         → ((ws cs : List ℕ) → length ws ≡ size → length cs ≡ nodes → CanDo (home_at (table core).home a) rank a ws cs → IsAtom rank a i f g ws cs) → ((n : ℕ) → n < 2 ^ 64 → g n < 2 ^ 64)
-        → Allows (IsRuled rule key) slots id me i f (λ n w. (w.1 ≡ me.1) × Told rule table told (g n) me.0 w.0)
+        → Allows (IsRuled rule key) slots id me i f (λ n w. (w.1 ≡ me.1) × MovesWhereTold rule table told (g n) me.0 w.0)
     allowed key slots id core size nodes rank v a i f g told me says is same plan acts fits =
         let r : RankKnows C V = record { core = core; size = size; nodes = nodes; rank = rank; view = last_of v me.0; steps = steps_of me.0 } in
         let base = allowed_at key slots id r v a i f g same plan acts fits in
-        let P : Me ℕ (Knows C V) → Option V → Type 0 = λ m t. Allows (IsRuled rule key) slots id m i f (λ n w. (w.1 ≡ m.1) × Told rule table t (g n) m.0 w.0) in
+        let P : Me ℕ (Knows C V) → Option V → Type 0 = λ m t. Allows (IsRuled rule key) slots id m i f (λ n w. (w.1 ≡ m.1) × MovesWhereTold rule table t (g n) m.0 w.0) in
         subst (P me) (sym says) (subst (λ (m : Me ℕ (Knows C V)). P m (Some v)) (sym is) base)
 
     module _ (key : Setup C V) (slots id : ℕ) (core : C) (size nodes rank : ℕ) (v : V) (a : Atom) (told : Option V) (me : Me ℕ (Knows C V)) (says : told ≡ Some v) (at : IsRankAt core size nodes rank v me)
         (may_be : MayBeAt (sized (rule core) size nodes) rank v) (same : Keeps (rule core) rank (last_of v me.0) v) (plan : (table core).next v ≡ Some a) where
       abbrev pub May : ℕ → (ℕ → ℕ) → (ℕ → ℕ) → Type 0
-      May i f g = (i < size + 8 * nodes) × Allows (IsRuled rule key) slots id me i f (λ n w. (w.1 ≡ me.1) × Told rule table told (g n) me.0 w.0)
+      May i f g = (i < size + 8 * nodes) × Allows (IsRuled rule key) slots id me i f (λ n w. (w.1 ≡ me.1) × MovesWhereTold rule table told (g n) me.0 w.0)
 
       there : (b : Atom) → a ≡ b → (ws : List ℕ) × (cs : List ℕ) × (length ws ≡ size) × (length cs ≡ nodes) × CanDo (home_at (table core).home b) rank b ws cs
       there b e =

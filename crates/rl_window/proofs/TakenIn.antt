@@ -1,5 +1,5 @@
 -- The seats are taken in, one by one.
-use Rattle.std.proofs.Common.{◌≡◌, ℕ, zero, suc, ◌+◌, List, [], ◌∷◌, ◌++◌, map, length, take, slice_get, Some, sym, refl, ap, ◌∙◌, subst, arith, length-append, append_assoc, zero-add, suc-add}
+use Rattle.std.proofs.Common.{◌≡◌, ℕ, zero, suc, ◌+◌, List, [], ◌∷◌, ◌++◌, length, take, slice_get, Some, sym, refl, ap, ◌∙◌, subst, arith, length-append, zero-add, suc-add}
 use mathlib.Core.Option.{some, some-injective, some-ne-none}
 use lib.ListN.{get_elem?}
 use Rattle.atomic_table.specs.Table.{Me, Final, Seen}
@@ -14,7 +14,7 @@ use Rattle.rl_window.specs.declared.window.Window.{Window}
 use Rattle.rl_window.specs.declared.window.WinSeat.{WinSeat}
 use Rattle.rl_window.specs.Rule.{IsRuled}
 use Rattle.rl_window.specs.Plays.{with_ended, CanEnd, steps_of}
-use Rattle.rl_window.specs.Seats.{IsClosing, IsAll, AreKept, view_of, last_view}
+use Rattle.rl_window.specs.Seats.{IsClosing, IsAll, AreKept, last_view}
 use Rattle.rl_window.proofs.Joins.{last}
 
 module _ {C V : Type 0} (rule : C → TheWindow → List V → Type 0) (key : Setup C V) (table : TableId) where
@@ -35,9 +35,6 @@ module _ {C V : Type 0} (rule : C → TheWindow → List V → Type 0) (key : Se
         each = λ i w at. let e = E.each (suc i) w (ap (λ (z : List (WinSeat C V)). slice_get z (suc i)) more ∙ at) in let r = e.1 in
             (e.0, (r.0, r.1, (let h = r.2 in omega arith), r.3, r.4));
       }
-
-  pub views_ended : (left : List (WinSeat C V)) (views : List V) (s : WinSeat C V) (rest : List (WinSeat C V)) → left ≡ s ∷ rest → views ++ map view_of left ≡ (views ++ s.view ∷ []) ++ map view_of rest
-  views_ended left views s rest more = ap (λ (l : List (WinSeat C V)). views ++ map view_of l) more ∙ sym (append_assoc views (s.view ∷ []) (map view_of rest))
 
   -- once all are taken in
   pub closed : (id : ℕ) (root : Seat ℕ (Knows C V)) (views : List V) (ws xs : List ℕ) → IsClosing rule key table root [] views → Final (Seen (IsRuled rule key) id root.me.0) ws xs → (cards : List ℕ) × rule key.core (record { words = take key.size ws; cards = cards }) views

@@ -22,9 +22,9 @@ module _ {C V : Type 0} where
   Moves rule table v got _ k = Unit {0}
 
   -- the same, where the call tells the view
-  abbrev pub Told : (C → TheWindow → List V → Type 0) → (C → CoreTable V) → Option V → ℕ → Knows C V → Knows C V → Type 0
-  Told rule table (Some v) got k k' = Moves rule table v got k k'
-  Told rule table None got k k' = Unit {0}
+  abbrev pub MovesWhereTold : (C → TheWindow → List V → Type 0) → (C → CoreTable V) → Option V → ℕ → Knows C V → Knows C V → Type 0
+  MovesWhereTold rule table (Some v) got k k' = Moves rule table v got k k'
+  MovesWhereTold rule table None got k k' = Unit {0}
 
   -- the root seat, with the seat of the next rank split off
   abbrev pub without_next : Knows C V → Knows C V

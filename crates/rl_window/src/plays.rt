@@ -25,9 +25,9 @@ pub(crate) struct Finds<C, W> {
 
 impl<C: Core, W: Tell<C::View>> Play<u8, Knows<C, C::View>> for Finds<C, W> {
     ghost use Rattle.std.specs.Prelude.{◌≡◌};
-    ghost use Rattle.rl_window.specs.Plays.{Told};
+    ghost use Rattle.rl_window.specs.Plays.{MovesWhereTold};
 
-    ghost then = { λ s m r n. (n.1 ≡ m.1) × Told C.rule C.table W.told r m.0 n.0 };
+    ghost then = { λ s m r n. (n.1 ≡ m.1) × MovesWhereTold C.rule C.table W.told r m.0 n.0 };
 }
 
 /// A step that writes, and whose atom gives 0.
@@ -37,9 +37,9 @@ pub(crate) struct Writes<C, W> {
 
 impl<C: Core, W: Tell<C::View>> Play<u8, Knows<C, C::View>> for Writes<C, W> {
     ghost use Rattle.std.specs.Prelude.{◌≡◌};
-    ghost use Rattle.rl_window.specs.Plays.{Told};
+    ghost use Rattle.rl_window.specs.Plays.{MovesWhereTold};
 
-    ghost then = { λ s m r n. (n.1 ≡ m.1) × Told C.rule C.table W.told 0 m.0 n.0 };
+    ghost then = { λ s m r n. (n.1 ≡ m.1) × MovesWhereTold C.rule C.table W.told 0 m.0 n.0 };
 }
 
 /// The seat of the next rank is split off the root seat.

@@ -2,7 +2,7 @@
 
 ghost use Rattle.std.specs.Prelude.{◌≡◌, ◌≢◌, ◌+◌, ℕ, [], Some, None, refl};
 ghost use Rattle.std.proofs.Common.{sym, ◌∙◌};
-ghost use Rattle.rl_window.specs.Seats.{IsSeatOf, IsKept, last_view, table_steps};
+ghost use Rattle.rl_window.specs.Seats.{IsSeatOf, IsKept};
 ghost use Rattle.rl_window.specs.Ports.{IsFit, IsSamePort, IsMoved};
 
 use crate::window::{WinSeat, Window};

@@ -1,4 +1,4 @@
--- What the calls of a block read while no lock is held: for works that go without it.
+-- What a block reads next while its rank doesn't hold the lock: for the ways of working that read without it.
 use Rattle.std.specs.Prelude.{ℕ, List, [], ◌∷◌, ◌++◌, Option, None}
 use Rattle.rl_model.specs.declared.call.Call.{Call}
 use Rattle.rl_model.specs.declared.geom.Geom.{Geom}

@@ -91,7 +91,7 @@ pub record Look : Type 0 where
   pub owes : Bool
 
 -- the block goes on, or there is none
-pub record GoesOn (a b : Look) : Type 0 where
+pub record BlockGoesOn (a b : Look) : Type 0 where
   pub same_calls : b.calls ≡ a.calls
   pub same_seq : b.seq ≡ a.seq
   pub same_items : b.items ≡ a.items
@@ -109,7 +109,7 @@ pub record EndsWork (shard rank : ℕ) (a b : Look) : Type 0 where
   pub tells : Tells shard rank (batch_of (length a.calls)) a.seq 0 entries
 
 abbrev pub AtomWork : ℕ → ℕ → Look → Look → Type 0
-AtomWork shard rank a b = GoesOn a b ⊎ EndsWork shard rank a b
+AtomWork shard rank a b = BlockGoesOn a b ⊎ EndsWork shard rank a b
 
 module _ {K : Type 0} (T : WorkTable K) where
   -- by these words, and by the rank's side alone

@@ -30,7 +30,7 @@ mod work;
 pub use follow::{Follow, WorkStep};
 pub use laws::work_laws;
 pub use locked::LockedWork;
-pub use site::{COUNT_WORD, Site, VOLUME_BASE, journal_base, opening_word};
+pub use site::{COUNT_WORD, ENTRY_WORDS, Site, VOLUME_BASE, journal_base, opening_word};
 pub use stage::Stage;
 pub use transcript::Transcript;
 pub use way::{KeepsOwn, Work};

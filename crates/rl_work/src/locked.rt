@@ -3,7 +3,6 @@
 ghost use Rattle.std.specs.Prelude.{◌≡◌, true, IfOk, refl};
 ghost use Rattle.rl_work.specs.Locked.{locked_table, locked_good, mode_of};
 ghost use Rattle.rl_work.specs.LockedLaws.{locked_laws};
-ghost use Rattle.rl_work.specs.Work.{TheWork};
 
 use crate::follow::{Follow, WorkStep};
 use crate::site::Site;

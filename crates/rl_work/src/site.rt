@@ -24,6 +24,9 @@ pub const COUNT_WORD: u32 = 1;
 /// The first word of the volume.
 pub const VOLUME_BASE: u32 = 2;
 
+/// How many words an entry takes in the journal.
+pub const ENTRY_WORDS: u32 = 6;
+
 /// The first word of the journal, which stands behind the volume.
 pub fn journal_base(geom: Geom) -> u32
     requires { GeomFits geom }

@@ -3,7 +3,7 @@
 ghost use Rattle.std.specs.Prelude.{◌≡◌, ◌+◌, ◌<◌, ◌≤◌, ◌^◌, ℕ, Bool, List, true, false, length, sum, IfOk};
 ghost use Rattle.rl_model.specs.Geom.{GeomFits};
 ghost use Rattle.rl_word.specs.Shapes.{TheShape, IsProper};
-ghost use Rattle.rl_work.specs.Site.{Site as TheSite, lock_base, site_of};
+ghost use Rattle.rl_work.specs.Site.{Site as TheSite, site_of};
 ghost use Rattle.rl_work.specs.Ways.{WorkTable, WorkSide, WorkLaws, MayWork, MayTurn, WaitsOn, journal_by, worked_with};
 
 use crate::follow::WorkStep;
@@ -29,9 +29,10 @@ pub trait Work: Sized + Drop {
     /// lock's.
     ghost defined: { TheShape → ℕ → TheSite → ℕ → WorkTable Self.Side };
 
-    /// Whether gets are no tenures of the lock by a writer, where readers share the lock or not; and whether a block may be a batch.
+    /// Whether gets are no tenures of the lock by a writer, where readers share the lock and where they don't.
     ghost spares: { Bool → Bool };
 
+    /// Whether a block may be a batch.
     ghost batches: { Bool };
 
     /// As it is defined it does so.

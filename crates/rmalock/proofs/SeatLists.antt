@@ -6,13 +6,8 @@ use Rattle.std.proofs.lemmas.Option.{slice_get-get_or, slice_get_within, get_or_
 use Rattle.rl_word.specs.Acts.{Layout}
 use Rattle.rl_word.specs.Shapes.{TheShape, IsProper}
 use Rattle.rl_word.specs.Places.{get_set_cases, some_at}
-use Rattle.rl_word.specs.declared.locks.LockName.{LockName}
-use Rattle.rl_word.specs.declared.shapes.Knobs.{Knobs}
-use Rattle.rl_step.specs.LockQueues.{queues_of}
-use Rattle.rl_place.specs.LockWords.{name_of}
 use Rattle.rl_place.specs.Places.{ThePlace}
-use Rattle.rl_place.specs.Shapes.{shape_of, knobs_of}
-use Rattle.rl_history.specs.Naming.{naming_of}
+use Rattle.rl_place.specs.Shapes.{shape_of}
 use Rattle.rl_asks.specs.ShardTables.{ShardTable, first_views}
 use Rattle.rl_asks.specs.ShardLaws.{GoodOf}
 use Rattle.rl_asks.specs.Filling.{first_length}

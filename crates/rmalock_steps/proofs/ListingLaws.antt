@@ -1,5 +1,5 @@
 -- The lines of a run, of one step more and of one turn more; and the start of a machine by the parts of a placement.
-use Rattle.std.proofs.Common.{◌≡◌, ℕ, ◌+◌, ◌≤◌, Bool, true, false, List, [], ◌∷◌, ◌++◌, replicate, take, sum_by, slice_get, Some, codes, decimal, refl, sym, ap, ◌∙◌, append_assoc, arith}
+use Rattle.std.proofs.Common.{◌≡◌, ℕ, ◌+◌, ◌≤◌, Bool, List, [], ◌∷◌, ◌++◌, replicate, take, sum_by, slice_get, Some, codes, decimal, refl, sym, ap, ◌∙◌, append_assoc, arith}
 use Rattle.std.proofs.lemmas.Grind.{flat_map-append}
 use Rattle.std.proofs.lemmas.List.{append-nil}
 use Rattle.std.proofs.lemmas.List.Sums.{sum_by-cons}
@@ -55,13 +55,6 @@ module _ {V : Type 0} (place : ThePlace) (naming : TheNaming) (window : Window) 
   pub turn_more : (before : List ℕ) (m now : Running V) (ts : List Turn) (i : ℕ) (t : Turn) → slice_get ts i ≡ Some t → now ≡ run_of m (ranks_of (take i ts)) →
       (before ++ text m (ranks_of (take i ts))) ++ text now (turn_ranks t) ≡ before ++ text m (ranks_of (take (i + 1) ts))
   turn_more before m now ts i t at is = more before m now (ranks_of (take i ts)) (turn_ranks t) is ∙ ap (λ ks. before ++ text m ks) (sym (ranks-more ts i t at))
-
-  -- the step of one rank, which is in the window or isn't
-  pub one_in : (m : Running V) (k : ℕ) → is_in window (steps_made m.steps) ≡ true → text_of (step_line place naming m k ∷ []) ≡ text m (k ∷ [])
-  one_in m k e = sym (ap (λ b. text_of (shown b (step_line place naming m k) ++ [])) e)
-
-  pub one_out : (m : Running V) (k : ℕ) → is_in window (steps_made m.steps) ≡ false → [] ≡ text m (k ∷ [])
-  one_out m k e = sym (ap (λ b. text_of (shown b (step_line place naming m k) ++ [])) e)
 
 -- the run goes on
 pub run_more : {V : Type 0} (m mid now : Running V) (n k : ℕ) → mid ≡ run_of m (replicate n k) → now ≡ stepped mid k → now ≡ run_of m (replicate (n + 1) k)

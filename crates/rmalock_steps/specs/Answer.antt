@@ -1,7 +1,5 @@
 -- What the program answers: the listing of the replay that the files spell, and else what every viewer answers.
 use Rattle.std.specs.Prelude.{◌≡◌, ℕ, List, codes, ◌++◌, ◌∷◌, [], Option}
-use Rattle.rl_replay.specs.declared.replay.Replay.{Replay}
-use Rattle.rl_viewer.specs.declared.asking.Window.{Window}
 use Rattle.rl_viewer.specs.Asking.{TheAsked}
 use Rattle.rl_viewer.specs.Answer as viewer
 use Rattle.rmalock_steps.specs.Listing.{IsListing}

@@ -1,7 +1,6 @@
 //! What a rank's next step is about to do: the block that it opens, the atom that it makes, and what that will find.
 
 ghost use Rattle.std.specs.Prelude.{ℕ, ◌≡◌, ◌<◌, ◌≤◌, true, false, length, sum};
-ghost use Rattle.rl_model.specs.Geom.{GeomFits};
 ghost use Rattle.rl_step.specs.Do.{do_got, CanDo};
 ghost use Rattle.rl_work.specs.Site.{lock_base};
 ghost use Rattle.rl_machine.specs.Running.{running, cores_of};

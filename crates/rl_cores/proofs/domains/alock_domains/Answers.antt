@@ -1,7 +1,7 @@
 -- What a rank of ALock may make of its words.
 use Rattle.std.proofs.Common.{◌≡◌, true, false, sym, ◌∙◌}
 use Rattle.rl_shard.specs.Shards.{core_at, rank_at}
-use Rattle.rl_alock.specs.Alock.{Cohorts, KeepsDomains, cohorts_of}
+use Rattle.rl_alock.specs.Alock.{Cohorts, HasTwoDomains, cohorts_of}
 use Rattle.rl_cores.proofs.SwapLaws.{never_away}
 use Rattle.rl_cores.proofs.domains.alock_domains.Goals as goal
 
@@ -9,7 +9,7 @@ pub returns : goal.returns
 returns g c =
     let lock = (core_at c.args.shard.now).algo in
     let K : Cohorts = cohorts_of lock.home lock.node_of.items lock.local lock.remote in
-    let law : KeepsDomains K = c.two_domains.ensures K in
+    let law : HasTwoDomains K = c.two_domains.ensures K in
     record {
       at_home = λ s at is next home card.
           let u = c.domains.ensures.cards s at is next card in

@@ -4,7 +4,7 @@ use Rattle.std.proofs.lemmas.List.Elements.{All-push}
 use Rattle.std.proofs.lemmas.List.{append-nil, length-map}
 use Rattle.rl_run.specs.Callers.{IsReady}
 use Rattle.rl_run.specs.RowLaws.{first_is}
-use Rattle.rl_run.specs.Runs.{MayWork, made_of}
+use Rattle.rl_run.specs.Runs.{CallerMayWork, made_of}
 use Rattle.rl_run.specs.RunLaws.{next_wanted, nothing_wanted, made_is}
 use Rattle.rl_run.proofs.opening.callers_of.Goals as goal
 
@@ -17,7 +17,7 @@ loop-geom-preserved g c =
     rw (c.remove-own.ensures.items, c.remove-own_sizes.ensures.items, c.remove-seats.ensures.items, c.push_reserved.ensures.items) (
       next_wanted made_of c.args.geom c.loop-geom.rank (map vec_items c.loop-geom.calls.items) _ (map vec_items c.loop-geom.sizes.items) _ (map vec_items c.loop-geom.rows.items) _ c.remove-own.result.items c.remove-own_sizes.result.items c.remove-seats.result.items c.loop-geom.callers.items c.new-caller.result _
           calls sizes rows made c.loop-geom.invariant.0,
-      All-push (MayWork g.C.ShardCore.shard_table g.C.ShardCore.good g.C.ShardCore.layout) c.loop-geom.callers.items c.new-caller.result c.loop-geom.invariant.1
+      All-push (CallerMayWork g.C.ShardCore.shard_table g.C.ShardCore.good g.C.ShardCore.layout) c.loop-geom.callers.items c.new-caller.result c.loop-geom.invariant.1
           (λ shards ready. c.new-caller.ensures.caller shards
           (subst (λ z. IsReady g.C.ShardCore.shard_table g.C.ShardCore.good g.C.ShardCore.layout shards z.0.3 z.0.0 z.0.1 z.0.2 z.1) made ready)),
       search rules,

@@ -6,7 +6,7 @@ use Rattle.rl_work.specs.Ways.{MayTurn, Worked, standing_after, worked_with}
 use Rattle.rl_seq.specs.SeqGood.{SeqRank, SeqGood}
 use Rattle.rl_seq.specs.SeqWork.{TheSeqWork, seq_after, seq_atom, seq_table}
 use Rattle.rl_seq.specs.Site.{SeqSite, place_of}
-use Rattle.rl_seq.specs.TwoRanks.{Moves, number, pair, two_place}
+use Rattle.rl_seq.specs.TwoRanks.{WorksBeside, number, pair, two_place}
 use Rattle.rl_seq.proofs.PairLaws.{at_two, can_make, made_good, may_turn}
 use Rattle.rl_seq.proofs.tests.step.Goals as goal
 
@@ -17,7 +17,7 @@ made-got-requires-clause-can c =
     let same : place_of way.geom way.shard way.rooms.items way.behind ≡ at = at_two way c.requires.two in
     let m : SeqRank = record { standing = c.mover.inside.standing; work = c.mover.inside.side } in
     let good : SeqGood at c.args.words.now (pair c.args.first m c.args.other.now) = subst (λ (z : SeqRank). SeqGood at c.args.words.now (pair c.args.first z c.args.other.now)) (sym c.mover.view_is) c.requires.good in
-    let moves : Moves m.standing c.args.other.now.standing = subst (λ (z : SeqRank). Moves z.standing c.args.other.now.standing) (sym c.mover.view_is) c.requires.moves in
+    let moves : WorksBeside m.standing c.args.other.now.standing = subst (λ (z : SeqRank). WorksBeside z.standing c.args.other.now.standing) (sym c.mover.view_is) c.requires.moves in
     let planned : seq_atom at m.work ≡ Some c.in-Some.atom = ap (λ z. seq_atom z m.work) (sym same) ∙ sym c.next.ensures ∙ c.in-Some.is in
     (can_make at way.home c.args.first c.args.words.now m c.args.other.now good c.requires.laid moves c.in-Some.atom planned).1
 
@@ -28,7 +28,7 @@ after-step-requires c =
     let same : place_of way.geom way.shard way.rooms.items way.behind ≡ at = at_two way c.requires.two in
     let m : SeqRank = record { standing = c.mover.inside.standing; work = c.mover.inside.side } in
     let good : SeqGood at c.args.words.now (pair c.args.first m c.args.other.now) = subst (λ (z : SeqRank). SeqGood at c.args.words.now (pair c.args.first z c.args.other.now)) (sym c.mover.view_is) c.requires.good in
-    let moves : Moves m.standing c.args.other.now.standing = subst (λ (z : SeqRank). Moves z.standing c.args.other.now.standing) (sym c.mover.view_is) c.requires.moves in
+    let moves : WorksBeside m.standing c.args.other.now.standing = subst (λ (z : SeqRank). WorksBeside z.standing c.args.other.now.standing) (sym c.mover.view_is) c.requires.moves in
     let planned : seq_atom at m.work ≡ Some c.in-Some.atom = ap (λ z. seq_atom z m.work) (sym same) ∙ sym c.next.ensures ∙ c.in-Some.is in
     let may = may_turn at way.home c.args.first c.args.words.now m c.args.other.now good c.requires.laid moves c.in-Some.atom planned in
     subst (λ z. MayTurn (seq_table z way.home) (SeqGood z) c.number-rank.result m.work c.made-got.result) (sym same)
@@ -42,7 +42,7 @@ returns-clause-good c =
     let same : place_of way.geom way.shard way.rooms.items way.behind ≡ at = at_two way c.requires.two in
     let m : SeqRank = record { standing = c.mover.inside.standing; work = c.mover.inside.side } in
     let good : SeqGood at c.args.words.now (pair c.args.first m c.args.other.now) = subst (λ (z : SeqRank). SeqGood at c.args.words.now (pair c.args.first z c.args.other.now)) (sym c.mover.view_is) c.requires.good in
-    let moves : Moves m.standing c.args.other.now.standing = subst (λ (z : SeqRank). Moves z.standing c.args.other.now.standing) (sym c.mover.view_is) c.requires.moves in
+    let moves : WorksBeside m.standing c.args.other.now.standing = subst (λ (z : SeqRank). WorksBeside z.standing c.args.other.now.standing) (sym c.mover.view_is) c.requires.moves in
     let planned : seq_atom at m.work ≡ Some c.in-Some.atom = ap (λ z. seq_atom z m.work) (sym same) ∙ sym c.next.ensures ∙ c.in-Some.is in
     let t : Worked TheSeqWork = worked_with c.after-step.new.side c.after-step.result in
     let left : t ≡ seq_after at (number c.args.first) m.work (do_got c.in-Some.atom c.args.words.now []) =

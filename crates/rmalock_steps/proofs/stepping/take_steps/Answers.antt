@@ -1,7 +1,6 @@
 -- One step more.
 use Rattle.std.proofs.Common.{◌≡◌, ◌++◌, ◌+◌, [], ◌∷◌, ap, ◌∙◌, arith}
 use Rattle.rl_text.specs.Spelling.{text_of}
-use Rattle.rl_step.specs.Answers.{steps_made}
 use Rattle.rl_machine.specs.Running.{running}
 use Rattle.rmalock_steps.specs.Listing.{step_lines}
 use Rattle.rmalock_steps.proofs.ListingLaws.{step_more, run_more}

@@ -1,7 +1,6 @@
 -- A machine has a shard for each of the table's.
 use Rattle.std.proofs.Common.{◌≡◌, length, ap, sym, ◌∙◌, subst}
 use Rattle.std.proofs.lemmas.List.{length-map}
-use Rattle.rl_machine.specs.Running.{shard_run}
 use Rattle.rl_machine.proofs.machine.Machine.shards.Goals as goal
 
 pub returns : goal.returns

@@ -1,7 +1,7 @@
 -- A proper shape is laid as the tree asks; it has at most four elements for each rank.
 use Rattle.std.proofs.Common.{◌∙◌, ◌*◌, ◌≤◌, length, ap, sym, subst, arith}
 use Rattle.rl_tree.specs.Elements.{all_names}
-use Rattle.rl_tree.specs.TreeShape.{IsLaid, levels_of}
+use Rattle.rl_tree.specs.TreeShape.{IsTreeLaid, levels_of}
 use Rattle.rl_tree.proofs.tree.Tree.new.Goals as goal
 use Rattle.rl_tree.specs.TreeLaid.{proper_laid}
 
@@ -14,13 +14,13 @@ names_for_all-requires-clause-elements c =
 
 pub spots_of-requires : goal.spots_of-requires
 spots_of-requires c =
-    subst (λ z. IsLaid (record { home = c.args.home; shape = z; root = c.args.root }) (levels_of z)) (sym c.in_ok-copy.ensures)
+    subst (λ z. IsTreeLaid (record { home = c.args.home; shape = z; root = c.args.root }) (levels_of z)) (sym c.in_ok-copy.ensures)
     (proper_laid (record { home = c.args.home; shape = c.args.shape.now; root = c.args.root }) c.requires.proper c.requires.homed c.requires.budgeted c.requires.modest)
 
 pub invariant_of-result : goal.invariant_of-result
 invariant_of-result c =
     record {
-      laid = subst (λ z. IsLaid (record { home = c.args.home; shape = z; root = c.args.root }) (levels_of z)) (sym c.in_ok-copy.ensures)
+      laid = subst (λ z. IsTreeLaid (record { home = c.args.home; shape = z; root = c.args.root }) (levels_of z)) (sym c.in_ok-copy.ensures)
           (proper_laid (record { home = c.args.home; shape = c.args.shape.now; root = c.args.root }) c.requires.proper c.requires.homed c.requires.budgeted c.requires.modest);
       named = c.in_ok-queues.ensures ∙ ap (λ z. all_names z c.args.root) (sym c.in_ok-copy.ensures);
       placed = c.in_ok-spots.ensures;
