@@ -1,12 +1,12 @@
 -- Every atom of the work keeps the work's part of the rule, and can be made; so do the opening of a call and a change of a rank's
 -- standing by the lock; and the opening state meets it.
-use Rattle.std.specs.Prelude.{◌≡◌, ◌≢◌, ◌⊎◌, ℕ, ◌+◌, ◌*◌, ◌^◌, ◌<◌, ◌≤◌, ◌==◌, if◌then◌else◌, zero, suc, true, false, List, [], ◌∷◌, ◌++◌, All, filter, length, replicate, slice_get, slice_index, slice_set, Option, Some, None, IfSome, refl}
-use Rattle.std.proofs.Common.{sym, ◌∙◌, ap, subst, ⊎_elim, arith, length-set, length-append}
+use Rattle.std.specs.Prelude.{◌≡◌, ◌⊎◌, ℕ, ◌+◌, ◌*◌, ◌^◌, ◌<◌, ◌≤◌, ◌==◌, if◌then◌else◌, zero, suc, true, false, List, [], ◌∷◌, ◌++◌, All, filter, length, replicate, slice_get, slice_index, slice_set, Option, Some, None, IfSome, refl}
+use Rattle.std.proofs.Common.{sym, ◌∙◌, ap, subst, ⊎_elim, arith, length-append}
 use Rattle.std.proofs.lemmas.List.{take_at, length-map}
 use Rattle.std.proofs.lemmas.List.Elements.{All-nil, All-weaker}
 use Rattle.std.proofs.lemmas.Bool.Decides.{nat_tests}
 use Rattle.std.proofs.lemmas.Option.{same_Some}
-use Rattle.rl_word.specs.Places.{same_or_not, one_at, get_set_same, get_set_other, get_set_cases, get_map_back, map_set, set_same_get, get_map}
+use Rattle.rl_word.specs.Places.{get_map_back}
 use Rattle.rl_word.specs.declared.acts.Atom.{Atom}
 use Rattle.rl_word.specs.declared.acts.Atom.TheVariants as atom
 use Rattle.rl_model.specs.declared.call.Call.{Call}
@@ -27,18 +27,19 @@ use Rattle.rl_work.specs.declared.stage.Stage.{Stage}
 use Rattle.rl_work.specs.declared.stage.Stage.TheVariants.{Rest, Begin, Read, Journal, Volume}
 use Rattle.rl_journal.specs.Journal.{spelled}
 use Rattle.rl_journal.specs.Blocks.{calls_of, size_of, batch_of}
-use Rattle.rl_journal.specs.Legal.{updates, table_after, IsLegalBlock, IsLegal, IsLegalRead}
+use Rattle.rl_journal.specs.Legal.{updates, table_after, IsLegalBlock, IsLegalRead}
 use Rattle.rl_journal.specs.Ranks.{IsOwn}
 use Rattle.rl_model.specs.Asked.{asks_update}
 use Rattle.rl_journal.specs.JournalLaws.{agrees_none}
 use Rattle.rl_journal.specs.Lists.{all_at}
 use Rattle.rl_work.specs.Site.{Site, places, count_word, volume_base, journal_base, lock_base}
-use Rattle.rl_work.specs.Work.{TheTranscript, batch_in, stores, CanName, CanTurn, CanDecide, write_atom, stage_atom, work_atom, stage_after, with_block, written_on}
-use Rattle.rl_work.specs.WorkGood.{WorkSide, IsApart, transcript_of, transcripts, IsOpen, IsDecided, IsReading, HasDecided, FitsAt, Fits, is_writing, IsDone, IsInCall, IsOwnTranscript, WorkGood, side_turned, side_after, HasOpen, opening_words, IsFirst}
+use Rattle.rl_work.specs.Work.{batch_in, stores, CanName, CanTurn, CanDecide, write_atom, stage_atom, work_atom, stage_after, with_block, written_on}
+use Rattle.rl_work.specs.WorkGood.{WorkSide, IsApart, transcript_of, transcripts, IsOpen, IsDecided, IsReading, HasDecided, FitsAt, is_writing, IsDone, IsInCall, IsOwnTranscript, WorkGood, side_turned, side_after, HasOpen, opening_words, IsFirst}
 use Rattle.rl_work.specs.EndLaws.{Tells, parts_tell}
 use Rattle.rl_work.specs.TurnLaws.{turn_length}
 use Rattle.rl_work.specs.OpeningLaws.{opening_size}
 use Rattle.rl_work.specs.RoomLaws.{place_left, journal_short}
+use Rattle.rl_work.specs.SideLaws.{side_stays}
 use Rattle.rl_work.specs.WorkLaws.{count_loaded, word_loaded, journal_stored, write_made, count_stored}
 use Rattle.rl_volume.proofs.NextWord.{next_there, next_unseen, few_read}
 use Rattle.std.specs.FinMap as finite
@@ -159,47 +160,9 @@ module _ (site : Site) (words : List ℕ) (sides : List WorkSide) (g : WorkGood 
         let long : length x.work.entries ≡ length x.work.calls = sym (length-map x.work.entries (λ (e : Entry). e.call)) ∙ ap length f.0.same_calls in
         (f.1, let room = f.0.open_call.room in omega arith)
 
-  -- a change of this rank's side alone, which leaves its transcript as it is
-  side_moves : (y : WorkSide) → y.work.transcript ≡ x.work.transcript → y.work.seen.room ≡ x.work.seen.room → is_writing y.work.stage ≡ is_writing x.work.stage → Fits site words g.journal g.before r y → WorkGood site words (slice_set sides r y)
-  side_moves y kept room as_before fits =
-      let same : slice_set (transcripts sides) r y.work.transcript.items ≡ transcripts sides =
-      ap (λ (z : TheTranscript). slice_set (transcripts sides) r z.items) kept ∙ set_same_get (transcripts sides) r x.work.transcript.items (get_map transcript_of sides r x has) in
-      record {
-        journal = g.journal;
-        before = g.before;
-        geom_fits = g.geom_fits;
-        size = g.size;
-        ranks = length-set sides r y ∙ g.ranks;
-        fixed = g.fixed;
-        count = g.count;
-        spells = g.spells;
-        volume = g.volume;
-        still = λ none. g.still (λ i u get. ⊎_elim
-            (λ (e : i ≡ r).
-            let same_side : u ≡ x = one_at sides r u x (subst (λ z. slice_get sides z ≡ Some u) e get) has in
-            ap (λ z. is_writing z.work.stage) same_side ∙ sym as_before ∙ none r y (get_set_same sides r x y has))
-            (λ (ne : i ≢ r). none i u (get_set_other sides r i y ne ∙ get))
-            (same_or_not i r));
-        here = g.here;
-        legal = subst (IsLegal site.geom g.journal) (sym (map_set transcript_of sides r y ∙ same)) g.legal;
-        own = λ i u get. ⊎_elim
-            (λ q. subst (λ z. IsOwnTranscript site z u.work.transcript.items) (sym q.0) (subst (λ (z : WorkSide). IsOwnTranscript site r z.work.transcript.items) (sym q.1)
-            (subst (λ (z : TheTranscript). IsOwnTranscript site r z.items) (sym kept) (g.own r x has))))
-            (λ q. g.own i u q.1)
-            (get_set_cases sides r i y u get);
-        seen_rooms = λ i u get. ⊎_elim
-            (λ q. ap (λ (z : WorkSide). z.work.seen.room) q.1 ∙ room ∙ g.seen_rooms r x has)
-            (λ q. g.seen_rooms i u q.1)
-            (get_set_cases sides r i y u get);
-        fits = λ i u get. ⊎_elim
-            (λ q. subst (λ z. Fits site words g.journal g.before z u) (sym q.0) (subst (λ z. Fits site words g.journal g.before r z) (sym q.1) fits))
-            (λ q. g.fits i u q.1)
-            (get_set_cases sides r i y u get);
-      }
-
   -- a change of its standing by an atom of the lock
   pub shift_keeps : (st : Standing) (es : List Event) → Shift r x.standing st es → WorkGood site words (slice_set sides r (record { standing = st; work = x.work }))
-  shift_keeps st es shift = side_moves (record { standing = st; work = x.work }) refl refl refl (by_stage x.work.stage (g.fits r x has)) where
+  shift_keeps st es shift = side_stays site words sides g r x has (record { standing = st; work = x.work }) (λ calm. calm) refl refl (by_stage x.work.stage (g.fits r x has)) where
     asks_on : (a b : Standing) → Shift r a b es → IsInCall a → IsInCall b
     asks_on Out b s i = absurd i
     asks_on Asking Out s i = absurd s
@@ -247,7 +210,7 @@ module _ (site : Site) (words : List ℕ) (sides : List WorkSide) (g : WorkGood 
   -- the opening of a block
   pub open_keeps : (c : List Call) (seq : ℕ) → x.standing ≡ Out → IsOpen site r c seq x.work.transcript → WorkGood site words (slice_set sides r (record { standing = Asking; work = with_block x.work c seq }))
   open_keeps c seq out o =
-      side_moves (record { standing = Asking; work = with_block x.work c seq }) refl refl (sym (rests_out out x.work.stage (g.fits r x has))) (o, tt, refl, refl, refl)
+      side_stays site words sides g r x has (record { standing = Asking; work = with_block x.work c seq }) (λ _. rests_out out x.work.stage (g.fits r x has)) refl refl (o, tt, refl, refl, refl)
 
 -- the opening state meets the rule
 pub opening_good : (site : Site) → GeomFits site.geom → (sides : List WorkSide) → length sides ≡ length site.rooms → ((r : ℕ) (x : WorkSide) → slice_get sides r ≡ Some x → IsFirst site.geom x) →
@@ -327,18 +290,19 @@ few_loads site words sides g r x has call count word alone stage =
     only [] c rest e = cc
     only (a ∷ first) c rest e = absurd (omega (arith, ap length e, length-append first (c ∷ rest)))
 
+-- who holds the lock isn't done
+holds_on : (st : Standing) → IsDone st → IsHolder st → ⊥
+holds_on Out d h = h
+holds_on Asking d h = d
+holds_on Writer d h = d
+holds_on Reader d h = d
+holds_on Leaving d h = h
+
 -- a rank that holds the lock has an atom of the work
 pub holder_works : (site : Site) (words : List ℕ) (sides : List WorkSide) (g : WorkGood site words sides) (r : ℕ) (x : WorkSide) → slice_get sides r ≡ Some x → IsHolder x.standing → work_atom site.geom x.work ≡ None → ⊥
 holder_works site words sides g r x has holds none = by_stage x.work.stage (g.fits r x has) none where
-  done : (st : Standing) → IsDone st → IsHolder st → ⊥
-  done Out d h = h
-  done Asking d h = d
-  done Writer d h = d
-  done Reader d h = d
-  done Leaving d h = h
-
   by_stage : (st : Stage) → FitsAt site words g.journal g.before r x st → stage_atom site.geom x.work st ≡ None → ⊥
-  by_stage Rest f e = done x.standing f holds
+  by_stage Rest f e = holds_on x.standing f holds
   by_stage Begin f e = cc
   by_stage (Read count word) f e = cc
   by_stage (Journal made) f e = cc
@@ -347,15 +311,8 @@ holder_works site words sides g r x has holds none = by_stage x.work.stage (g.fi
 -- and its block has calls
 pub holder_asks : (site : Site) (words : List ℕ) (sides : List WorkSide) (g : WorkGood site words sides) (r : ℕ) (x : WorkSide) → slice_get sides r ≡ Some x → IsHolder x.standing → 1 ≤ length x.work.calls
 holder_asks site words sides g r x has holds = by_stage x.work.stage (g.fits r x has) where
-  done : (st : Standing) → IsDone st → IsHolder st → ⊥
-  done Out d h = h
-  done Asking d h = d
-  done Writer d h = d
-  done Reader d h = d
-  done Leaving d h = h
-
   by_stage : (st : Stage) → FitsAt site words g.journal g.before r x st → 1 ≤ length x.work.calls
-  by_stage Rest f = absurd (done x.standing f holds)
+  by_stage Rest f = absurd (holds_on x.standing f holds)
   by_stage Begin f = f.0.is_block.some
   by_stage (Read count word) f = f.open_call.is_block.some
   by_stage (Journal made) f = f.0.open_call.is_block.some

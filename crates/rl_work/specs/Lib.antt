@@ -17,6 +17,7 @@ pub mod OpeningLaws
 pub mod VolumeLaws
 pub mod TurnLaws
 pub mod RoomLaws
+pub mod SideLaws
 pub mod WorkLaws
 pub mod AtomLaws
 pub mod RuleLaws

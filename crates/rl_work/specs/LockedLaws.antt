@@ -1,5 +1,5 @@
 -- Each block under its lock keeps the laws of a way of working.
-use Rattle.std.specs.Prelude.{◌≡◌, ℕ, zero, suc, ◌+◌, ◌<◌, ◌≤◌, ◌==◌, Bool, true, false, not, ◌&&◌, cond, List, [], ◌∷◌, length, replicate, count_by, take, slice_get, slice_set, Some, None, refl}
+use Rattle.std.specs.Prelude.{◌≡◌, ℕ, zero, suc, ◌+◌, ◌<◌, ◌≤◌, ◌==◌, Bool, true, false, not, ◌&&◌, cond, List, [], ◌∷◌, length, replicate, count_by, take, slice_get, slice_set, Option, Some, None, refl}
 use Rattle.std.proofs.Common.{sym, ◌∙◌, ap, subst, inl, inr, ⊎_elim, arith, length-take}
 use Rattle.std.proofs.lemmas.List.{length-map, take_at, get_or-take, append-nil}
 use Rattle.std.proofs.lemmas.Bool.Decides.{nat_tests}
@@ -90,6 +90,14 @@ block_counts shares st (e ∷ es) h some rises s = omega (arith, count-cons (is_
   by_standing Writer h s = ap (λ b. cond {A = ℕ} b 1 0) (writer_counts shares e (calls_of es) rises.0 s)
   by_standing Reader h s = ap (λ b. cond {A = ℕ} b 1 0) (reader_counts shares e (calls_of es) rises.0 s)
   by_standing Leaving h s = absurd h
+
+-- a holder that goes on has its block open
+holder_open : (st : Standing) (busy : Bool) (next : Option Atom) → IsHolder st → GoesOnAt st busy next → busy ≡ true
+holder_open Out busy next h e = absurd h
+holder_open Asking busy next h e = absurd h
+holder_open Writer busy next h e = e.0
+holder_open Reader busy next h e = e.0
+holder_open Leaving busy next h e = absurd h
 
 -- an atom that can be made on the first words of a list is made on them alone
 take_set_in : (n : ℕ) (l : List ℕ) (i v : ℕ) → i < n → take n (slice_set l i v) ≡ slice_set (take n l) i v
@@ -247,13 +255,7 @@ module _ (site : Site) (behind : ℕ) where
 
     -- the block is open before the atom, and after it where its work isn't over
     was_open : has_work x.work.stage ≡ true
-    was_open = by_holder x.standing holder (goes_on words sides r x w.side) where
-      by_holder : (st : Standing) → IsHolder st → GoesOnAt st (has_work x.work.stage) (work_atom site.geom x.work) → has_work x.work.stage ≡ true
-      by_holder Out h e = absurd h
-      by_holder Asking h e = absurd h
-      by_holder Writer h e = e.0
-      by_holder Reader h e = e.0
-      by_holder Leaving h e = absurd h
+    was_open = holder_open x.standing (has_work x.work.stage) (work_atom site.geom x.work) holder (goes_on words sides r x w.side)
 
     after_there : slice_get (slice_set sides r (side_after T r x got)) r ≡ Some (side_after T r x got)
     after_there = get_set_same sides r x (side_after T r x got) w.side.there
@@ -265,14 +267,8 @@ module _ (site : Site) (behind : ℕ) where
 
     still_open : (b : Bool) → turned.over ≡ b → b ≡ false → has_work turned.work.stage ≡ true
     still_open true e f = cc
-    still_open false e f = by_holder x.standing holder (subst (λ b. GoesOnAt (standing_after (follow_by b) x.standing) (has_work turned.work.stage) (work_atom site.geom turned.work)) e
-        (goes_on (do_words at words) (slice_set sides r (side_after T r x got)) r (side_after T r x got) after_is)) where
-          by_holder : (st : Standing) → IsHolder st → GoesOnAt st (has_work turned.work.stage) (work_atom site.geom turned.work) → has_work turned.work.stage ≡ true
-          by_holder Out h e = absurd h
-          by_holder Asking h e = absurd h
-          by_holder Writer h e = e.0
-          by_holder Reader h e = e.0
-          by_holder Leaving h e = absurd h
+    still_open false e f = holder_open x.standing (has_work turned.work.stage) (work_atom site.geom turned.work) holder (subst (λ b. GoesOnAt (standing_after (follow_by b) x.standing) (has_work turned.work.stage) (work_atom site.geom turned.work)) e
+        (goes_on (do_words at words) (slice_set sides r (side_after T r x got)) r (side_after T r x got) after_is))
 
     now_closed : turned.over ≡ true → has_work turned.work.stage ≡ false
     now_closed e = by_holder x.standing holder (subst (λ b. GoesOnAt (standing_after (follow_by b) x.standing) (has_work turned.work.stage) (work_atom site.geom turned.work)) e

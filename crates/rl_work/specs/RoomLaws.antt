@@ -56,30 +56,29 @@ module _ (site : Site) (words : List ℕ) (sides : List WorkSide) (g : WorkGood 
       let t : List Entry = u.work.transcript.items in
       sym (length-filter (is_of k) g.journal) ∙ ap length (sym (g.legal.updates_are k t (get_map transcript_of sides k u get))) ∙ length-filter updates t
 
+  -- they have room
+  few_made : (k : ℕ) → k < length site.rooms → count_by (is_of k) g.journal ≤ slice_index site.rooms k
+  few_made k h =
+      let there : k < length sides = let e = g.ranks in omega arith in
+      let u = some_at sides k there in
+      let p = (g.own k u.0 u.1).place in
+      omega (arith, made_by k u.0 u.1)
+
+  all_ranks : All (λ e. e.rank < length site.rooms) g.journal
+  all_ranks = subst (λ m. All (λ e. e.rank < m) g.journal) (length-map sides transcript_of ∙ g.ranks) g.legal.ranks_are
+
   pub place_left : (r : ℕ) (x : WorkSide) → slice_get sides r ≡ Some x → HasOpen site r x.work → asks_update x.work.calls ≡ true → length g.journal + length x.work.calls ≤ places site
   place_left r x has o is =
       let n : ℕ = length site.rooms in
       let there : r < n = let h = slice_get_within sides r x has in let e = g.ranks in omega arith in
       let f : ℕ → ℕ = λ k. count_by (is_of k) g.journal in
-      let few : (k : ℕ) → k < n → f k ≤ slice_index site.rooms k = λ k h.
-      let there_k : k < length sides = let e = g.ranks in omega arith in
-      let u = some_at sides k there_k in
-      let p = (g.own k u.0 u.1).place in
-      omega (arith, made_by k u.0 u.1) in
       let m : ℕ = length x.work.calls in
       let fewer : f r + m ≤ slice_index site.rooms r = let p = o.place in let yes : places_needed (asks_update x.work.calls) m ≡ m = ap (λ b. places_needed b m) is in omega (arith, made_by r x has) in
-      let all : All (λ e. e.rank < n) g.journal = subst (λ m. All (λ e. e.rank < m) g.journal) (length-map sides transcript_of ∙ g.ranks) g.legal.ranks_are in
-      omega (arith, sum_less f (slice_index site.rooms) n r m few there fewer, sum_is site.rooms, sum_of_counts (λ (e : Entry). e.rank) n g.journal, all_below n g.journal all)
+      omega (arith, sum_less f (slice_index site.rooms) n r m few_made there fewer, sum_is site.rooms, sum_of_counts (λ (e : Entry). e.rank) n g.journal, all_below n g.journal all_ranks)
 
   -- the journal is never longer than its places
   pub journal_short : length g.journal ≤ places site
   journal_short =
       let n : ℕ = length site.rooms in
       let f : ℕ → ℕ = λ k. count_by (is_of k) g.journal in
-      let few : (k : ℕ) → k < n → f k ≤ slice_index site.rooms k = λ k h.
-      let there_k : k < length sides = let e = g.ranks in omega arith in
-      let u = some_at sides k there_k in
-      let p = (g.own k u.0 u.1).place in
-      omega (arith, made_by k u.0 u.1) in
-      let all : All (λ e. e.rank < n) g.journal = subst (λ m. All (λ e. e.rank < m) g.journal) (length-map sides transcript_of ∙ g.ranks) g.legal.ranks_are in
-      omega (arith, sum_at_most f (slice_index site.rooms) n few, sum_is site.rooms, sum_of_counts (λ (e : Entry). e.rank) n g.journal, all_below n g.journal all)
+      omega (arith, sum_at_most f (slice_index site.rooms) n few_made, sum_is site.rooms, sum_of_counts (λ (e : Entry). e.rank) n g.journal, all_below n g.journal all_ranks)

@@ -4,12 +4,12 @@ use Rattle.std.specs.Prelude.{◌≡◌, ◌≢◌, ℕ, zero, suc, ◌+◌, ◌
 use Rattle.std.specs.FinMap as finite
 use Rattle.std.proofs.Common.{sym, ◌∙◌, ap, subst, ⊎_elim, arith, length-set, length-append, append_assoc, get_or-set_other, get_or-set_same}
 use Rattle.std.proofs.lemmas.List.{take_all, length-map, append-nil, take_at, get_or_at, get_or_append_left, take-append-le}
-use Rattle.std.proofs.lemmas.List.Elements.{All-push, All-append, All-nil, All-weaker}
+use Rattle.std.proofs.lemmas.List.Elements.{All-append, All-nil, All-weaker}
 use Rattle.std.proofs.lemmas.List.Sums.{length-filter}
 use Rattle.std.proofs.lemmas.Bool.Decides.{nat_tests}
 use Rattle.std.proofs.lemmas.Option.{same_Some, slice_get_within}
-use Rattle.rl_word.specs.Places.{same_or_not, one_at, get_set_cases, get_set_same, set_same_get, get_map, map_set}
-use Rattle.rl_model.proofs.Counts.{count-append, count-cons}
+use Rattle.rl_word.specs.Places.{same_or_not, one_at, get_set_same}
+use Rattle.rl_model.proofs.Counts.{count-append}
 use Rattle.rl_model.specs.declared.call.Call.{Call}
 use Rattle.rl_model.specs.declared.entry.Entry.{Entry}
 use Rattle.rl_model.specs.declared.geom.Geom.{Geom}
@@ -34,18 +34,19 @@ use Rattle.rl_work.specs.declared.stage.Stage.TheVariants.{Rest, Begin, Read, Jo
 use Rattle.rl_journal.specs.Journal.{Agrees, spelled}
 use Rattle.rl_journal.specs.Blocks.{AreParts, IsBlock, stops, in_turn, any_stops, undone, apply_block, batch_of, calls_of}
 use Rattle.rl_journal.specs.BlockLaws.{part_at}
-use Rattle.rl_journal.specs.Legal.{table_after, map_at, IsAnswered, updates, Begins, IsLegalBlock, IsLegal}
+use Rattle.rl_journal.specs.Legal.{table_after, updates, IsLegalBlock, IsLegal}
 use Rattle.rl_journal.specs.Ranks.{IsOwn}
 use Rattle.rl_model.specs.Asked.{asks_update}
 use Rattle.rl_journal.specs.JournalLaws.{agrees_elsewhere, agrees_append, agrees_more, length_spelled, spelled_append, agrees_none}
-use Rattle.rl_journal.specs.LegalLaws.{table_more, map_end, legal_read, legal_update, in_order_more, in_order_block, IsBefore, before_follows, marked, IsMarked}
+use Rattle.rl_journal.specs.LegalLaws.{table_more, legal_update, in_order_block}
 use Rattle.rl_journal.specs.Lists.{filter_all, all_at}
 use Rattle.rl_work.specs.Site.{Site, places, count_word, volume_base, journal_base, volume_of}
 use Rattle.rl_work.specs.TurnLaws.{written_append, turn_length, turn_table, turn_replies, any_append, batch_alone, batch_size, batch_few, batch_not_one, block_runs, block_stops, stops_is, goes_is, entries_calls, entries_replies, entries_length, entries_parts, entries_own}
 use Rattle.rl_work.specs.Work.{TheWork, TheTranscript, WorkTurned, at_rest, at_stage, to_stage, journal_on, with_seen, with_call, with_stop, batch_in, entries_of, block_close_by, block_close, stops_block, read_next, read_on, left_of, seen_on}
-use Rattle.rl_work.specs.WorkGood.{WorkSide, IsApart, transcript_of, transcripts, HasOpen, IsNext, IsDecided, FitsAt, Fits, IsSpelled, is_writing, IsPartly, HasDecided, IsReading, IsOwnTranscript, WorkGood, places_needed, side_turned}
+use Rattle.rl_work.specs.WorkGood.{WorkSide, IsApart, transcripts, HasOpen, IsNext, IsDecided, FitsAt, Fits, IsSpelled, is_writing, IsPartly, HasDecided, IsReading, IsOwnTranscript, WorkGood, places_needed, side_turned}
 use Rattle.rl_work.specs.VolumeLaws.{volume_before, volume_behind, volume_set, volume_get}
 use Rattle.rl_work.specs.RoomLaws.{place_left}
+use Rattle.rl_work.specs.SideLaws.{the_transcript, stands, legal_kept, one_moves, side_stays, entry_joins}
 
 -- one write more
 written_one : (before : List ℕ) (ws : List Write) (i : ℕ) (w : Write) → slice_get ws i ≡ Some w → written before (take (i + 1) ws) ≡ slice_set (written before (take i ws)) w.word w.value
@@ -121,28 +122,7 @@ module _ (site : Site) (words : List ℕ) (sides : List WorkSide) (g : WorkGood 
   count_there : (w : ℕ) → w < 2 → w < length words
   count_there w h = let e = g.size in omega arith
 
-  the_transcript : slice_get (transcripts sides) r ≡ Some x.work.transcript.items
-  the_transcript = get_map transcript_of sides r x has
-
-  -- every earlier entry of the rank stands before the next update
-  stands : (seq : ℕ) → All (λ e. e.seq < seq) x.work.transcript.items → (i : ℕ) (d : Entry) → slice_get x.work.transcript.items i ≡ Some d → IsBefore seq (length g.journal) d
-  stands seq fresh i d get =
-      let m : IsMarked g.journal d = all_at (IsMarked g.journal) x.work.transcript.items i d (marked site.geom g.journal (transcripts sides) g.legal r x.work.transcript.items the_transcript) get in
-      record { number = all_at (λ z. z.seq < seq) x.work.transcript.items i d fresh get; low = m.low; beyond = m.within }
-
-  -- a transcript with a get or hold more
-  own_read : (e : Entry) → IsOwn site.shard r e → updates e ≡ false → All (λ d. d.seq < e.seq) x.work.transcript.items → e.at ≡ length g.journal → IsOwnTranscript site r (x.work.transcript.items ++ e ∷ [])
-  own_read e own is fresh at =
-      let t : List Entry = x.work.transcript.items in
-      let q : IsOwnTranscript site r t = g.own r x has in
-      let none : ◌≡◌ {A = ℕ} (cond (updates e) 1 0) 0 = ap (λ b. cond {A = ℕ} b 1 0) is in
-      record {
-        own = All-push (IsOwn site.shard r) t e q.own own;
-        in_order = in_order_more t e q.in_order (λ i d get. before_follows e.seq (length g.journal) d e (stands e.seq fresh i d get) refl at);
-        place = let low = q.place in omega (arith, count-append updates t (e ∷ []), count-cons updates e []);
-      }
-
-  -- and with a block of updates
+  -- a transcript with a block of updates more
   own_block : HasOpen site r x.work → asks_update x.work.calls ≡ true → (b : List Entry) → All (IsOwn site.shard r) b → calls_of b ≡ x.work.calls → (batch : ℕ) → AreParts r batch x.work.seq (length g.journal) 0 b →
       IsOwnTranscript site r (x.work.transcript.items ++ b)
   own_block o is b own calls batch parts =
@@ -154,7 +134,7 @@ module _ (site : Site) (words : List ℕ) (sides : List WorkSide) (g : WorkGood 
       let more : places_needed (asks_update x.work.calls) (length x.work.calls) ≡ length x.work.calls = ap (λ z. places_needed z (length x.work.calls)) is in
       record {
         own = All-append (IsOwn site.shard r) t b q.own own;
-        in_order = in_order_block r batch x.work.seq (length g.journal) 0 t b q.in_order (stands x.work.seq o.fresh) parts;
+        in_order = in_order_block r batch x.work.seq (length g.journal) 0 t b q.in_order (stands site words sides g r x has x.work.seq o.fresh) parts;
         place = let fits = o.place in omega (arith, count-append updates t b);
       }
 
@@ -165,63 +145,7 @@ module _ (site : Site) (words : List ℕ) (sides : List WorkSide) (g : WorkGood 
         (is_writing y.work.stage ≡ false → volume_of site.geom vs ≡ c) → All (λ e. IsOwn site.shard e.rank e) k → IsLegal site.geom k (slice_set (transcripts sides) r y.work.transcript.items) →
         y.work.seen.room ≡ x.work.seen.room → IsOwnTranscript site r y.work.transcript.items → Fits site vs k c r y → WorkGood site vs (slice_set sides r y)
     writer_moves vs k c size fixed count spells volume still here legal room own fits =
-        record {
-          journal = k;
-          before = c;
-          geom_fits = g.geom_fits;
-          size = size ∙ g.size;
-          ranks = length-set sides r y ∙ g.ranks;
-          fixed = fixed ∙ g.fixed;
-          count = count;
-          spells = spells;
-          volume = volume;
-          still = λ none. still (none r y (get_set_same sides r x y has));
-          here = here;
-          legal = subst (IsLegal site.geom k) (sym (map_set transcript_of sides r y)) legal;
-          own = λ i u get. ⊎_elim
-              (λ q. subst (λ z. IsOwnTranscript site z u.work.transcript.items) (sym q.0) (subst (λ z. IsOwnTranscript site r z.work.transcript.items) (sym q.1) own))
-              (λ q. g.own i u q.1)
-              (get_set_cases sides r i y u get);
-          seen_rooms = λ i u get. ⊎_elim
-              (λ q. ap (λ (z : WorkSide). z.work.seen.room) q.1 ∙ room ∙ g.seen_rooms r x has)
-              (λ q. g.seen_rooms i u q.1)
-              (get_set_cases sides r i y u get);
-          fits = λ i u get. ⊎_elim
-              (λ q. subst (λ z. Fits site vs k c z u) (sym q.0) (subst (λ z. Fits site vs k c r z) (sym q.1) fits))
-              (λ q. quiet writer vs k c i u q.0 q.1)
-              (get_set_cases sides r i y u get);
-        }
-
-  -- a step of a holder that makes no writes, and changes no words
-  calm_moves : (y : WorkSide) → IsHolder x.standing → is_writing x.work.stage ≡ false → IsLegal site.geom g.journal (slice_set (transcripts sides) r y.work.transcript.items) →
-      y.work.seen.room ≡ x.work.seen.room → IsOwnTranscript site r y.work.transcript.items → Fits site words g.journal g.before r y → WorkGood site words (slice_set sides r y)
-  calm_moves y holds reading legal room own fits =
-      record {
-        journal = g.journal;
-        before = g.before;
-        geom_fits = g.geom_fits;
-        size = g.size;
-        ranks = length-set sides r y ∙ g.ranks;
-        fixed = g.fixed;
-        count = g.count;
-        spells = g.spells;
-        volume = g.volume;
-        still = λ _. unwritten holds reading;
-        here = g.here;
-        legal = subst (IsLegal site.geom g.journal) (sym (map_set transcript_of sides r y)) legal;
-        own = λ i u get. ⊎_elim
-            (λ q. subst (λ z. IsOwnTranscript site z u.work.transcript.items) (sym q.0) (subst (λ z. IsOwnTranscript site r z.work.transcript.items) (sym q.1) own))
-            (λ q. g.own i u q.1)
-            (get_set_cases sides r i y u get);
-        seen_rooms = λ i u get. ⊎_elim
-            (λ q. ap (λ (z : WorkSide). z.work.seen.room) q.1 ∙ room ∙ g.seen_rooms r x has)
-            (λ q. g.seen_rooms i u q.1)
-            (get_set_cases sides r i y u get);
-        fits = λ i u get. ⊎_elim
-            (λ q. subst (λ z. Fits site words g.journal g.before z u) (sym q.0) (subst (λ z. Fits site words g.journal g.before r z) (sym q.1) fits))
-            (λ q. g.fits i u q.1)
-            (get_set_cases sides r i y u get);
-      }
+        one_moves site words sides g r x has y vs k c size fixed count spells volume (λ none. still (none r y (get_set_same sides r x y has))) here legal room own fits (quiet writer vs k c)
 
   -- who holds the lock with an update is a writer
   writes_alone : IsHolder x.standing → asks_update x.work.calls ≡ true → x.standing ≡ Writer
@@ -240,14 +164,6 @@ module _ (site : Site) (words : List ℕ) (sides : List WorkSide) (g : WorkGood 
 
     -- such a side has the rank's transcript
     module _ (y : TheWork) (o : HasOpen site r y) (same : y.transcript ≡ x.work.transcript) (room : y.seen.room ≡ x.work.seen.room) where
-      as_before : IsLegal site.geom g.journal (slice_set (transcripts sides) r y.transcript.items)
-      as_before =
-          subst (λ (z : TheTranscript). IsLegal site.geom g.journal (slice_set (transcripts sides) r z.items)) (sym same)
-          (subst (IsLegal site.geom g.journal) (sym (set_same_get (transcripts sides) r x.work.transcript.items the_transcript)) g.legal)
-
-      own_before : IsOwnTranscript site r y.transcript.items
-      own_before = subst (λ (z : TheTranscript). IsOwnTranscript site r z.items) (sym same) (g.own r x has)
-
       -- every call has its reply
       module _ (replies_are : y.replies ≡ (apply_block site.geom (batch_in y) y.calls met).1) (makes : IsVolume site.geom site.shard (written g.before y.writes) (apply_block site.geom (batch_in y) y.calls met).0)
           (inside_all : All (λ w. w.word < volume_words site.geom) y.writes) (long : length y.replies ≡ length y.calls) where
@@ -298,17 +214,11 @@ module _ (site : Site) (words : List ℕ) (sides : List WorkSide) (g : WorkGood 
             let one : es ≡ e ∷ [] = ap (λ cs. entries_of site.shard r (batch_in y) y.seq count 0 cs y.replies) c.1 ∙ ap (entries_of site.shard r (batch_in y) y.seq count 0 (c.0 ∷ [])) a.1 in
             let no_update : updates e ≡ false = ap asks_update (sym c.1) ∙ is in
             let reply : a.0 ∷ [] ≡ (apply site.geom c.0 met).1 ∷ [] = sym a.1 ∙ replies_are ∙ ap (λ n. (apply_block site.geom n y.calls met).1) zero_batch ∙ ap (λ cs. (in_turn site.geom met cs).1) c.1 in
-            let answered : IsAnswered site.geom g.journal e = head_is reply ∙ ap (λ m. (apply site.geom c.0 m).1) (sym (ap (map_at site.geom g.journal) found ∙ map_end site.geom g.journal)) in
             let small : y.seq < 2 ^ 32 = let low = o.small in omega arith in
             let fresh : All (λ d. d.seq < y.seq) x.work.transcript.items = subst (λ (z : TheTranscript). All (λ d. d.seq < y.seq) z.items) same o.fresh in
-            let past : Begins g.journal count = λ f get. let within = slice_get_within g.journal count f get in absurd (omega arith) in
             let items : y.transcript.items ++ es ≡ x.work.transcript.items ++ e ∷ [] = ap (λ (z : TheTranscript). z.items ++ es) same ∙ ap (λ z. x.work.transcript.items ++ z) one in
-            calm_moves (side_turned x.standing (block_close_by site.shard r y count false)) holds reading
-            (subst (λ z. IsLegal site.geom g.journal (slice_set (transcripts sides) r z)) (sym items)
-            (legal_read site.geom g.journal (transcripts sides) g.legal r x.work.transcript.items the_transcript e no_update (omega arith) answered past))
-            room
-            (subst (IsOwnTranscript site r) (sym items) (own_read e (record { shard_is = refl; rank_is = refl; small = small }) no_update fresh found))
-            tt
+            entry_joins site words sides g r x has (side_turned x.standing (block_close_by site.shard r y count false)) e reading room items (record { shard_is = refl; rank_is = refl; small = small }) no_update fresh found
+            (head_is reply) tt
           where
             alone : {X : Type 0} (xs : List X) → length xs ≡ 1 → (y : X) × (xs ≡ y ∷ [])
             alone [] h = absurd (omega arith)
@@ -322,7 +232,7 @@ module _ (site : Site) (words : List ℕ) (sides : List WorkSide) (g : WorkGood 
         updates_close : y.calls ≡ x.work.calls → asks_update y.calls ≡ true → WorkGood site words (slice_set sides r (side_turned x.standing (block_close_by site.shard r y count true)))
         updates_close calls is =
             let writer : x.standing ≡ Writer = writes_alone holds (ap asks_update (sym calls) ∙ is) in
-            calm_moves (side_turned x.standing (block_close_by site.shard r y count true)) holds reading as_before room own_before (
+            side_stays site words sides g r x has (side_turned x.standing (block_close_by site.shard r y count true)) (λ _. reading) same room (
               record { open_call = o; writes = writer; update = is; found = found; same_calls = es_calls; is_next = block_next is; same_seq = refl },
               (let some = o.is_block.some in let e = entries_length site.shard r (batch_in y) y.seq count 0 y.calls y.replies long in omega arith),
               agrees_none words (journal_base site.geom + 6 * length g.journal),
@@ -340,7 +250,7 @@ module _ (site : Site) (words : List ℕ) (sides : List WorkSide) (g : WorkGood 
           (next_word site.geom call y.seen.pairs ≡ None → WorkGood site words (slice_set sides r (side_turned x.standing on))) →
           WorkGood site words (slice_set sides r (side_turned x.standing (read_next y count n on)))
       next_keeps call rest p named (Some word) next on goes =
-          calm_moves (side_turned x.standing (read_next y count (Some word) on)) holds reading as_before room own_before
+          side_stays site words sides g r x has (side_turned x.standing (read_next y count (Some word) on)) (λ _. reading) same room
           (record { open_call = o; holds = holds; found = found; call = call; rest = rest; partly = p; next = next; named = named })
       next_keeps call rest p named None next on goes = goes next
 
@@ -485,6 +395,7 @@ module _ (site : Site) (words : List ℕ) (sides : List WorkSide) (g : WorkGood 
       let all : take made x.work.writes ≡ x.work.writes = take_all made x.work.writes (none_past x.work.writes made last) in
       let made_all : volume_of site.geom vs ≡ written g.before x.work.writes = volume_before site.geom words count_word v (omega arith) ∙ f.3 ∙ ap (written g.before) all in
       let t : List Entry = x.work.transcript.items in
+      let there : slice_get (transcripts sides) r ≡ Some t = the_transcript site words sides g r x has in
       let whole : take (6 * length b) (spelled b) ≡ spelled b = take_all (6 * length b) (spelled b) (omega (arith, length_spelled b)) in
       let kept_place : Agrees words (journal_base site.geom + length (spelled g.journal)) (spelled b) =
       subst (λ z. Agrees words (journal_base site.geom + z) (spelled b)) (sym (length_spelled g.journal)) (subst (Agrees words (journal_base site.geom + 6 * length g.journal)) whole f.2) in
@@ -500,7 +411,7 @@ module _ (site : Site) (words : List ℕ) (sides : List WorkSide) (g : WorkGood 
       n.makes
       (λ _. made_all)
       (All-append (λ z. IsOwn site.shard z.rank z) g.journal b g.here (All-weaker (IsOwn site.shard r) (λ z. IsOwn site.shard z.rank z) (λ z own. subst (λ k. IsOwn site.shard k z) (sym own.rank_is) own) b n.own))
-      (legal_update site.geom g.journal (transcripts sides) g.legal r t the_transcript b n.legal n.mine (slice_get_within (transcripts sides) r t the_transcript))
+      (legal_update site.geom g.journal (transcripts sides) g.legal r t there b n.legal n.mine (slice_get_within (transcripts sides) r t there))
       refl
       (own_block d.open_call d.update b n.own d.same_calls n.legal.batch parts)
       tt
@@ -531,7 +442,7 @@ module _ (site : Site) (words : List ℕ) (sides : List WorkSide) (g : WorkGood 
       g.volume
       (λ no_writes. absurd (cc))
       g.here
-      (subst (IsLegal site.geom g.journal) (sym (set_same_get (transcripts sides) r x.work.transcript.items the_transcript)) g.legal)
+      (legal_kept site words sides g r x has x.work.transcript refl)
       refl
       (g.own r x has) (
         record { open_call = d.open_call; writes = d.writes; update = d.update; found = d.found; same_calls = d.same_calls; is_next = d.is_next; same_seq = d.same_seq },
@@ -572,7 +483,7 @@ module _ (site : Site) (words : List ℕ) (sides : List WorkSide) (g : WorkGood 
       g.volume
       (λ _. volume)
       g.here
-      (subst (IsLegal site.geom g.journal) (sym (set_same_get (transcripts sides) r x.work.transcript.items the_transcript)) g.legal)
+      (legal_kept site words sides g r x has x.work.transcript refl)
       refl
       (g.own r x has)
       (fits volume spelt)

@@ -34,7 +34,7 @@ pub use site::{COUNT_WORD, ENTRY_WORDS, Site, VOLUME_BASE, journal_base, opening
 pub use stage::Stage;
 pub use transcript::Transcript;
 pub use way::{KeepsOwn, Work};
-pub use work::LockedSide;
+pub use work::{LockedSide, write_atom};
 
 #[cfg(test)]
 mod tests;

@@ -114,7 +114,7 @@ impl LockedSide {
                 word: journal_base(geom) + (6 * self.at + made),
                 value: self.journal_at(made),
             }),
-            Stage::Volume { made } => Some(store(self.count_after(), self.write_at(made))),
+            Stage::Volume { made } => Some(write_atom(self.count_after(), self.write_at(made))),
         }
     }
 
@@ -379,8 +379,8 @@ impl LockedSide {
     }
 }
 
-// The store of a write, or of the count behind the last one.
-fn store(count: u32, write: Option<Write>) -> Atom
+/// The store of a write to the volume, or of the count behind the last one.
+pub fn write_atom(count: u32, write: Option<Write>) -> Atom
     requires { IfSome write (λ w. w.word < 2 ^ 31) }
     ensures { result ≡ model.write_atom count write }
 {
