@@ -8,7 +8,7 @@ use Rattle.rl_text.specs.declared.causes.Why.TheVariants.{Word}
 use Rattle.rl_text.specs.Rows.{Row, word_at}
 use Rattle.rl_text.specs.Reading.{◌>>=◌, refusal_at, needed_at, number_at, below_at}
 use Rattle.rl_text.proofs.TextLaws.{is_plain}
-use Rattle.rl_text.proofs.WordLaws.{ok_is, chosen, number-takes, number-again, below-takes, below-again, needed-takes, needed-again, plain-decimal}
+use Rattle.rl_text.proofs.WordLaws.{IsNumberAt, ok_is, chosen, number-takes, number-again, below-takes, below-again, needed-takes, needed-again, plain-decimal}
 use Rattle.rl_text.proofs.FromLaws.{from_bind, rest_from, rest_from-word, word_at-rest}
 use Rattle.rl_model.specs.declared.call.Call.{Call}
 use Rattle.rl_model.specs.declared.call.Call.TheVariants.{Put, Get, Del, Add, Cas, Hold}
@@ -42,37 +42,38 @@ words_four row from name one two three first n a b d =
 taken : (shards : ℕ) (row : Row) (from : ℕ) (made x : Call × ℕ) → CallTaken shards row from made → ◌≡◌ {A = Result (Call × ℕ) Refusal} (Ok made) (Ok x) → CallTaken shards row from x
 taken shards row from made x t e = subst (λ (y : Call × ℕ). CallTaken shards row from y) (ok_is made x e) t
 
+-- a call of one number
+one-taken : (shards : ℕ) (row : Row) (from : ℕ) (x : Call × ℕ) (call : ℕ → Call) → ((key : ℕ) → IsNumberAt row (from + 1) key → CallTaken shards row from (call key, from + 2))
+    → (number_at row (from + 1) >>= λ key. Ok (call key, from + 2)) ≡ Ok x → CallTaken shards row from x
+one-taken shards row from x call made e =
+    from_bind (number_at row (from + 1)) (λ key. Ok (call key, from + 2)) x e (λ key k last. taken shards row from (call key, from + 2) x (made key (number-takes row (from + 1) key k)) last)
+
+-- and of two
+two-taken : (shards : ℕ) (row : Row) (from : ℕ) (x : Call × ℕ) (call : ℕ → ℕ → Call)
+    → ((key value : ℕ) → IsNumberAt row (from + 1) key → IsNumberAt row (from + 2) value → CallTaken shards row from (call key value, from + 3))
+    → (number_at row (from + 1) >>= λ key. number_at row (from + 2) >>= λ value. Ok (call key value, from + 3)) ≡ Ok x → CallTaken shards row from x
+two-taken shards row from x call made e =
+    from_bind (number_at row (from + 1)) (λ key. number_at row (from + 2) >>= λ value. Ok (call key value, from + 3)) x e (λ key k rest.
+    from_bind (number_at row (from + 2)) (λ value. Ok (call key value, from + 3)) x rest (λ value v last.
+    taken shards row from (call key value, from + 3) x (made key value (number-takes row (from + 1) key k) (number-takes row (from + 2) value v)) last))
+
 put-takes : (shards : ℕ) (row : Row) (from : ℕ) (x : Call × ℕ) → 1 ≤ from → word_at row from ≡ Some (codes "put") → put_at row from ≡ Ok x → CallTaken shards row from x
 unfolding put_at
 put-takes shards row from x one name e =
-    from_bind (number_at row (from + 1)) (λ key. number_at row (from + 2) >>= λ value. Ok (Put key value, from + 3)) x e (λ key k rest.
-    from_bind (number_at row (from + 2)) (λ value. Ok (Put key value, from + 3)) x rest (λ value v last.
-    let kt = number-takes row (from + 1) key k in
-    let vt = number-takes row (from + 2) value v in
-    taken shards row from (Put key value, from + 3) x (record { fits = (kt.fits, vt.fits); words_are = words_three row from _ _ _ one name kt.word vt.word; after_is = refl }) last))
+    two-taken shards row from x Put (λ key value k v. record { fits = (k.fits, v.fits); words_are = words_three row from _ _ _ one name k.word v.word; after_is = refl }) e
 
 get-takes : (shards : ℕ) (row : Row) (from : ℕ) (x : Call × ℕ) → 1 ≤ from → word_at row from ≡ Some (codes "get") → get_at row from ≡ Ok x → CallTaken shards row from x
 unfolding get_at
-get-takes shards row from x one name e =
-    from_bind (number_at row (from + 1)) (λ key. Ok (Get key, from + 2)) x e (λ key k last.
-    let kt = number-takes row (from + 1) key k in
-    taken shards row from (Get key, from + 2) x (record { fits = kt.fits; words_are = words_two row from _ _ one name kt.word; after_is = refl }) last)
+get-takes shards row from x one name e = one-taken shards row from x Get (λ key k. record { fits = k.fits; words_are = words_two row from _ _ one name k.word; after_is = refl }) e
 
 del-takes : (shards : ℕ) (row : Row) (from : ℕ) (x : Call × ℕ) → 1 ≤ from → word_at row from ≡ Some (codes "del") → del_at row from ≡ Ok x → CallTaken shards row from x
 unfolding del_at
-del-takes shards row from x one name e =
-    from_bind (number_at row (from + 1)) (λ key. Ok (Del key, from + 2)) x e (λ key k last.
-    let kt = number-takes row (from + 1) key k in
-    taken shards row from (Del key, from + 2) x (record { fits = kt.fits; words_are = words_two row from _ _ one name kt.word; after_is = refl }) last)
+del-takes shards row from x one name e = one-taken shards row from x Del (λ key k. record { fits = k.fits; words_are = words_two row from _ _ one name k.word; after_is = refl }) e
 
 add-takes : (shards : ℕ) (row : Row) (from : ℕ) (x : Call × ℕ) → 1 ≤ from → word_at row from ≡ Some (codes "add") → add_at row from ≡ Ok x → CallTaken shards row from x
 unfolding add_at
 add-takes shards row from x one name e =
-    from_bind (number_at row (from + 1)) (λ key. number_at row (from + 2) >>= λ by. Ok (Add key by, from + 3)) x e (λ key k rest.
-    from_bind (number_at row (from + 2)) (λ by. Ok (Add key by, from + 3)) x rest (λ by v last.
-    let kt = number-takes row (from + 1) key k in
-    let vt = number-takes row (from + 2) by v in
-    taken shards row from (Add key by, from + 3) x (record { fits = (kt.fits, vt.fits); words_are = words_three row from _ _ _ one name kt.word vt.word; after_is = refl }) last))
+    two-taken shards row from x Add (λ key by k v. record { fits = (k.fits, v.fits); words_are = words_three row from _ _ _ one name k.word v.word; after_is = refl }) e
 
 cas-takes : (shards : ℕ) (row : Row) (from : ℕ) (x : Call × ℕ) → 1 ≤ from → word_at row from ≡ Some (codes "cas") → cas_at row from ≡ Ok x → CallTaken shards row from x
 unfolding cas_at
