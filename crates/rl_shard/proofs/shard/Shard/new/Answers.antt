@@ -1,6 +1,7 @@
--- The core that was just made may begin.
+-- The core that was just made may begin, with a tally for each of its lock's queues.
 use Rattle.std.proofs.Common.{◌≡◌, ◌∙◌, length, map, sym, ap, subst, rules}
 use Rattle.std.specs.Prelude.{IfOk}
+use Rattle.rl_step.specs.LockQueues.{queues_of}
 use Rattle.rl_asks.specs.ShardTables.{site_with}
 use Rattle.rl_shard.specs.Counting.{first_counted}
 use Rattle.rl_shard.specs.Shards.{IsShardOf, table_at, counted_at}
@@ -16,13 +17,16 @@ start-requires g c =
     let site = site_with c.args.geom c.args.shard c.args.room.updates.items in
     let core = c.in_ok-core.core in
     let nodes : c.shape.inside.nodes ≡ shape.nodes = search rules in
+    let queues = c.queue_count-queues.result in
+    let many : queues ≡ length (queues_of g.C.ShardCore.name shape c.args.home c.args.knobs) =
+    c.queue_count-queues.ensures c.args.home c.args.knobs ∙ ap (λ n. length (queues_of n shape c.args.home c.args.knobs)) c.lock_name.ensures in
     let start =
     is_placed _ _ g.C.ShardCore.shard_table g.C.ShardCore.good g.C.ShardCore.cause g.C.ShardCore.further g.C.ShardCore.layout g.met.C.ShardCore.shard_laws core g.C.ShardCore.name (g.C.ShardCore.defined shape c.args.home c.args.knobs site) shape c.args.home c.args.knobs c.args.geom c.args.shard
-    c.args.room.updates.items c.args.room.calls.items c.args.queues (g.met.C.ShardCore.has_queues shape c.args.home c.args.knobs site) c.in_ok-core.ensures.defined (g.met.C.ShardCore.laid shape c.args.home c.args.knobs site) c.in_ok-core.ensures.layout
-    c.requires.fits c.requires.updates.1 updates calls c.requires.proper.some c.requires.proper.few c.requires.queues in
+    c.args.room.updates.items c.args.room.calls.items queues (g.met.C.ShardCore.has_queues shape c.args.home c.args.knobs site) c.in_ok-core.ensures.defined (g.met.C.ShardCore.laid shape c.args.home c.args.knobs site) c.in_ok-core.ensures.layout
+    c.requires.fits c.requires.updates.1 updates calls c.requires.proper.some c.requires.proper.few many in
     record {
-      start = subst (λ n. IsStart g.C.ShardCore.shard_table g.C.ShardCore.good g.C.ShardCore.layout core n c.args.queues c.as_slice.result.now) (sym nodes)
-          (subst (IsStart g.C.ShardCore.shard_table g.C.ShardCore.good g.C.ShardCore.layout core shape.nodes c.args.queues) (sym c.as_slice.ensures.value) start);
+      start = subst (λ n. IsStart g.C.ShardCore.shard_table g.C.ShardCore.good g.C.ShardCore.layout core n queues c.as_slice.result.now) (sym nodes)
+          (subst (IsStart g.C.ShardCore.shard_table g.C.ShardCore.good g.C.ShardCore.layout core shape.nodes queues) (sym c.as_slice.ensures.value) start);
     }
 
 pub returns-clause-shard : goal.returns-clause-shard
@@ -32,4 +36,8 @@ returns-clause-shard g c =
 
 pub returns-clause-views : goal.returns-clause-views
 returns-clause-views g c =
-    subst (λ l. IfOk c.start.result (λ p. map counted_at p.1.items ≡ first_counted (table_at g.C.ShardCore.shard_table p.0) c.args.queues l)) c.as_slice.ensures.value c.start.ensures.views
+    let shape = c.args.shape.now in
+    let many : c.queue_count-queues.result ≡ length (queues_of g.C.ShardCore.name shape c.args.home c.args.knobs) =
+    c.queue_count-queues.ensures c.args.home c.args.knobs ∙ ap (λ n. length (queues_of n shape c.args.home c.args.knobs)) c.lock_name.ensures in
+    subst (λ q. IfOk c.start.result (λ p. map counted_at p.1.items ≡ first_counted (table_at g.C.ShardCore.shard_table p.0) q c.args.room.calls.items)) many
+    (subst (λ l. IfOk c.start.result (λ p. map counted_at p.1.items ≡ first_counted (table_at g.C.ShardCore.shard_table p.0) c.queue_count-queues.result l)) c.as_slice.ensures.value c.start.ensures.views)
