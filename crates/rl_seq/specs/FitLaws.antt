@@ -50,44 +50,12 @@ no_store (Journal made) e = absurd (cc)
 no_store (Volume made) e = absurd (cc)
 
 module _ (site : Site) (r : ℕ) (at_standing : Standing) (w : TheWork) where
-  -- while the version is odd, the words change
-  pub fits_odd : (words vs : List ℕ) (now : ℕ) → (now % 2 ≡ 0 → ⊥) → (st : SeqStage) → is_decided st ≡ false → SeqFitsAt site words now r at_standing w st → SeqFitsAt site vs now r at_standing w st
-  fits_odd words vs now odd st e f = by_stage st e f where
-    not_now : (version : ℕ) → HasVersion site version now → now ≡ version → ⊥
-    not_now version h same = odd (let even : version % 2 ≡ 0 = h.even in ap (λ n. n % 2) same ∙ even)
-
-    reading : (version count : ℕ) (next : Option ℕ) → IsReadingOut site words now r at_standing w version count next → IsReadingOut site vs now r at_standing w version count next
-    reading version count next f =
-        record {
-          getting = f.getting;
-          has = f.has;
-          still = record { same_count = λ e. absurd (not_now version f.has e); same_words = λ e. absurd (not_now version f.has e) };
-          wants = f.wants;
-          named = f.named;
-        }
-
-    by_stage : (st : SeqStage) → is_decided st ≡ false → SeqFitsAt site words now r at_standing w st → SeqFitsAt site vs now r at_standing w st
-    by_stage stage.Locked e f = f
-    by_stage stage.Look e f = f
-    by_stage (stage.Count version) e f = f
-    by_stage (stage.Read version count word) e f = reading version count (Some word) f
-    by_stage (stage.Again version count) e f = reading version count None f
-    by_stage stage.Decided e f = absurd (cc)
-    by_stage (stage.Open version) e f = absurd (cc)
-    by_stage (stage.Write version) e f = absurd (cc)
-    by_stage (stage.Close version) e f = absurd (cc)
-
-  -- another rank raises the version
-  pub fits_raised : (words : List ℕ) (now next : ℕ) → now < next → (length site.rooms ≡ 1 → ⊥) → (st : SeqStage) → is_decided st ≡ false → SeqFitsAt site words now r at_standing w st → SeqFitsAt site words next r at_standing w st
-  fits_raised words now next up others st e f = by_stage st e f where
-    has : (version : ℕ) → HasVersion site version now → HasVersion site version next
-    has version h = record { even = h.even; past = let low = h.past in omega arith; alone = λ one. absurd (others one) }
-
-    not_now : (version : ℕ) → HasVersion site version now → next ≡ version → ⊥
-    not_now version h same = let low = h.past in omega arith
-
-    reading : (version count : ℕ) (o : Option ℕ) → IsReadingOut site words now r at_standing w version count o → IsReadingOut site words next r at_standing w version count o
-    reading version count o f =
+  -- where words and version change, a get that has found a version has found one still, and not the new one
+  fits_later : (words vs : List ℕ) (now next : ℕ) → ((version : ℕ) → HasVersion site version now → HasVersion site version next) → ((version : ℕ) → HasVersion site version now → next ≡ version → ⊥) →
+      (st : SeqStage) → is_decided st ≡ false → SeqFitsAt site words now r at_standing w st → SeqFitsAt site vs next r at_standing w st
+  fits_later words vs now next has not_now st e f = by_stage st e f where
+    reading : (version count : ℕ) (wanted : Option ℕ) → IsReadingOut site words now r at_standing w version count wanted → IsReadingOut site vs next r at_standing w version count wanted
+    reading version count wanted f =
         record {
           getting = f.getting;
           has = has version f.has;
@@ -96,7 +64,7 @@ module _ (site : Site) (r : ℕ) (at_standing : Standing) (w : TheWork) where
           named = f.named;
         }
 
-    by_stage : (st : SeqStage) → is_decided st ≡ false → SeqFitsAt site words now r at_standing w st → SeqFitsAt site words next r at_standing w st
+    by_stage : (st : SeqStage) → is_decided st ≡ false → SeqFitsAt site words now r at_standing w st → SeqFitsAt site vs next r at_standing w st
     by_stage stage.Locked e f = f
     by_stage stage.Look e f = f
     by_stage (stage.Count version) e f = (f.0, has version f.1, f.2)
@@ -106,6 +74,15 @@ module _ (site : Site) (r : ℕ) (at_standing : Standing) (w : TheWork) where
     by_stage (stage.Open version) e f = absurd (cc)
     by_stage (stage.Write version) e f = absurd (cc)
     by_stage (stage.Close version) e f = absurd (cc)
+
+  -- while the version is odd, the words change
+  pub fits_odd : (words vs : List ℕ) (now : ℕ) → (now % 2 ≡ 0 → ⊥) → (st : SeqStage) → is_decided st ≡ false → SeqFitsAt site words now r at_standing w st → SeqFitsAt site vs now r at_standing w st
+  fits_odd words vs now odd = fits_later words vs now now (λ version h. h) (λ version h same. odd (let even : version % 2 ≡ 0 = h.even in ap (λ n. n % 2) same ∙ even))
+
+  -- another rank raises the version
+  pub fits_raised : (words : List ℕ) (now next : ℕ) → now < next → (length site.rooms ≡ 1 → ⊥) → (st : SeqStage) → is_decided st ≡ false → SeqFitsAt site words now r at_standing w st → SeqFitsAt site words next r at_standing w st
+  fits_raised words now next up others =
+      fits_later words words now next (λ version h. record { even = h.even; past = let low = h.past in omega arith; alone = λ one. absurd (others one) }) (λ version h same. let low = h.past in omega arith)
 
 -- a side stands in the work inside the lock as it stands, or is about to leave
 standing_back : (x : SeqRank) (st : Standing) → (st ≡ Leaving → ⊥) → (as_locked x).standing ≡ st → x.standing ≡ st

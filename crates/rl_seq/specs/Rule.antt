@@ -16,38 +16,23 @@ use Rattle.rl_seq.specs.SeqWork.{TheSeqWork, seq_atom, seq_after, seq_table}
 
 -- a get alone is open
 abbrev pub is_getting : SeqStage → Bool
-is_getting stage.Locked = false
 is_getting stage.Look = true
 is_getting (stage.Count version) = true
 is_getting (stage.Read version count word) = true
 is_getting (stage.Again version count) = true
-is_getting stage.Decided = false
-is_getting (stage.Open version) = false
-is_getting (stage.Write version) = false
-is_getting (stage.Close version) = false
+is_getting st = false
 
 -- the version that it has found, and the count
 abbrev pub found_version : SeqStage → Option ℕ
-found_version stage.Locked = None
-found_version stage.Look = None
 found_version (stage.Count version) = Some version
 found_version (stage.Read version count word) = Some version
 found_version (stage.Again version count) = Some version
-found_version stage.Decided = None
-found_version (stage.Open version) = None
-found_version (stage.Write version) = None
-found_version (stage.Close version) = None
+found_version st = None
 
 abbrev pub found_count : SeqStage → Option ℕ
-found_count stage.Locked = None
-found_count stage.Look = None
-found_count (stage.Count version) = None
 found_count (stage.Read version count word) = Some count
 found_count (stage.Again version count) = Some count
-found_count stage.Decided = None
-found_count (stage.Open version) = None
-found_count (stage.Write version) = None
-found_count (stage.Close version) = None
+found_count st = None
 
 -- it is a way of working
 abbrev pub IsWay : Type 0

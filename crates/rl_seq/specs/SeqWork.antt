@@ -142,14 +142,8 @@ seq_after at rank x got = seq_stage_after at rank x.work got x.stage
 -- whether the atom of a stage touches what the lock guards, and if so whether it writes; gets alone and the version don't count
 abbrev pub touch_at : TheWork → SeqStage → Option Bool
 touch_at w stage.Locked = Some (stores w.stage)
-touch_at w stage.Look = None
-touch_at w (stage.Count version) = None
-touch_at w (stage.Read version count word) = None
-touch_at w (stage.Again version count) = None
-touch_at w stage.Decided = None
-touch_at w (stage.Open version) = None
 touch_at w (stage.Write version) = Some (stores w.stage)
-touch_at w (stage.Close version) = None
+touch_at w st = None
 
 abbrev pub touch : TheSeqWork → Option Bool
 touch x = touch_at x.work x.stage
@@ -157,29 +151,15 @@ touch x = touch_at x.work x.stage
 -- a block is open, as far as the work goes
 abbrev pub is_open_at : TheWork → SeqStage → Bool
 is_open_at w stage.Locked = has_work w.stage
-is_open_at w stage.Look = true
-is_open_at w (stage.Count version) = true
-is_open_at w (stage.Read version count word) = true
-is_open_at w (stage.Again version count) = true
-is_open_at w stage.Decided = true
-is_open_at w (stage.Open version) = true
-is_open_at w (stage.Write version) = true
-is_open_at w (stage.Close version) = true
+is_open_at w st = true
 
 abbrev pub is_open : TheSeqWork → Bool
 is_open x = is_open_at x.work x.stage
 
 -- a block is open whose entries haven't joined the transcript yet: they join with the store of the count, one atom before its end
 abbrev pub owes_at : TheWork → SeqStage → Bool
-owes_at w stage.Locked = has_work w.stage
-owes_at w stage.Look = true
-owes_at w (stage.Count version) = true
-owes_at w (stage.Read version count word) = true
-owes_at w (stage.Again version count) = true
-owes_at w stage.Decided = true
-owes_at w (stage.Open version) = true
-owes_at w (stage.Write version) = true
 owes_at w (stage.Close version) = false
+owes_at w st = is_open_at w st
 
 abbrev pub owes : TheSeqWork → Bool
 owes x = owes_at x.work x.stage

@@ -204,41 +204,36 @@ module _ (at : SeqSite) (r : ℕ) (w : TheWork) (got : ℕ) where
   abbrev Loses : ℕ → ℕ → SeqStage → Type 0
   Loses guess seen st = (count : ℕ) × (st ≡ stage.Again guess count) × (seen ≡ got) × (got ≢ guess)
 
-  -- of the stages that only move
-  only_moves : (st : SeqStage) → (st ≡ stage.Look → ⊥) → ((v count : ℕ) → st ≡ stage.Again v count → ⊥) → (seq_stage_after at r w got st).stepped ≡ Moved
-  only_moves stage.Locked no_look no_check = loaded_each IsMoved _ _ _ refl refl refl
-  only_moves stage.Look no_look no_check = absurd (no_look refl)
-  only_moves (stage.Count v) no_look no_check = read_each IsMoved w v got (wanted at.site.geom w) (λ next. refl) refl
-  only_moves (stage.Read v count word) no_look no_check = let y : TheWork = with_word w word got in read_each IsMoved y v count (wanted at.site.geom y) (λ next. refl) refl
-  only_moves (stage.Again v count) no_look no_check = absurd (no_check v count refl)
-  only_moves stage.Decided no_look no_check = refl
-  only_moves (stage.Open v) no_look no_check = refl
-  only_moves (stage.Write v) no_look no_check = stored_each IsMoved v _ _ refl refl
-  only_moves (stage.Close v) no_look no_check = refl
+  -- all other stages only move
+  by_move : (P : SeqStage → Type 0) → ((st : SeqStage) → (seq_stage_after at r w got st).stepped ≡ Moved → P st) → P stage.Look → ((v count : ℕ) → P (stage.Again v count)) → (st : SeqStage) → P st
+  by_move P moves look check stage.Locked = moves stage.Locked (loaded_each IsMoved _ _ _ refl refl refl)
+  by_move P moves look check stage.Look = look
+  by_move P moves look check (stage.Count v) = moves (stage.Count v) (read_each IsMoved w v got (wanted at.site.geom w) (λ next. refl) refl)
+  by_move P moves look check (stage.Read v count word) =
+      let y : TheWork = with_word w word got in moves (stage.Read v count word) (read_each IsMoved y v count (wanted at.site.geom y) (λ next. refl) refl)
+  by_move P moves look check (stage.Again v count) = check v count
+  by_move P moves look check stage.Decided = moves stage.Decided refl
+  by_move P moves look check (stage.Open v) = moves (stage.Open v) refl
+  by_move P moves look check (stage.Write v) = moves (stage.Write v) (stored_each IsMoved v _ _ refl refl)
+  by_move P moves look check (stage.Close v) = moves (stage.Close v) refl
 
   pub waits_at : (word value : ℕ) (st : SeqStage) → ((seq_stage_after at r w got st).stepped ≡ Waiting word value) ↔ Waits word value st
   waits_at word value st = (forth st, back st) where
-    none : (st : SeqStage) → (st ≡ stage.Look → ⊥) → ((v count : ℕ) → st ≡ stage.Again v count → ⊥) → (seq_stage_after at r w got st).stepped ≡ Waiting word value → Waits word value st
-    none st no_look no_check e = let m = only_moves st no_look no_check in absurd (cc)
-
     forth : (st : SeqStage) → (seq_stage_after at r w got st).stepped ≡ Waiting word value → Waits word value st
-    forth stage.Locked e = none stage.Locked (λ q. cc) (λ v c q. cc) e
-    forth stage.Look e =
-        elim (got % 2 == 0) as (λ b. (got % 2 == 0) ≡ b → (looked_by at w got b).stepped ≡ Waiting word value → Waits word value stage.Look) [
-          | true ↦ λ is f. absurd (cc)
-          | false ↦ λ is f. (refl, λ even. let hit : (got % 2 == 0) ≡ true = grind (arith, nat_tests) in cc, (let same : version_word at ≡ word = cc in sym same), (let same : got ≡ value = cc in sym same))
-        ] refl e
-    forth (stage.Count v) e = none (stage.Count v) (λ q. cc) (λ v c q. cc) e
-    forth (stage.Read v count word) e = none (stage.Read v count word) (λ q. cc) (λ v c q. cc) e
-    forth (stage.Again v count) e =
-        elim (got == v) as (λ b. (checked_by at r w v count got b).stepped ≡ Waiting word value → Waits word value (stage.Again v count)) [
-          | true ↦ λ f. absurd (cc)
-          | false ↦ λ f. absurd (cc)
-        ] e
-    forth stage.Decided e = none stage.Decided (λ q. cc) (λ v c q. cc) e
-    forth (stage.Open v) e = none (stage.Open v) (λ q. cc) (λ v c q. cc) e
-    forth (stage.Write v) e = none (stage.Write v) (λ q. cc) (λ v c q. cc) e
-    forth (stage.Close v) e = none (stage.Close v) (λ q. cc) (λ v c q. cc) e
+    forth = by_move (λ z. (seq_stage_after at r w got z).stepped ≡ Waiting word value → Waits word value z) (λ z moved e. absurd (cc)) look check where
+      look : (seq_stage_after at r w got stage.Look).stepped ≡ Waiting word value → Waits word value stage.Look
+      look e =
+          elim (got % 2 == 0) as (λ b. (got % 2 == 0) ≡ b → (looked_by at w got b).stepped ≡ Waiting word value → Waits word value stage.Look) [
+            | true ↦ λ is f. absurd (cc)
+            | false ↦ λ is f. (refl, λ even. let hit : (got % 2 == 0) ≡ true = grind (arith, nat_tests) in cc, (let same : version_word at ≡ word = cc in sym same), (let same : got ≡ value = cc in sym same))
+          ] refl e
+
+      check : (v count : ℕ) → (seq_stage_after at r w got (stage.Again v count)).stepped ≡ Waiting word value → Waits word value (stage.Again v count)
+      check v count e =
+          elim (got == v) as (λ b. (checked_by at r w v count got b).stepped ≡ Waiting word value → Waits word value (stage.Again v count)) [
+            | true ↦ λ f. absurd (cc)
+            | false ↦ λ f. absurd (cc)
+          ] e
 
     back : (st : SeqStage) → Waits word value st → (seq_stage_after at r w got st).stepped ≡ Waiting word value
     back st q =
@@ -250,29 +245,23 @@ module _ (at : SeqSite) (r : ℕ) (w : TheWork) (got : ℕ) where
 
   pub loses_at : (guess seen : ℕ) (st : SeqStage) → ((seq_stage_after at r w got st).stepped ≡ Lost guess seen) ↔ Loses guess seen st
   loses_at guess seen st = (forth st, back st) where
-    none : (st : SeqStage) → (st ≡ stage.Look → ⊥) → ((v count : ℕ) → st ≡ stage.Again v count → ⊥) → (seq_stage_after at r w got st).stepped ≡ Lost guess seen → Loses guess seen st
-    none st no_look no_check e = let m = only_moves st no_look no_check in absurd (cc)
-
     forth : (st : SeqStage) → (seq_stage_after at r w got st).stepped ≡ Lost guess seen → Loses guess seen st
-    forth stage.Locked e = none stage.Locked (λ q. cc) (λ v c q. cc) e
-    forth stage.Look e =
-        elim (got % 2 == 0) as (λ b. (looked_by at w got b).stepped ≡ Lost guess seen → Loses guess seen stage.Look) [
-          | true ↦ λ f. absurd (cc)
-          | false ↦ λ f. absurd (cc)
-        ] e
-    forth (stage.Count v) e = none (stage.Count v) (λ q. cc) (λ v c q. cc) e
-    forth (stage.Read v count word) e = none (stage.Read v count word) (λ q. cc) (λ v c q. cc) e
-    forth (stage.Again v count) e =
-        elim (got == v) as (λ b. (got == v) ≡ b → (checked_by at r w v count got b).stepped ≡ Lost guess seen → Loses guess seen (stage.Again v count)) [
-          | true ↦ λ is f. absurd (cc)
-          | false ↦ λ is f.
-              let same : v ≡ guess = cc in
-              (count, ap (λ z. stage.Again z count) same, (let s : got ≡ seen = cc in sym s), λ q. let hit : (got == v) ≡ true = grind (arith, nat_tests) in cc)
-        ] refl e
-    forth stage.Decided e = none stage.Decided (λ q. cc) (λ v c q. cc) e
-    forth (stage.Open v) e = none (stage.Open v) (λ q. cc) (λ v c q. cc) e
-    forth (stage.Write v) e = none (stage.Write v) (λ q. cc) (λ v c q. cc) e
-    forth (stage.Close v) e = none (stage.Close v) (λ q. cc) (λ v c q. cc) e
+    forth = by_move (λ z. (seq_stage_after at r w got z).stepped ≡ Lost guess seen → Loses guess seen z) (λ z moved e. absurd (cc)) look check where
+      look : (seq_stage_after at r w got stage.Look).stepped ≡ Lost guess seen → Loses guess seen stage.Look
+      look e =
+          elim (got % 2 == 0) as (λ b. (looked_by at w got b).stepped ≡ Lost guess seen → Loses guess seen stage.Look) [
+            | true ↦ λ f. absurd (cc)
+            | false ↦ λ f. absurd (cc)
+          ] e
+
+      check : (v count : ℕ) → (seq_stage_after at r w got (stage.Again v count)).stepped ≡ Lost guess seen → Loses guess seen (stage.Again v count)
+      check v count e =
+          elim (got == v) as (λ b. (got == v) ≡ b → (checked_by at r w v count got b).stepped ≡ Lost guess seen → Loses guess seen (stage.Again v count)) [
+            | true ↦ λ is f. absurd (cc)
+            | false ↦ λ is f.
+                let same : v ≡ guess = cc in
+                (count, ap (λ z. stage.Again z count) same, (let s : got ≡ seen = cc in sym s), λ q. let hit : (got == v) ≡ true = grind (arith, nat_tests) in cc)
+          ] refl e
 
     back : (st : SeqStage) → Loses guess seen st → (seq_stage_after at r w got st).stepped ≡ Lost guess seen
     back st q =
