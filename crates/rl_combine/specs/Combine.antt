@@ -197,71 +197,31 @@ combine_after S rank x got = stage_after S rank x got x.stage
 
 -- the atom of this stage touches what the lock guards, and whether it writes there
 abbrev pub touch_at : Stage → Option Bool
-touch_at Rest = None
-touch_at (Post made) = None
-touch_at Raise = None
-touch_at Look = None
 touch_at Count = Some false
-touch_at (Sweep owner) = None
-touch_at (Copy owner made) = None
 touch_at (Read owner word) = Some false
 touch_at (Journal owner made) = Some true
 touch_at (Volume owner made) = Some true
-touch_at (Answer owner made) = None
-touch_at (Mark owner) = None
-touch_at (Collect made) = None
-touch_at Lower = None
+touch_at _ = None
 
 -- what follows the atom of a stage: the lock is asked for once the call is posted, and the call is over once its flag is lowered
 abbrev pub follow_of : Stage → Follow
-follow_of Rest = On
-follow_of (Post made) = On
 follow_of Raise = Ask mode.Write
-follow_of Look = On
-follow_of Count = On
-follow_of (Sweep owner) = On
-follow_of (Copy owner made) = On
-follow_of (Read owner word) = On
-follow_of (Journal owner made) = On
-follow_of (Volume owner made) = On
-follow_of (Answer owner made) = On
-follow_of (Mark owner) = On
-follow_of (Collect made) = On
 follow_of Lower = Over
+follow_of _ = On
 
 -- a call is open
 abbrev pub is_open : Stage → Bool
 is_open Rest = false
-is_open (Post made) = true
-is_open Raise = true
-is_open Look = true
-is_open Count = true
-is_open (Sweep owner) = true
-is_open (Copy owner made) = true
-is_open (Read owner word) = true
-is_open (Journal owner made) = true
-is_open (Volume owner made) = true
-is_open (Answer owner made) = true
-is_open (Mark owner) = true
-is_open (Collect made) = true
-is_open Lower = true
+is_open _ = true
 
 -- the rank whose posted call is in hand: all its words were copied
 abbrev pub in_hand : Stage → Option ℕ
-in_hand Rest = None
-in_hand (Post made) = None
-in_hand Raise = None
-in_hand Look = None
-in_hand Count = None
-in_hand (Sweep owner) = None
-in_hand (Copy owner made) = None
 in_hand (Read owner word) = Some owner
 in_hand (Journal owner made) = Some owner
 in_hand (Volume owner made) = Some owner
 in_hand (Answer owner made) = Some owner
 in_hand (Mark owner) = Some owner
-in_hand (Collect made) = None
-in_hand Lower = None
+in_hand _ = None
 
 -- the entry is that of the rank's call with this number
 abbrev pub is_call : ℕ → ℕ → Entry → Bool

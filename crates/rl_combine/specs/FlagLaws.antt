@@ -1,37 +1,37 @@
 -- The promises of a sweep and of the flags.
-use Rattle.std.specs.Prelude.{◌≡◌, ◌≢◌, ◌⊎◌, ℕ, suc, ◌+◌, ◌*◌, ◌<◌, ◌≤◌, ◌^◌, ◌==◌, Bool, true, false, cond, List, [], ◌∷◌, ◌++◌, slice_get, slice_index, slice_set, Option, Some, None, refl}
-use Rattle.std.proofs.Common.{sym, ◌∙◌, ap, subst, inl, inr, ⊎_elim, arith, get_or-set_other}
-use Rattle.std.proofs.lemmas.List.{same_from_push}
+use Rattle.std.specs.Prelude.{◌≡◌, ◌≢◌, ◌⊎◌, ℕ, suc, ◌+◌, ◌*◌, ◌<◌, ◌≤◌, ◌^◌, ◌==◌, Bool, true, false, cond, List, [], ◌∷◌, ◌++◌, All, length, slice_get, slice_index, slice_set, Option, Some, None, refl}
+use Rattle.std.proofs.Common.{sym, ◌∙◌, ap, subst, inl, inr, ⊎_elim, arith, length-append, get_or-set_other}
+use Rattle.std.proofs.lemmas.List.{get_or-append-add}
+use Rattle.std.proofs.lemmas.List.Elements.{All-get_or}
 use Rattle.std.proofs.lemmas.Option.{same_Some}
-use Rattle.rl_word.specs.Places.{same_or_not, one_at}
+use Rattle.rl_word.specs.Places.{same_or_not, get_map}
 use Rattle.rl_word.specs.declared.acts.Atom.{Atom}
 use Rattle.rl_word.specs.declared.acts.Atom.TheVariants as atom
 use Rattle.rl_model.specs.declared.entry.Entry.{Entry}
 use Rattle.rl_model.specs.Call.{is_update}
-use Rattle.rl_step.specs.declared.events.Standing.TheVariants.{Writer, Leaving}
-use Rattle.rl_step.specs.Do.{do_words}
 use Rattle.rl_volume.specs.declared.write.Write.{Write}
 use Rattle.rl_volume.specs.Seen.{next_word}
-use Rattle.rl_work.specs.Site.{count_word, volume_base, journal_base}
-use Rattle.rl_work.specs.Ways.{Worked, IsApart, IsLaid}
 use Rattle.rl_journal.specs.Journal.{spelling}
+use Rattle.rl_journal.specs.Legal.{IsLegalRead}
 use Rattle.rl_work.specs.declared.stage.Stage.TheVariants as block
+use Rattle.rl_work.specs.Site.{count_word, volume_base, journal_base}
 use Rattle.rl_work.specs.Transcript.{TheTranscript}
+use Rattle.rl_work.specs.Ways.{Worked, IsApart, IsLaid, journal_by}
 use Rattle.rl_work.specs.Work.{write_atom, work_atom, more_entries}
-use Rattle.rl_work.specs.WorkGood.{WorkSide as Seat}
+use Rattle.rl_work.specs.WorkGood.{WorkSide as Seat, transcript_of}
+use Rattle.rl_work.specs.RuleLaws.{always_legal}
 use Rattle.rl_combine.specs.declared.stage.Stage.{Stage}
 use Rattle.rl_combine.specs.declared.stage.Stage.TheVariants.{Rest, Post, Raise, Look, Count, Sweep, Copy, Read, Journal, Volume, Answer, Mark, Collect, Lower}
 use Rattle.rl_combine.specs.Posts.{CombineSite, ThePost, ranks_of, post_word, flag_word, post_of, answered_entry}
-use Rattle.rl_combine.specs.Combine.{TheCombineSide, opened_of, combine_after, combine_table, in_hand, is_open, early, stage_atom, stage_after, to_stage, to_collect, with_copied, with_posted, with_word, read_next, read_on, written_on, decided_stage}
-use Rattle.rl_combine.specs.CombineGood.{RankSide, IsAnswered, Progress, waits, handled, counted, answered, IsPosted, OwnAt, SweepAt, IsHeld, CombineGood, deciding}
-use Rattle.rl_combine.specs.Sweep.{after_all, atoms_of, StoresTwo, IsLateAt, IsLate, FlagSays, FlagMoves}
+use Rattle.rl_combine.specs.Combine.{TheCombineSide, opened_of, combine_after, combine_table, is_open, early, stage_atom, stage_after, to_stage, to_collect, with_copied, with_posted, with_word, read_next, read_on, written_on, decided_stage}
+use Rattle.rl_combine.specs.CombineGood.{RankSide, front_of, IsAnswered, Progress, waits, handled, counted, answered, IsPosted, OwnAt, SweepAt, CombineGood, deciding}
+use Rattle.rl_combine.specs.Sweep.{after_all, atoms_of, StoresTwo, IsLate, FlagSays, StoresFlag, FlagMoves, passes, raises, lowers, marks}
 use Rattle.rl_combine.specs.PostLaws.{others_stay, posts_stay, flag_stored}
-use Rattle.rl_combine.specs.SideLaws.{found, hand_writes}
+use Rattle.rl_combine.specs.SideLaws.{found}
 use Rattle.rl_combine.specs.MoveLaws.{seat_of, is_rank}
 use Rattle.rl_combine.specs.OwnLaws.{found_flag}
 use Rattle.rl_combine.specs.SeatLaws.{seat_word}
-use Rattle.rl_combine.specs.LookLaws.{no_more_entries}
-use Rattle.rl_combine.specs.TranscriptLaws.{HasNone, HasOne, shown}
+use Rattle.rl_combine.specs.LateLaws.{none_of, one_of, late_by, late_says}
 
 -- a flag that was found 1 is held until 2 is stored there
 by_test : (b : Bool) (s t : Worked TheCombineSide) (owner : ℕ) → found s.work.stage ≡ Some owner → found t.work.stage ≡ Some owner → found (cond b s t).work.stage ≡ Some owner
@@ -136,79 +136,57 @@ sweep_stores S r x owner more at over =
     record { place = suc later.place; is = later.is }
 
 module _ (S : CombineSite) (node : ℕ → ℕ) (words : List ℕ) (laid : IsLaid (combine_table S node) words) (sides : List RankSide) (g : CombineGood S words sides) (k : ℕ) (x : RankSide) (has : slice_get sides k ≡ Some x) where
-  -- a seat that leaves is that of a late writer
-  late_by : (y : Seat) → slice_get g.seats k ≡ Some y → y.standing ≡ Leaving → IsLate sides k
-  late_by y seat leaves = ⊎_elim (λ out. absurd (cc)) held (g.held k y seat) where
-    not_writing : (v : Seat) (owner : ℕ) → slice_get g.seats owner ≡ Some v → owner ≡ k → v.standing ≡ Writer → ⊥
-    not_writing v owner there same writes =
-        let v_is : v ≡ y = one_at g.seats k v y (subst (λ n. slice_get g.seats n ≡ Some v) same there) seat in
-        let stands : v.standing ≡ Leaving = ap (λ (u : Seat). u.standing) v_is ∙ leaves in
-        cc
-
-    by_stage : (q : ℕ) (z : RankSide) (st : Stage) → SweepAt S words g.seats q z.work st → in_hand st ≡ Some k → IsLateAt st k
-    by_stage q z Rest s e = absurd (cc)
-    by_stage q z (Post made) s e = absurd (cc)
-    by_stage q z Raise s e = absurd (cc)
-    by_stage q z Look s e = absurd (cc)
-    by_stage q z Count s e = absurd (cc)
-    by_stage q z (Sweep owner) s e = absurd (cc)
-    by_stage q z (Copy owner made) s e = absurd (cc)
-    by_stage q z (Read owner word) s e = absurd (not_writing _ owner s.1.seat (same_Some owner k e) refl)
-    by_stage q z (Journal owner made) s e = absurd (not_writing _ owner s.1.seat (same_Some owner k e) refl)
-    by_stage q z (Volume owner made) s e = absurd (not_writing _ owner s.1.seat (same_Some owner k e) refl)
-    by_stage q z (Answer owner made) s e = same_Some owner k e
-    by_stage q z (Mark owner) s e = same_Some owner k e
-    by_stage q z (Collect made) s e = absurd (cc)
-    by_stage q z Lower s e = absurd (cc)
-
-    held : IsHeld sides k → IsLate sides k
-    held h =
-        let u = seat_of S node words laid sides g h.holder h.side h.there in
-        record {
-          rank = h.holder;
-          side = h.side;
-          there = h.there;
-          writes = hand_writes S (post_of S words h.holder) h.holder h.side u.0 h.side.work.stage (g.own h.holder h.side u.0 h.there u.1) k h.holds;
-          late = by_stage h.holder h.side h.side.work.stage (g.sweeps h.holder h.side h.there) h.holds;
-        }
-
-  -- the entry that is done early, by the seat
-  none_of : (y : Seat) → slice_get g.seats k ≡ Some y → y.work.transcript ≡ x.work.kept → early S words k x.work ≡ []
-  none_of y seat has_none =
-      ⊎_elim (λ (n : HasNone S words k x.work y). n.none) (λ (o : HasOne S words k x.work y). absurd (no_more_entries x.work.kept o.entry (sym has_none ∙ o.has))) (shown S words sides g k x y seat has)
-
-  one_of : (y : Seat) (e : Entry) → slice_get g.seats k ≡ Some y → y.work.transcript ≡ more_entries x.work.kept (e ∷ []) → early S words k x.work ≡ e ∷ []
-  one_of y e seat has_one =
-      ⊎_elim
-      (λ (n : HasNone S words k x.work y). absurd (no_more_entries x.work.kept e (sym n.has ∙ has_one)))
-      (λ (o : HasOne S words k x.work y).
-      let same : x.work.kept.items ++ o.entry ∷ [] ≡ x.work.kept.items ++ e ∷ [] = ap (λ (t : TheTranscript). t.items) (sym o.has ∙ has_one) in
-      o.one ∙ ap (λ e. e ∷ []) (same_from_push x.work.kept.items x.work.kept.items o.entry e same).1)
-      (shown S words sides g k x y seat has)
+  -- the call of a seat that has the entry of the answer is answered as is due
+  due_of : (y : Seat) (e : Entry) → slice_get g.seats k ≡ Some y → y.work.transcript ≡ more_entries x.work.kept (e ∷ []) → IsLegalRead S.site.geom (journal_by S.site words) e
+  due_of y e seat has_one =
+      let items : List Entry = x.work.kept.items in
+      let all : All (IsLegalRead S.site.geom (journal_by S.site words)) (items ++ e ∷ []) =
+      (always_legal S.site (front_of S words) g.seats g.work).reads_are k (items ++ e ∷ []) (get_map transcript_of g.seats k y seat ∙ ap (λ (t : TheTranscript). Some t.items) has_one) in
+      subst (IsLegalRead S.site.geom (journal_by S.site words)) (get_or-append-add items (e ∷ []) 0 e)
+      (All-get_or (IsLegalRead S.site.geom (journal_by S.site words)) (items ++ e ∷ []) (length items + 0) e (omega (arith, length-append items (e ∷ []))) all)
 
   -- what a flag of 0 says, and that of a posted call
   zero_says : (post_of S words k).flag ≡ 0 → FlagSays S words sides k x.work
-  zero_says low = record { few = inl low; posted = λ one. absurd (omega arith); not_done = λ one. absurd (omega arith); done = λ two. absurd (omega arith) }
+  zero_says low =
+      record {
+        few = inl low;
+        posted = λ one. absurd (omega arith);
+        not_done = λ one. absurd (omega arith);
+        late = late_says S node words laid sides g k x has;
+        done = λ two. absurd (omega arith);
+        due = λ two. absurd (omega arith);
+      }
 
   done_says : (y : Seat) → slice_get g.seats k ≡ Some y → is_open x.work.stage ≡ true → IsAnswered S (post_of S words k) k (opened_of x.work) y → FlagSays S words sides k x.work
   done_says y seat is a =
       let two : (post_of S words k).flag ≡ 2 = a.flag in
+      let e : Entry = answered_entry S.site.shard k x.work.seq x.work.call (post_of S words k).answer in
       record {
         few = inr (inr two);
         posted = λ one. absurd (omega arith);
         not_done = λ one. absurd (omega arith);
-        done = λ _. (is, one_of y (answered_entry S.site.shard k x.work.seq x.work.call (post_of S words k).answer) seat a.free.has);
+        late = late_says S node words laid sides g k x has;
+        done = λ _. (is, one_of S node words laid sides g k x has y e seat a.free.has);
+        due = λ _. due_of y e seat a.free.has;
       }
 
   posted_says : (y : Seat) → slice_get g.seats k ≡ Some y → is_open x.work.stage ≡ true → IsPosted S (post_of S words k) k (opened_of x.work) y → FlagSays S words sides k x.work
   posted_says y seat is p = by_case p.progress where
-    raised : (post_of S words k).flag ≡ 1 → (early S words k x.work ≡ []) ⊎ (IsLate sides k × (is_update x.work.call ≡ true)) → FlagSays S words sides k x.work
-    raised one open_still = record { few = inr (inl one); posted = λ _. (is, p.spelled); not_done = λ _. open_still; done = λ two. absurd (omega arith) }
+    raised : (post_of S words k).flag ≡ 1 → (early S words k x.work ≡ []) ⊎ IsLate sides k x.work → FlagSays S words sides k x.work
+    raised one open_still =
+        record {
+          few = inr (inl one);
+          posted = λ _. (is, p.spelled);
+          not_done = λ _. open_still;
+          late = late_says S node words laid sides g k x has;
+          done = λ two. absurd (omega arith);
+          due = λ two. absurd (omega arith);
+        }
 
     by_case : Progress S (post_of S words k) k (opened_of x.work) y → FlagSays S words sides k x.work
-    by_case (waits w) = raised w.flag (inl (none_of y seat w.free.has))
-    by_case (handled h) = raised h.flag (inl (none_of y seat h.has))
-    by_case (counted c) = raised c.flag (inr (late_by y seat c.leaves, c.update))
+    by_case (waits w) = raised w.flag (inl (none_of S node words laid sides g k x has y seat w.free.has))
+    by_case (handled h) = raised h.flag (inl (none_of S node words laid sides g k x has y seat h.has))
+    by_case (counted c) = raised c.flag (inr (late_by S node words laid sides g k x has y seat c))
     by_case (answered a) = done_says y seat is a
 
   says_at : (y : Seat) → slice_get g.seats k ≡ Some y → (st : Stage) → x.work.stage ≡ st → OwnAt S (post_of S words k) k x y st → FlagSays S words sides k x.work
@@ -261,30 +239,36 @@ module _ (S : CombineSite) (node : ℕ → ℕ) (words : List ℕ) (laid : IsLai
   pub answer_small : SmallAt
   answer_small = let s = seat_of S node words laid sides g k x has in small_at s.0 x.work.stage (g.own k x s.0 has s.1)
 
--- how an atom changes the flags
+-- who stores to the flags
 module _ (S : CombineSite) (node : ℕ → ℕ) (words : List ℕ) (laid : IsLaid (combine_table S node) words) (sides : List RankSide) (g : CombineGood S words sides) (apart : IsApart (combine_table S node) sides) (r : ℕ) (x : RankSide) (has : slice_get sides r ≡ Some x) (k : ℕ) where
   abbrev Moves : Atom → Type 0
-  Moves at = FlagMoves S words (do_words at words) r x k
+  Moves at = FlagMoves S words at r x k
+
+  -- a load
+  no_store : (w : ℕ) → Moves (atom.Load w)
+  no_store w = passes (λ e. e) refl
 
   -- a store to a word of a post, which is no flag
   no_flag : (owner i v : ℕ) → 1 ≤ i → i < 9 → Moves (atom.Store (post_word S owner i) v)
-  no_flag owner i v low few = inl (get_or-set_other words (post_word S owner i) (post_word S k 0) v 0 (λ e. absurd (omega arith)))
+  no_flag owner i v low few = passes (λ (e : post_word S owner i ≡ flag_word S k). absurd (omega arith)) (get_or-set_other words (post_word S owner i) (post_word S k 0) v 0 (λ e. absurd (omega arith)))
 
   flag_set : (owner v : ℕ) → owner < ranks_of S → (k ≡ owner → Moves (atom.Store (post_word S owner 0) v)) → Moves (atom.Store (post_word S owner 0) v)
   flag_set owner v there same =
       ⊎_elim
       (λ (e : k ≡ owner). same e)
-      (λ (ne : k ≢ owner). inl (ap (λ (p : ThePost). p.flag) (others_stay S words owner 0 v k (omega arith) ne)))
+      (λ (ne : k ≢ owner). passes (λ (e : post_word S owner 0 ≡ flag_word S k). absurd (ne (omega arith))) (ap (λ (p : ThePost). p.flag) (others_stay S words owner 0 v k (omega arith) ne)))
       (same_or_not k owner)
 
-  new_flag : (owner v : ℕ) → owner < ranks_of S → k ≡ owner → (post_of S (slice_set words (post_word S owner 0) v) k).flag ≡ v
-  new_flag owner v there e = subst (λ n. (post_of S (slice_set words (post_word S owner 0) v) n).flag ≡ v) (sym e) (ap (λ (p : ThePost). p.flag) (flag_stored S words owner v there laid.all))
-
-  old_flag : (owner v : ℕ) → k ≡ owner → (post_of S words owner).flag ≡ v → (post_of S words k).flag ≡ v
-  old_flag owner v e is = subst (λ n. (post_of S words n).flag ≡ v) (sym e) is
+  stored : (owner was v : ℕ) → owner < ranks_of S → (post_of S words owner).flag ≡ was → k ≡ owner → StoresFlag S words (atom.Store (post_word S owner 0) v) k was v
+  stored owner was v there is same =
+      record {
+        store = ap (λ n. atom.Store (post_word S n 0) v) (sym same);
+        before = subst (λ n. (post_of S words n).flag ≡ was) (sym same) is;
+        after = subst (λ n. (post_of S (slice_set words (post_word S owner 0) v) n).flag ≡ v) (sym same) (ap (λ (p : ThePost). p.flag) (flag_stored S words owner v there laid.all));
+      }
 
   front_store : (w v : ℕ) → w < S.behind → Moves (atom.Store w v)
-  front_store w v low = inl (ap (λ (p : ThePost). p.flag) (posts_stay S words w v k low))
+  front_store w v low = passes (λ (e : w ≡ flag_word S k). absurd (omega arith)) (ap (λ (p : ThePost). p.flag) (posts_stay S words w v k low))
 
   pub flag_moves : (at : Atom) → stage_atom S r x.work x.work.stage ≡ Some at → Moves at
   flag_moves at planned =
@@ -305,12 +289,12 @@ module _ (S : CombineSite) (node : ℕ → ℕ) (words : List ℕ) (laid : IsLai
       by_stage : (y : Seat) (st : Stage) → x.work.stage ≡ st → OwnAt S (post_of S words r) r x y st → SweepAt S words g.seats r x.work st → stage_atom S r x.work st ≡ Some at → Moves at
       by_stage y Rest e o w p = absurd (cc)
       by_stage y (Post made) e o w p = let few = o.1 in here _ (no_flag r (1 + made) _ (omega arith) (omega arith)) p
-      by_stage y Raise e o w p = here _ (flag_set r 1 rank (λ same. inr (inl (same, old_flag r 0 same o.1.flag, new_flag r 1 rank same)))) p
-      by_stage y Look e o w p = here (atom.Load (flag_word S r)) (inl refl) p
-      by_stage y Count e o w p = here (atom.Load count_word) (inl refl) p
-      by_stage y (Sweep owner) e o w p = here (atom.Load (flag_word S owner)) (inl refl) p
-      by_stage y (Copy owner made) e o w p = here (atom.Load (post_word S owner (1 + made))) (inl refl) p
-      by_stage y (Read owner word) e o w p = here (atom.Load (volume_base + word)) (inl refl) p
+      by_stage y Raise e o w p = here _ (flag_set r 1 rank (λ same. raises same (stored r 0 1 rank o.1.flag same))) p
+      by_stage y Look e o w p = here _ (no_store (flag_word S r)) p
+      by_stage y Count e o w p = here _ (no_store count_word) p
+      by_stage y (Sweep owner) e o w p = here _ (no_store (flag_word S owner)) p
+      by_stage y (Copy owner made) e o w p = here _ (no_store (post_word S owner (1 + made))) p
+      by_stage y (Read owner word) e o w p = here _ (no_store (volume_base + word)) p
       by_stage y (Journal owner made) e o w p =
           here _ (front_store (journal_base S.site.geom + (6 * x.work.count + made)) _ (let l = laid.low in
           let h = seat_word S node words laid sides g apart r x has owner (deciding x.work (block.Journal made) w.1.seen w.1.t) w.1.seat (journal_base S.site.geom + (6 * x.work.count + made)) (slice_index (spelling x.work.entry) made) refl in
@@ -318,6 +302,6 @@ module _ (S : CombineSite) (node : ℕ → ℕ) (words : List ℕ) (laid : IsLai
       by_stage y (Volume owner made) e o w p = here _ (by_write owner made (deciding x.work (block.Volume made) w.1.seen w.1.t) w.1.seat (slice_get x.work.writes made) refl) p
       by_stage y (Answer owner made) e o w p = let few = w.1 in here _ (no_flag owner (6 + made) _ (omega arith) (omega arith)) p
       by_stage y (Mark owner) e o w p =
-          here _ (flag_set owner 2 w.0.there (λ same. inr (inr (inr (o.0, old_flag owner 1 same (found_flag S node words laid sides g r x has owner (ap found e)), new_flag owner 2 w.0.there same))))) p
-      by_stage y (Collect made) e o w p = here (atom.Load (post_word S r (6 + made))) (inl refl) p
-      by_stage y Lower e o w p = here _ (flag_set r 0 rank (λ same. inr (inr (inl (same, old_flag r 2 same o.1.done.flag, new_flag r 0 rank same))))) p
+          here _ (flag_set owner 2 w.0.there (λ same. marks o.0 (e ∙ ap (λ n. Mark n) (sym same)) (stored owner 1 2 w.0.there (found_flag S node words laid sides g r x has owner (ap found e)) same))) p
+      by_stage y (Collect made) e o w p = here _ (no_store (post_word S r (6 + made))) p
+      by_stage y Lower e o w p = here _ (flag_set r 0 rank (λ same. lowers same (stored r 2 0 rank o.1.done.flag same))) p

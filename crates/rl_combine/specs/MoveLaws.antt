@@ -1,5 +1,5 @@
 -- How the rule is kept where one rank moves: alone, or with the seat of the rank whose call it has in hand.
-use Rattle.std.specs.Prelude.{◌≡◌, ◌≢◌, ◌⊎◌, ℕ, ◌<◌, List, [], ◌∷◌, slice_get, slice_set, Some}
+use Rattle.std.specs.Prelude.{◌≡◌, ◌≢◌, ◌↔◌, ◌⊎◌, ℕ, ◌<◌, List, [], ◌∷◌, slice_get, slice_set, Some}
 use Rattle.std.proofs.Common.{sym, ◌∙◌, ap, subst, inl, inr, ⊎_elim, arith, length-set}
 use Rattle.std.proofs.lemmas.Option.{slice_get_within}
 use Rattle.rl_word.specs.Places.{same_or_not, one_at, some_at, get_set_same, get_set_other, get_set_cases}
@@ -56,37 +56,24 @@ pub record Keeps (S : CombineSite) (words : List ℕ) (sides : List RankSide) (g
   pub seats : (k : ℕ) (y u : Seat) → slice_get g.seats k ≡ Some y → slice_get good.seats k ≡ Some u → SeatGoesOn S k y u
 
 module _ (S : CombineSite) (p : ThePost) (k : ℕ) (z : RankSide) (y : Seat) where
-  pub combiner_of : (st : Stage) → Combines st → OwnAt S p k z y st → IsCombiner S p k z y
-  combiner_of Rest c o = absurd c
-  combiner_of (Post made) c o = absurd c
-  combiner_of Raise c o = absurd c
-  combiner_of Look c o = absurd c
-  combiner_of Count c o = o
-  combiner_of (Sweep owner) c o = o
-  combiner_of (Copy owner made) c o = o
-  combiner_of (Read owner word) c o = o
-  combiner_of (Journal owner made) c o = o
-  combiner_of (Volume owner made) c o = o
-  combiner_of (Answer owner made) c o = o
-  combiner_of (Mark owner) c o = o
-  combiner_of (Collect made) c o = absurd c
-  combiner_of Lower c o = absurd c
+  own_as : (st : Stage) → Combines st → OwnAt S p k z y st ↔ IsCombiner S p k z y
+  own_as Rest c = absurd c
+  own_as (Post made) c = absurd c
+  own_as Raise c = absurd c
+  own_as Look c = absurd c
+  own_as Count c = (λ o. o, λ o. o)
+  own_as (Sweep owner) c = (λ o. o, λ o. o)
+  own_as (Copy owner made) c = (λ o. o, λ o. o)
+  own_as (Read owner word) c = (λ o. o, λ o. o)
+  own_as (Journal owner made) c = (λ o. o, λ o. o)
+  own_as (Volume owner made) c = (λ o. o, λ o. o)
+  own_as (Answer owner made) c = (λ o. o, λ o. o)
+  own_as (Mark owner) c = (λ o. o, λ o. o)
+  own_as (Collect made) c = absurd c
+  own_as Lower c = absurd c
 
-  own_of : (st : Stage) → Combines st → IsCombiner S p k z y → OwnAt S p k z y st
-  own_of Rest c o = absurd c
-  own_of (Post made) c o = absurd c
-  own_of Raise c o = absurd c
-  own_of Look c o = absurd c
-  own_of Count c o = o
-  own_of (Sweep owner) c o = o
-  own_of (Copy owner made) c o = o
-  own_of (Read owner word) c o = o
-  own_of (Journal owner made) c o = o
-  own_of (Volume owner made) c o = o
-  own_of (Answer owner made) c o = o
-  own_of (Mark owner) c o = o
-  own_of (Collect made) c o = absurd c
-  own_of Lower c o = absurd c
+  pub combiner_of : (st : Stage) → Combines st → OwnAt S p k z y st → IsCombiner S p k z y
+  combiner_of st c o = (own_as st c).0 o
 
 module _ (S : CombineSite) (node : ℕ → ℕ) (words : List ℕ) (laid : IsLaid (combine_table S node) words) (sides : List RankSide) (g : CombineGood S words sides) where
   -- each rank has a seat
@@ -250,7 +237,7 @@ module _ (S : CombineSite) (node : ℕ → ℕ) (words : List ℕ) (laid : IsLai
         let s = seat_of r x has in
         let c : IsCombiner S (post_of S words r) r x s.0 = combiner_of S (post_of S words r) r x s.0 x.work.stage from (g.own r x s.0 has s.1) in
         writer_moves c.0 vs (record { standing = x.standing; work = w }) j y u seat work posts room
-        (λ v there. own_of S (post_of S vs r) r (record { standing = x.standing; work = w }) v w.stage to (
+        (λ v there. (own_as S (post_of S vs r) r (record { standing = x.standing; work = w }) v w.stage to).1 (
           c.0,
           subst (λ o. IsPosted S (post_of S vs r) r o v) (sym same) (⊎_elim
               (λ (q : (r ≡ j) × (v ≡ u)).

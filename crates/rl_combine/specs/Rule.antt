@@ -1,7 +1,6 @@
 -- What is promised of flat combining, as statements.
 use Rattle.std.specs.Prelude.{◌≡◌, ℕ, false, List, ◌∷◌}
 use Rattle.rl_word.specs.declared.acts.Atom.{Atom}
-use Rattle.rl_step.specs.Do.{do_words}
 use Rattle.rl_work.specs.Ways.{WorkLaws, IsSide, Works}
 use Rattle.rl_combine.specs.declared.stage.Stage.TheVariants.{Sweep}
 use Rattle.rl_combine.specs.Posts.{CombineSite}
@@ -24,8 +23,8 @@ abbrev pub FlagsSay : Type 0
 FlagsSay =
     (S : CombineSite) (node : ℕ → ℕ) (words : List ℕ) (sides : List RankSide) (rank : ℕ) (x : RankSide) → IsSide (combine_table S node) (CombineGood S) words sides rank x → FlagSays S words sides rank x.work
 
--- and how it changes
+-- and who stores to it
 abbrev pub FlagsMove : Type 0
 FlagsMove =
     (S : CombineSite) (node : ℕ → ℕ) (words : List ℕ) (sides : List RankSide) (rank : ℕ) (x : RankSide) (at : Atom) → Works (combine_table S node) (CombineGood S) words sides rank x at → (k : ℕ) →
-    FlagMoves S words (do_words at words) rank x k
+    FlagMoves S words at rank x k

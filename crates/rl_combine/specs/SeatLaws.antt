@@ -68,7 +68,7 @@ waits_as S p k o y out one is = by_case is.progress where
   by_case (answered a) = let two = a.flag in absurd (omega arith)
 
 -- one whose seat leaves is counted
-counted_as : (S : CombineSite) (p : ThePost) (k : ℕ) (o : Opened) (y : Seat) → y.standing ≡ Leaving → IsPosted S p k o y → IsCounted p o y
+pub counted_as : (S : CombineSite) (p : ThePost) (k : ℕ) (o : Opened) (y : Seat) → y.standing ≡ Leaving → IsPosted S p k o y → IsCounted p o y
 counted_as S p k o y leaves is = by_case is.progress where
   by_case : Progress S p k o y → IsCounted p o y
   by_case (waits w) = let out = w.free.out in absurd (cc)

@@ -9,8 +9,8 @@ pub fn combine_laws()
     ensures way { rule.IsWay }
     // A rank that found the flag 1 in its sweep has stored 2 there before it leaves.
     ensures sweep { rule.SweepsStoreTwo }
-    // A flag of 1 stands over a posted call that isn't done, but while a writer has counted it; one of 2 over its answer.
+    // A flag of 1 stands over a posted call that isn't done, but exactly while a writer has counted it; one of 2 over its answer.
     ensures flags { rule.FlagsSay }
-    // The owner raises and lowers its flag; a writer alone makes it 2 from 1.
+    // The owner alone stores 1 to its flag and takes it back to 0, and a writer alone stores 2, over a 1.
     ensures moves { rule.FlagsMove }
 {}

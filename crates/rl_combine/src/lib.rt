@@ -8,9 +8,9 @@
 //! - A **side** ([`CombineSide`]) is what a rank knows of that, with the entries that it has collected.
 //!
 //! Promise: a way of working ([`CombineWork`], [`combine_laws`]), over any lock that lets one writer in at a time. Journal and
-//! transcripts are legal at every moment, also where a call was done by another rank and isn't collected yet; each posted call is
-//! done once; a sweep that found a flag 1 has made it 2 before its rank leaves. The code does what the definitions say, and takes no
-//! memory after the start.
+//! transcripts are legal at every moment, also where a call was done by another rank and isn't collected yet; no posted call is
+//! done more than once; a sweep that found a flag 1 has made it 2 before its rank leaves. The code does what the definitions say,
+//! and takes no memory after the start.
 //! Not said here: that a rank ever gets the lock, and so that its call is ever done.
 #![tactic(auto)]
 

@@ -4,11 +4,12 @@ use Rattle.std.proofs.lemmas.Option.{same_Some}
 use Rattle.rl_word.specs.Places.{get_map, get_map_back}
 use Rattle.rl_word.specs.Acts.{Layout}
 use Rattle.rl_word.specs.declared.acts.Atom.{Atom}
+use Rattle.rl_word.specs.declared.acts.Atom.TheVariants as atom
 use Rattle.rl_word.specs.declared.acts.Atom.TheVariants.{Load}
 use Rattle.rl_step.specs.declared.events.Event.{Event}
 use Rattle.rl_step.specs.declared.events.Standing.TheVariants.{Writer}
 use Rattle.rl_step.specs.Core.{Turned}
-use Rattle.rl_step.specs.Do.{TheWindow, do_words, do_got}
+use Rattle.rl_step.specs.Do.{TheWindow, do_got}
 use Rattle.rl_step.specs.Lock.{LockTable, LockState, Deed, Rests}
 use Rattle.rl_volume.specs.Seen.{SeenWords, next_word}
 use Rattle.rl_volume.specs.Walk.{most_reads}
@@ -23,7 +24,7 @@ use Rattle.rl_combine.specs.declared.stage.Stage.TheVariants.{Sweep, Copy, Read,
 use Rattle.rl_combine.specs.Posts.{CombineSite, post_of, post_word, flag_word}
 use Rattle.rl_combine.specs.Combine.{TheCombineSide, combine_table, early, is_open, stage_atom, stage_after, read_next, with_posted, with_copied, with_word}
 use Rattle.rl_combine.specs.CombineGood.{RankSide, CombineGood, OwnAt, SweepAt, IsReading, reading, front_of}
-use Rattle.rl_combine.specs.Sweep.{IsLate, IsLateAt, FlagSays, FlagMoves}
+use Rattle.rl_combine.specs.Sweep.{IsLate, IsLateAt, FlagSays, MayWrite, FlagMoves, passes, raises, lowers, marks}
 use Rattle.rl_combine.specs.SideLaws.{found}
 use Rattle.rl_combine.specs.LookLaws.{handed_at}
 use Rattle.rl_combine.specs.MoveLaws.{Combines, combiner_of, seat_of}
@@ -32,7 +33,11 @@ use Rattle.rl_combine.specs.TranscriptLaws.{HasNone, HasOne, shown}
 use Rattle.rl_combine.specs.FlagLaws.{holds_on, found_keeps, found_open, flag_says, flag_moves}
 use Rattle.rl_whole.specs.declared.whole.WholeView.{WholeView}
 use Rattle.rl_whole.specs.Running.{LockAt, Goods, BothLaws}
-use Rattle.rl_whole.specs.Whole.{work_side, next_of, after_of, work_turned, counts, is_at_work, leaves}
+use Rattle.rl_whole.specs.ShiftLaws.{IsLow}
+use Rattle.rl_whole.specs.Split.{side_atom}
+use Rattle.rl_whole.specs.Whole.{shifted, work_side, next_of, after_of, work_turned, counts, is_at_work, leaves}
+use Rattle.rl_whole.specs.WholeLaws.{lock_low, works_at, next_either}
+use Rattle.rl_whole.specs.Bridge.{same_work}
 use Rattle.rl_whole.specs.WholeShards.{stand, standing_while, whole_shard, WholeGood}
 use Rattle.rl_whole.specs.AtWork.{IsOfLock, IsOfWork, side_at, resting, after_none, each_atom}
 use Rattle.rl_cores.proofs.SweepLaws.{GoesOnFound}
@@ -54,6 +59,23 @@ found_combines (Answer j made) owner e = tt
 found_combines (Mark j) owner e = tt
 found_combines (Collect made) owner e = absurd (cc)
 found_combines Lower owner e = absurd (cc)
+
+-- and so does one that is late
+late_combines : (st : Stage) (k : ℕ) → IsLateAt st k → Combines st
+late_combines Rest k l = absurd l
+late_combines (Post made) k l = absurd l
+late_combines Raise k l = absurd l
+late_combines Look k l = absurd l
+late_combines Count k l = tt
+late_combines (Sweep j) k l = tt
+late_combines (Copy j made) k l = tt
+late_combines (Read j word) k l = tt
+late_combines (Journal j made) k l = tt
+late_combines (Volume j made) k l = tt
+late_combines (Answer j made) k l = tt
+late_combines (Mark j) k l = tt
+late_combines (Collect made) k l = absurd l
+late_combines Lower k l = absurd l
 
 -- a load for a call changes what was seen by that load alone
 reads_keep : (S : CombineSite) (x : TheCombineSide) (owner : ℕ) (o : Option ℕ) → (read_next S x owner o).work.seen ≡ x.seen
@@ -96,8 +118,16 @@ module _ (V : Type 0) (base : ℕ) (table : LockTable V) (S : CombineSite) (node
     writes_on : (x : WholeView V TheCombineSide) → stand table x ≡ Writer → T.standing x ≡ Writer
     writes_on x e = ap (λ st. standing_while st (is_open x.work.stage)) e
 
-    late_on : (k : ℕ) → IsLate sides k → IsLate shown_sides k
-    late_on k l =
+    -- who combines writes
+    combiner_writes : (r : ℕ) (x : WholeView V TheCombineSide) → slice_get vs r ≡ Some x → Combines x.work.stage → stand table x ≡ Writer
+    combiner_writes r x has c =
+        let s = side r x has in
+        let y = seat_of S node h.words s.laid sides s.is_good r (work_side table x) s.there in
+        (combiner_of S (post_of S h.words r) r (work_side table x) y.0 x.work.stage c (s.is_good.own r (work_side table x) y.0 s.there y.1)).0
+
+    -- the flags say so of the sides by the shard too: a writer that is late is so on both sides
+    late_on : (k : ℕ) (y : TheCombineSide) → IsLate sides k y → IsLate shown_sides k y
+    late_on k y l =
         let x = get_map_back (work_side table) vs l.rank l.side l.there in
         record {
           rank = l.rank;
@@ -105,7 +135,23 @@ module _ (V : Type 0) (base : ℕ) (table : LockTable V) (S : CombineSite) (node
           there = get_map (rank_side T) vs l.rank x.0 x.1;
           writes = writes_on x.0 (ap (λ (z : RankSide). z.standing) x.2 ∙ l.writes);
           late = subst (λ (z : RankSide). IsLateAt z.work.stage k) (sym x.2) l.late;
+          update = l.update;
         }
+
+    late_back : (k : ℕ) (y : TheCombineSide) (l : IsLate shown_sides k y) → (m : IsLate sides k y) × (m.side.work ≡ l.side.work)
+    late_back k y l =
+        let x = get_map_back (rank_side T) vs l.rank l.side l.there in
+        let late : IsLateAt x.0.work.stage k = subst (λ (z : RankSide). IsLateAt z.work.stage k) (sym x.2) l.late in (
+          record {
+            rank = l.rank;
+            side = work_side table x.0;
+            there = get_map (work_side table) vs l.rank x.0 x.1;
+            writes = combiner_writes l.rank x.0 x.1 (late_combines x.0.work.stage k late);
+            late = late;
+            update = l.update;
+          },
+          ap (λ (z : RankSide). z.work) x.2,
+        )
 
     says_on : (r : ℕ) (x : WholeView V TheCombineSide) → slice_get vs r ≡ Some x → FlagSays S h.words shown_sides r x.work
     says_on r x has =
@@ -114,24 +160,42 @@ module _ (V : Type 0) (base : ℕ) (table : LockTable V) (S : CombineSite) (node
         record {
           few = f.few;
           posted = f.posted;
-          not_done = λ one. ⊎_elim (λ none. inl none) (λ late. inr (late_on r late.0, late.1)) (f.not_done one);
+          not_done = λ one. ⊎_elim (λ none. inl none) (λ late. inr (late_on r x.work late)) (f.not_done one);
+          late = λ l.
+              let m = late_back r x.work l in
+              ((f.late m.0).0, (f.late m.0).1 ∙ ap (λ (z : TheCombineSide). z.entry ∷ []) m.1);
           done = f.done;
+          due = f.due;
         }
 
-    moves_on : (r k : ℕ) (x : WholeView V TheCombineSide) (at : Atom) → slice_get vs r ≡ Some x → next_of L x ≡ Some at → FlagMoves S h.words (do_words at h.words) r (rank_side T x) k
+    -- an atom of the lock writes no word behind the lock's
+    lock_writes : (w : ℕ) (at : Atom) → IsLow table.size at → base + table.size ≤ w → MayWrite w (shifted base at) → ⊥
+    lock_writes w (atom.Load v) low behind e = e
+    lock_writes w (atom.Store v value) low behind e = let there : v < table.size = low in let is : base + v ≡ w = e in absurd (omega arith)
+    lock_writes w (atom.LocalCas v old new) low behind e = let there : v < table.size = low in let is : base + v ≡ w = e in absurd (omega arith)
+    lock_writes w (atom.Take n) low behind e = e
+    lock_writes w (atom.CardLoad v) low behind e = e
+    lock_writes w (atom.CardStore v value) low behind e = let there : v < table.size = low in let is : base + v ≡ w = e in absurd (omega arith)
+    lock_writes w (atom.Leave n) low behind e = e
+
+    moves_on : (r k : ℕ) (x : WholeView V TheCombineSide) (at : Atom) → slice_get vs r ≡ Some x → next_of L x ≡ Some at → FlagMoves S h.words at r (rank_side T x) k
     moves_on r k x at has next =
         ⊎_elim
-        (λ (q : IsOfLock V TheCombineSide L good further layout laws home h vs t ds g r x has at). inl (q.words.behind (post_word S k 0) (omega arith)))
-        (λ (q : IsOfWork V TheCombineSide L good further layout laws home h vs t ds g r x has at).
-        let w = q.works in
-        ⊎_elim
-        (λ same. inl same)
-        (λ others. ⊎_elim
-        (λ raised. inr (inl raised))
-        (λ rest. ⊎_elim (λ lowered. inr (inr (inl lowered))) (λ made. inr (inr (inr (writes_on x made.0, made.1, made.2)))) rest)
-        others)
-        (flag_moves S node h.words w.side.laid sides w.side.is_good w.apart r (work_side table x) w.side.there k at w.planned))
-        (each_atom V TheCombineSide L good further layout laws home h vs t ds g r x has at next)
+        (λ (q : (b : Atom) × (side_atom table x.side ≡ Some b) × (shifted base b ≡ at)). subst (λ a. FlagMoves S h.words a r (rank_side T x) k) q.2 (
+        let low : IsLow table.size q.0 = lock_low V TheCombineSide L good further layout laws home h vs g.rule r x has q.0 q.1 in
+        passes (lock_writes (flag_word S k) q.0 low (let e : S.behind ≡ base + table.size = g.rule.behind_is in omega arith))
+        ((same_work L g.rule.base_is g.rule.behind_is q.0 h.words low).behind (post_word S k 0) (omega arith))
+        ))
+        (λ q.
+        let w = works_at V TheCombineSide L good further layout laws home h vs g.rule r x has at q.1 q.2 in
+        shown_moves (flag_moves S node h.words w.side.laid sides w.side.is_good w.apart r (work_side table x) w.side.there k at w.planned))
+        (next_either V TheCombineSide L good further layout laws home x at next)
+      where
+        shown_moves : FlagMoves S h.words at r (work_side table x) k → FlagMoves S h.words at r (rank_side T x) k
+        shown_moves (passes apart same) = passes apart same
+        shown_moves (raises own is) = raises own is
+        shown_moves (lowers own is) = lowers own is
+        shown_moves (marks writes stage is) = marks (writes_on x writes) stage is
 
     once_on : (r : ℕ) (x : WholeView V TheCombineSide) → slice_get vs r ≡ Some x → length (early S h.words r x.work) ≤ 1
     once_on r x has =
@@ -142,14 +206,7 @@ module _ (V : Type 0) (base : ℕ) (table : LockTable V) (S : CombineSite) (node
         (λ (o : HasOne S h.words r x.work y.0). let one : length (early S h.words r x.work) ≡ 1 = ap length o.one in omega arith)
         (shown S h.words sides s.is_good r (work_side table x) y.0 y.1 s.there)
 
-    -- who combines writes
-    combiner_writes : (r : ℕ) (x : WholeView V TheCombineSide) → slice_get vs r ≡ Some x → Combines x.work.stage → stand table x ≡ Writer
-    combiner_writes r x has c =
-        let s = side r x has in
-        let y = seat_of S node h.words s.laid sides s.is_good r (work_side table x) s.there in
-        (combiner_of S (post_of S h.words r) r (work_side table x) y.0 x.work.stage c (s.is_good.own r (work_side table x) y.0 s.there y.1)).0
-
-    -- and its next load is one of its work
+    -- the next load of who combines is one of its work
     combines_on : (r w got : ℕ) (x : WholeView V TheCombineSide) → slice_get vs r ≡ Some x → Combines x.work.stage → next_of L x ≡ Some (Load w) → after_of L x got ≡ work_turned L x (stage_after S r x.work got x.work.stage)
     combines_on r w got x has c next =
         ⊎_elim

@@ -4,7 +4,7 @@ use Rattle.std.specs.Prelude.{◌≡◌, ◌⊎◌, ℕ, ◌+◌, ◌<◌, ◌�
 use Rattle.rl_word.specs.declared.acts.Atom.{Atom}
 use Rattle.rl_word.specs.declared.acts.Atom.TheVariants.{Load, Store}
 use Rattle.rl_step.specs.declared.events.Standing.TheVariants.{Writer}
-use Rattle.rl_step.specs.Do.{TheWindow, do_atom, do_got}
+use Rattle.rl_step.specs.Do.{TheWindow, do_got}
 use Rattle.rl_volume.specs.Walk.{most_reads}
 use Rattle.rl_work.specs.Site.{volume_base}
 use Rattle.rl_asks.specs.ShardTables.{ShardTable}
@@ -36,10 +36,10 @@ module _ {V : Type 0} (T : ShardTable (WholeView V TheCombineSide)) where
   module _ (h : TheWindow) (vs : List (WholeView V TheCombineSide)) where
     -- the posts of the ranks
     pub record KeepsPosts : Type 0 where
-      -- a flag of 1 stands over a posted call that isn't done, but where a writer has counted it; and one of 2 over its answer
+      -- a flag of 1 stands over a posted call that isn't done, but exactly while a writer has counted it; and one of 2 over its answer
       pub says : (r : ℕ) (x : WholeView V TheCombineSide) → slice_get vs r ≡ Some x → FlagSays posts h.words (map rank_side vs) r x.work
-      -- its owner raises and lowers a flag, and a writer alone makes it 2 from 1
-      pub moves : (r k : ℕ) (x : WholeView V TheCombineSide) (at : Atom) → slice_get vs r ≡ Some x → T.core.next x ≡ Some at → FlagMoves posts h.words (do_atom r at h).words r (rank_side x) k
+      -- its owner alone stores 1 to a flag and takes it back to 0, and a writer alone stores 2, over a 1
+      pub moves : (r k : ℕ) (x : WholeView V TheCombineSide) (at : Atom) → slice_get vs r ≡ Some x → T.core.next x ≡ Some at → FlagMoves posts h.words at r (rank_side x) k
       -- a rank's open call was done once at most, by whichever rank
       pub once : (r : ℕ) (x : WholeView V TheCombineSide) → slice_get vs r ≡ Some x → length (early posts h.words r x.work) ≤ 1
 

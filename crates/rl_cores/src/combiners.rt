@@ -13,10 +13,10 @@ use rl_step::Algo;
 use rl_whole::Whole;
 
 /// Flat combining on every shard of a machine, now and after whatever steps of its ranks, over whatever lock: a flag of 1 stands over a
-/// posted call that isn't done, but where a writer has counted it and not made the flag 2 yet, and one of 2 over its answer; owners raise
-/// and lower their flags, and writers alone make them 2; each posted call is done at most once, by whichever rank, which loads no more
-/// words of the volume for it than the call can want; and a rank that has found a flag 1 in its sweep is a writer until it has stored 2
-/// there. So in every run the rank makes that store before it leaves (`sweeps`). There is nothing to run.
+/// posted call that isn't done, but exactly while a writer has counted it and not made the flag 2 yet, and one of 2 over its answer; an
+/// owner alone stores 1 to its flag and takes it back to 0, and a writer alone stores 2; each posted call is done at most once, by
+/// whichever rank, which loads no more words of the volume for it than the call can want; and a rank that has found a flag 1 in its sweep
+/// is a writer until it has stored 2 there. So in every run the rank makes that store before it leaves (`sweeps`). There is nothing to run.
 pub fn combiners_of_machine<A: Algo>(machine: &Machine<Whole<A, CombineWork>>)
     ensures now { EachShard KeepsCombining (running ⟦<Whole<A, CombineWork> as ShardCore>⟧.shard_table machine.now) }
     ensures stays { EachMoment KeepsCombining (running ⟦<Whole<A, CombineWork> as ShardCore>⟧.shard_table machine.now) }
