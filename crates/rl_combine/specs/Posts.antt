@@ -1,11 +1,11 @@
 -- The post words of the ranks: where they lie, and how a call and its answer are spelled in them.
 use Rattle.std.specs.Prelude.{ℕ, ◌+◌, ◌*◌, ◌==◌, if◌then◌else◌, List, [], ◌∷◌, length, slice_index}
 use Rattle.rl_model.specs.declared.call.Call.{Call}
-use Rattle.rl_model.specs.declared.call.Call.TheVariants.{Put, Get, Del, Add, Cas, Hold}
+use Rattle.rl_model.specs.declared.call.Call.TheVariants.{Get, Hold}
 use Rattle.rl_model.specs.declared.entry.Entry.{Entry}
 use Rattle.rl_model.specs.declared.entry.Reply.{Reply}
-use Rattle.rl_model.specs.declared.entry.Reply.TheVariants.{New, Was, Full, Val, Nothing, Sum, Over, No, Held, Undone}
-use Rattle.rl_journal.specs.Journal.{first_of, second_of, value_in, call_of, reply_of}
+use Rattle.rl_model.specs.declared.entry.Reply.TheVariants.{Val, Held}
+use Rattle.rl_journal.specs.Journal.{kind_of, key_of, code_of, first_of, second_of, value_in, call_of, reply_of}
 use Rattle.rl_work.specs.Site.{Site}
 
 -- a site, and the number of its first word behind the lock's
@@ -26,21 +26,14 @@ flag_word S rank = post_word S rank 0
 
 -- the kinds of all calls: an update's is that of the journal
 abbrev pub post_kind : Call → ℕ
-post_kind (Put key value) = 1
 post_kind (Get key) = 5
-post_kind (Del key) = 2
-post_kind (Add key by) = 3
-post_kind (Cas key old new) = 4
 post_kind (Hold shard) = 6
+post_kind call = kind_of call
 
 -- the key, or the shard of a hold
 abbrev pub post_key : Call → ℕ
-post_key (Put key value) = key
-post_key (Get key) = key
-post_key (Del key) = key
-post_key (Add key by) = key
-post_key (Cas key old new) = key
 post_key (Hold shard) = shard
+post_key call = key_of call
 
 -- a posted call with its number
 abbrev pub post_spelling : Call → ℕ → List ℕ
@@ -60,18 +53,11 @@ posted_call shard copied = posted_call_of shard (slice_index copied 0) (slice_in
 abbrev pub posted_seq : List ℕ → ℕ
 posted_seq copied = slice_index copied 4
 
--- the codes of all replies
+-- the codes of all replies: one that an update may get has that of the journal
 abbrev pub post_code : Reply → ℕ
-post_code New = 1
-post_code (Was v) = 2
-post_code Full = 3
 post_code (Val v) = 9
-post_code Nothing = 4
-post_code (Sum v) = 5
-post_code (Over v) = 6
-post_code (No v) = 7
 post_code Held = 10
-post_code Undone = 8
+post_code reply = code_of reply
 
 -- the answer to a posted call
 abbrev pub answer_spelling : Entry → List ℕ

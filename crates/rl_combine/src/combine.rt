@@ -1,11 +1,10 @@
 //! Flat combining as a way of working.
 
-ghost use Rattle.std.specs.Prelude.{◌≡◌, ◌<◌, ◌≤◌, ◌^◌, ◌+◌, ◌*◌, ◌==◌, length, slice_index, if◌then◌else◌, IfOk, IfSome};
+ghost use Rattle.std.specs.Prelude.{◌≡◌, ◌<◌, ◌≤◌, ◌^◌, ◌+◌, ◌*◌, ◌==◌, length, slice_index, if◌then◌else◌, IfOk};
 ghost use Rattle.rl_word.specs.declared.acts.Atom.TheVariants as atom;
 ghost use Rattle.rl_combine.specs.declared.stage.Stage.TheVariants as stage;
 ghost use Rattle.rl_journal.specs.Journal.{spelling};
 ghost use Rattle.rl_work.specs.Site.{journal_base};
-ghost use Rattle.rl_work.specs.Work.{write_atom};
 ghost use Rattle.rl_model.specs.Geom.{GeomFits};
 ghost use Rattle.rl_combine.specs.Combine as model;
 ghost use Rattle.rl_combine.specs.Numbers as fits;
@@ -20,9 +19,11 @@ use crate::stage::Stage;
 use rl_journal::journal_value;
 use rl_model::{Call, Entry, Geom};
 use rl_step::{Stepped, Words};
-use rl_volume::{Write, next_read};
+use rl_volume::next_read;
 use rl_word::{Atom, Mode, Shape};
-use rl_work::{COUNT_WORD, ENTRY_WORDS, Site, VOLUME_BASE, Work, WorkStep, journal_base};
+use rl_work::{
+    COUNT_WORD, ENTRY_WORDS, Site, VOLUME_BASE, Work, WorkStep, journal_base, write_atom,
+};
 use std::alloc::{AllocError as OutOfMemory, Global};
 use std::marker::Model;
 
@@ -120,7 +121,7 @@ impl CombineWork {
                 word: VOLUME_BASE + word,
             }),
             Stage::Journal { made, .. } => self.store_journal(side, made),
-            Stage::Volume { made, .. } => Some(store(side.count_after(), side.write_at(made))),
+            Stage::Volume { made, .. } => Some(write_atom(side.count_after(), side.write_at(made))),
             Stage::Answer { owner, made } => {
                 self.store_post(owner, ANSWER + made, answer_value(&side.entry, made))
             }
@@ -231,23 +232,6 @@ impl CombineWork {
             Stage::Collect { made } => side.collect_on(made, got),
             Stage::Lower => side.finish(self.shard, rank),
         }
-    }
-}
-
-// The store of a write, or of the count behind the last one.
-fn store(count: u32, write: Option<Write>) -> Atom
-    requires { IfSome write (λ w. w.word < 2 ^ 31) }
-    ensures { result ≡ write_atom count write }
-{
-    match write {
-        Some(write) => Atom::Store {
-            word: VOLUME_BASE + write.word,
-            value: write.value,
-        },
-        None => Atom::Store {
-            word: COUNT_WORD,
-            value: u64::from(count),
-        },
     }
 }
 

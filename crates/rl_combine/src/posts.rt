@@ -2,8 +2,11 @@
 
 ghost use Rattle.std.specs.Prelude.{◌≡◌, ◌<◌, length, slice_index};
 ghost use Rattle.rl_combine.specs.Posts as model;
-ghost use Rattle.rl_journal.specs.Journal as spelt;
 
+use rl_journal::{
+    call_key, first_number, reply_code, reply_of, reply_value, second_number, update_kind,
+    update_of,
+};
 use rl_model::{Call, Entry, Reply};
 
 /// A flag where nothing is posted.
@@ -41,8 +44,8 @@ pub(crate) fn post_value(call: Call, seq: u32, word: u32) -> u64
     match word {
         0 => kind(call),
         1 => key(call),
-        2 => first(call),
-        3 => second(call),
+        2 => first_number(call),
+        3 => second_number(call),
         _ => u64::from(seq),
     }
 }
@@ -51,12 +54,11 @@ fn kind(call: Call) -> u64
     ensures { result ≡ model.post_kind call }
 {
     match call {
-        Call::Put { .. } => 1,
-        Call::Del { .. } => 2,
-        Call::Add { .. } => 3,
-        Call::Cas { .. } => 4,
         Call::Get { .. } => 5,
         Call::Hold { .. } => 6,
+        Call::Put { .. } | Call::Del { .. } | Call::Add { .. } | Call::Cas { .. } => {
+            update_kind(call)
+        }
     }
 }
 
@@ -64,32 +66,12 @@ fn key(call: Call) -> u64
     ensures { result ≡ model.post_key call }
 {
     match call {
-        Call::Put { key, .. }
-        | Call::Get { key }
-        | Call::Del { key }
-        | Call::Add { key, .. }
-        | Call::Cas { key, .. } => key,
         Call::Hold { shard } => u64::from(shard),
-    }
-}
-
-fn first(call: Call) -> u64
-    ensures { result ≡ spelt.first_of call }
-{
-    match call {
-        Call::Put { value, .. } => value,
-        Call::Add { by, .. } => by,
-        Call::Cas { old, .. } => old,
-        Call::Get { .. } | Call::Del { .. } | Call::Hold { .. } => 0,
-    }
-}
-
-fn second(call: Call) -> u64
-    ensures { result ≡ spelt.second_of call }
-{
-    match call {
-        Call::Cas { new, .. } => new,
-        _ => 0,
+        Call::Put { .. }
+        | Call::Get { .. }
+        | Call::Del { .. }
+        | Call::Add { .. }
+        | Call::Cas { .. } => call_key(call),
     }
 }
 
@@ -99,18 +81,10 @@ pub(crate) fn posted_call(shard: u32, words: &[u64]) -> Call
     ensures { result ≡ model.posted_call shard words.now }
 {
     let key = words[1];
-    let first = words[2];
     match words[0] {
         5 => Call::Get { key },
         6 => Call::Hold { shard },
-        1 => Call::Put { key, value: first },
-        2 => Call::Del { key },
-        3 => Call::Add { key, by: first },
-        _ => Call::Cas {
-            key,
-            old: first,
-            new: words[3],
-        },
+        kind => update_of(kind, key, words[2], words[3]),
     }
 }
 
@@ -122,7 +96,7 @@ pub(crate) fn answer_value(entry: &Entry, word: u32) -> u64
     match word {
         0 => u64::from(entry.at),
         1 => code(entry.reply),
-        _ => value(entry.reply),
+        _ => reply_value(entry.reply),
     }
 }
 
@@ -130,25 +104,16 @@ fn code(reply: Reply) -> u64
     ensures { result ≡ model.post_code reply }
 {
     match reply {
-        Reply::New => 1,
-        Reply::Was(_) => 2,
-        Reply::Full => 3,
-        Reply::Nothing => 4,
-        Reply::Sum(_) => 5,
-        Reply::Over(_) => 6,
-        Reply::No(_) => 7,
-        Reply::Undone => 8,
         Reply::Val(_) => 9,
         Reply::Held => 10,
-    }
-}
-
-fn value(reply: Reply) -> u64
-    ensures { result ≡ spelt.value_in reply }
-{
-    match reply {
-        Reply::Was(v) | Reply::Val(v) | Reply::Sum(v) | Reply::Over(v) | Reply::No(v) => v,
-        Reply::New | Reply::Full | Reply::Nothing | Reply::Held | Reply::Undone => 0,
+        Reply::New
+        | Reply::Was(_)
+        | Reply::Full
+        | Reply::Nothing
+        | Reply::Sum(_)
+        | Reply::Over(_)
+        | Reply::No(_)
+        | Reply::Undone => reply_code(reply),
     }
 }
 
@@ -159,13 +124,6 @@ pub(crate) fn answered_reply(code: u64, value: u64) -> Reply
     match code {
         9 => Reply::Val(value),
         10 => Reply::Held,
-        1 => Reply::New,
-        2 => Reply::Was(value),
-        3 => Reply::Full,
-        4 => Reply::Nothing,
-        5 => Reply::Sum(value),
-        6 => Reply::Over(value),
-        7 => Reply::No(value),
-        _ => Reply::Undone,
+        _ => reply_of(code, value),
     }
 }
