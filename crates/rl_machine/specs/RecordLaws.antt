@@ -1,8 +1,10 @@
 -- What ranks have done is counted shard by shard, and told rank by rank.
 use Rattle.std.specs.Prelude.{◌≡◌, ℕ, zero, suc, ◌+◌, ◌≤◌, ◌<◌, List, [], ◌∷◌, length, map, get_or, take, slice_get, slice_index, Some, refl}
-use Rattle.std.proofs.Common.{◌∙◌, ap, add-one, arith}
+use Rattle.std.proofs.Common.{◌∙◌, ap, sym, add-one, arith}
+use Rattle.std.proofs.Math.Seq.{take-length}
 use Rattle.std.proofs.lemmas.Option.{same_Some}
 use Rattle.rl_word.specs.Acts.{Layout}
+use Rattle.rl_word.specs.Places.{some_at}
 use Rattle.rl_model.specs.declared.entry.Entry.{Entry}
 use Rattle.rl_asks.specs.AskLaws.{few_calls}
 use Rattle.rl_asks.specs.RankGood.{entries_in}
@@ -11,11 +13,11 @@ use Rattle.rl_asks.specs.ShardLaws.{GoodOf, CauseOf, FurtherOf, LawsOf}
 use Rattle.rl_asks.specs.Desks.{entries_of}
 use Rattle.rl_machine.specs.declared.shard.ShardState.{ShardState}
 use Rattle.rl_machine.specs.declared.state.MachineState.{MachineState}
-use Rattle.rl_machine.specs.Running.{Running, shard_run, running, cores_of}
-use Rattle.rl_machine.specs.ShardSteps.{kept_on}
+use Rattle.rl_machine.specs.Running.{ShardRun, Running, shard_run, running, cores_of}
+use Rattle.rl_machine.specs.ShardSteps.{desk_at, kept_on}
 use Rattle.rl_machine.specs.MachineGood.{IsMachine}
 use Rattle.rl_machine.specs.State.{shard_view, machine_view}
-use Rattle.rl_machine.specs.Promises.{IsSound}
+use Rattle.rl_machine.specs.Promises.{IsSound, transcripts_on}
 use Rattle.rl_machine.specs.SoundLaws.{is_sound}
 use Rattle.rl_machine.specs.Run.{calls_by, done_of}
 
@@ -42,17 +44,34 @@ pub all_kept : {C V : Type 0} (table : C → ShardTable V) (k : ℕ) (items : Li
 all_kept table k [] = refl
 all_kept table k (x ∷ items) = ap (λ z. kept_in table k x ∷ z) (all_kept table k items)
 
--- and they are no more than its calls
-pub few_done : (C V : Type 0) (table : C → ShardTable V) (good : GoodOf C V) (cause : CauseOf C V) (further : FurtherOf C) (layout : C → Layout) (laws : LawsOf C V table good cause further layout) (m : MachineState C V) →
-    IsMachine C V table good (machine_view m) → (k : ℕ) → k < length m.ops.by_rank → entries_in (map (kept_in table k) m.shards.items) ≤ 20000
-few_done C V table good cause further layout laws m is k low =
-    let run : Running V = running table (machine_view m) in
-    let sound : IsSound run = is_sound C V table good cause further layout laws (cores_of (machine_view m)) is.acts run is.is_good in
-    let done : done_of run k ≤ slice_index run.opened k = sound.done k low in
-    let given : slice_index run.opened k ≤ length (calls_by run k) = sound.given k low in
-    let few : length (get_or m.ops.by_rank k []) ≤ 20000 = few_calls m.ops.by_rank k 20000 is.few in
-    let same : done_of run k ≡ entries_in (map (kept_in table k) m.shards.items) = ap entries_in (all_kept table k m.shards.items) in
-    omega arith
+module _ (C V : Type 0) (table : C → ShardTable V) (good : GoodOf C V) (cause : CauseOf C V) (further : FurtherOf C) (layout : C → Layout) (laws : LawsOf C V table good cause further layout)
+    (m : MachineState C V) (is : IsMachine C V table good (machine_view m)) (k : ℕ) (low : k < length m.ops.by_rank) where
+  -- and they are no more than its calls
+  few_done : entries_in (map (kept_in table k) m.shards.items) ≤ 20000
+  few_done =
+      let run : Running V = running table (machine_view m) in
+      let sound : IsSound run = is_sound C V table good cause further layout laws (cores_of (machine_view m)) is.acts run is.is_good in
+      let done : done_of run k ≤ slice_index run.opened k = sound.done k low in
+      let given : slice_index run.opened k ≤ length (calls_by run k) = sound.given k low in
+      let few : length (get_or m.ops.by_rank k []) ≤ 20000 = few_calls m.ops.by_rank k 20000 is.few in
+      let same : done_of run k ≡ entries_in (map (kept_in table k) m.shards.items) = ap entries_in (all_kept table k m.shards.items) in
+      omega arith
+
+  -- those so far, with those on the next shard, which are so many
+  pub one_shard_more : (i : ℕ) (item : ShardState C V) (so_far more : ℕ) → slice_get m.shards.items i ≡ Some item → so_far ≡ entries_in (map (kept_in table k) (take i m.shards.items)) → more ≡ length (kept_in table k item) →
+      (so_far + more ≡ entries_in (map (kept_in table k) (take (i + 1) m.shards.items))) × (so_far + more ≤ 20000)
+  one_shard_more i item so_far more has counted long =
+      let next = counted_more (kept_in table k) m.shards.items i item has in
+      let part = counted_within (kept_in table k) m.shards.items (i + 1) in
+      let all = few_done in
+      (omega arith, omega arith)
+
+-- those on all shards
+pub on_all_shards : {C V : Type 0} (table : C → ShardTable V) (m : MachineState C V) (k i counted : ℕ) → i ≡ length m.shards.items → counted ≡ entries_in (map (kept_in table k) (take i m.shards.items)) → counted ≡ done_of (running table (machine_view m)) k
+on_all_shards table m k i counted all is =
+    let items = m.shards.items in
+    is ∙ ap (λ n. entries_in (map (kept_in table k) (take n items))) all ∙ ap (λ xs. entries_in (map (kept_in table k) xs)) (take-length items)
+    ∙ sym (ap entries_in (all_kept table k items))
 
 -- the entries of a rank are among those of all
 pub kept_there : {V : Type 0} (T : ShardTable V) (words : List ℕ) (from r : ℕ) (vs : List V) (v : V) → slice_get vs r ≡ Some v → slice_get (kept_from T words from vs) r ≡ Some (entries_of (T.desk words (from + r) v))
@@ -63,3 +82,12 @@ kept_there T words from (suc r) (x ∷ vs) v e = let at : (from + 1) + r ≡ fro
 pub kept_long : {V : Type 0} (T : ShardTable V) (words : List ℕ) (from : ℕ) (vs : List V) → length (kept_from T words from vs) ≡ length vs
 kept_long T words from [] = refl
 kept_long T words from (x ∷ vs) = ap suc (kept_long T words (from + 1) vs)
+
+pub kept_among : {V : Type 0} (S : ShardRun V) (k : ℕ) → k < length S.views → slice_get (transcripts_on S) k ≡ Some (kept_on k S)
+kept_among S k low =
+    let T = S.table in
+    let words = S.held.words in
+    let view = some_at S.views k low in
+    let at : 0 + k ≡ k = omega arith in
+    kept_there T words 0 k S.views view.0 view.1 ∙ ap (λ n. Some (entries_of (T.desk words n view.0))) at
+    ∙ sym (ap (λ o. Some (entries_of (desk_at T words k o))) view.1)

@@ -1,6 +1,6 @@
 //! All shards in plain vectors, stepped one rank at a time.
 
-ghost use Rattle.std.specs.Prelude.{◌≡◌, ◌↔◌, ◌≤◌, ℕ, false, ◌+◌, ◌-◌, ◌<◌, ◌^◌, List, [], length, map, get_or, slice_index, Some, IfOk, OnErr};
+ghost use Rattle.std.specs.Prelude.{◌≡◌, ◌↔◌, ◌≤◌, ℕ, false, ◌+◌, ◌-◌, ◌<◌, ◌^◌, List, [], length, map, get_or, slice_get, slice_index, Some, IfOk, OnErr};
 ghost use Rattle.std.specs.List.{AllByRecursion};
 ghost use Rattle.rl_model.specs.Geom.{GeomFits};
 ghost use Rattle.rl_word.specs.Shapes.{IsProper, layout_of};
@@ -105,12 +105,12 @@ impl<C: ShardCore> Machine<C> {
     /// one atom is made.
     ///
     /// The answer is `Busy` where the atom was a Take and another rank was in the card of that node, which changes nothing;
-    /// `Lost` where it was the compare of a compare-and-swap, which saw another value than its guess, or where a get that reads
-    /// without the lock saw another version at its end than at its beginning; `Waiting` where it was the last of a waiting
-    /// round, whose test isn't met; `Finished` exactly where the rank has no open call and none left, and no atom was made; and
-    /// else `Moved`. Every answer counts as a step. The events are kept with the number of the step, from 0; fewer than
-    /// 4,294,967,295 steps were made so far. That a card's compare-and-swap is several atoms, between which the home's own ranks
-    /// may act, is what remote memory of today does. Refused only for want of memory, and then nothing has changed.
+    /// `Lost` where it saw another value than the rank's guess, being the compare of a compare-and-swap, or the second look
+    /// of an optimistic get at the version, after which the get begins anew; `Waiting` where it was the last of a waiting
+    /// round, whose test isn't met; `Finished` exactly where the rank has no open call and none left, and no atom was made;
+    /// and else `Moved`. Every answer counts as a step. The events are kept with the number of the step, from 0; fewer than
+    /// 4,294,967,295 steps were made so far. That a card's compare-and-swap is several atoms, between which the home's own
+    /// ranks may act, is what remote memory of today does. Refused only for want of memory, and then nothing has changed.
     pub fn step(&mut self, rank: u32) -> Result<Stepped, OutOfMemory>
         requires there { rank < length self.old.calls }
         requires few { steps_made self.old.steps < 2 ^ 32 - 1 }
@@ -211,6 +211,36 @@ impl<C: ShardCore> Machine<C> {
         records::transcripts(alloc, kept, ranks)
     }
 
+    /// A copy of the rank's entries on a shard so far, whatever the core, in the order in which they were done: those of its view, and
+    /// that of a call that another rank has done and its own hasn't collected yet, which stands in the words alone.
+    ///
+    /// It is that rank's part of `transcripts`, and over a core whose views hold all entries (`TellsAll`) what `transcript` lends.
+    /// `shard` is less than `shards()`, and `rank` less than the number of ranks. Refused only for want of memory.
+    pub fn transcript_of(
+        &self,
+        alloc: Global,
+        shard: u32,
+        rank: u32,
+    ) -> Result<Vec<Entry>, OutOfMemory>
+        requires shard { shard < length self.now.shards }
+        requires rank { rank < length self.now.calls }
+        ensures told { IfOk result (λ told. told.items ≡ get_or (kept_by (running C.shard_table self.now) rank) shard []) }
+        ensures among { IfOk result (λ told. slice_get (transcripts_at (running C.shard_table self.now) shard) rank ≡ Some told.items) }
+    {
+        records::transcript_of(alloc, self.state.shard(shard), rank)
+    }
+
+    /// How many of the rank's calls are done on all shards, whatever the core: a call counts as soon as it is done, by whichever rank.
+    ///
+    /// It is how many entries `transcript_of` has of the rank, shard by shard, and over a core whose views hold all entries
+    /// (`TellsAll`) what `done` tells. `rank` is less than the number of ranks. Refused only for want of memory.
+    pub fn done_of(&self, alloc: Global, rank: u32) -> Result<u32, OutOfMemory>
+        requires { rank < length self.now.calls }
+        ensures { IfOk result (λ done. done ≡ done_of (running C.shard_table self.now) rank) }
+    {
+        self.state.done_of(alloc, rank)
+    }
+
     /// The words and cards of a shard.
     #[inline(always)]
     pub fn words(&self, shard: u32) -> &Words
@@ -269,16 +299,6 @@ impl<C: TellsAll> Machine<C> {
     {
         let kept = self.state.shard(shard);
         kept.core.entries(kept.flat.view(rank))
-    }
-
-    /// Every rank's entries on a shard, rank by rank, each where it stands: nothing is copied. Refused only for want of memory.
-    pub fn lent_transcripts(&self, alloc: Global, shard: u32) -> Result<Vec<&[Entry]>, OutOfMemory>
-        requires { shard < length self.now.shards }
-        ensures { IfOk result (λ lent. map (λ t. t.now) lent.items ≡ transcripts_at (running C.shard_table self.now) shard) }
-    {
-        let kept = self.state.shard(shard);
-        let ranks = self.state.ops.by_rank.as_slice().len() as u32;
-        records::lent_transcripts(alloc, kept, ranks)
     }
 
     /// How many of its calls the rank has done: its entries on all shards.

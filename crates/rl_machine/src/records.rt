@@ -3,10 +3,11 @@
 ghost use Rattle.std.specs.Prelude.{◌≡◌, ◌+◌, ◌*◌, ◌<◌, length, map, slice_get, slice_index, Some, IfOk};
 ghost use Rattle.rl_work.specs.Site.{journal_base};
 ghost use Rattle.rl_machine.specs.Promises.{journal_on, transcripts_on};
+ghost use Rattle.rl_machine.specs.ShardSteps.{kept_on};
 ghost use Rattle.rl_machine.specs.State.{running_shard, IsGood};
 
 use crate::shard::ShardState;
-use rl_asks::{ShardCore, TellsAll};
+use rl_asks::ShardCore;
 use rl_journal::journal_entry;
 use rl_model::Entry;
 use rl_work::{COUNT_WORD, ENTRY_WORDS, journal_base};
@@ -64,6 +65,37 @@ pub fn journal<C: ShardCore>(
     Ok(entries)
 }
 
+/// The transcript of a rank, by the shard's journal.
+fn transcript_by<C: ShardCore>(
+    alloc: Global,
+    shard: &ShardState<C>,
+    journal: &[Entry],
+    rank: u32,
+) -> Result<Vec<Entry>, OutOfMemory>
+    requires good { IsGood C.good shard.now }
+    requires journal { journal.now ≡ journal_on (running_shard C.shard_table shard.now) }
+    requires there { rank < length shard.now.flat.views.items }
+    ensures { IfOk result (λ told. told.items ≡ kept_on rank (running_shard C.shard_table shard.now)) }
+{
+    let view = shard.flat.view(rank);
+    let words = shard.flat.words();
+    shard.core.transcript(alloc, words, journal, rank, view)
+}
+
+/// The transcript of a rank.
+pub fn transcript_of<C: ShardCore>(
+    alloc: Global,
+    shard: &ShardState<C>,
+    rank: u32,
+) -> Result<Vec<Entry>, OutOfMemory>
+    requires good { IsGood C.good shard.now }
+    requires there { rank < length shard.now.flat.views.items }
+    ensures { IfOk result (λ told. told.items ≡ kept_on rank (running_shard C.shard_table shard.now)) }
+{
+    let journal = journal(alloc, shard)?;
+    transcript_by(alloc, shard, journal.as_slice(), rank)
+}
+
 /// The transcripts of so many ranks, which are all, rank by rank.
 pub fn transcripts<C: ShardCore>(
     alloc: Global,
@@ -77,28 +109,8 @@ pub fn transcripts<C: ShardCore>(
     let journal = journal(alloc, shard)?;
     let mut transcripts = Vec::new(alloc);
     for rank in 0..ranks {
-        let view = shard.flat.view(rank);
-        let words = shard.flat.words();
-        let told = shard
-            .core
-            .transcript(alloc, words, journal.as_slice(), rank, view)?;
+        let told = transcript_by(alloc, shard, journal.as_slice(), rank)?;
         transcripts.push(told)?;
     }
     Ok(transcripts)
-}
-
-/// The transcripts of so many ranks, which are all, rank by rank, each where it stands.
-pub fn lent_transcripts<C: TellsAll>(
-    alloc: Global,
-    shard: &ShardState<C>,
-    ranks: u32,
-) -> Result<Vec<&[Entry]>, OutOfMemory>
-    requires { length shard.now.flat.views.items ≡ ranks }
-    ensures { IfOk result (λ lent. map (λ t. t.now) lent.items ≡ transcripts_on (running_shard C.shard_table shard.now)) }
-{
-    let mut lent = Vec::with_capacity(alloc, ranks as usize)?;
-    for rank in 0..ranks {
-        lent.push(shard.core.entries(shard.flat.view(rank)))?;
-    }
-    Ok(lent)
 }

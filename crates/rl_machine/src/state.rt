@@ -10,12 +10,13 @@ ghost use Rattle.rl_machine.specs.Running.{running, cores_of};
 ghost use Rattle.rl_machine.specs.MachineGood.{IsMachine};
 ghost use Rattle.rl_machine.specs.State.{running_shard, machine_view, IsGood};
 
+use crate::records::transcript_of;
 use crate::shard::{ShardState, atom_at, block_at};
 use rl_asks::{ShardCore, TellsAll, block_from, block_shard};
 use rl_model::{Call, Geom};
 use rl_ops::Ops;
 use rl_step::{Stepped, Steps};
-use std::alloc::AllocError as OutOfMemory;
+use std::alloc::{AllocError as OutOfMemory, Global};
 
 /// All of a machine.
 #[derive(Drop)]
@@ -209,6 +210,20 @@ impl<C: ShardCore> MachineState<C> {
         ensures { result ≡ true → IsFinished (running C.shard_table (machine_view self.now)) rank }
     {
         !self.has_left(rank) && !self.is_open(rank)
+    }
+
+    /// How many entries the rank has on all shards, by its views and by the words.
+    pub fn done_of(&self, alloc: Global, rank: u32) -> Result<u32, OutOfMemory>
+        requires there { rank < length self.now.ops.by_rank }
+        requires good { IsMachine C C.View C.shard_table C.good (machine_view self.now) }
+        ensures { IfOk result (λ done. done ≡ done_of (running C.shard_table (machine_view self.now)) rank) }
+    {
+        let mut done = 0;
+        for shard in &self.shards {
+            let told = transcript_of(alloc, shard, rank)?;
+            done += told.len() as u32;
+        }
+        Ok(done)
     }
 }
 

@@ -34,6 +34,16 @@ fn has_room(steps: Steps) -> bool
         && steps.finished < 1000
 }
 
+/// What a machine tells of a rank.
+#[derive(Drop)]
+pub(crate) struct OfRank {
+    /// Its entries on shard 0, and how many of them its own view has.
+    pub transcript: Vec<Entry>,
+    pub kept: usize,
+    /// How many of its calls are done, by whichever rank.
+    pub done: u32,
+}
+
 /// What came of steps.
 #[derive(Drop)]
 pub(crate) struct Outcome {
@@ -41,6 +51,26 @@ pub(crate) struct Outcome {
     pub told: String,
     /// The journal of shard 0 after them.
     pub journal: Vec<Entry>,
+    /// What the machine tells of rank 1 then, if that is there.
+    pub second: Option<OfRank>,
+}
+
+/// What a machine tells of a rank, if that is there.
+fn of_rank<C: ShardCore>(
+    alloc: Global,
+    machine: &Machine<C>,
+    rank: u32,
+) -> Result<Option<OfRank>, OutOfMemory>
+    requires some { 0 < length machine.now.shards }
+{
+    if (rank as usize) >= machine.ops().by_rank.as_slice().len() {
+        return Ok(None);
+    }
+    Ok(Some(OfRank {
+        transcript: machine.transcript_of(alloc, 0, rank)?,
+        kept: machine.kept(0, rank).len(),
+        done: machine.done_of(alloc, rank)?,
+    }))
 }
 
 /// What comes of a machine's steps of these ranks, one after the other.
@@ -68,6 +98,7 @@ fn steps_of<C: ShardCore>(
     Ok(Outcome {
         told: text,
         journal: machine.journal(alloc, 0)?,
+        second: of_rank(alloc, &machine, 1)?,
     })
 }
 

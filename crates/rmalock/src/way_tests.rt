@@ -34,6 +34,9 @@ const GET_BESIDE_A_WRITER: &str = "111000000000110000000000000111111";
 const BOTH_CALLS_BY_ONE: &str =
     "11111100000000000000000000000000000000000000000000000000000111111111111";
 
+/// The same before the second collects it.
+const DONE_AND_NOT_COLLECTED: &str = "11111100000000000000000000000000000000000000000000000000000";
+
 #[test]
 fn a_get_beside_a_writer(rt: HostRuntime) -> Result<(), Fail> {
     let place = two_at_home(&rt, "seq")?;
@@ -157,6 +160,30 @@ fn a_journal_by_one_for_both(rt: HostRuntime) -> Result<(), Fail> {
     let place = two_at_home(&rt, "combine")?;
     let journal = trial(&rt, &place, PUT_ONE_AND_GET, BOTH_CALLS_BY_ONE)?.journal;
     assert_eq!(rt; journal.as_slice(), [first_put(1)].as_slice());
+    Ok(())
+}
+
+/// A posted call isn't done. Once the first rank has done it it is, though the rank that posted it hasn't collected its answer: its view
+/// has no entry yet.
+#[test]
+fn a_call_is_done_by_another_rank(rt: HostRuntime) -> Result<(), Fail> {
+    let place = two_at_home(&rt, "combine")?;
+    let posted = trial(&rt, &place, PUT_ONE_AND_GET, "111111")?;
+    let second = posted.second.ok_or("no rank 1")?;
+    assert_eq!(rt; second.transcript.len(), 0);
+    assert_eq!(rt; second.done, 0);
+    let done = trial(&rt, &place, PUT_ONE_AND_GET, DONE_AND_NOT_COLLECTED)?;
+    let second = done.second.ok_or("no rank 1")?;
+    let got = Entry {
+        rank: 1,
+        call: Call::Get { key: 0 },
+        at: 1,
+        reply: Reply::Val(1),
+        ..first_put(1)
+    };
+    assert_eq!(rt; second.transcript.as_slice(), [got].as_slice());
+    assert_eq!(rt; second.done, 1);
+    assert_eq!(rt; second.kept, 0);
     Ok(())
 }
 

@@ -1,8 +1,0 @@
--- The slices so far are the first ranks' entries.
-use Rattle.std.proofs.Common.{◌≡◌, map, take}
-use Rattle.rl_machine.specs.Promises.{transcripts_on}
-use Rattle.rl_machine.specs.State.{running_shard}
-use Rattle.rl_machine.proofs.records.lent_transcripts.Given as goal
-
-abbrev pub invariant-loop-rank : goal.invariant-loop-rank
-invariant-loop-rank g l = map (λ t. t.now) l.lent.items ≡ take l.rank (transcripts_on (running_shard g.C.ShardCore.shard_table l.shard))

@@ -1,0 +1,44 @@
+-- One shard more.
+use Rattle.std.proofs.Common.{◌≡◌, ◌+◌, ◌≤◌, length, map, slice_get, take, Some, ap, sym, ◌∙◌, arith}
+use Rattle.std.proofs.lemmas.Option.{slice_get-get_or}
+use Rattle.rl_asks.specs.RankGood.{entries_in}
+use Rattle.rl_machine.specs.StateLaws.{IsThere, is_there}
+use Rattle.rl_machine.specs.RecordLaws.{kept_in, one_shard_more, on_all_shards}
+use Rattle.rl_machine.proofs.state.MachineState.done_of.Goals as goal
+use Rattle.rl_machine.proofs.state.MachineState.done_of.Goals.{After-shard-item, In_ok-told}
+use Rattle.rl_machine.proofs.state.MachineState.done_of.Given.{Over}
+
+has : (g : Over) (c : After-shard-item g) → slice_get c.args.self.now.shards.items c.loop-shard.shard-index ≡ Some c.shard-item.result
+has g c =
+    ap (λ xs. slice_get xs c.loop-shard.shard-index) (sym c.deref-shard-items.ensures.value)
+    ∙ slice_get-get_or c.deref-shard-items.result.now c.loop-shard.shard-index c.shard-item.result c.loop-shard-test.true ∙ ap Some (sym c.shard-item.is)
+
+there : (g : Over) (c : After-shard-item g) → IsThere _ _ g.C.ShardCore.shard_table g.C.ShardCore.good c.args.self.now c.requires.good c.loop-shard.shard-index c.shard-item.result
+there g c = is_there _ _ g.C.ShardCore.shard_table g.C.ShardCore.good c.args.self.now c.requires.good c.loop-shard.shard-index c.shard-item.result (has g c)
+
+pub transcript_of-requires-clause-good : goal.transcript_of-requires-clause-good
+transcript_of-requires-clause-good g c = (there g (goal.at.transcript_of-requires-clause-good g c).After-shard-item).is_good
+
+pub transcript_of-requires-clause-there : goal.transcript_of-requires-clause-there
+transcript_of-requires-clause-there g c = let all = (there g (goal.at.transcript_of-requires-clause-there g c).After-shard-item).ranks in let low = c.requires.there in omega arith
+
+-- the count with this shard's entries
+next : (g : Over) (c : In_ok-told g) →
+    (c.loop-shard.done + length c.in_ok-told.told.items ≡ entries_in (map (kept_in g.C.ShardCore.shard_table c.args.rank) (take (c.loop-shard.shard-index + 1) c.args.self.now.shards.items))) × (c.loop-shard.done + length c.in_ok-told.told.items ≤ 20000)
+next g c =
+    one_shard_more _ _ g.C.ShardCore.shard_table g.C.ShardCore.good g.C.ShardCore.cause g.C.ShardCore.further g.C.ShardCore.layout g.met.C.ShardCore.shard_laws c.args.self.now c.requires.good c.args.rank c.requires.there
+    c.loop-shard.shard-index c.shard-item.result c.loop-shard.done (length c.in_ok-told.told.items) (has g (goal.at.In_ok-told g c).After-shard-item) c.loop-shard.invariant (ap length c.in_ok-told.ensures)
+
+pub overflow_cast-done : goal.overflow_cast-done
+overflow_cast-done g c = let few = (next g (goal.at.overflow_cast-done g c).In_ok-told).1 in omega arith
+
+pub overflow_add-done : goal.overflow_add-done
+overflow_add-done g c = let few = (next g (goal.at.overflow_add-done g c).In_ok-told).1 in omega arith
+
+pub loop-shard-preserved : goal.loop-shard-preserved
+loop-shard-preserved g c = let more = (next g (goal.at.loop-shard-preserved g c).In_ok-told).0 in let long = c.len.ensures in omega arith
+
+pub returns : goal.returns
+returns g c =
+    let all : c.loop-shard.shard-index ≡ length c.args.self.now.shards.items = (let e = ap length c.deref-shard-items.ensures.value in omega arith) in
+    on_all_shards g.C.ShardCore.shard_table c.args.self.now c.args.rank c.loop-shard.shard-index c.loop-shard.done all c.loop-shard.invariant
