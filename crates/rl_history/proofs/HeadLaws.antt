@@ -1,10 +1,11 @@
 -- Lines of a fixed form: what is read is spelled so, and what is spelled so is read.
-use Rattle.std.proofs.Common.{◌≡◌, ℕ, ◌+◌, ◌^◌, ◌<◌, ◌≤◌, Bool, true, false, eqb, ltb, List, [], ◌∷◌, codes, decimal, Option, Some, None, Ok, inl, inr, refl, sym, ap, subst, ◌∙◌, arith}
+use Rattle.std.proofs.Common.{◌≡◌, ℕ, ◌+◌, ◌^◌, ◌<◌, ◌≤◌, Bool, true, false, eqb, ltb, List, [], ◌∷◌, codes, decimal, Option, Some, None, Result, Ok, inl, inr, refl, sym, ap, subst, ◌∙◌, arith}
 use Rattle.std.specs.Str.{bytes_eq}
 use Rattle.std.proofs.lemmas.Bool.{eqb-true, eq-eqb, ne_eqb, ltb-false, le-ltb}
+use Rattle.rl_text.specs.declared.causes.Refusal.{Refusal}
 use Rattle.rl_text.specs.declared.causes.Why.TheVariants.{Word, Range, Repeat, Order, Version}
 use Rattle.rl_text.specs.Rows.{Row, words, word_at}
-use Rattle.rl_text.specs.Reading.{refusal_at, needed_at, fixed_at, number_at, below_at, between_at, no_word_at}
+use Rattle.rl_text.specs.Reading.{◌>>=◌, refusal_at, needed_at, fixed_at, number_at, below_at, between_at, no_word_at}
 use Rattle.rl_text.proofs.FromLaws.{from_bind}
 use Rattle.rl_text.proofs.TextLaws.{is_plain, IsPlain}
 use Rattle.rl_text.proofs.WordLaws.{ok_is, chosen, needed-takes, needed-again, fixed-takes, fixed-again, number-takes, number-again, below-takes, below-again, between-takes, between-again, no_word-takes, no_word-again, plain-decimal}
@@ -220,8 +221,73 @@ pair-plain last p fits = (omega arith, (refl, (plain-decimal p.0 fits.1, (plain-
 
 -- ---- shards and ranks
 
+-- the words of a line with a number and two counts
+abbrev counts_line : ℕ → List ℕ → List ℕ → List ℕ → ℕ → ℕ → List (List ℕ)
+counts_line number name one two a b = name ∷ decimal number ∷ one ∷ decimal a ∷ two ∷ decimal b ∷ []
+
+-- and how it is read: each count is at most 20,000
+unfoldable counts_at : {X : Type 0} → Row → ℕ → List ℕ → List ℕ → List ℕ → (ℕ → ℕ → X) → Result X Refusal
+counts_at row number name one two made = do
+  named ← fixed_at row 1 name Word
+  in_order ← counted_at row 2 number
+  one_named ← fixed_at row 3 one Word
+  a ← below_at row 4 20001
+  two_named ← fixed_at row 5 two Word
+  b ← below_at row 6 20001
+  alone ← no_word_at row 7
+  Ok (made a b)
+
+record CountsTaken {X : Type 0} (row : Row) (number : ℕ) (name one two : List ℕ) (made : ℕ → ℕ → X) (x : X) : Type 0 where
+  pub a : ℕ
+  pub b : ℕ
+  pub is : made a b ≡ x
+  pub are : words row ≡ counts_line number name one two a b
+  pub few : a ≤ 20000
+  pub few_more : b ≤ 20000
+
+counts-takes : {X : Type 0} (row : Row) (number : ℕ) (name one two : List ℕ) (made : ℕ → ℕ → X) (x : X) → counts_at row number name one two made ≡ Ok x → CountsTaken row number name one two made x
+unfolding counts_at
+counts-takes row number name one two made x e =
+    from_bind (fixed_at row 1 name Word) _ x e (λ u1 w1 e1.
+    from_bind (counted_at row 2 number) _ x e1 (λ u2 w2 e2.
+    from_bind (fixed_at row 3 one Word) _ x e2 (λ u3 w3 e3.
+    from_bind (below_at row 4 20001) _ x e3 (λ a w4 e4.
+    from_bind (fixed_at row 5 two Word) _ x e4 (λ u5 w5 e5.
+    from_bind (below_at row 6 20001) _ x e5 (λ b w6 e6.
+    from_bind (no_word_at row 7) _ x e6 (λ u7 w7 e7.
+    let s = below-takes row 4 20001 a w4 in
+    let t = below-takes row 6 20001 b w6 in
+    record {
+      a = a;
+      b = b;
+      is = ok_is (made a b) x e7;
+      are = all_words row 0 (counts_line number name one two a b) (
+        fixed-takes row 1 name Word u1 w1,
+        (
+          counted-takes row 2 number u2 w2,
+          (fixed-takes row 3 one Word u3 w3, (s.0.word, (fixed-takes row 5 two Word u5 w5, (t.0.word, no_word-takes row 7 u7 w7)))),
+        ),
+      );
+      few = omega (arith, s.1);
+      few_more = omega (arith, t.1);
+    })))))))
+
+counts-again : {X : Type 0} (row : Row) (number : ℕ) (name one two : List ℕ) (made : ℕ → ℕ → X) (a b : ℕ) → number < 2 ^ 32 → a ≤ 20000 → b ≤ 20000 → words row ≡ counts_line number name one two a b
+    → counts_at row number name one two made ≡ Ok (made a b)
+unfolding counts_at
+counts-again row number name one two made a b fits few few_more e =
+    rw (
+      fixed-again row 1 name Word (rw e refl),
+      counted-again row 2 number (omega arith) (rw e refl),
+      fixed-again row 3 one Word (rw e refl),
+      below-again row 4 20001 a (record { word = rw e refl; fits = omega arith }) (omega arith),
+      fixed-again row 5 two Word (rw e refl),
+      below-again row 6 20001 b (record { word = rw e refl; fits = omega arith }) (omega arith),
+      no_word-again row 7 (rw e refl),
+    ) refl
+
 abbrev pub shard_line : ℕ → ℕ → ℕ → List (List ℕ)
-shard_line number updates entries = codes "shard" ∷ decimal number ∷ codes "updates" ∷ decimal updates ∷ codes "entries" ∷ decimal entries ∷ []
+shard_line number updates entries = counts_line number (codes "shard") (codes "updates") (codes "entries") updates entries
 
 pub record ShardTaken (number : ℕ) (row : Row) (x : ℕ × ℕ) : Type 0 where
   pub are : words row ≡ shard_line number x.0 x.1
@@ -229,44 +295,15 @@ pub record ShardTaken (number : ℕ) (row : Row) (x : ℕ × ℕ) : Type 0 where
   pub entries : x.1 ≤ 20000
 
 pub shard-takes : (number : ℕ) (row : Row) (x : ℕ × ℕ) → shard_at number row ≡ Ok x → ShardTaken number row x
-unfolding shard_at
+unfolding shard_at counts_at
 shard-takes number row x e =
-    from_bind (fixed_at row 1 (codes "shard") Word) _ x e (λ u1 w1 e1.
-    from_bind (counted_at row 2 number) _ x e1 (λ u2 w2 e2.
-    from_bind (fixed_at row 3 (codes "updates") Word) _ x e2 (λ u3 w3 e3.
-    from_bind (below_at row 4 20001) _ x e3 (λ updates w4 e4.
-    from_bind (fixed_at row 5 (codes "entries") Word) _ x e4 (λ u5 w5 e5.
-    from_bind (below_at row 6 20001) _ x e5 (λ entries w6 e6.
-    from_bind (no_word_at row 7) _ x e6 (λ u7 w7 e7.
-    let a = below-takes row 4 20001 updates w4 in
-    let b = below-takes row 6 20001 entries w6 in
-    subst (λ (y : ℕ × ℕ). ShardTaken number row y) (ok_is (updates, entries) x e7) (record {
-      are = all_words row 0 (shard_line number updates entries) (
-        fixed-takes row 1 (codes "shard") Word u1 w1,
-        (
-          counted-takes row 2 number u2 w2,
-          (
-            fixed-takes row 3 (codes "updates") Word u3 w3,
-            (a.0.word, (fixed-takes row 5 (codes "entries") Word u5 w5, (b.0.word, no_word-takes row 7 u7 w7))),
-          ),
-        ),
-      );
-      updates = omega (arith, a.1);
-      entries = omega (arith, b.1);
-    }))))))))
+    let t = counts-takes row number (codes "shard") (codes "updates") (codes "entries") (λ a b. (a, b)) x e in
+    subst (λ (y : ℕ × ℕ). ShardTaken number row y) t.is (record { are = t.are; updates = t.few; entries = t.few_more })
 
 pub shard-again : (number : ℕ) (row : Row) (updates entries : ℕ) → number < 2 ^ 32 → updates ≤ 20000 → entries ≤ 20000 → words row ≡ shard_line number updates entries → shard_at number row ≡ Ok (updates, entries)
-unfolding shard_at
+unfolding shard_at counts_at
 shard-again number row updates entries fits few_updates few_entries e =
-    rw (
-      fixed-again row 1 (codes "shard") Word (rw e refl),
-      counted-again row 2 number (omega arith) (rw e refl),
-      fixed-again row 3 (codes "updates") Word (rw e refl),
-      below-again row 4 20001 updates (record { word = rw e refl; fits = omega arith }) (omega arith),
-      fixed-again row 5 (codes "entries") Word (rw e refl),
-      below-again row 6 20001 entries (record { word = rw e refl; fits = omega arith }) (omega arith),
-      no_word-again row 7 (rw e refl),
-    ) refl
+    counts-again row number (codes "shard") (codes "updates") (codes "entries") (λ a b. (a, b)) updates entries fits few_updates few_entries e
 
 pub shard-plain : (number updates entries : ℕ) → number < 2 ^ 32 → updates ≤ 20000 → entries ≤ 20000 → IsPlain (shard_line number updates entries)
 shard-plain number updates entries fits few_updates few_entries =
@@ -276,45 +313,19 @@ pub record DoneTaken (rank : ℕ) (row : Row) (d : Done) : Type 0 where
   pub are : words row ≡ rank_words rank d
   pub fits : DoneFits d
 
+-- how many calls are done, of how many
+abbrev done_of : ℕ → ℕ → Done
+done_of done given = record { done = done; given = given }
+
 pub done-takes : (rank : ℕ) (row : Row) (d : Done) → done_at rank row ≡ Ok d → DoneTaken rank row d
-unfolding done_at
+unfolding done_at counts_at
 done-takes rank row d e =
-    from_bind (fixed_at row 1 (codes "rank") Word) _ d e (λ u1 w1 e1.
-    from_bind (counted_at row 2 rank) _ d e1 (λ u2 w2 e2.
-    from_bind (fixed_at row 3 (codes "done") Word) _ d e2 (λ u3 w3 e3.
-    from_bind (below_at row 4 20001) _ d e3 (λ done w4 e4.
-    from_bind (fixed_at row 5 (codes "of") Word) _ d e4 (λ u5 w5 e5.
-    from_bind (below_at row 6 20001) _ d e5 (λ given w6 e6.
-    from_bind (no_word_at row 7) _ d e6 (λ u7 w7 e7.
-    let a = below-takes row 4 20001 done w4 in
-    let b = below-takes row 6 20001 given w6 in
-    let made : Done = record { done = done; given = given } in
-    subst (λ (y : Done). DoneTaken rank row y) (ok_is made d e7) (record {
-      are = all_words row 0 (rank_words rank made) (
-        fixed-takes row 1 (codes "rank") Word u1 w1,
-        (
-          counted-takes row 2 rank u2 w2,
-          (
-            fixed-takes row 3 (codes "done") Word u3 w3,
-            (a.0.word, (fixed-takes row 5 (codes "of") Word u5 w5, (b.0.word, no_word-takes row 7 u7 w7))),
-          ),
-        ),
-      );
-      fits = (omega (arith, a.1), omega (arith, b.1));
-    }))))))))
+    let t = counts-takes row rank (codes "rank") (codes "done") (codes "of") done_of d e in
+    subst (λ (y : Done). DoneTaken rank row y) t.is (record { are = t.are; fits = (t.few, t.few_more) })
 
 pub done-again : (rank : ℕ) (row : Row) (d : Done) → rank < 2 ^ 32 → DoneFits d → words row ≡ rank_words rank d → done_at rank row ≡ Ok d
-unfolding done_at
-done-again rank row d fits few e =
-    rw (
-      fixed-again row 1 (codes "rank") Word (rw e refl),
-      counted-again row 2 rank (omega arith) (rw e refl),
-      fixed-again row 3 (codes "done") Word (rw e refl),
-      below-again row 4 20001 d.done (record { word = rw e refl; fits = omega (arith, few.0) }) (omega (arith, few.0)),
-      fixed-again row 5 (codes "of") Word (rw e refl),
-      below-again row 6 20001 d.given (record { word = rw e refl; fits = omega (arith, few.1) }) (omega (arith, few.1)),
-      no_word-again row 7 (rw e refl),
-    ) refl
+unfolding done_at counts_at
+done-again rank row d fits few e = counts-again row rank (codes "rank") (codes "done") (codes "of") done_of d.done d.given fits few.0 few.1 e
 
 pub done-plain : (rank : ℕ) (d : Done) → rank < 2 ^ 32 → DoneFits d → IsPlain (rank_words rank d)
 done-plain rank d fits few = (omega arith, (refl, (plain-decimal rank (omega arith), (refl, (plain-decimal d.done (omega (arith, few.0)), (refl, (plain-decimal d.given (omega (arith, few.1)), tt)))))))
