@@ -26,7 +26,7 @@ use Rattle.rl_step.specs.Core.{MayBe, Turned}
 use Rattle.rl_step.specs.Do.{TheWindow, do_atom, do_got}
 use Rattle.rl_step.specs.Exclusion.{writers_of, readers_of, nobody}
 use Rattle.rl_step.specs.ExclusionLaws.{exclusive_append, writers_append, readers_append, is_exclusive}
-use Rattle.rl_step.specs.Lock.{LockTable, LockState, Deed, AllOut, Rests}
+use Rattle.rl_step.specs.Lock.{IsHolder, LockTable, LockState, Deed, AllOut, Rests}
 use Rattle.rl_step.specs.Queues.{IsFifo, settled, passed, tenures}
 use Rattle.rl_step.specs.QueueLemmas.{within_bound}
 use Rattle.rl_step.specs.QueuePromises.{KeepQueues, KeepBudgets, CountTenures}
@@ -260,32 +260,21 @@ module _ (V K : Type 0) (L : LockAt V K) (good : Goods V K) (further : List Even
       }
 
   -- whoever stands as a holder on the shard stands so at the lock
-  writer_at : (st : Standing) (b : Bool) → standing_while st b ≡ Writer → st ≡ Writer
-  writer_at Out true e = cc
-  writer_at Out false e = cc
-  writer_at Asking b e = cc
-  writer_at Writer b e = refl
-  writer_at Reader b e = cc
-  writer_at Leaving b e = cc
-
-  reader_at : (st : Standing) (b : Bool) → standing_while st b ≡ Reader → st ≡ Reader
-  reader_at Out true e = cc
-  reader_at Out false e = cc
-  reader_at Asking b e = cc
-  reader_at Writer b e = cc
-  reader_at Reader b e = refl
-  reader_at Leaving b e = cc
+  holder_at : (p : Standing) → IsHolder p → (st : Standing) (b : Bool) → standing_while st b ≡ p → st ≡ p
+  holder_at p holds Out true e = absurd (subst IsHolder (sym e) holds)
+  holder_at p holds Out false e = e
+  holder_at p holds Asking b e = e
+  holder_at p holds Writer b e = e
+  holder_at p holds Reader b e = e
+  holder_at p holds Leaving b e = e
 
   alone_on : (h : TheWindow) (vs : List (WholeView V K)) → Good L good layout h vs → AloneIn (map (stand_on L) vs)
   alone_on h vs g =
       let a : AloneIn (map (stand L.table) vs) = alone_in V K L good further layout laws home h vs g in
-      let writer : (i : ℕ) → slice_get (map (stand_on L) vs) i ≡ Some Writer → slice_get (map (stand L.table) vs) i ≡ Some Writer = λ i e.
-      let x = get_map_back (stand_on L) vs i Writer e in
-      get_map (stand L.table) vs i x.0 x.1 ∙ ap (λ z. Some z) (writer_at (stand L.table x.0) (L.work.is_open x.0.work) x.2) in
-      let reader : (i : ℕ) → slice_get (map (stand_on L) vs) i ≡ Some Reader → slice_get (map (stand L.table) vs) i ≡ Some Reader = λ i e.
-      let x = get_map_back (stand_on L) vs i Reader e in
-      get_map (stand L.table) vs i x.0 x.1 ∙ ap (λ z. Some z) (reader_at (stand L.table x.0) (L.work.is_open x.0.work) x.2) in
-      record { one = λ i j p q. a.one i j (writer i p) (writer j q); none = λ i j p q. a.none i j (writer i p) (reader j q) }
+      let holder : (p : Standing) → IsHolder p → (i : ℕ) → slice_get (map (stand_on L) vs) i ≡ Some p → slice_get (map (stand L.table) vs) i ≡ Some p = λ p holds i e.
+      let x = get_map_back (stand_on L) vs i p e in
+      get_map (stand L.table) vs i x.0 x.1 ∙ ap (λ z. Some z) (holder_at p holds (stand L.table x.0) (L.work.is_open x.0.work) x.2) in
+      record { one = λ i j p q. a.one i j (holder Writer tt i p) (holder Writer tt j q); none = λ i j p q. a.none i j (holder Writer tt i p) (holder Reader tt j q) }
 
   none_open : (h : TheWindow) (vs : List (WholeView V K)) (t : List Event) (ds : List Deed) (r : ℕ) (x : WholeView V K) → IsSeated T G h vs t ds r x → is_open L x ≡ false → next_of L x ≡ None
   none_open h vs t ds r x s shut = shut_is_none V K L good further layout laws home x (may h vs t ds r x s) shut
