@@ -21,6 +21,3 @@ pub use journal::{
     second_number, update_kind, update_of,
 };
 pub use laws::{block_laws, history_laws, journal_laws};
-
-#[cfg(test)]
-mod tests;

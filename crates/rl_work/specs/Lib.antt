@@ -10,8 +10,6 @@ pub mod WorkGood
 pub mod Rule
 -- for ways of working that read without a lock
 pub mod Unlocked
--- for tests
-pub mod OneRank
 -- proved; skip at first
 pub mod OpeningLaws
 pub mod VolumeLaws

@@ -35,6 +35,3 @@ pub use stage::Stage;
 pub use transcript::Transcript;
 pub use way::{KeepsOwn, Work};
 pub use work::{LockedSide, write_atom};
-
-#[cfg(test)]
-mod tests;

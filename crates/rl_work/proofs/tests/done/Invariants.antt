@@ -1,6 +1,0 @@
-use Rattle.rl_step.specs.declared.events.Standing.TheVariants.{Writer}
-use Rattle.rl_work.specs.OneRank.{IsAlone}
-use Rattle.rl_work.proofs.tests.done.Given as goal
-
-abbrev pub invariant-loop-atoms : goal.invariant-loop-atoms
-invariant-loop-atoms g l = IsAlone l.geom l.room l.words Writer l.work

@@ -1,0 +1,2 @@
+-- a rank alone at its site
+pub mod OneRank
