@@ -19,14 +19,14 @@ mod counts;
 mod generating;
 mod laps;
 mod making;
-mod offline;
 mod program;
 mod replaying;
 mod reporting;
 mod running;
 mod showing;
 mod summary;
+mod threadless;
 
 pub use generating::generate;
-pub use offline::offline;
 pub use program::rmalock;
+pub use threadless::offline;
