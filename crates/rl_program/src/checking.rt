@@ -1,13 +1,10 @@
 //! A check: whether the report in a file is legal for a placement and calls.
-ghost use Rattle.std.specs.Prelude.{◌≡◌, ◌≢◌, ◌<◌, length, IfOk, IsTrue, Some};
+ghost use Rattle.std.specs.Prelude.{◌≡◌, ◌≢◌, ◌<◌, IfOk, IsTrue, Some};
 ghost use Rattle.std.specs.List.{join_with_byte};
 ghost use Rattle.rl_text.specs.Printing.{Puts};
 ghost use Rattle.rl_place.specs.Places.{IsProper};
 ghost use Rattle.rl_history.specs.Naming.{naming_of};
 ghost use Rattle.rl_history.specs.Reports.{ReportFits};
-ghost use Rattle.rl_ops.specs.Ops.{OpsFit};
-ghost use Rattle.rl_check.specs.Faults.{IsFirst};
-ghost use Rattle.rl_check.specs.Legal.{Passes};
 ghost use Rattle.rl_program.specs.Answer.{RisesWithFault};
 ghost use Rattle.rl_program.specs.CheckAnswer.{MayReadCheck, WasCheckAnswered, check_named, group_words, verdict, IsStopped, WasReported, AreProper, WereChecked, IsCheckStatus, IsOut};
 
@@ -144,59 +141,8 @@ fn verdict(alloc: Global, found: Option<Illegal>) -> Result<Answer, OutOfMemory>
     }
 }
 
-/// Who makes the tests of a report.
-pub trait Tester {
-    /// The first test that fails, if one does.
-    fn first_fault(
-        &self,
-        alloc: Global,
-        place: &Place,
-        ops: &Ops,
-        report: &Report,
-    ) -> Result<Option<Illegal>, OutOfMemory>
-        requires proper { IsProper place.now }
-        requires calls { OpsFit (length place.now.paths) place.now.geom.shards ops.now }
-        requires fits { ReportFits (naming_of place.now) report.now }
-        ensures { IfOk result (λ found. IsFirst (Passes place.now ops.now report.now) found) };
-}
-
-/// Makes them one after the other, in the thread of the caller.
-#[derive(Drop)]
-pub struct OneThread;
-
-impl Tester for OneThread {
-    fn first_fault(
-        &self,
-        alloc: Global,
-        place: &Place,
-        ops: &Ops,
-        report: &Report,
-    ) -> Result<Option<Illegal>, OutOfMemory> {
-        check_one(alloc, place, ops, report)
-    }
-}
-
-/// Makes those of several shards side by side, and then those of several ranks, where [`check_all`] finds it worth the threads.
-#[derive(Drop)]
-pub struct Threaded<'a, R: Threads + Sync> {
-    pub rt: &'a R,
-}
-
-impl<R: Threads + Sync> Tester for Threaded<'_, R> {
-    fn first_fault(
-        &self,
-        alloc: Global,
-        place: &Place,
-        ops: &Ops,
-        report: &Report,
-    ) -> Result<Option<Illegal>, OutOfMemory> {
-        check_all(self.rt, alloc, place, ops, report)
-    }
-}
-
-/// The answer to a check of these files.
-pub fn answer_check<S: Source, T: Tester>(
-    tester: &T,
+/// The answer to a check of these files, in one thread.
+pub fn answer_check<S: Source>(
     alloc: Global,
     source: &mut S,
     files: CheckFiles<'_>,
@@ -208,7 +154,29 @@ pub fn answer_check<S: Source, T: Tester>(
 {
     match read_checked(alloc, source, files)? {
         Files::Spelled(read) => {
-            let found = tester.first_fault(alloc, &read.place, &read.ops, &read.report)?;
+            let found = check_one(alloc, &read.place, &read.ops, &read.report)?;
+            Ok(verdict(alloc, found)?)
+        }
+        Files::Refused(answer) => Ok(answer),
+    }
+}
+
+/// The same, where the tests of several shards are made side by side, and then those of several ranks, if [`check_all`] finds it worth
+/// the threads.
+pub fn answer_check_in_threads<S: Source>(
+    rt: &(impl Threads + Sync),
+    alloc: Global,
+    source: &mut S,
+    files: CheckFiles<'_>,
+) -> Result<Answer, Quit>
+    requires { MayReadCheck (S.may_open source.old) (Some (check_named files)) }
+    ensures answered { WasCheckAnswered (S.file source.old) (check_named files.entry) result }
+    ensures status { IfOk result (λ answer. IsCheckStatus answer.status) }
+    ensures faults { RisesWithFault result (S.faults source.old) (S.faults source.new) }
+{
+    match read_checked(alloc, source, files)? {
+        Files::Spelled(read) => {
+            let found = check_all(rt, alloc, &read.place, &read.ops, &read.report)?;
             Ok(verdict(alloc, found)?)
         }
         Files::Refused(answer) => Ok(answer),

@@ -6,7 +6,7 @@ ghost use Rattle.rl_program.specs.CheckAnswer.{MayReadCheck, IsCheckDone, check_
 ghost use Rattle.rl_program.specs.RunAnswer.{MayReadRun, WasRunAnswered, IsRunDone, run_name};
 
 use crate::answer::{Answer, refused};
-use crate::checking::{Threaded, answer_check, done};
+use crate::checking::{answer_check_in_threads, done};
 use crate::command::{RunFiles, check_files, run_files};
 use crate::complaint::Quit;
 use crate::running::run_text;
@@ -113,7 +113,7 @@ pub fn rmalock<S: Source, K: Sink, G: Gate, R: Threads + Wait + Sync>(
         return done_run(rt, alloc, files, source, out, gate);
     }
     match check_files(words) {
-        Some(files) => done(answer_check(&Threaded { rt }, alloc, source, files), out),
+        Some(files) => done(answer_check_in_threads(rt, alloc, source, files), out),
         None => offline(alloc, words, source, out),
     }
 }

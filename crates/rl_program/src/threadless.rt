@@ -5,7 +5,7 @@ ghost use Rattle.rl_program.specs.Answer.{MayRead, NamesNoFile, IsDone, StillTel
 ghost use Rattle.rl_program.specs.CheckAnswer.{MayReadCheck, IsCheckDone, check_of};
 
 use crate::answer::answer_words;
-use crate::checking::{OneThread, answer_check, done};
+use crate::checking::{answer_check, done};
 use crate::command::check_files;
 use crate::complaint::Quit;
 use rl_io::{Failed, Sink, Source, write_all};
@@ -34,7 +34,7 @@ pub fn offline<S: Source, K: Sink>(
     ensures unread { check_of (map string_bytes words.now) ≡ None → NamesNoFile (form_of (map string_bytes words.now)) → source.new ≡ source.old }
 {
     if let Some(files) = check_files(words) {
-        return done(answer_check(&OneThread, alloc, source, files), out);
+        return done(answer_check(alloc, source, files), out);
     }
     match answer_words(alloc, words, source) {
         Ok(answer) => match write_all(out, answer.text()) {
