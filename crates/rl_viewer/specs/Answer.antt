@@ -1,7 +1,7 @@
 -- What a viewer answers: what it shows of the replay that the files spell, and else the line and the status with which a replay is refused.
 use Rattle.std.specs.Prelude.{◌≡◌, ◌≢◌, ◌≤◌, ◌⊎◌, ℕ, List, take, length, Bool, Option, Some, None, Result, Ok, Err}
 use Rattle.std.specs.Global.{Vec}
-use Rattle.rl_io.specs.Outside.{Appends}
+use Rattle.rl_io.specs.Outside.{Appends, GoesOn}
 use Rattle.rl_replay.specs.declared.complaint.Complaint.{Complaint}
 use Rattle.rl_replay.specs.declared.complaint.Stop.{Stop}
 use Rattle.rl_replay.specs.declared.replay.Replay.{Replay}
@@ -30,16 +30,17 @@ abbrev pub MayRead : (List ℕ → Bool) → Option TheAsked → Type 0
 MayRead may_open None = Unit {0}
 MayRead may_open (Some asked) = MayOpenFiles may_open asked.names
 
--- What a viewer did is what belongs to the bytes of the named files.
-pub record IsDone (shows : Replay → Window → List ℕ → Type 0) (usage : List ℕ) (file : List ℕ → Option (List ℕ)) (asked : Option TheAsked) (status : ℕ) (before after : Option (List ℕ)) : Type 0 where
-  pub texts : Texts
-  pub are : AreTold file asked texts
-  -- the answer's status, and its bytes
-  pub whole : status ≢ 3 → status ≢ 4 → status ≢ 5 → (text : List ℕ) × IsAnswer shows usage asked texts status text × Appends before text after
-  -- a front of an answer's bytes, where a write failed
-  pub cut : status ≡ 4 → (answered : ℕ) × (text : List ℕ) × (n : ℕ) × IsAnswer shows usage asked texts answered text × (n ≤ length text) × Appends before (take n text) after
-  -- nothing, where a file could not be read or memory ran out
-  pub silent : (status ≡ 3) ⊎ (status ≡ 5) → after ≡ before
+-- What a viewer did is what belongs to the bytes of the named files: its status, and what it wrote, where the sink tells it.
+module _ {S : Type 0} (tells_on : S → ℕ → Type 0) (old new : S) (before after : Option (List ℕ)) where
+  pub record IsDone (shows : Replay → Window → List ℕ → Type 0) (usage : List ℕ) (file : List ℕ → Option (List ℕ)) (asked : Option TheAsked) (status : ℕ) : Type 0 where
+    pub texts : Texts
+    pub are : AreTold file asked texts
+    -- the answer's status, and its bytes; a sink with room for them and some more still tells them through that more
+    pub whole : status ≢ 3 → status ≢ 4 → status ≢ 5 → (text : List ℕ) × IsAnswer shows usage asked texts status text × Appends before text after × GoesOn tells_on old (length text) new
+    -- a front of an answer's bytes, where a write failed
+    pub cut : status ≡ 4 → (answered : ℕ) × (text : List ℕ) × IsAnswer shows usage asked texts answered text × ((n : ℕ) × (n ≤ length text) × Appends before (take n text) after) × GoesOn tells_on old (length text) new
+    -- nothing, where a file could not be read or memory ran out
+    pub silent : (status ≡ 3) ⊎ (status ≡ 5) → (after ≡ before) × (new ≡ old)
 
 -- a text may show the replay that was told, and what ended early ended by its complaint
 abbrev pub IsOf : (Replay → Window → List ℕ → Type 0) → Window → Result (Vec ℕ) Stop → Result Replay Complaint → Type 0

@@ -1,6 +1,6 @@
 //! The top call of a viewer: what it shows of a replay, or the line that says why there is none.
 ghost use Rattle.std.specs.Prelude.{◌≡◌, ◌≢◌, ◌<◌, ◌≤◌, ℕ, List, None, length, take, map, string_bytes, IfOk};
-ghost use Rattle.rl_io.specs.Outside.{Appends};
+ghost use Rattle.rl_io.specs.Outside.{Appends, GoesOn};
 ghost use Rattle.rl_place.specs.Places.{IsProper};
 ghost use Rattle.rl_ops.specs.Ops.{OpsFit};
 ghost use Rattle.rl_ops.specs.Schedule.{ScheduleFits};
@@ -51,6 +51,7 @@ fn answer<K: Sink>(out: &mut K, text: &[u8], status: u8) -> u8
     requires { status ≤ 2 }
     ensures whole { result ≢ 4 → (result ≡ status) × Appends (K.written out.old) text.now (K.written out.new) }
     ensures cut { result ≡ 4 → (n : ℕ) × (n ≤ length text.now) × Appends (K.written out.old) (take n text.now) (K.written out.new) }
+    ensures goes_on { GoesOn K.tells_on out.old (length text.now) out.new }
     ensures risen { result ≡ 4 → K.faults out.old < K.faults out.new }
     ensures quiet { result ≢ 4 → K.faults out.new ≡ K.faults out.old }
     ensures few { result ≤ 4 }
@@ -64,7 +65,8 @@ fn answer<K: Sink>(out: &mut K, text: &[u8], status: u8) -> u8
 
 /// Shows what the words of the command line ask for, and gives the status: 0 after the viewer's bytes, 1 after the usage line,
 /// where the words are no form, 2 after the line that refuses a file, 3 where a file could not be read, 4 where a write failed,
-/// 5 for want of memory. The bytes with status 0 may show the replay by what the viewer says (`V.shows`).
+/// 5 for want of memory. The bytes with status 0 may show the replay by what the viewer says (`V.shows`). A sink with room for the
+/// answer tells its bytes afterwards as before.
 pub fn show_replay<V: Viewer, S: Source, K: Sink>(
     alloc: Global,
     usage: &[u8],
@@ -73,7 +75,7 @@ pub fn show_replay<V: Viewer, S: Source, K: Sink>(
     out: &mut K,
 ) -> u8
     requires { MayRead (S.may_open source.old) (asked_by (map string_bytes words.now)) }
-    ensures done { IsDone V.shows usage.now (S.file source.old) (asked_by (map string_bytes words.now)) result (K.written out.old) (K.written out.new) }
+    ensures done { IsDone K.tells_on out.old out.new (K.written out.old) (K.written out.new) V.shows usage.now (S.file source.old) (asked_by (map string_bytes words.now)) result }
     ensures status { result ≤ 5 }
     ensures read_fault { result ≡ 3 → S.faults source.old < S.faults source.new }
     ensures read_quiet { result ≢ 3 → S.faults source.new ≡ S.faults source.old }

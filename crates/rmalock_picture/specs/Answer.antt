@@ -14,5 +14,6 @@ abbrev pub IsPicture : Replay → Window → List ℕ → Type 0
 IsPicture replay window bytes = Unit {0}
 
 -- What the program did is what belongs to the bytes of the named files.
-abbrev pub IsDone : (List ℕ → Option (List ℕ)) → Option TheAsked → ℕ → Option (List ℕ) → Option (List ℕ) → Type 0
-IsDone file asked status before after = viewer.IsDone IsPicture usage_text file asked status before after
+module _ {S : Type 0} (tells_on : S → ℕ → Type 0) (old new : S) (before after : Option (List ℕ)) where
+  abbrev pub IsDone : (List ℕ → Option (List ℕ)) → Option TheAsked → ℕ → Type 0
+  IsDone file asked status = viewer.IsDone tells_on old new before after IsPicture usage_text file asked status

@@ -9,5 +9,6 @@ abbrev pub usage_text : List ℕ
 usage_text = codes "usage: rmalock_steps PLACE CALLS SCHEDULE [FROM TO]" ++ 10 ∷ []
 
 -- What the program did is what belongs to the bytes of the named files: with status 0 exactly the listing of the replay that they spell.
-abbrev pub IsDone : (List ℕ → Option (List ℕ)) → Option TheAsked → ℕ → Option (List ℕ) → Option (List ℕ) → Type 0
-IsDone file asked status before after = viewer.IsDone IsListing usage_text file asked status before after
+module _ {S : Type 0} (tells_on : S → ℕ → Type 0) (old new : S) (before after : Option (List ℕ)) where
+  abbrev pub IsDone : (List ℕ → Option (List ℕ)) → Option TheAsked → ℕ → Type 0
+  IsDone file asked status = viewer.IsDone tells_on old new before after IsListing usage_text file asked status

@@ -14,7 +14,8 @@ const USAGE: &[u8] = b"usage: rmalock_steps PLACE CALLS SCHEDULE [FROM TO]\n";
 
 /// Lists what the words of the command line ask for, and gives the status: 0 after a listing, 1 after the usage line, where the
 /// words are no form, 2 after the line that refuses a file, 3 where a file could not be read, 4 where a write failed, 5 for want
-/// of memory. The bytes with status 0 are exactly the listing of the run (`listing_of` of `specs/Listing`).
+/// of memory. The bytes with status 0 are exactly the listing of the run (`listing_of` of `specs/Listing`). A sink with room for the
+/// answer tells its bytes afterwards as before.
 pub fn list_replay<S: Source, K: Sink>(
     alloc: Global,
     words: &[String],
@@ -22,7 +23,7 @@ pub fn list_replay<S: Source, K: Sink>(
     out: &mut K,
 ) -> u8
     requires { MayRead (S.may_open source.old) (asked_by (map string_bytes words.now)) }
-    ensures done { IsDone (S.file source.old) (asked_by (map string_bytes words.now)) result (K.written out.old) (K.written out.new) }
+    ensures done { IsDone K.tells_on out.old out.new (K.written out.old) (K.written out.new) (S.file source.old) (asked_by (map string_bytes words.now)) result }
     ensures status { result ≤ 5 }
     ensures read_fault { result ≡ 3 → S.faults source.old < S.faults source.new }
     ensures read_quiet { result ≢ 3 → S.faults source.new ≡ S.faults source.old }

@@ -9,17 +9,17 @@ use Rattle.rl_viewer.proofs.viewing.show_replay.Goals as goal
 pub returns-in_default-clause-done : goal.returns-in_default-clause-done
 returns-in_default-clause-done g c =
     let said = c.answer.ensures in
-    no_form _ _ _ _ _ 1 _ _ (record { whole = said.whole; cut = said.cut; never = said.never; few = said.few }) _ c.in_default.ensures.asked refl refl
+    no_form _ _ _ _ _ _ _ _ 1 _ _ (record { whole = said.whole; cut = said.cut; goes_on = said.goes_on; never = said.never; few = said.few }) _ c.in_default.ensures.asked refl refl
 
 pub returns-in-Ok-clause-done : goal.returns-in-Ok-clause-done
 returns-in-Ok-clause-done g c =
     let said = c.answer-in-Ok.ensures in
-    was_shown _ _ _ _ _ 0 _ _ (record { whole = said.whole; cut = said.cut; never = said.never; few = said.few }) _ _ _ c.in-Some.ensures.asked c.in-Ok.ensures.shown refl c.as_slice.ensures.value
+    was_shown _ _ _ _ _ _ _ _ 0 _ _ (record { whole = said.whole; cut = said.cut; goes_on = said.goes_on; never = said.never; few = said.few }) _ _ _ c.in-Some.ensures.asked c.in-Ok.ensures.shown refl c.as_slice.ensures.value
 
 pub returns-in-Ok-refusal_line-clause-done : goal.returns-in-Ok-refusal_line-clause-done
 returns-in-Ok-refusal_line-clause-done g c =
     let said = c.answer-in-Ok-refusal_line.ensures in
     let complaint = c.in-Err-Refused.complaint in
-    was_refused _ _ _ _ _ 2 _ _ (record { whole = said.whole; cut = said.cut; never = said.never; few = said.few }) _ _ complaint c.in-Some.ensures.asked
+    was_refused _ _ _ _ _ _ _ _ 2 _ _ (record { whole = said.whole; cut = said.cut; goes_on = said.goes_on; never = said.never; few = said.few }) _ _ complaint c.in-Some.ensures.asked
     (subst (λ why. WasShown g.V.Viewer.shows (g.S.Source.file c.args.source.now) (the_asked c.in-Some.asked) (Err why)) c.in-Err-Refused.field-0-is c.in-Err-Refused.ensures.shown) refl
     (c.as_slice-in-Ok-refusal_line.ensures.value ∙ c.in-Ok-refusal_line.ensures ∙ ap (λ name. refused_line name complaint.trouble) c.name-name.ensures)
