@@ -124,7 +124,8 @@ pub fn read_called<S: Source>(
     }
 }
 
-/// The schedule of a file.
+/// The schedule of a file. It stands apart, since it may have two million turns: so the loop that reads them has all registers.
+#[inline(never)]
 #[tactic(auto, unfolding(crate::specs::Reading::scheduled))]
 pub fn read_scheduled<S: Source>(
     alloc: Global,

@@ -120,6 +120,9 @@ fn take_turn<C: Resting>(
 /// is sound (`IsSound`); on each shard the lock's queues, whose members and budgets are the placement's, keep their promises;
 /// and what a lock promises beside holds of its events and acts on each shard.
 /// The contract speaks of the run by its definition (`run_of` of `rl_machine`), which knows no vectors.
+///
+/// It stands apart from its callers: so the loop that takes the steps has all registers.
+#[inline(never)]
 pub fn replay<C: Resting>(
     alloc: Global,
     shape: &Shape,
