@@ -1,9 +1,11 @@
 -- The words and views of a shard before its first block, filled in one by one; and a list that is read so.
-use Rattle.std.specs.Prelude.{◌≡◌, ℕ, zero, suc, ◌+◌, ◌-◌, ◌≤◌, ◌<◌, List, [], ◌∷◌, ◌++◌, length, replicate, take, slice_get, slice_index, slice_set, Some, refl}
-use Rattle.std.proofs.Common.{◌∙◌, ap, add-one, arith, sym}
-use Rattle.std.proofs.Math.Seq.{take-length}
+use Rattle.std.specs.Prelude.{◌≡◌, ℕ, zero, suc, ◌+◌, ◌-◌, ◌*◌, ◌≤◌, ◌<◌, List, [], ◌∷◌, ◌++◌, length, replicate, take, slice_get, slice_index, slice_set, Some, refl}
+use Rattle.std.proofs.Common.{◌∙◌, ap, add-one, append_assoc, arith, sym}
+use Rattle.std.proofs.lemmas.List.{take_at}
 use Rattle.std.proofs.lemmas.Option.{same_Some}
-use Rattle.rl_work.specs.Site.{Site, lock_base}
+use Rattle.rl_volume.specs.Volume.{start_words}
+use Rattle.rl_volume.proofs.StartLaws.{start_size}
+use Rattle.rl_work.specs.Site.{Site, places, journal_base, lock_base}
 use Rattle.rl_work.specs.WorkGood.{opening_words}
 use Rattle.rl_work.specs.OpeningLaws.{opening_size}
 use Rattle.rl_asks.specs.ShardTables.{ShardTable, first_views}
@@ -27,6 +29,11 @@ filled_next [] i z h = absurd (omega arith)
 filled_next (x ∷ l) zero z h = refl
 filled_next (x ∷ l) (suc i) z h = ap (λ t. x ∷ t) (filled_next l i z (omega arith))
 
+-- zeros behind zeros
+zeros_joined : (a b : ℕ) → replicate {A = ℕ} (a + b) 0 ≡ replicate a 0 ++ replicate b 0
+zeros_joined zero b = let none : zero + b ≡ b = omega arith in ap (λ n. replicate n 0) none
+zeros_joined (suc a) b = let one : suc a + b ≡ suc (a + b) = omega arith in ap (λ n. replicate n 0) one ∙ ap (λ z. 0 ∷ z) (zeros_joined a b)
+
 module _ (site : Site) (behind : ℕ) where
   -- the words of a shard, of which so many are filled in, and all others are 0
   abbrev pub opened_to : ℕ → List ℕ
@@ -46,12 +53,17 @@ module _ (site : Site) (behind : ℕ) where
       ∙ filled_next (opening_words site) word (lock_base site - (word + 1) + behind) (omega arith)
       ∙ ap (λ n. filled (opening_words site) n (lock_base site - (word + 1) + behind)) more
 
-  -- all of them
-  pub opened_all : (word : ℕ) → word ≡ lock_base site → opened_to word ≡ opening_words site ++ replicate behind 0
+  -- all of them, once the volume's are: those behind it are 0
+  pub opened_all : (word : ℕ) → word ≡ journal_base site.geom → opened_to word ≡ opening_words site ++ replicate behind 0
   opened_all word e =
-      let at : word ≡ length (opening_words site) = e ∙ sym (opening_size site) in
-      let zeros : lock_base site - word + behind ≡ behind = omega arith in
-      ap (filled (opening_words site) word) zeros ∙ ap (λ n. filled (opening_words site) n behind) at ∙ ap (λ t. t ++ replicate behind 0) (take-length (opening_words site))
+      let front : List ℕ = 1 ∷ 0 ∷ start_words site.geom in
+      let journal : ℕ = 6 * places site in
+      let zeros : lock_base site - word + behind ≡ journal + behind = omega arith in
+      let long : length front ≡ word = omega (arith, start_size site.geom) in
+      ap (filled (opening_words site) word) zeros
+      ∙ ap (λ t. t ++ replicate (journal + behind) 0) (take_at front (replicate journal 0) word long)
+      ∙ ap (λ t. front ++ t) (zeros_joined journal behind)
+      ∙ sym (append_assoc front (replicate journal 0) (replicate behind 0))
 
 -- ---- the views
 

@@ -42,7 +42,8 @@ pub fn first_words<C: ShardCore>(alloc: Global, core: &C) -> Result<Vec<u64>, Ou
     let base = lock_base(core);
     let size = (base + core.words()) as usize;
     let mut words = vec![in alloc; 0; size]?;
-    for word in 0..base {
+    // The words behind the volume stay 0.
+    for word in 0..journal_base(geom) {
         words[word as usize] = opening_word(geom, word);
     }
     Ok(words)

@@ -4,7 +4,7 @@
 //!   **place**: an entry of the shard, an event of it, or a call of the rank.
 //! - A **fault** ([`Illegal`]) is a test that fails. The **first fault** is the first of them in the order of the tests.
 //! - [`check_shard`] and [`check_rank`] make the tests of one shard or rank, [`check_one`] those of a whole report, and
-//!   [`check_all`] the same in threads.
+//!   [`check_all`] the same, where threads may help.
 //!
 //! Promise: nothing is told exactly where no test fails, and else the first fault (`specs/Faults.antt`). What each test asks
 //! is said in `specs/Entries.antt`, `Shards.antt` and `Ranks.antt`. A report of a run passes all tests exactly where it is

@@ -42,7 +42,7 @@ fn first(all: &[Found]) -> Found
     Ok(None)
 }
 
-// What is found of each shard, from as many threads as there are processors. Only the list can be wanting for memory here.
+// What is found of each shard, by `rayon`, which may start threads for it. Only the list can be wanting for memory here.
 fn of_shards(
     rt: &(impl Threads + Sync),
     alloc: Global,
@@ -87,8 +87,7 @@ fn of_ranks(
         .collect(rt, alloc)
 }
 
-/// The same as [`check_one`](crate::check_one), from as many threads as there are processors: the shards side by side, and
-/// then the ranks.
+/// The same as [`check_one`](crate::check_one), by `rayon`, which may start threads for it: the shards, and then the ranks.
 ///
 /// # Errors
 ///

@@ -85,6 +85,7 @@ pub fn reply_value(reply: Reply) -> u64
 
 /// One of the six words that an entry has in the journal, by its number from 0: rank and number, what was asked and
 /// answered, and then key, two further numbers of the call and the value of the reply.
+#[inline(always)]
 pub fn journal_value(entry: &Entry, word: u32) -> u64
     requires { word < 6 }
     ensures { result ≡ slice_index (spelt.spelling entry.now) word }

@@ -124,7 +124,7 @@ pub fn read_called<S: Source>(
     }
 }
 
-/// The schedule of a file. It stands apart, since it may have two million turns: so the loop that reads them has all registers.
+/// The schedule of a file. It may have two million turns: so the loop that reads them stands apart from its caller.
 #[inline(never)]
 #[tactic(auto, unfolding(crate::specs::Reading::scheduled))]
 pub fn read_scheduled<S: Source>(

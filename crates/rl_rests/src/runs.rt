@@ -121,7 +121,7 @@ fn take_turn<C: Resting>(
 /// and what a lock promises beside holds of its events and acts on each shard.
 /// The contract speaks of the run by its definition (`run_of` of `rl_machine`), which knows no vectors.
 ///
-/// It stands apart from its callers: so the loop that takes the steps has all registers.
+/// It stands apart from its callers, which makes the loop that takes the steps shorter by some hundredths.
 #[inline(never)]
 pub fn replay<C: Resting>(
     alloc: Global,

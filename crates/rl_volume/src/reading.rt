@@ -21,6 +21,7 @@ use rl_model::{Call, Geom};
 /// so does a chain that comes to a cell twice. Where each word seen was named here when it was read, a
 /// put reads 4 + 2 * overflow words at most, a delete 5 + 2 * overflow, and any other call 3 + 2 * overflow;
 /// and to name the next one takes about one look at each word seen.
+#[inline(always)]
 pub fn next_read(geom: Geom, call: Call, seen: &Seen) -> Option<u32>
     requires { GeomFits geom }
     ensures next { result ≡ next_word geom call seen.now.pairs }
@@ -32,6 +33,7 @@ pub fn next_read(geom: Geom, call: Call, seen: &Seen) -> Option<u32>
     by_call(geom, call, seen)
 }
 
+#[inline(always)]
 fn by_call(geom: Geom, call: Call, seen: &Seen) -> Option<u32>
     requires { GeomFits geom }
     ensures { result ≡ next_word geom call seen.now.pairs }
@@ -50,6 +52,7 @@ fn by_call(geom: Geom, call: Call, seen: &Seen) -> Option<u32>
 // passed before: a word is looked for there first among those seen.
 
 // The next word of the walk that begins at a bucket.
+#[inline(always)]
 fn next_in_bucket(geom: Geom, call: Call, key: u64, seen: &Seen) -> Option<u32>
     requires { GeomFits geom }
     ensures { result ≡ next_in (bucket_walk geom call key (bucket_of geom key)) seen.now.pairs }

@@ -115,20 +115,21 @@ impl<A: Algo, W: Work> Whole<A, W> {
         }
     }
 
-    /// The lock's view behind an atom of the work, of a rank that stands so.
+    /// Changes the lock's view as an atom of the work wants it, of a rank that stands so.
     #[inline(always)]
-    fn followed(&self, view: A::View, standing: Standing, follow: Follow) -> A::View
-        requires stands { standing ≡ (A.table self.now.algo).standing view }
+    fn follow(&self, view: &mut A::View, standing: Standing, follow: Follow)
+        requires stands { standing ≡ (A.table self.now.algo).standing view.old }
         requires asks { AsksOut follow standing }
-        ensures { result ≡ followed (A.table self.now.algo) view follow }
+        ensures { view.new ≡ followed (A.table self.now.algo) view.old follow }
     {
         match follow {
-            Follow::On => view,
-            Follow::Ask(mode) => self.algo.ask(view, mode),
-            Follow::Over => match standing {
-                Standing::Writer | Standing::Reader => self.algo.leave(view),
-                _ => view,
-            },
+            Follow::On => {}
+            Follow::Ask(mode) => *view = self.algo.ask(*view, mode),
+            Follow::Over => {
+                if let Standing::Writer | Standing::Reader = standing {
+                    *view = self.algo.leave(*view);
+                }
+            }
         }
     }
 
@@ -183,7 +184,7 @@ impl<A: Algo, W: Work> Core for Whole<A, W> {
                 let step = self.work.after(rank, &mut view.work, got);
                 tell_work(rank, standing, touch, step.follow, events);
                 view.side.card = CardState::Free;
-                view.side.view = self.followed(view.side.view, standing, step.follow);
+                self.follow(&mut view.side.view, standing, step.follow);
                 step.stepped
             }
             Effect::Stay { card, stepped } => {

@@ -1,6 +1,6 @@
 -- One word more.
 use Rattle.std.proofs.Common.{◌≡◌, ◌+◌, ◌<◌, slice_index, slice_set, replicate, ap, sym, ◌∙◌, arith, rules}
-use Rattle.rl_work.specs.Site.{lock_base}
+use Rattle.rl_work.specs.Site.{journal_base, lock_base}
 use Rattle.rl_work.specs.WorkGood.{opening_words}
 use Rattle.rl_asks.specs.Filling.{opened_none, opened_next, opened_all}
 use Rattle.rl_asks.proofs.opening.first_words.Goals as goal
@@ -15,7 +15,7 @@ pub loop-word-preserved : goal.loop-word-preserved
 loop-word-preserved g c =
     let T = g.C.ShardCore.shard_table c.args.core.now in
     let word = c.loop-word.word in
-    let b = c.lock_base-base.ensures in
+    let b : c.journal_base-word-end.result ≡ journal_base T.site.geom = c.journal_base-word-end.ensures ∙ ap journal_base c.geom-geom.ensures in
     let test = c.loop-word-test.true in
     let low : word < lock_base T.site = omega arith in
     let value : c.opening_word.result ≡ slice_index (opening_words T.site) word = c.opening_word.ensures T.site (sym c.geom-geom.ensures) in
@@ -24,5 +24,5 @@ loop-word-preserved g c =
 pub returns : goal.returns
 returns g c =
     let T = g.C.ShardCore.shard_table c.args.core.now in
-    let b = c.lock_base-base.ensures in
+    let b : c.journal_base-word-end.result ≡ journal_base T.site.geom = c.journal_base-word-end.ensures ∙ ap journal_base c.geom-geom.ensures in
     c.loop-word.invariant ∙ opened_all T.site T.behind c.loop-word.word (omega arith)

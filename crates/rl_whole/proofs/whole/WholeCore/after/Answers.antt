@@ -88,7 +88,7 @@ pub returns-in-Work : goal.returns-in-Work
 returns-in-Work g c =
     let x = c.args.view.now in
     work_leaves (lock_at (tables g.A.Algo.table g.W.Work.table) c.args.self.now) x _ _ _ _ c.standing-standing.result c.touch-touch.result c.after-step.result
-    c.after-step.ensures c.followed-view.ensures c.touch-touch.ensures c.standing-standing.ensures c.tell_work.ensures
+    c.after-step.ensures c.follow.ensures c.touch-touch.ensures c.standing-standing.ensures c.tell_work.ensures
     ∙ the_after g (goal.at.returns-in-Work g c).After-effect Work c.in-Work.is
 
 pub after-step-requires : goal.after-step-requires
@@ -97,11 +97,11 @@ after-step-requires g c =
     c.args.self.now.home c.args.view.now c.args.got c.requires.may
     (the_effect g (goal.at.after-step-requires g c).After-effect ∙ c.in-Work.is)
 
-pub followed-view-requires-clause-asks : goal.followed-view-requires-clause-asks
-followed-view-requires-clause-asks g c =
+pub follow-requires-clause-asks : goal.follow-requires-clause-asks
+follow-requires-clause-asks g c =
     let asks = work_asks _ _ (lock_at (tables g.A.Algo.table g.W.Work.table) c.args.self.now) (good_at (goods g.A.Algo.good g.W.Work.good) c.args.self.now) (g.A.Algo.further c.args.self.now.algo) (g.A.Algo.layout c.args.self.now.algo) (record { lock = g.met.A.Algo.laws c.args.self.now.algo; work = g.met.W.Work.laws c.args.self.now.work })
     c.args.self.now.home c.args.view.now c.args.got c.requires.may
-    (the_effect g (goal.at.followed-view-requires-clause-asks g c).After-effect ∙ c.in-Work.is) in
+    (the_effect g (goal.at.follow-requires-clause-asks g c).After-effect ∙ c.in-Work.is) in
     subst (AsksOut c.after-step.result.follow) (sym c.standing-standing.ensures)
     (subst (λ f. AsksOut f ((g.A.Algo.table c.args.self.now.algo).standing c.args.view.now.side.view)) (sym (ap (λ t. t.follow) c.after-step.ensures)) asks)
 
