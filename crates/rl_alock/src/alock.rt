@@ -221,6 +221,8 @@ impl Algo for Alock {
 
     ghost has_shares = { λ shape home knobs. refl };
 
+    ghost has_cohorts = { λ shape home knobs. refl };
+
     ghost suits_knobs = { λ shape knobs. (knobs.local ≤ 1000) × (knobs.remote ≤ 1000) };
 
     fn lock_name() -> LockName {

@@ -1,16 +1,20 @@
 -- Good states of a shard's core: how words, cards and views come to be good and stay so, and what is known of them.
-use Rattle.std.specs.Prelude.{◌≡◌, ℕ, ◌+◌, ◌^◌, ◌<◌, List, [], ◌++◌, length, map, slice_set, Option, Some}
+use Rattle.std.specs.Prelude.{◌≡◌, ◌↔◌, ℕ, ◌+◌, ◌^◌, ◌<◌, List, [], ◌++◌, length, map, slice_set, Option, Some}
 use Rattle.rl_word.specs.Acts.{Layout}
 use Rattle.rl_word.specs.declared.acts.Atom.{Atom}
 use Rattle.rl_model.specs.declared.call.Call.{Call}
 use Rattle.rl_model.specs.Geom.{GeomFits}
 use Rattle.rl_step.specs.declared.events.Event.{Event}
+use Rattle.rl_step.specs.declared.events.Standing.TheVariants.{Writer, Reader}
 use Rattle.rl_step.specs.declared.events.Stepped.{Stepped}
 use Rattle.rl_step.specs.Do.{TheWindow, do_atom, do_got}
+use Rattle.rl_step.specs.Exclusion.{writers, readers}
 use Rattle.rl_step.specs.Lock.{Deed}
 use Rattle.rl_work.specs.Site.{lock_base}
 use Rattle.rl_asks.specs.Standings.{AloneIn}
 use Rattle.rl_asks.specs.ShardTables.{ShardTable, opening_held, first_views}
+use Rattle.rl_asks.specs.Touches.{IsGuarded}
+use Rattle.rl_asks.specs.Answering.{AnswersTo}
 use Rattle.rl_asks.specs.ShardLaws.{IsLaidAtSite, MayOpen, IsSeated, turned_by}
 
 module _ {V : Type 0} (T : ShardTable V) (good : TheWindow → List V → List Event → List Deed → Type 0) (layout : Layout) where
@@ -49,3 +53,21 @@ module _ {V : Type 0} (T : ShardTable V) (good : TheWindow → List V → List E
   AnswersHaveCauses cause =
       (h : TheWindow) (vs : List V) (t : List Event) (ds : List Deed) (r : ℕ) (v : V) (at : Atom) → IsSeated T good h vs t ds r v → T.core.next v ≡ Some at →
       cause h v (Some at) (turned_by T good h v at).stepped
+
+  -- and says of the atom and of what it found there what it has to say
+  abbrev pub AnswersTellAtoms : Type 0
+  AnswersTellAtoms =
+      (h : TheWindow) (vs : List V) (t : List Event) (ds : List Deed) (r : ℕ) (v : V) (at : Atom) → IsSeated T good h vs t ds r v → T.core.next v ≡ Some at →
+      AnswersTo h at (turned_by T good h v at).stepped
+
+  -- who stands as a writer or a reader is who is one by what has happened
+  abbrev pub StandAsTold : Type 0
+  StandAsTold =
+      (h : TheWindow) (vs : List V) (t : List Event) (ds : List Deed) (r : ℕ) (v : V) → IsSeated T good h vs t ds r v →
+      ((T.standing v ≡ Writer) ↔ writers t r) × ((T.standing v ≡ Reader) ↔ readers t r)
+
+  -- a rank comes to count, volume and journal only as the lock lets it, and each such atom, and no other, is told as a touch
+  abbrev pub TouchesAreTold : Type 0
+  TouchesAreTold =
+      (h : TheWindow) (vs : List V) (t : List Event) (ds : List Deed) (r : ℕ) (v : V) (at : Atom) → IsSeated T good h vs t ds r v → T.core.next v ≡ Some at →
+      IsGuarded (lock_base T.site) r at (T.standing v) (T.own v).calls (turned_by T good h v at).events

@@ -9,6 +9,8 @@ pub mod Domains
 pub mod ShardTables
 pub mod Idle
 pub mod Rounds
+pub mod Touches
+pub mod Answering
 pub mod ShardLaws
 pub mod GoodStates
 -- proved; skip at first
@@ -17,3 +19,4 @@ pub mod RankLaws
 pub mod OpsBridge
 pub mod JournalLaws
 pub mod Filling
+pub mod TouchLaws

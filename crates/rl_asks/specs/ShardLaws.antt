@@ -7,11 +7,12 @@ use Rattle.rl_word.specs.declared.acts.Atom.TheVariants as atom
 use Rattle.rl_model.specs.declared.call.Call.{Call}
 use Rattle.rl_model.specs.Geom.{GeomFits}
 use Rattle.rl_step.specs.declared.events.Event.{Event}
+use Rattle.rl_step.specs.declared.events.Standing.TheVariants.{Writer, Reader}
 use Rattle.rl_step.specs.declared.events.Stepped.{Stepped}
 use Rattle.rl_step.specs.declared.events.Stepped.TheVariants.{Busy, Finished}
 use Rattle.rl_step.specs.Core.{Turned}
 use Rattle.rl_step.specs.Do.{TheWindow, do_atom, do_got}
-use Rattle.rl_step.specs.Exclusion.{IsExclusive}
+use Rattle.rl_step.specs.Exclusion.{IsExclusive, writers, readers}
 use Rattle.rl_step.specs.Lock.{Deed, InOrder, AllNamed}
 use Rattle.rl_step.specs.QueuePromises.{KeepQueues, CountTenures}
 use Rattle.rl_journal.specs.Legal.{IsLegal, table_after}
@@ -19,9 +20,11 @@ use Rattle.rl_journal.specs.History.{history, IsSorted}
 use Rattle.rl_volume.specs.Volume.{IsVolume}
 use Rattle.rl_work.specs.Site.{Site, lock_base, places, volume_of}
 use Rattle.rl_work.specs.WorkGood.{IsOpen, IsOwnTranscript}
+use Rattle.rl_asks.specs.Answering.{AnswersTo}
 use Rattle.rl_asks.specs.Domains.{IsCardAtom, IsLocalAtom, UsesCards, UsesLocals}
 use Rattle.rl_asks.specs.EventRanks.{AreByRanks}
 use Rattle.rl_asks.specs.Standings.{AloneIn, leaves, IsUnhindered}
+use Rattle.rl_asks.specs.Touches.{IsGuarded}
 use Rattle.rl_asks.specs.Desks.{Desk, OpensBlock, Turns, entries_of}
 use Rattle.rl_asks.specs.ShardTables.{ShardTable, opening_held, first_views, journal_at, kept_in}
 
@@ -109,6 +112,8 @@ module _ {V : Type 0} (T : ShardTable V) (good : TheWindow → List V → List E
 
     pub exclusive : (h : TheWindow) (vs : List V) (t : List Event) (ds : List Deed) → good h vs t ds → IsExclusive t
     pub alone_in : (h : TheWindow) (vs : List V) (t : List Event) (ds : List Deed) → good h vs t ds → AloneIn (map T.standing vs)
+    -- who stands as a writer or a reader is who is one by the events so far
+    pub stands : (h : TheWindow) (vs : List V) (t : List Event) (ds : List Deed) (r : ℕ) (v : V) → IsSeated h vs t ds r v → ((T.standing v ≡ Writer) ↔ writers t r) × ((T.standing v ≡ Reader) ↔ readers t r)
     pub legal : (h : TheWindow) (vs : List V) (t : List Event) (ds : List Deed) → good h vs t ds → IsLegal T.site.geom (journal_at T h.words) (kept_in T h.words 0 vs)
     pub sorted : (h : TheWindow) (vs : List V) (t : List Event) (ds : List Deed) → good h vs t ds → IsSorted (history (journal_at T h.words) (kept_in T h.words 0 vs))
     -- the journal has a place for each update; and while no block is open the volume is that of the table after it
@@ -125,7 +130,10 @@ module _ {V : Type 0} (T : ShardTable V) (good : TheWindow → List V → List E
     pub named : (h : TheWindow) (vs : List V) (t : List Event) (ds : List Deed) → good h vs t ds → AllNamed T.queues T.cohort t
     pub by_ranks : (h : TheWindow) (vs : List V) (t : List Event) (ds : List Deed) → good h vs t ds → AreByRanks (length vs) t
     pub orders : (h : TheWindow) (vs : List V) (t : List Event) (ds : List Deed) (r : ℕ) (v : V) (at : Atom) → IsSeated h vs t ds r v → T.core.next v ≡ Some at → InOrder (turned_by h v at).events × (length (turned_by h v at).events ≤ 8)
-    -- a rank makes atoms of cards, and local compare-and-swaps, only where it may
+    -- what the lock guards only its holders touch; each such access is told, and nothing else is told as one
+    pub guards : (h : TheWindow) (vs : List V) (t : List Event) (ds : List Deed) (r : ℕ) (v : V) (at : Atom) → IsSeated h vs t ds r v → T.core.next v ≡ Some at →
+        IsGuarded (lock_base T.site) r at (T.standing v) (T.own v).calls (turned_by h v at).events
+    -- a rank makes atoms of cards, and local compare-and-swaps, only where it may: by the core's own word, which its lock gives
     pub cards : (h : TheWindow) (vs : List V) (t : List Event) (ds : List Deed) (r : ℕ) (v : V) (at : Atom) → IsSeated h vs t ds r v → T.core.next v ≡ Some at → IsCardAtom at → UsesCards T.may_make r
     pub locals : (h : TheWindow) (vs : List V) (t : List Event) (ds : List Deed) (r : ℕ) (v : V) (at : Atom) → IsSeated h vs t ds r v → T.core.next v ≡ Some at → IsLocalAtom at → UsesLocals T.may_make r
     -- ---- answers
@@ -137,7 +145,9 @@ module _ {V : Type 0} (T : ShardTable V) (good : TheWindow → List V → List E
         (at ≡ atom.Take node) × (slice_index h.cards node ≡ holder + 1)
     pub held : (h : TheWindow) (vs : List V) (t : List Event) (ds : List Deed) (r : ℕ) (v : V) (node : ℕ) (k : TheWindow) → IsSeated h vs t ds r v → T.core.next v ≡ Some (atom.Take node) → (slice_index k.cards node == 0) ≡ false →
         ((turned_by k v (atom.Take node)).view ≡ v) × ((turned_by k v (atom.Take node)).events ≡ []) × ((turned_by k v (atom.Take node)).stepped ≡ Busy node (slice_index k.cards node - 1))
-    -- each answer has its cause; Finished, where there is no atom, too
+    -- each answer says of its atom and of what it found what it has to say, whatever the core
+    pub answers : (h : TheWindow) (vs : List V) (t : List Event) (ds : List Deed) (r : ℕ) (v : V) (at : Atom) → IsSeated h vs t ds r v → T.core.next v ≡ Some at → AnswersTo h at (turned_by h v at).stepped
+    -- and has its cause, as the core tells it; Finished, where there is no atom, too
     pub causes : (h : TheWindow) (vs : List V) (t : List Event) (ds : List Deed) (r : ℕ) (v : V) (at : Atom) → IsSeated h vs t ds r v → T.core.next v ≡ Some at → cause h v (Some at) (turned_by h v at).stepped
     pub rests : (h : TheWindow) (v : V) → cause h v None Finished
     -- nobody is in the way of a rank that is alone

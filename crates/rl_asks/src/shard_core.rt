@@ -13,7 +13,7 @@ ghost use Rattle.rl_step.specs.declared.events.Stepped.{Stepped as TheAnswer};
 ghost use Rattle.rl_step.specs.Core.{MayBe};
 ghost use Rattle.rl_step.specs.Do.{TheWindow};
 ghost use Rattle.rl_step.specs.Lock.{Deed, HandsOn};
-ghost use Rattle.rl_step.specs.LockQueues.{queues_of, readers_share};
+ghost use Rattle.rl_step.specs.LockQueues.{queues_of, readers_share, cohorts_of};
 ghost use Rattle.rl_work.specs.Site.{Site as TheSite, site_of};
 ghost use Rattle.rl_asks.specs.Desks.{entries_of};
 ghost use Rattle.rl_asks.specs.ShardTables.{ShardTable, journal_at};
@@ -112,7 +112,8 @@ pub trait ShardCore: Core {
         requires { MayBe (Self.rule self.now) view.now }
         ensures { result ≡ ((shard_table self.now).own view.now).is_open };
 
-    /// Opens a block, where none is open: a call alone, or the calls of a batch. `seq` is the number of its first call. Takes no memory.
+    /// Opens a block, where none is open: a call alone, or the calls of a batch. `seq` is the number of its first call. Takes no memory. The view is
+    /// the opened one whatever the block; that what was good stays good is promised only of a block that the rank may open (`MayOpen`).
     fn open_block(&self, view: &mut Self::View, calls: &[Call], seq: u32)
         requires few { length calls.now ≤ 8 }
         requires closed { ((shard_table self.now).own view.old).is_open ≡ false }
@@ -164,6 +165,9 @@ pub trait ShardCore: Core {
 
     /// Its queues are those of the lock of that name: so their members and budgets are the placement's, and not the lock's own word.
     ghost has_queues: { (shape : TheShape) (home : ℕ) (knobs : TheKnobs) (site : TheSite) → (defined shape home knobs site).queues ≡ queues_of name shape home knobs };
+
+    /// And its cohorts are those of the lock of that name.
+    ghost has_cohorts: { (shape : TheShape) (home : ℕ) (knobs : TheKnobs) (site : TheSite) → (defined shape home knobs site).cohort ≡ cohorts_of name };
 
     /// And the entries that stand for tenures by a writer are as it is said, by whether readers share the lock of that name.
     ghost has_tenures: { (shape : TheShape) (home : ℕ) (knobs : TheKnobs) (site : TheSite) → (defined shape home knobs site).tenure ≡ is_tenure (spares (readers_share name)) };

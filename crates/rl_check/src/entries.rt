@@ -8,8 +8,8 @@ ghost use Rattle.rl_check.specs.Finding.{AreGood, FoundAt, FoundAmong};
 ghost use Rattle.rl_check.specs.OneThread.{is_begun, IsToldTo};
 
 use crate::blocks::{is_begun, may_follow, stands_before};
+use crate::due_replies::OneThread;
 use crate::illegal::Test;
-use crate::one_thread::OneThread;
 use rl_model::{Entry, Geom};
 
 // The entry before a place.

@@ -6,6 +6,8 @@
 //! - [`check_shard`] and [`check_rank`] make the tests of one shard or rank, [`check_one`] those of a whole report, and
 //!   [`check_all`] the same, where threads may help.
 //!
+//! What the tests stand on is public too, for who says why one fails: [`one_thread`], [`Queues`], [`is_begun`].
+//!
 //! Promise: nothing is told exactly where no test fails, and else the first fault (`specs/Faults.antt`). What each test asks
 //! is said in `specs/Entries.antt`, `Shards.antt` and `Ranks.antt`. A report of a run passes all tests exactly where it is
 //! lawful, and so does one of a replay ([`report_laws`]). Only want of memory is free.
@@ -13,11 +15,11 @@
 #![tactic(auto)]
 
 mod blocks;
+mod due_replies;
 mod entries;
 mod events;
 mod illegal;
 mod laws;
-mod one_thread;
 mod queues;
 mod ranks;
 mod shards;
@@ -25,8 +27,11 @@ mod slots;
 mod threads;
 mod whole;
 
+pub use blocks::is_begun;
+pub use due_replies::{OneThread, one_thread};
 pub use illegal::{Group, Illegal, Test};
 pub use laws::report_laws;
+pub use queues::Queues;
 pub use ranks::check_rank;
 pub use shards::check_shard;
 pub use threads::check_all;

@@ -137,8 +137,8 @@ impl Queues<'_> {
         }
     }
 
-    // Whether the members of a queue are ranks.
-    fn of_ranks(&self, queue: usize) -> bool
+    /// Whether the members of a queue are ranks.
+    pub fn of_ranks(&self, queue: usize) -> bool
         ensures { result ≡ (queue_of self.now queue).of_ranks }
     {
         let shape = self.shape;
@@ -166,8 +166,8 @@ impl Queues<'_> {
         }
     }
 
-    // Whether an element is a member of a queue of elements.
-    fn has_element(&self, queue: usize, element: usize) -> bool
+    /// Whether an element is a member of a queue of elements.
+    pub fn has_element(&self, queue: usize, element: usize) -> bool
         requires { (queue_of self.now queue).of_ranks ≡ false }
         ensures { result ≡ (queue_of self.now queue).members element }
     {
@@ -182,8 +182,8 @@ impl Queues<'_> {
         entry.part == 0 && !spared
     }
 
-    // How often a queue of ranks was had: how many of the entries begin a tenure of a member.
-    fn had_by_ranks(&self, queue: usize, entries: &[Entry]) -> usize
+    /// How often a queue of ranks was had: how many of the entries begin a tenure of a member.
+    pub fn had_by_ranks(&self, queue: usize, entries: &[Entry]) -> usize
         requires proper { IsProper self.now.shape.now }
         requires ranks { (queue_of self.now queue).of_ranks ≡ true }
         ensures { result ≡ count_by (is_had_by (queue_of self.now queue) (spares_gets self.now.name)) entries.now }
@@ -224,8 +224,8 @@ impl Queues<'_> {
         }
     }
 
-    // Whether a queue kept its budget in all, and was settled and passed as often as it was had.
-    fn is_tallied(&self, queue: usize, entries: &[Entry], tallies: &[Tally]) -> bool
+    /// Whether a queue kept its budget in all, and was settled and passed as often as it was had.
+    pub fn is_tallied(&self, queue: usize, entries: &[Entry], tallies: &[Tally]) -> bool
         requires proper { IsProper self.now.shape.now }
         requires there { queue < length tallies.now }
         ensures { IsTrue result ↔ IsTallied (spares_gets self.now.name) entries.now tallies.now queue (queue_of self.now queue) }

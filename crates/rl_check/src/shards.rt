@@ -14,10 +14,10 @@ ghost use Rattle.rl_check.specs.Shards.{ShardPasses};
 ghost use Rattle.rl_check.specs.Watching.{IsThere};
 ghost use Rattle.rl_check.specs.declared.illegal.Group.TheVariants as group;
 
+use crate::due_replies::one_thread;
 use crate::entries::{ends_in_batch, first_fault};
 use crate::events::first_break;
 use crate::illegal::{Group, Illegal, Test};
-use crate::one_thread::one_thread;
 use crate::queues::Queues;
 use rl_history::{Report, ShardReport, tallies};
 use rl_model::Plain;

@@ -1,8 +1,12 @@
 -- The rule at the start, where a call is opened, where the lock changes a standing, and where words of the lock alone change; and how a
 -- rank goes on.
-use Rattle.std.specs.Prelude.{◌≡◌, ℕ, zero, suc, ◌+◌, ◌-◌, ◌*◌, ◌≤◌, true, false, List, [], ◌∷◌, ◌++◌, length, map, replicate, slice_get, slice_index, slice_set, Some, None, refl}
+use Rattle.std.specs.Prelude.{◌≡◌, ℕ, zero, suc, ◌+◌, ◌-◌, ◌*◌, ◌<◌, ◌≤◌, Bool, true, false, List, [], ◌∷◌, ◌++◌, length, map, replicate, slice_get, slice_index, slice_set, Option, Some, None, refl}
 use Rattle.std.proofs.Common.{sym, ◌∙◌, ap, subst, inl, arith}
 use Rattle.std.proofs.lemmas.List.{get_or-append-add, length-map, take_at}
+use Rattle.std.proofs.lemmas.Option.{same_Some}
+use Rattle.rl_word.specs.declared.acts.Atom.{Atom}
+use Rattle.rl_word.specs.declared.acts.Atom.TheVariants.{Load, Store}
+use Rattle.rl_volume.specs.declared.write.Write.{Write}
 use Rattle.rl_word.specs.Places.{one_at, get_map_back}
 use Rattle.rl_model.specs.declared.call.Call.{Call}
 use Rattle.rl_model.specs.Geom.{GeomFits}
@@ -11,9 +15,9 @@ use Rattle.rl_step.specs.declared.events.Standing.{Standing}
 use Rattle.rl_step.specs.declared.events.Standing.TheVariants.{Out, Asking, Writer, Reader, Leaving}
 use Rattle.rl_step.specs.Lock.{IsHolder, Shift}
 use Rattle.rl_work.specs.Site.{lock_base}
-use Rattle.rl_work.specs.Ways.{IsLaid, IsFirst, IsOpen, SameWork, GoesOnAt, TouchesAs, opening_words}
+use Rattle.rl_work.specs.Ways.{IsLaid, IsFirst, IsOpen, SameWork, GoesOnAt, TouchesAs, TellsTouch, opening_words}
 use Rattle.rl_work.specs.OpeningLaws.{opening_size}
-use Rattle.rl_work.specs.Work.{first_work}
+use Rattle.rl_work.specs.Work.{first_work, write_atom}
 use Rattle.rl_work.specs.WorkGood.{WorkSide as Seat, WorkGood, IsDone, IsFirst as IsFirstSeat}
 use Rattle.rl_work.specs.AtomLaws.{opening_good}
 use Rattle.rl_combine.specs.declared.stage.Stage.{Stage}
@@ -229,3 +233,38 @@ module _ (S : CombineSite) (node : ℕ → ℕ) (words : List ℕ) (laid : IsLai
   touches =
       let s = seat_of S node words laid sides g r x has in
       touches_as (post_of S words r) s.0 x.work.stage (own_now s.0 s.1)
+
+-- each atom before the lock's words is told as a touch
+pub tells_at : (S : CombineSite) (r : ℕ) (x : TheCombineSide) (at : Atom) (seated : Standing) (calls : List Call) → lock_base S.site ≤ S.behind → (stage : Stage) → stage_atom S r x stage ≡ Some at → TellsTouch (lock_base S.site) at seated calls (touch_at stage)
+tells_at S r x at seated calls low stage p = by_stage stage p where
+  on_load : (w : ℕ) (t : Option Bool) → (w < lock_base S.site → t ≡ Some false) → Load w ≡ at → TellsTouch (lock_base S.site) at seated calls t
+  on_load w t told p = subst (λ z. TellsTouch (lock_base S.site) z seated calls t) p (λ under. inl (told under))
+
+  on_store : (w v : ℕ) (t : Option Bool) → (w < lock_base S.site → t ≡ Some true) → Store w v ≡ at → TellsTouch (lock_base S.site) at seated calls t
+  on_store w v t told p = subst (λ z. TellsTouch (lock_base S.site) z seated calls t) p (λ under. told under)
+
+  post_load : (k i : ℕ) → Load (post_word S k i) ≡ at → TellsTouch (lock_base S.site) at seated calls None
+  post_load k i p = on_load (post_word S k i) None (λ under. absurd (omega arith)) p
+
+  post_store : (k i v : ℕ) → Store (post_word S k i) v ≡ at → TellsTouch (lock_base S.site) at seated calls None
+  post_store k i v p = on_store (post_word S k i) v None (λ under. absurd (omega arith)) p
+
+  written : (n : ℕ) (o : Option Write) → write_atom n o ≡ at → TellsTouch (lock_base S.site) at seated calls (Some true)
+  written n (Some w) p = on_store _ _ (Some true) (λ under. refl) p
+  written n None p = on_store _ _ (Some true) (λ under. refl) p
+
+  by_stage : (stage : Stage) → stage_atom S r x stage ≡ Some at → TellsTouch (lock_base S.site) at seated calls (touch_at stage)
+  by_stage Rest p = absurd (cc)
+  by_stage (Post made) p = post_store r (1 + made) _ (same_Some _ _ p)
+  by_stage Raise p = post_store r 0 1 (same_Some _ _ p)
+  by_stage Look p = post_load r 0 (same_Some _ _ p)
+  by_stage Count p = on_load _ (Some false) (λ under. refl) (same_Some _ _ p)
+  by_stage (Sweep owner) p = post_load owner 0 (same_Some _ _ p)
+  by_stage (Copy owner made) p = post_load owner (1 + made) (same_Some _ _ p)
+  by_stage (Read owner word) p = on_load _ (Some false) (λ under. refl) (same_Some _ _ p)
+  by_stage (Journal owner made) p = on_store _ _ (Some true) (λ under. refl) (same_Some _ _ p)
+  by_stage (Volume owner made) p = written (x.count + 1) (slice_get x.writes made) (same_Some _ _ p)
+  by_stage (Answer owner made) p = post_store owner (6 + made) _ (same_Some _ _ p)
+  by_stage (Mark owner) p = post_store owner 0 2 (same_Some _ _ p)
+  by_stage (Collect made) p = post_load r (6 + made) (same_Some _ _ p)
+  by_stage Lower p = post_store r 0 0 (same_Some _ _ p)

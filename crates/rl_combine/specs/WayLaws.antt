@@ -11,8 +11,8 @@ use Rattle.rl_combine.specs.Posts.{CombineSite}
 use Rattle.rl_combine.specs.Combine.{TheCombineSide, combine_table, combine_after, early, is_open, with_block}
 use Rattle.rl_combine.specs.CombineGood.{RankSide, CombineGood}
 use Rattle.rl_combine.specs.CombineLaws.{atom_keeps}
-use Rattle.rl_combine.specs.StandLaws.{begins, frame, opens, shifts, goes_on, touches}
-use Rattle.rl_combine.specs.PlainLaws.{plain}
+use Rattle.rl_combine.specs.StandLaws.{begins, frame, opens, shifts, goes_on, touches, tells_at}
+use Rattle.rl_combine.specs.PlainLaws.{plain, fronts}
 use Rattle.rl_combine.specs.LookLaws.{legal, sorted, short, own, volume}
 use Rattle.rl_combine.specs.ChangeLaws.{same_look, closed, opened, changes, turns, follows, moved, tenures}
 
@@ -63,6 +63,8 @@ module _ (S : CombineSite) (node : ℕ → ℕ) where
         goes_on = λ words sides r x s. goes_on S node words s.laid sides s.is_good r x s.there;
         follows = λ words cards sides r x at w. follows S node words w.side.laid sides w.side.is_good w.apart r x w.side.there w.rests at cards w.planned;
         touches = λ words sides r x at w. touches S node words w.side.laid sides w.side.is_good r x w.side.there;
+        tells = λ words sides r x at w. let laid = w.side.laid in tells_at S r x.work at x.standing (x.work.call ∷ []) laid.low x.work.stage w.planned;
+        fronts = λ words sides r x at w told. fronts S node words w.side.laid sides w.side.is_good w.apart r x w.side.there at w.planned told;
         answers = λ words cards sides r x at w. answers_so words cards sides r x at w;
         alone = λ words cards sides r x at one w. has_moved words cards sides r x at w;
         legal = λ words sides g laid. legal S node words sides g;

@@ -1,11 +1,16 @@
 -- Under the rule of flat combining over any lock flags say what they have to, and a flag that was found 1 is made 2.
-use Rattle.std.proofs.Common.{◌≡◌, ℕ, ◌+◌, ◌<◌, ◌≤◌, Bool, true, false, ◌||◌, count_by, List, [], ◌∷◌, ◌++◌, length, map, slice_get, Option, Some, None, refl, sym, ap, ◌∙◌, subst, inl, inr, ⊎_elim, arith}
-use Rattle.std.proofs.lemmas.Option.{same_Some}
+use Rattle.std.proofs.Common.{◌≡◌, ◌≢◌, ℕ, ◌+◌, ◌<◌, ◌≤◌, ◌==◌, Bool, true, false, ◌||◌, cond, count_by, List, [], ◌∷◌, ◌++◌, length, map, slice_get, slice_index, Option, Some, None, refl, sym, ap, ◌∙◌, subst, inl, inr, ⊎_elim, arith}
+use Rattle.std.proofs.lemmas.Bool.Decides.{nat_tests}
+use Rattle.std.proofs.lemmas.List.{length-map}
+use Rattle.std.proofs.lemmas.Option.{same_Some, slice_get_within}
 use Rattle.rl_word.specs.Places.{get_map, get_map_back}
 use Rattle.rl_word.specs.Acts.{Layout}
 use Rattle.rl_word.specs.declared.acts.Atom.{Atom}
 use Rattle.rl_word.specs.declared.acts.Atom.TheVariants as atom
 use Rattle.rl_word.specs.declared.acts.Atom.TheVariants.{Load}
+use Rattle.rl_model.specs.declared.call.Call.{Call}
+use Rattle.rl_model.specs.declared.entry.Entry.{Entry}
+use Rattle.rl_model.specs.Call.{is_update}
 use Rattle.rl_step.specs.declared.events.Event.{Event}
 use Rattle.rl_step.specs.declared.events.Standing.TheVariants.{Writer}
 use Rattle.rl_step.specs.Core.{Turned}
@@ -13,21 +18,26 @@ use Rattle.rl_step.specs.Do.{TheWindow, do_got}
 use Rattle.rl_step.specs.Lock.{LockTable, LockState, Deed, Rests}
 use Rattle.rl_volume.specs.Seen.{SeenWords, next_word}
 use Rattle.rl_volume.specs.Walk.{most_reads}
+use Rattle.rl_volume.specs.declared.write.Write.{Write}
+use Rattle.rl_work.specs.declared.stage.Stage.{Stage as BlockStage}
 use Rattle.rl_work.specs.declared.stage.Stage.TheVariants as block
 use Rattle.rl_work.specs.AtomLaws.{few_loads}
-use Rattle.rl_work.specs.Site.{volume_base}
+use Rattle.rl_work.specs.Site.{count_word, volume_base}
 use Rattle.rl_work.specs.Ways.{IsSide}
-use Rattle.rl_work.specs.WorkGood.{WorkSide as Seat}
+use Rattle.rl_work.specs.Work.{TheWork, WorkTurned, stage_atom as block_atom, stage_after as block_after, with_seen, write_atom, left_of, at_rest}
+use Rattle.rl_work.specs.WorkGood.{WorkSide as Seat, FitsAt as BlockFits, IsReading as SeatReading}
 use Rattle.rl_asks.specs.ShardTables.{ShardTable}
 use Rattle.rl_combine.specs.declared.stage.Stage.{Stage}
 use Rattle.rl_combine.specs.declared.stage.Stage.TheVariants.{Sweep, Copy, Read, Journal, Volume, Answer, Mark, Rest, Post, Raise, Look, Count, Collect, Lower}
-use Rattle.rl_combine.specs.Posts.{CombineSite, post_of, post_word, flag_word}
-use Rattle.rl_combine.specs.Combine.{TheCombineSide, combine_table, early, is_open, stage_atom, stage_after, read_next, with_posted, with_copied, with_word}
-use Rattle.rl_combine.specs.CombineGood.{RankSide, CombineGood, OwnAt, SweepAt, IsReading, reading, front_of}
+use Rattle.rl_combine.specs.Posts.{CombineSite, ThePost, ranks_of, post_of, post_word, flag_word}
+use Rattle.rl_combine.specs.Combine.{TheCombineSide, Opened, opened_of, combine_table, early, is_open, stage_atom, stage_after, read_next, sweep_on, to_collect, to_stage, with_nothing, with_posted, with_copied, with_word}
+use Rattle.rl_combine.specs.CombineGood.{RankSide, CombineGood, OwnAt, SweepAt, Progress, waits, handled, counted, answered, IsPosted, IsCounted, IsLeft, IsToEnd, IsAnswering, IsReading, reading, front_of}
 use Rattle.rl_combine.specs.Sweep.{IsLate, IsLateAt, FlagSays, MayWrite, FlagMoves, passes, raises, lowers, marks}
-use Rattle.rl_combine.specs.SideLaws.{found}
-use Rattle.rl_combine.specs.LookLaws.{handed_at}
-use Rattle.rl_combine.specs.MoveLaws.{Combines, combiner_of, seat_of}
+use Rattle.rl_combine.specs.PostLaws.{front_get}
+use Rattle.rl_combine.specs.SideLaws.{found, posted_at}
+use Rattle.rl_combine.specs.SeatLaws.{counted_as}
+use Rattle.rl_combine.specs.LookLaws.{handed_at, no_more_entries}
+use Rattle.rl_combine.specs.MoveLaws.{Combines, combiner_of, seat_of, side_of}
 use Rattle.rl_combine.specs.OwnLaws.{found_flag}
 use Rattle.rl_combine.specs.TranscriptLaws.{HasNone, HasOne, shown}
 use Rattle.rl_combine.specs.FlagLaws.{holds_on, found_keeps, found_open, flag_says, flag_moves}
@@ -41,7 +51,8 @@ use Rattle.rl_whole.specs.Bridge.{same_work}
 use Rattle.rl_whole.specs.WholeShards.{stand, standing_while, whole_shard, WholeGood}
 use Rattle.rl_whole.specs.AtWork.{IsOfLock, IsOfWork, side_at, resting, after_none, each_atom}
 use Rattle.rl_cores.proofs.SweepLaws.{GoesOnFound}
-use Rattle.rl_cores.specs.Combining.{rank_side, ReadsFor, KeepsCombining}
+use Rattle.rl_cores.specs.Combining.{answers, rank_side, EndsVisit, ReadsFor, KeepsCombining}
+use Rattle.rl_cores.proofs.DecidedLaws.{read_at}
 
 -- a rank whose sweep has found a flag combines
 found_combines : (st : Stage) (owner : ℕ) → found st ≡ Some owner → Combines st
@@ -81,6 +92,52 @@ late_combines Lower k l = absurd l
 reads_keep : (S : CombineSite) (x : TheCombineSide) (owner : ℕ) (o : Option ℕ) → (read_next S x owner o).work.seen ≡ x.seen
 reads_keep S x owner (Some word) = refl
 reads_keep S x owner None = refl
+
+-- numbers that are tested
+same_number : (a b : ℕ) → (a == b) ≡ true → a ≡ b
+same_number a b q = grind (arith, nat_tests)
+
+less_differs : (a b : ℕ) → a < b → (a == b) ≡ false
+less_differs a b low = grind (arith, nat_tests)
+
+differs : (a b : ℕ) → a ≢ b → (a == b) ≡ false
+differs a b ne = elim (a == b) as (λ c. (a == b) ≡ c → c ≡ false) [ true ↦ λ q. absurd (ne (same_number a b q)) | false ↦ λ q. refl ] refl
+
+-- a sweep goes on with a rank that there is, and behind the last one it is over
+sweeps_on : (S : CombineSite) (x : TheCombineSide) (owner : ℕ) → owner < ranks_of S → (sweep_on S x owner).work.stage ≡ Sweep owner
+sweeps_on S x owner low = ap (λ b. (cond b (to_collect x) (to_stage x (Sweep owner))).work.stage) (less_differs owner (ranks_of S) low)
+
+sweep_over : (S : CombineSite) (x : TheCombineSide) (owner : ℕ) → (sweep_on S x owner).work.stage ≡ Collect 0 → owner ≡ ranks_of S
+sweep_over S x owner e =
+    elim (owner == ranks_of S) as (λ b. (owner == ranks_of S) ≡ b → (cond b (to_collect x) (to_stage x (Sweep owner))).work.stage ≡ Collect 0 → owner ≡ ranks_of S) [
+      | true ↦ λ q over. same_number owner (ranks_of S) q
+      | false ↦ λ q over. absurd (cc)
+    ] refl e
+
+-- a flag of 0 stands over a call that isn't posted, or over none: the rank's seat has the entries that the rank keeps
+not_posted : (S : CombineSite) (p : ThePost) (r : ℕ) (o : Opened) (y : Seat) → IsPosted S p r o y → p.flag ≡ 0 → ⊥
+not_posted S p r o y is zero = by_case is.progress where
+  by_case : Progress S p r o y → ⊥
+  by_case (waits w) = let one = w.flag in absurd (omega arith)
+  by_case (handled i) = let one = i.flag in absurd (omega arith)
+  by_case (counted c) = let one = c.flag in absurd (omega arith)
+  by_case (answered a) = let two = a.flag in absurd (omega arith)
+
+none_early : (S : CombineSite) (p : ThePost) (r : ℕ) (z : RankSide) (y : Seat) (st : Stage) → OwnAt S p r z y st → p.flag ≡ 0 → y.work.transcript ≡ z.work.kept
+none_early S p r z y Rest o e = o.2.has
+none_early S p r z y (Post made) o e = o.2.free.has
+none_early S p r z y Raise o e = o.1.free.has
+none_early S p r z y Look o e = absurd (not_posted S p r (opened_of z.work) y o.1 e)
+none_early S p r z y Count o e = absurd (not_posted S p r (opened_of z.work) y o.1 e)
+none_early S p r z y (Sweep j) o e = absurd (not_posted S p r (opened_of z.work) y o.1 e)
+none_early S p r z y (Copy j made) o e = absurd (not_posted S p r (opened_of z.work) y o.1 e)
+none_early S p r z y (Read j word) o e = absurd (not_posted S p r (opened_of z.work) y o.1 e)
+none_early S p r z y (Journal j made) o e = absurd (not_posted S p r (opened_of z.work) y o.1 e)
+none_early S p r z y (Volume j made) o e = absurd (not_posted S p r (opened_of z.work) y o.1 e)
+none_early S p r z y (Answer j made) o e = absurd (not_posted S p r (opened_of z.work) y o.1 e)
+none_early S p r z y (Mark j) o e = absurd (not_posted S p r (opened_of z.work) y o.1 e)
+none_early S p r z y (Collect made) o e = let two = o.2.done.flag in absurd (omega arith)
+none_early S p r z y Lower o e = let two = o.1.done.flag in absurd (omega arith)
 
 module _ (V : Type 0) (base : ℕ) (table : LockTable V) (S : CombineSite) (node : ℕ → ℕ) (lock_good : LockState V → Type 0) where
   abbrev pub L : LockAt V TheCombineSide
@@ -214,6 +271,115 @@ module _ (V : Type 0) (base : ℕ) (table : LockTable V) (S : CombineSite) (node
         (λ q. let clash = q.1 in absurd (cc))
         (resting V TheCombineSide L good further layout laws home h vs t ds g r x has (subst Rests (sym (combiner_writes r x has c)) tt))
 
+    -- so is its next store
+    marks_on : (r w v got : ℕ) (x : WholeView V TheCombineSide) → slice_get vs r ≡ Some x → Combines x.work.stage → next_of L x ≡ Some (atom.Store w v) → after_of L x got ≡ work_turned L x (stage_after S r x.work got x.work.stage)
+    marks_on r w v got x has c next =
+        ⊎_elim
+        (λ none. after_none V TheCombineSide L good further layout laws home h vs t ds g r x has none got)
+        (λ q. let clash = q.1 in absurd (cc))
+        (resting V TheCombineSide L good further layout laws home h vs t ds g r x has (subst Rests (sym (combiner_writes r x has c)) tt))
+
+    many : length vs ≡ ranks_of S
+    many = sym (length-map vs (work_side table)) ∙ rule.ranks
+
+    begins_on : (r got : ℕ) (x : WholeView V TheCombineSide) → slice_get vs r ≡ Some x → x.work.stage ≡ Count → next_of L x ≡ Some (Load count_word) → (after_of L x got).view.work.stage ≡ Sweep 0
+    begins_on r got x has e next =
+        ap (λ (z : Turned (WholeView V TheCombineSide)). z.view.work.stage) (combines_on r count_word got x has (subst Combines (sym e) tt) next)
+        ∙ ap (λ st. (stage_after S r x.work got st).work.stage) e ∙ sweeps_on S (record x.work { count = got }) 0 (let low = slice_get_within vs r x has in let n = many in omega arith)
+
+    -- where a visit ends the sweep goes on with the next rank, or is over
+    visited : (r owner got : ℕ) (x : WholeView V TheCombineSide) → slice_get vs r ≡ Some x → EndsVisit T owner got x → (after_of L x got).view.work.stage ≡ (sweep_on S x.work (owner + 1)).work.stage
+    visited r owner got x has q =
+        ⊎_elim
+        (λ (p : (x.work.stage ≡ Sweep owner) × (next_of L x ≡ Some (Load (flag_word S owner))) × (got ≢ 1)).
+        ap (λ (z : Turned (WholeView V TheCombineSide)). z.view.work.stage) (combines_on r (flag_word S owner) got x has (subst Combines (sym p.0) tt) p.1)
+        ∙ ap (λ st. (stage_after S r x.work got st).work.stage) p.0
+        ∙ ap (λ b. (cond b (to_stage (with_nothing x.work) (Copy owner 0)) (sweep_on S x.work (owner + 1))).work.stage) (differs got 1 p.2))
+        (λ (p : (x.work.stage ≡ Mark owner) × (next_of L x ≡ Some (atom.Store (flag_word S owner) 2))).
+        ap (λ (z : Turned (WholeView V TheCombineSide)). z.view.work.stage) (marks_on r (flag_word S owner) 2 got x has (subst Combines (sym p.0) tt) p.1) ∙ ap (λ st. (stage_after S r x.work got st).work.stage) p.0)
+        q
+
+    goes_on : (r owner got : ℕ) (x : WholeView V TheCombineSide) → slice_get vs r ≡ Some x → EndsVisit T owner got x → owner + 1 < length vs → (after_of L x got).view.work.stage ≡ Sweep (owner + 1)
+    goes_on r owner got x has q low = visited r owner got x has q ∙ sweeps_on S x.work (owner + 1) (subst (λ n. owner + 1 < n) many low)
+
+    covers_on : (r owner got : ℕ) (x : WholeView V TheCombineSide) → slice_get vs r ≡ Some x → EndsVisit T owner got x → (after_of L x got).view.work.stage ≡ Collect 0 → owner + 1 ≡ length vs
+    covers_on r owner got x has q over = sweep_over S x.work (owner + 1) (sym (visited r owner got x has q) ∙ over) ∙ sym many
+
+    nothing_on : (r : ℕ) (x : WholeView V TheCombineSide) → slice_get vs r ≡ Some x → (post_of S h.words r).flag ≡ 0 → early S h.words r x.work ≡ []
+    nothing_on r x has zero =
+        let s = side r x has in
+        let y = seat_of S node h.words s.laid sides s.is_good r (work_side table x) s.there in
+        ⊎_elim
+        (λ (n : HasNone S h.words r x.work y.0). n.none)
+        (λ (o : HasOne S h.words r x.work y.0).
+        absurd (no_more_entries x.work.kept o.entry (sym (none_early S (post_of S h.words r) r (work_side table x) y.0 x.work.stage (s.is_good.own r (work_side table x) y.0 s.there y.1) zero) ∙ o.has)))
+        (shown S h.words sides s.is_good r (work_side table x) y.0 y.1 s.there)
+
+    -- the entry of a get or hold that is being answered stands at the count
+    ends_now : (k : ℕ) (call : Call) (number : ℕ) (entry : Entry) → IsToEnd S h.words rule.seats call number entry k → entry.at ≡ slice_index h.words count_word
+    ends_now k call number entry q = by_stage q.side.work.stage refl where
+      turn : BlockStage → WorkTurned
+      turn st = block_after S.site.geom S.site.shard k q.side.work (slice_index h.words q.loads) st
+
+      by_stage : (st : BlockStage) → q.side.work.stage ≡ st → entry.at ≡ slice_index h.words count_word
+      by_stage block.Rest e = let none : None ≡ Some (Load q.loads) = ap (block_atom S.site.geom q.side.work) (sym e) ∙ q.atom in absurd (cc)
+      by_stage block.Begin e =
+          let is : Some (Load count_word) ≡ Some (Load q.loads) = ap (block_atom S.site.geom q.side.work) (sym e) ∙ q.atom in
+          let word : q.loads ≡ count_word = (cc) in
+          let ends : turn block.Begin ≡ at_rest q.last = ap turn (sym e) ∙ q.ends in
+          read_at S.site.geom S.site.shard k (slice_index h.words q.loads) (left_of q.side.work) q.side.work entry [] (ap (λ (z : WorkTurned). z.over) ends) (ap (λ (z : WorkTurned). z.work.entries) ends ∙ q.entries)
+          ∙ ap (slice_index h.words) word
+      by_stage (block.Read count word) e =
+          let f : SeatReading S.site k rule.work.journal rule.work.before q.side count word = subst (BlockFits S.site (front_of S h.words) rule.work.journal rule.work.before k q.side) e (rule.work.fits k q.side q.seat) in
+          let w : TheWork = with_seen q.side.work (q.side.work.seen.pairs ++ (word, slice_index h.words q.loads) ∷ []) in
+          let ends : turn (block.Read count word) ≡ at_rest q.last = ap turn (sym e) ∙ q.ends in
+          read_at S.site.geom S.site.shard k count (left_of w) w entry [] (ap (λ (z : WorkTurned). z.over) ends) (ap (λ (z : WorkTurned). z.work.entries) ends ∙ q.entries)
+          ∙ f.found ∙ sym rule.work.count ∙ front_get S h.words count_word (omega arith)
+      by_stage (block.Journal made) e = let is = ap (block_atom S.site.geom q.side.work) (sym e) ∙ q.atom in absurd (cc)
+      by_stage (block.Volume made) e = stores (slice_get q.side.work.writes made) (ap (block_atom S.site.geom q.side.work) (sym e) ∙ q.atom) where
+        stores : (o : Option Write) → Some (write_atom (q.side.work.at + length q.side.work.entries) o) ≡ Some (Load q.loads) → entry.at ≡ slice_index h.words count_word
+        stores (Some w) is = absurd (cc)
+        stores None is = absurd (cc)
+
+    answers_now : (r k made : ℕ) (x : WholeView V TheCombineSide) → slice_get vs r ≡ Some x → found x.work.stage ≡ Some k → is_update x.work.posted ≡ false → IsAnswering S h.words rule.seats x.work.posted x.work.posted_number x.work.entry k made →
+        x.work.entry.at ≡ slice_index h.words count_word
+    answers_now r k made x has at read a =
+        ⊎_elim
+        (λ (l : IsLeft rule.seats x.work.entry k).
+        let s = side r x has in
+        let one : (post_of S h.words k).flag ≡ 1 = found_flag S node h.words s.laid sides rule r (work_side table x) s.there k at in
+        let u = side_of S node h.words s.laid sides rule k l.side l.seat in
+        let p = posted_at S (post_of S h.words k) k u.0 l.side u.0.work.stage (rule.own k u.0 l.side u.1 l.seat) one in
+        let c : IsCounted (post_of S h.words k) (opened_of u.0.work) l.side = counted_as S (post_of S h.words k) k (opened_of u.0.work) l.side l.leaves p in
+        let same : c.entry ∷ [] ≡ x.work.entry ∷ [] = sym c.entries ∙ l.entries in
+        let entry : c.entry ≡ x.work.entry = (cc) in
+        let calls : x.work.posted ≡ u.0.work.call = sym (ap (λ (e : Entry). e.call) a.entry_is) ∙ ap (λ (e : Entry). e.call) (sym entry) ∙ c.same_call in
+        let update : is_update x.work.posted ≡ true = ap is_update calls ∙ c.update in
+        absurd (cc))
+        (λ (q : IsToEnd S h.words rule.seats x.work.posted x.work.posted_number x.work.entry k). ends_now k x.work.posted x.work.posted_number x.work.entry q)
+        a.end
+
+    now_on : (r owner : ℕ) (x : WholeView V TheCombineSide) → slice_get vs r ≡ Some x → answers x.work.stage ≡ Some owner → is_update x.work.posted ≡ false → x.work.entry.at ≡ slice_index h.words count_word
+    now_on r owner x has e read = by_stage x.work.stage refl e where
+      sweep : (st : Stage) → x.work.stage ≡ st → SweepAt S h.words rule.seats r x.work st
+      sweep st is = subst (SweepAt S h.words rule.seats r x.work) is (rule.sweeps r (work_side table x) (side r x has).there)
+
+      by_stage : (st : Stage) → x.work.stage ≡ st → answers st ≡ Some owner → x.work.entry.at ≡ slice_index h.words count_word
+      by_stage Rest is a = absurd (cc)
+      by_stage (Post made) is a = absurd (cc)
+      by_stage Raise is a = absurd (cc)
+      by_stage Look is a = absurd (cc)
+      by_stage Count is a = absurd (cc)
+      by_stage (Sweep j) is a = absurd (cc)
+      by_stage (Copy j made) is a = absurd (cc)
+      by_stage (Read j word) is a = absurd (cc)
+      by_stage (Journal j made) is a = absurd (cc)
+      by_stage (Volume j made) is a = absurd (cc)
+      by_stage (Answer j made) is a = answers_now r j made x has (ap found is) read (sweep (Answer j made) is).2
+      by_stage (Mark j) is a = answers_now r j 3 x has (ap found is) read (sweep (Mark j) is).1
+      by_stage (Collect made) is a = absurd (cc)
+      by_stage Lower is a = absurd (cc)
+
     finds_on : (r owner : ℕ) (x : WholeView V TheCombineSide) → slice_get vs r ≡ Some x → x.work.stage ≡ Sweep owner → next_of L x ≡ Some (Load (flag_word S owner)) → found (after_of L x 1).view.work.stage ≡ Some owner
     finds_on r owner x has e next =
         ap (λ (z : Turned (WholeView V TheCombineSide)). found z.view.work.stage) (combines_on r (flag_word S owner) 1 x has (subst Combines (sym e) tt) next) ∙ ap (λ st. found (stage_after S r x.work 1 st).work.stage) e
@@ -275,13 +441,17 @@ module _ (V : Type 0) (base : ℕ) (table : LockTable V) (S : CombineSite) (node
     pub keeps_combining : KeepsCombining T h vs
     keeps_combining =
         record {
-          posted = record { says = says_on; moves = moves_on; once = once_on };
+          posted = record { says = says_on; moves = moves_on; nothing = nothing_on; once = once_on };
           sweeps = record {
+            begins = begins_on;
+            goes = goes_on;
+            covers = covers_on;
             finds = λ r owner x has e next one. finds_on r owner x has e next;
             writes = λ r owner x q. (
               writes_on x (combiner_writes r x q.there (found_combines x.work.stage owner q.found_it)),
               found_flag S node h.words (side r x q.there).laid sides rule r (work_side table x) (side r x q.there).there owner q.found_it,
             );
+            now = now_on;
             holds = λ r owner x at q next. ⊎_elim (λ stores. inl stores) (λ still. inr still.0) (goes_on_found r owner x at q next);
           };
           loads = record { whose = whose_on; fresh = fresh_on; one_more = more_on; few = few_on };

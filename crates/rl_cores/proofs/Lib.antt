@@ -1,6 +1,8 @@
 pub mod BudgetLaws
 pub mod FreshLaws
 pub mod SeatLoads
+pub mod DecidedLaws
+pub mod HolderLaws
 pub mod ReaderLaws
 pub mod SweepLaws
 pub mod CombinerLaws

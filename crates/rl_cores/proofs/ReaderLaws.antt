@@ -1,5 +1,5 @@
 -- Under the rule of optimistic readers over any lock gets hold nothing, and are answered as the version says.
-use Rattle.std.proofs.Common.{◌≡◌, ◌≢◌, ℕ, ◌%◌, Bool, true, false, ◌&&◌, List, [], ◌∷◌, ◌++◌, map, slice_get, slice_index, Option, Some, None, refl, sym, ap, ◌∙◌, subst, ⊎_elim, arith}
+use Rattle.std.proofs.Common.{◌≡◌, ◌≢◌, ℕ, ◌%◌, ◌==◌, Bool, true, false, ◌&&◌, List, [], ◌∷◌, ◌++◌, map, slice_get, slice_index, Option, Some, None, refl, sym, ap, ◌∙◌, subst, ⊎_elim, arith}
 use Rattle.std.proofs.lemmas.Option.{same_Some}
 use Rattle.rl_word.specs.Places.{get_map, get_map_back}
 use Rattle.rl_word.specs.Acts.{Layout}
@@ -15,30 +15,32 @@ use Rattle.rl_step.specs.declared.events.Standing.TheVariants.{Out}
 use Rattle.rl_step.specs.Core.{Turned}
 use Rattle.rl_step.specs.Do.{TheWindow, do_words, do_got}
 use Rattle.rl_step.specs.Lock.{LockTable, LockState, Deed}
+use Rattle.rl_volume.specs.Seen.{next_word}
 use Rattle.rl_work.specs.declared.follow.Follow.{Follow}
 use Rattle.rl_work.specs.declared.follow.Follow.TheVariants.{On, Ask, Over}
 use Rattle.rl_work.specs.declared.stage.Stage.{Stage as BlockStage}
 use Rattle.rl_work.specs.declared.stage.Stage.TheVariants as block
 use Rattle.rl_work.specs.Locked.{first_reads}
 use Rattle.rl_work.specs.Site.{Site}
-use Rattle.rl_work.specs.Unlocked.{wanted, with_word}
-use Rattle.rl_work.specs.Work.{TheWork, has_work, stores}
+use Rattle.rl_work.specs.Unlocked.{wanted, wanted_by, with_word}
+use Rattle.rl_work.specs.Work.{TheWork, has_work, stores, seen_on}
 use Rattle.rl_work.specs.WorkGood.{WorkSide, FitsAt}
 use Rattle.rl_work.specs.Ways.{Worked}
 use Rattle.rl_asks.specs.ShardTables.{ShardTable}
 use Rattle.rl_seq.specs.declared.stage.SeqStage.{SeqStage}
 use Rattle.rl_seq.specs.declared.stage.SeqStage.TheVariants as stage
 use Rattle.rl_seq.specs.Site.{SeqSite, version_word, version_in, front}
-use Rattle.rl_seq.specs.SeqWork.{TheSeqWork, seq_table, seq_after, seq_stage_after, seq_stage_atom, touch_at, is_open_at, owes_at, read_by}
+use Rattle.rl_seq.specs.SeqWork.{TheSeqWork, seq_table, seq_after, seq_stage_after, seq_stage_atom, touch_at, is_open_at, owes_at, is_over, looked_by, read_by, checked_by}
 use Rattle.rl_seq.specs.SeqGood.{SeqRank, SeqGood, IsGetting, is_between, as_locked, locked_at}
 use Rattle.rl_seq.specs.Rule.{is_getting, found_count}
 use Rattle.rl_seq.specs.CheckLaws.{get_alone}
+use Rattle.rl_seq.specs.OutcomeLaws.{IsReadOff, reads_off}
 use Rattle.rl_seq.specs.FitLaws.{fit_at, locked_there}
 use Rattle.rl_seq.specs.VersionLaws.{odd_between, writers_odd, never_lowers, no_lower, stands_still, gets_load, reads_few, waits_at, loses_at}
 use Rattle.rl_whole.specs.declared.whole.WholeView.{WholeView}
 use Rattle.rl_whole.specs.Running.{LockAt, Goods, BothLaws}
 use Rattle.rl_whole.specs.Split.{card_in}
-use Rattle.rl_whole.specs.Whole.{work_side, departure_by, touch_by}
+use Rattle.rl_whole.specs.Whole.{work_side, followed, left_by, departure_by, touch_by}
 use Rattle.rl_whole.specs.WholeShards.{stand, standing_while, whole_shard, WholeGood}
 use Rattle.rl_whole.specs.AtWork.{IsOutside, IsOfLock, IsOfWork, outside, each_atom}
 use Rattle.rl_cores.specs.Optimistic.{Gets, GetsBy, got_by, KeepsOutside, AnswersGets, KeepsTries, KeepsVersion, KeepsGets}
@@ -160,6 +162,34 @@ module _ (V : Type 0) (base : ℕ) (table : LockTable V) (at : SeqSite) (node : 
       by_stage (stage.Write v) e o = absurd (never (stage.Write v) e refl (fit_at at h.words sides rule r (work_side table x) (there r x has) (stage.Write v) e).0)
       by_stage (stage.Close v) e o = absurd (cc)
 
+    -- what an atom of a get leaves stands out, where it ends the get
+    abbrev EndsOut : WholeView V TheSeqWork → Worked TheSeqWork → Type 0
+    EndsOut x w = is_getting w.work.stage ≡ false → standing_while (table.standing (followed table x.side.view w.follow)) (is_open_at w.work.work w.work.stage) ≡ Out
+
+    -- a get that found the version again is over, and so out and at rest
+    over_out : (r : ℕ) (x : WholeView V TheSeqWork) → Gets T h vs r x → (version count : ℕ) → x.work.stage ≡ stage.Again version count → EndsOut x (is_over (seen_on at.site.geom at.site.shard r x.work.work count).work)
+    over_out r x q version count e = λ _.
+        let f = fit_at at h.words sides rule r (work_side table x) (there r x q.there) (stage.Again version count) e in
+        let o : IsGetting at.site r (stand table x) x.work.work = f.getting in
+        let alone = get_alone x.work.work.calls o.open_call.is_block o.get in
+        let none : next_word at.site.geom alone.0 x.work.work.seen.pairs ≡ None = ap (λ cs. wanted_by at.site.geom cs x.work.work.seen.pairs) (sym alone.1) ∙ f.wants in
+        let off : IsReadOff at.site.geom at.site.shard r count x.work.work alone.0 (seen_on at.site.geom at.site.shard r x.work.work count) =
+        reads_off at.site.geom at.site.shard r count x.work.work alone.0 alone.1 o.no_reply alone.2 none in
+        ap (λ st. standing_while (table.standing (left_by table x.side.view st)) (has_work (seen_on at.site.geom at.site.shard r x.work.work count).work.stage)) (out r x q)
+        ∙ ap (λ st. standing_while st (has_work (seen_on at.site.geom at.site.shard r x.work.work count).work.stage)) (out r x q) ∙ ap (λ st. standing_while Out (has_work st)) off.rests
+
+    ends_out : (r got : ℕ) (x : WholeView V TheSeqWork) → Gets T h vs r x → (st : SeqStage) → x.work.stage ≡ st → is_getting st ≡ true → EndsOut x (seq_stage_after at r x.work.work got st)
+    ends_out r got x q stage.Locked e b = absurd (cc)
+    ends_out r got x q stage.Look e b = elim (got % 2 == 0) as (λ c. EndsOut x (looked_by at x.work.work got c)) [ true ↦ λ done. absurd (cc) | false ↦ λ done. absurd (cc) ]
+    ends_out r got x q (stage.Count v) e b = elim (wanted at.site.geom x.work.work) as (λ o. EndsOut x (read_by x.work.work v got o)) [ None ↦ λ done. absurd (cc) | Some word ↦ λ done. absurd (cc) ]
+    ends_out r got x q (stage.Read v count word) e b =
+        elim (wanted at.site.geom (with_word x.work.work word got)) as (λ o. EndsOut x (read_by (with_word x.work.work word got) v count o)) [ None ↦ λ done. absurd (cc) | Some next ↦ λ done. absurd (cc) ]
+    ends_out r got x q (stage.Again v count) e b = elim (got == v) as (λ c. EndsOut x (checked_by at r x.work.work v count got c)) [ true ↦ over_out r x q v count e | false ↦ λ done. absurd (cc) ]
+    ends_out r got x q stage.Decided e b = absurd (cc)
+    ends_out r got x q (stage.Open v) e b = absurd (cc)
+    ends_out r got x q (stage.Write v) e b = absurd (cc)
+    ends_out r got x q (stage.Close v) e b = absurd (cc)
+
     keeps_outside : KeepsOutside T h vs
     keeps_outside =
         record {
@@ -175,6 +205,10 @@ module _ (V : Type 0) (base : ℕ) (table : LockTable V) (at : SeqSite) (node : 
               ap (λ (z : Turned (WholeView V TheSeqWork)). z.events) ((is_outside r x q.gets).after k)
               ∙ ap (λ o. touch_by x.rank o ++ departure_by x.rank (stand table x) w.follow) (gets_open x.work.work x.work.stage q.gets.getting).1
               ∙ ap (λ st. departure_by x.rank st w.follow) (out r x q.gets) ∙ out_departs x.rank w.follow;
+          ends = λ r x by q done.
+              let is = (is_outside r x q.gets).after (do_got by h.words h.cards) in
+              subst (λ (z : Turned (WholeView V TheSeqWork)). T.standing z.view ≡ Out) (sym is)
+              (ends_out r (do_got by h.words h.cards) x q.gets x.work.stage refl q.gets.getting (subst (λ (z : Turned (WholeView V TheSeqWork)). is_getting z.view.work.stage ≡ false) is done));
         }
 
     -- the answer is that of the work

@@ -1,20 +1,28 @@
 -- What is promised of flat combining on a shard, over whatever lock lets one writer in at a time: of its words and of the views of its
 -- ranks.
-use Rattle.std.specs.Prelude.{◌≡◌, ◌⊎◌, ℕ, ◌+◌, ◌<◌, ◌≤◌, List, [], ◌∷◌, ◌++◌, length, map, slice_get, slice_index, Some}
+use Rattle.std.specs.Prelude.{◌≡◌, ◌≢◌, ◌⊎◌, ℕ, ◌+◌, ◌<◌, ◌≤◌, false, List, [], ◌∷◌, ◌++◌, length, map, slice_get, slice_index, Option, Some, None}
 use Rattle.rl_word.specs.declared.acts.Atom.{Atom}
 use Rattle.rl_word.specs.declared.acts.Atom.TheVariants.{Load, Store}
 use Rattle.rl_step.specs.declared.events.Standing.TheVariants.{Writer}
 use Rattle.rl_step.specs.Do.{TheWindow, do_got}
 use Rattle.rl_volume.specs.Walk.{most_reads}
-use Rattle.rl_work.specs.Site.{volume_base}
+use Rattle.rl_work.specs.Site.{count_word, volume_base}
 use Rattle.rl_asks.specs.ShardTables.{ShardTable}
-use Rattle.rl_combine.specs.declared.stage.Stage.TheVariants.{Sweep, Copy, Read}
+use Rattle.rl_model.specs.Call.{is_update}
+use Rattle.rl_combine.specs.declared.stage.Stage.{Stage}
+use Rattle.rl_combine.specs.declared.stage.Stage.TheVariants.{Count, Sweep, Copy, Read, Answer, Mark, Collect}
 use Rattle.rl_combine.specs.Posts.{CombineSite, post_word, flag_word}
 use Rattle.rl_combine.specs.Combine.{TheCombineSide, early}
 use Rattle.rl_combine.specs.CombineGood.{RankSide}
 use Rattle.rl_combine.specs.SideLaws.{found}
 use Rattle.rl_combine.specs.Sweep.{FlagSays, FlagMoves}
 use Rattle.rl_whole.specs.declared.whole.WholeView.{WholeView}
+
+-- the rank whose answer is stored or marked at this stage
+abbrev pub answers : Stage → Option ℕ
+answers (Answer owner made) = Some owner
+answers (Mark owner) = Some owner
+answers _ = None
 
 module _ {V : Type 0} (T : ShardTable (WholeView V TheCombineSide)) where
   -- the post words are the work's own
@@ -33,6 +41,12 @@ module _ {V : Type 0} (T : ShardTable (WholeView V TheCombineSide)) where
   abbrev pub flag_now : TheWindow → ℕ → ℕ
   flag_now h owner = slice_index h.words (flag_word posts owner)
 
+  -- the next atom of a rank with this view, which gives got, ends its sweep's visit at this owner: it loads the flag and doesn't find 1, or it
+  -- stores 2 there
+  abbrev pub EndsVisit : ℕ → ℕ → WholeView V TheCombineSide → Type 0
+  EndsVisit owner got x =
+      ((x.work.stage ≡ Sweep owner) × (T.core.next x ≡ Some (Load (flag_word posts owner))) × (got ≢ 1)) ⊎ ((x.work.stage ≡ Mark owner) × (T.core.next x ≡ Some (Store (flag_word posts owner) 2)))
+
   module _ (h : TheWindow) (vs : List (WholeView V TheCombineSide)) where
     -- the posts of the ranks
     pub record KeepsPosts : Type 0 where
@@ -40,6 +54,8 @@ module _ {V : Type 0} (T : ShardTable (WholeView V TheCombineSide)) where
       pub says : (r : ℕ) (x : WholeView V TheCombineSide) → slice_get vs r ≡ Some x → FlagSays posts h.words (map rank_side vs) r x.work
       -- its owner alone stores 1 to a flag and takes it back to 0, and a writer alone stores 2, over a 1
       pub moves : (r k : ℕ) (x : WholeView V TheCombineSide) (at : Atom) → slice_get vs r ≡ Some x → T.core.next x ≡ Some at → FlagMoves posts h.words at r (rank_side x) k
+      -- while it is 0 no call of its owner is done that isn't collected
+      pub nothing : (r : ℕ) (x : WholeView V TheCombineSide) → slice_get vs r ≡ Some x → flag_now h r ≡ 0 → early posts h.words r x.work ≡ []
       -- a rank's open call was done once at most, by whichever rank
       pub once : (r : ℕ) (x : WholeView V TheCombineSide) → slice_get vs r ≡ Some x → length (early posts h.words r x.work) ≤ 1
 
@@ -50,11 +66,17 @@ module _ {V : Type 0} (T : ShardTable (WholeView V TheCombineSide)) where
 
     -- the sweeps of the ranks
     pub record KeepsSweeps : Type 0 where
+      -- a sweep begins with rank 0 once the count is known, goes from rank to rank, and ends behind the last one: so it visits each
+      pub begins : (r got : ℕ) (x : WholeView V TheCombineSide) → slice_get vs r ≡ Some x → x.work.stage ≡ Count → T.core.next x ≡ Some (Load count_word) → (T.core.after x got).view.work.stage ≡ Sweep 0
+      pub goes : (r owner got : ℕ) (x : WholeView V TheCombineSide) → slice_get vs r ≡ Some x → EndsVisit owner got x → owner + 1 < length vs → (T.core.after x got).view.work.stage ≡ Sweep (owner + 1)
+      pub covers : (r owner got : ℕ) (x : WholeView V TheCombineSide) → slice_get vs r ≡ Some x → EndsVisit owner got x → (T.core.after x got).view.work.stage ≡ Collect 0 → owner + 1 ≡ length vs
       -- a rank that loads a flag in its sweep and finds 1 has found it
       pub finds : (r owner : ℕ) (x : WholeView V TheCombineSide) → slice_get vs r ≡ Some x → x.work.stage ≡ Sweep owner → T.core.next x ≡ Some (Load (flag_word posts owner)) → flag_now h owner ≡ 1 →
           found (T.core.after x 1).view.work.stage ≡ Some owner
       -- while it has it stands as a writer, and the flag is 1
       pub writes : (r owner : ℕ) (x : WholeView V TheCombineSide) → HasFound r owner x → (T.standing x ≡ Writer) × (flag_now h owner ≡ 1)
+      -- the answer of a get or hold is of now: while the rank stores it, and marks it, its place is the count
+      pub now : (r owner : ℕ) (x : WholeView V TheCombineSide) → slice_get vs r ≡ Some x → answers x.work.stage ≡ Some owner → is_update x.work.posted ≡ false → x.work.entry.at ≡ slice_index h.words count_word
       -- it has until it stores 2 there: so it leaves the lock no sooner
       pub holds : (r owner : ℕ) (x : WholeView V TheCombineSide) (at : Atom) → HasFound r owner x → T.core.next x ≡ Some at →
           (at ≡ Store (flag_word posts owner) 2) ⊎ (found (T.core.after x (do_got at h.words h.cards)).view.work.stage ≡ Some owner)

@@ -1,5 +1,5 @@
--- The kinds of locks, each with the way in which blocks are done under it. One place says which kind guards the shards of a placement: for
--- the run, for its report and for what is promised.
+-- The kinds of locks, each with the way in which blocks are done under it. One place says which kind guards the shards of a placement
+-- (`kind_of`): for a replay and for a run by threads, for their reports and for what is promised.
 use Rattle.std.specs.Prelude.{ℕ, List}
 use Rattle.rl_word.specs.Shapes.{TheShape}
 use Rattle.rl_word.specs.declared.shapes.Knobs.{Knobs}

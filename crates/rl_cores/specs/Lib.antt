@@ -1,6 +1,7 @@
 -- to be believed
 pub mod Kinds
 pub mod Loads
+pub mod Holding
 pub mod OnShards
 pub mod Optimistic
 pub mod Combining

@@ -3,7 +3,7 @@ use Rattle.std.specs.Prelude.{◌≡◌, ◌≢◌, ◌↔◌, ◌⊎◌, ℕ, �
 use Rattle.rl_word.specs.declared.acts.Atom.{Atom}
 use Rattle.rl_word.specs.declared.acts.Atom.TheVariants.{Load}
 use Rattle.rl_model.specs.declared.call.Call.TheVariants.{Get}
-use Rattle.rl_step.specs.declared.events.Standing.TheVariants.{Asking, Writer}
+use Rattle.rl_step.specs.declared.events.Standing.TheVariants.{Out, Asking, Writer}
 use Rattle.rl_step.specs.declared.events.Stepped.TheVariants.{Waiting, Lost}
 use Rattle.rl_step.specs.Core.{Turned}
 use Rattle.rl_step.specs.Do.{TheWindow, do_atom, do_got}
@@ -50,6 +50,8 @@ module _ {V : Type 0} (T : ShardTable (WholeView V TheSeqWork)) (h : TheWindow) 
     pub loads : (r : ℕ) (x : WholeView V TheSeqWork) → Gets r x → (w : ℕ) × (T.core.next x ≡ Some (Load w)) × ((w ≡ T.own_at) ⊎ (w < lock_base T.site))
     -- and no event comes with it: none of a queue, none of a holder and no touch
     pub quiet : (r : ℕ) (x : WholeView V TheSeqWork) (at : Atom) → GetsBy r x at → (got_by x at).events ≡ []
+    -- once it is done its rank stands out
+    pub ends : (r : ℕ) (x : WholeView V TheSeqWork) (at : Atom) → GetsBy r x at → is_getting (got_by x at).view.work.stage ≡ false → T.standing (got_by x at).view ≡ Out
 
   -- how its atoms are answered
   pub record AnswersGets : Type 0 where

@@ -1,7 +1,7 @@
 //! The two domains of a shard's words, for each lock in one sentence: whatever its seats come to.
 
 ghost use Rattle.rl_shard.specs.Shards.{core_at};
-ghost use Rattle.rl_cores.specs.SeatDomains.{KeepsApart, NeverSwapsLocally};
+ghost use Rattle.rl_cores.specs.SeatDomains.{KeepsApart, KeepsApartAsDefined, NeverSwapsLocally};
 
 use rl_alock::{Alock, two_domains};
 use rl_asks::ShardCore;
@@ -14,9 +14,11 @@ use rl_whole::Whole;
 use rl_work::Work;
 
 /// Over ALock the next atom of a seat on the shard's home is never one of a card, and that of any other seat never a local
-/// compare-and-swap, however blocks are done. There is nothing to run.
+/// compare-and-swap, however blocks are done: by the nodes and the home that the lock has, and so by those by which the shard was made.
+/// There is nothing to run.
 pub fn alock_domains<W: Work>(shard: &Shard<Whole<Alock, W>>)
-    ensures { let K = ⟦<Whole<Alock, W> as ShardCore>⟧ in let lock = (core_at shard.now).algo in KeepsApart K.shard_table K.good K.layout lock.node_of.items lock.home shard.now }
+    ensures lock { let K = ⟦<Whole<Alock, W> as ShardCore>⟧ in let lock = (core_at shard.now).algo in KeepsApart K.shard_table K.good K.layout lock.node_of.items lock.home shard.now }
+    ensures made { let K = ⟦<Whole<Alock, W> as ShardCore>⟧ in KeepsApartAsDefined K.shard_table K.good K.layout K.defined shard.now }
 {
     domains(shard);
     two_domains();

@@ -9,16 +9,20 @@
 //! Promise: each is a shard's core (`ShardCore` of `rl_asks`), so machines of all of them keep what a machine promises; and a task is done with
 //! the core that the placement's lock has by its kind, whose settings suit it (`settings_suit`). What optimistic readers and flat combining
 //! promise holds of machines at every moment and of shared shards between any two table steps ([`readers_of_machine`],
-//! [`combiners_of_machine`] and theirs of shards). Over each lock seats keep its two domains apart ([`alock_domains`] and those of the
-//! others). Few words of the volume are loaded for a call alone under its lock ([`few_loads`]), in each try of a get under optimistic
-//! readers ([`readers_of_machine`]), and for each posted call by the rank that does it ([`combiners_of_machine`]).
+//! [`combiners_of_machine`] and theirs of shards). So does it of ranks that read under their lock, also where readers share it: what they
+//! have found still stands ([`holders_of_machine`], [`holders_of_shard`]). Over each lock seats, and the ranks of a machine, keep its two
+//! domains apart ([`alock_domains`], [`alock_domains_of_machine`] and those of the others). Few words of the volume are loaded for a call
+//! alone under its lock ([`few_loads`], [`holders_of_machine`]), in each try of a get under optimistic readers ([`readers_of_machine`]), and
+//! for each posted call by the rank that does it ([`combiners_of_machine`]).
 //! Not said here: that a rank ever gets the lock; how many words are loaded for a batch, or beside optimistic readers under the lock.
 #![tactic(auto)]
 
 mod choice;
 mod combiners;
 mod domains;
+mod holders;
 mod loads;
+mod machine_domains;
 mod readers;
 #[cfg(test)]
 mod seat_tests;
@@ -29,7 +33,12 @@ mod tests;
 pub use choice::{CoreTask, over_lock};
 pub use combiners::{combiners_of_machine, combiners_of_shard};
 pub use domains::{alock_domains, dmcs_domains, mcs_domains, rw_domains, spin_domains};
+pub use holders::{holders_of_machine, holders_of_shard};
 pub use loads::few_loads;
+pub use machine_domains::{
+    alock_domains_of_machine, dmcs_domains_of_machine, mcs_domains_of_machine,
+    rw_domains_of_machine, spin_domains_of_machine,
+};
 pub use readers::{readers_of_machine, readers_of_shard};
 use rl_alock::Alock;
 use rl_combine::CombineWork;

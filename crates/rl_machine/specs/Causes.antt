@@ -2,6 +2,7 @@
 use Rattle.std.specs.Prelude.{◌≡◌, ℕ, ◌≤◌, false, length, List, slice_get, slice_index, Option, Some, None}
 use Rattle.rl_step.specs.declared.events.Stepped.{Stepped}
 use Rattle.rl_step.specs.declared.events.Stepped.TheVariants.{Busy}
+use Rattle.rl_asks.specs.Answering.{AnswersNext}
 use Rattle.rl_asks.specs.ShardLaws.{CauseOf}
 use Rattle.rl_machine.specs.Running.{ShardRun, Running}
 use Rattle.rl_machine.specs.Run.{calls_by, place_of, has_open_call, only_counted, block_opened}
@@ -23,6 +24,10 @@ AtomCause cause cores m k answer = cause_on cause k answer (slice_get cores (pla
 -- the cause of the answer of rank k's step: once its next block is opened, if one is, its next atom has it
 abbrev pub StepCause : {C V : Type 0} → CauseOf C V → List C → Running V → ℕ → Stepped → Type 0
 StepCause cause cores m k answer = AtomCause cause cores (block_opened m k) k answer
+
+-- what the answer of rank k's step says of its atom, and of the words and cards that it found where the rank stands: the same for every core
+abbrev pub StepTells : {C V : Type 0} → List C → Running V → ℕ → Stepped → Type 0
+StepTells cores m k answer = StepCause (λ core h x next a. AnswersNext h next a) cores m k answer
 
 -- no call of rank k is open, and none of its calls is left
 abbrev pub IsFinished : {V : Type 0} → Running V → ℕ → Type 0

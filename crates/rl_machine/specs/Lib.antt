@@ -10,6 +10,7 @@ pub mod Causes
 pub mod Told
 pub mod Rested
 pub mod EventOrder
+pub mod Changes
 pub mod Promises
 pub mod Records
 pub mod Whereabouts
@@ -22,6 +23,7 @@ pub mod Ruled
 pub mod EventOrderLaws
 pub mod MachineLaws
 pub mod BlockEnds
+pub mod ChangeLaws
 pub mod SoundLaws
 pub mod RuledLaws
 pub mod StepLaws

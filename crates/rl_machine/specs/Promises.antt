@@ -1,5 +1,5 @@
 -- What is promised of every state of a machine, and so at every moment of every run.
-use Rattle.std.specs.Prelude.{◌≡◌, ◌<◌, ◌≤◌, ℕ, List, length, slice_get, slice_index, Some}
+use Rattle.std.specs.Prelude.{◌≡◌, ◌↔◌, ◌<◌, ◌≤◌, ℕ, List, length, slice_get, slice_index, Some}
 use Rattle.std.specs.FinMap as map
 use Rattle.rl_model.specs.declared.geom.Geom.{Geom}
 use Rattle.rl_journal.specs.Legal.{IsLegal}
@@ -8,7 +8,9 @@ use Rattle.rl_journal.specs.Ranks.{IsRankInOrder}
 use Rattle.rl_word.specs.Shapes.{TheShape}
 use Rattle.rl_word.specs.declared.locks.LockName.{LockName}
 use Rattle.rl_word.specs.declared.shapes.Knobs.{Knobs}
-use Rattle.rl_step.specs.Exclusion.{IsExclusive}
+use Rattle.rl_step.specs.Exclusion.{IsExclusive, writers, readers}
+use Rattle.rl_step.specs.declared.events.Standing.TheVariants.{Writer, Reader}
+use Rattle.rl_step.specs.Do.{do_got}
 use Rattle.rl_word.specs.declared.acts.Atom.{Atom}
 use Rattle.rl_step.specs.Answers.{steps_made}
 use Rattle.rl_step.specs.Lock.{AllNamed}
@@ -18,9 +20,12 @@ use Rattle.rl_step.specs.QueuePromises.{KeepQueues, CountTenures}
 use Rattle.rl_model.specs.declared.entry.Entry.{Entry}
 use Rattle.rl_asks.specs.ShardTables.{journal_at, kept_in}
 use Rattle.rl_asks.specs.EventRanks.{AreByRanks}
+use Rattle.rl_asks.specs.Touches.{IsGuarded}
+use Rattle.rl_work.specs.Site.{lock_base}
 use Rattle.rl_asks.specs.Domains.{IsCardAtom, IsLocalAtom, UsesCards, UsesLocals}
 use Rattle.rl_machine.specs.Running.{ShardRun, Running}
 use Rattle.rl_machine.specs.ShardSteps.{events_of}
+use Rattle.rl_machine.specs.Changes.{OnlyWritersChange}
 use Rattle.rl_machine.specs.EventOrder.{AreOrdered, AreBefore}
 use Rattle.rl_ops.specs.Asked.{BeginsAt}
 use Rattle.rl_asks.specs.Asks.{asked_of}
@@ -42,10 +47,24 @@ module _ {V : Type 0} where
     pub cards : (k : ℕ) (x : V) (at : Atom) → slice_get S.views k ≡ Some x → S.table.core.next x ≡ Some at → IsCardAtom at → UsesCards S.table.may_make k
     pub locals : (k : ℕ) (x : V) (at : Atom) → slice_get S.views k ≡ Some x → S.table.core.next x ≡ Some at → IsLocalAtom at → UsesLocals S.table.may_make k
 
+  -- whichever atom a rank comes to make there: if it is on count, volume or journal, it is that of a holder, a writer's where it stores, and
+  -- comes with its touch, or that of a get alone that isn't at the lock; and no other atom comes with a touch
+  abbrev pub KeepsGuarded : ShardRun V → Type 0
+  KeepsGuarded S =
+      (k : ℕ) (x : V) (at : Atom) → slice_get S.views k ≡ Some x → S.table.core.next x ≡ Some at →
+      IsGuarded (lock_base S.table.site) k at (S.table.standing x) (S.table.own x).calls (S.table.core.after x (do_got at S.held.words S.held.cards)).events
+
+  -- who stands as a writer or a reader there is who is one by what happened
+  abbrev pub StandAsTold : ShardRun V → Type 0
+  StandAsTold S = (k : ℕ) (x : V) → slice_get S.views k ≡ Some x → ((S.table.standing x ≡ Writer) ↔ writers (events_of S.trace) k) × ((S.table.standing x ≡ Reader) ↔ readers (events_of S.trace) k)
+
   -- of a shard
   pub record IsShardSound (geom : Geom) (S : ShardRun V) : Type 0 where
     -- at most one rank writes at any moment, none reads beside it, and who touches what the lock guards holds the lock
     pub exclusive : IsExclusive (events_of S.trace)
+    -- and each access to what it guards is such a touch; who stands as a holder is who holds by what happened
+    pub guarded : KeepsGuarded S
+    pub stands : StandAsTold S
     -- each queue of the lock keeps its budget, and serves first who came first
     pub queues : KeepQueues S.table.queues (events_of S.trace)
     -- the events name queues, members and cohorts that the lock has
@@ -64,6 +83,8 @@ module _ {V : Type 0} where
   -- of a machine: each shard is sound, and each rank's entries on all shards are its first calls, each once, in its order
   pub record IsSound (m : Running V) : Type 0 where
     pub shards : (s : ℕ) (S : ShardRun V) → slice_get m.shards s ≡ Some S → IsShardSound m.geom S
+    -- and whichever step comes next: one that changes count, volume or journal of a shard is a writer's, and its touch stands behind the trace
+    pub changes : OnlyWritersChange m
     pub order : (k : ℕ) → k < length m.calls → IsRankInOrder m.geom k (asked_of (calls_by m k) (sizes_by m k)) (done_of m k) (kept_by m k)
     -- a rank has done no more calls than it has opened
     pub done : (k : ℕ) → k < length m.calls → done_of m k ≤ slice_index m.opened k

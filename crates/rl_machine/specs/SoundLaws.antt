@@ -18,11 +18,12 @@ use Rattle.rl_asks.specs.ShardTables.{ShardTable}
 use Rattle.rl_asks.specs.ShardLaws.{GoodOf, CauseOf, FurtherOf, LawsOf}
 use Rattle.rl_machine.specs.Running.{ShardRun, Running}
 use Rattle.rl_machine.specs.ShardSteps.{events_of, desk_at, desk_on, kept_on, open_at, open_on}
-use Rattle.rl_machine.specs.Run.{desks_by, on_shard, calls_by, sizes_by, place_of, kept_by, done_of, IsAllClosed, IsShut}
+use Rattle.rl_machine.specs.Run.{desks_by, on_shard, calls_by, sizes_by, place_of, kept_by, done_of, block_opened, IsAllClosed, IsShut}
 use Rattle.rl_machine.specs.BlockEnds.{rest_begins, work_begins}
 use Rattle.rl_machine.specs.MachineGood.{IsShardOf, MachineGood}
-use Rattle.rl_machine.specs.MachineLaws.{found_at, laws_of, seated}
+use Rattle.rl_machine.specs.MachineLaws.{found_at, laws_of, seated, block_good}
 use Rattle.rl_machine.specs.Promises.{journal_on, transcripts_on, IsShardSound, IsSound}
+use Rattle.rl_machine.specs.ChangeLaws.{step_comes}
 
 -- the entries of a rank's desks
 pub kept_desks : {V : Type 0} (k : ℕ) (shards : List (ShardRun V)) → map entries_of (map (desk_on k) shards) ≡ map (kept_on k) shards
@@ -32,12 +33,12 @@ kept_desks k (S ∷ shards) = ap (λ z. kept_on k S ∷ z) (kept_desks k shards)
 module _ (C V : Type 0) (table : C → ShardTable V) (good : GoodOf C V) (cause : CauseOf C V) (further : FurtherOf C) (layout : C → Layout) (laws : LawsOf C V table good cause further layout) (cores : List C)
     (acts : List (List Deed)) (m : Running V) (g : MachineGood C V table good cores acts m) where
   -- the shard, with what is true of it
-  shard_is : (s : ℕ) (S : ShardRun V) → slice_get m.shards s ≡ Some S → (c : C) × (ds : List Deed) × IsShardOf C V table good m.geom m.calls s c ds S
+  pub shard_is : (s : ℕ) (S : ShardRun V) → slice_get m.shards s ≡ Some S → (c : C) × (ds : List Deed) × IsShardOf C V table good m.geom m.calls s c ds S
   shard_is s S has =
       let f = found_at C V table good cause further layout laws cores acts m s g (slice_get_within m.shards s S has) in
       (f.core, f.deeds, g.shards s S f.core f.deeds has f.has_core f.has_acts)
 
-  shard_sound : (s : ℕ) (S : ShardRun V) → slice_get m.shards s ≡ Some S → IsShardSound m.geom S
+  pub shard_sound : (s : ℕ) (S : ShardRun V) → slice_get m.shards s ≡ Some S → IsShardSound m.geom S
   shard_sound s S has =
       let q = shard_is s S has in
       let is = q.2 in
@@ -47,6 +48,8 @@ module _ (C V : Type 0) (table : C → ShardTable V) (good : GoodOf C V) (cause 
       let legal : IsLegal m.geom (journal_on S) (transcripts_on S) = subst (λ z. IsLegal z (journal_on S) (transcripts_on S)) geom_is (lawful.legal S.held S.views t q.1 is.is_good) in
       record {
         exclusive = lawful.exclusive S.held S.views t q.1 is.is_good;
+        guarded = λ k x at view next. lawful.guards S.held S.views t q.1 k x at (seated C V table good cause further layout laws cores q.0 q.1 S k x is.is_good view) next;
+        stands = λ k x view. lawful.stands S.held S.views t q.1 k x (seated C V table good cause further layout laws cores q.0 q.1 S k x is.is_good view);
         queues = lawful.queues S.held S.views t q.1 is.is_good;
         named = lawful.named S.held S.views t q.1 is.is_good;
         ordered = (g.told s S has).ordered;
@@ -58,6 +61,12 @@ module _ (C V : Type 0) (table : C → ShardTable V) (good : GoodOf C V) (cause 
         replayed = replayed m.geom (journal_on S) (transcripts_on S) legal;
         sorted = lawful.sorted S.held S.views t q.1 is.is_good;
       }
+
+module _ (C V : Type 0) (table : C → ShardTable V) (good : GoodOf C V) (cause : CauseOf C V) (further : FurtherOf C) (layout : C → Layout) (laws : LawsOf C V table good cause further layout) (cores : List C)
+    (acts : List (List Deed)) (m : Running V) (g : MachineGood C V table good cores acts m) where
+  -- what is true of a shard
+  abbrev here : (s : ℕ) (S : ShardRun V) → slice_get m.shards s ≡ Some S → (c : C) × (ds : List Deed) × IsShardOf C V table good m.geom m.calls s c ds S
+  here s S has = shard_is C V table good cause further layout laws cores acts m g s S has
 
   -- a rank's entries are its first calls
   rank_order : (k : ℕ) → k < length m.calls → IsRankInOrder m.geom k (asked_of (calls_by m k) (sizes_by m k)) (done_of m k) (kept_by m k)
@@ -95,7 +104,7 @@ module _ (C V : Type 0) (table : C → ShardTable V) (good : GoodOf C V) (cause 
   -- while no call is open no view has a block open
   shut_at : IsAllClosed m → (s : ℕ) (S : ShardRun V) (k : ℕ) (x : V) → slice_get m.shards s ≡ Some S → slice_get S.views k ≡ Some x → (S.table.own x).is_open ≡ false
   shut_at shut s S k x has view =
-      let q = shard_is s S has in
+      let q = here s S has in
       let is = q.2 in
       let h : k < length m.calls = let a = is.ranks in let b = slice_get_within S.views k x view in omega arith in
       let lawful = laws_of C V table good cause further layout laws cores q.0 S.table is.table_is in
@@ -111,21 +120,23 @@ module _ (C V : Type 0) (table : C → ShardTable V) (good : GoodOf C V) (cause 
 
   counts : (s : ℕ) (S : ShardRun V) → slice_get m.shards s ≡ Some S → IsShut S → CountTenures S.table.queues (events_of S.trace)
   counts s S has shut =
-      let q = shard_is s S has in
+      let q = here s S has in
       (laws_of C V table good cause further layout laws cores q.0 S.table q.2.table_is).counted S.held S.views (events_of S.trace) q.1 q.2.is_good (λ r v e. sym (ap (open_at S.table) e) ∙ shut r (slice_get_within S.views r v e))
 
   pub is_sound : IsSound m
   is_sound =
       record {
-        shards = shard_sound;
+        shards = λ s S has. shard_sound C V table good cause further layout laws cores acts m g s S has;
+        changes = λ k s S N h has there.
+            step_comes m k s S N (λ T is. shard_sound C V table good cause further layout laws cores acts (block_opened m k) (block_good C V table good cause further layout laws cores acts m k g h) s T is) has there;
         order = rank_order;
         done = rank_done;
         whole = rank_whole;
         given = λ k h. (g.ranks k h).low;
-        views = λ s S has. (shard_is s S has).2.ranks;
+        views = λ s S has. (here s S has).2.ranks;
         made = λ s S has. (g.told s S has).before;
         by_ranks = λ s S has.
-            let q = shard_is s S has in
+            let q = here s S has in
             subst (λ n. AreByRanks n (events_of S.trace)) q.2.ranks
             ((laws_of C V table good cause further layout laws cores q.0 S.table q.2.table_is).by_ranks S.held S.views (events_of S.trace) q.1 q.2.is_good);
         counted = counts;

@@ -11,14 +11,14 @@ use Rattle.rl_ops.specs.Ops.{total_calls}
 use Rattle.rl_asks.specs.ShardLaws.{GoodOf, CauseOf, FurtherOf, LawsOf}
 use Rattle.rl_asks.specs.ShardTables.{ShardTable}
 use Rattle.rl_machine.specs.Running.{Running, TheMachine, running, cores_of}
-use Rattle.rl_machine.specs.Causes.{StepCause, IsFinished, OnlyCountsBusy}
+use Rattle.rl_machine.specs.Causes.{StepCause, StepTells, IsFinished, OnlyCountsBusy}
 use Rattle.rl_machine.specs.Run.{opens, opened_if, block_opened, only_counted, atom_answer, atom_made, stepped, answer_of_step}
 use Rattle.rl_machine.specs.RunActs.{step_acts}
 use Rattle.rl_machine.specs.MachineLaws.{block_good, stepped_good}
 use Rattle.rl_machine.specs.ReplayLaws.{stepped_one}
 use Rattle.rl_machine.specs.Rest.{RestsWith}
 use Rattle.rl_machine.specs.TurnRests.{busy_rests, over_rests}
-use Rattle.rl_machine.specs.StepCauses.{opens_once, step_cause, step_finished, step_busy}
+use Rattle.rl_machine.specs.StepCauses.{opens_once, step_cause, step_tells, step_finished, step_busy}
 use Rattle.rl_machine.specs.MachineGood.{IsMachine, MachineGood}
 
 module _ {V : Type 0} where
@@ -97,6 +97,9 @@ module _ (C V : Type 0) (table : C → ShardTable V) (good : GoodOf C V) (cause 
 
     pub cause_told : StepCause cause (cores_of n) (running table n) k answer
     cause_told = subst (StepCause cause (cores_of n) (running table n) k) (sym told_there) (step_cause C V table good cause further layout laws (cores_of n) before.acts (running table n) k before.is_good low)
+
+    pub tells_told : StepTells (cores_of n) (running table n) k answer
+    tells_told = subst (StepTells (cores_of n) (running table n) k) (sym told_there) (step_tells C V table good cause further layout laws (cores_of n) before.acts (running table n) k before.is_good low)
 
     pub finished_told : (answer ≡ Finished) ↔ IsFinished (running table n) k
     finished_told = subst (λ a. (a ≡ Finished) ↔ IsFinished (running table n) k) (sym told_there) (step_finished C V table good cause further layout laws (cores_of n) before.acts (running table n) k before.is_good low)

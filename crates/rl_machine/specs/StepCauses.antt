@@ -25,10 +25,11 @@ use Rattle.rl_machine.specs.Run.{desks_by, changed, changed_if, on_shard, calls_
 use Rattle.rl_machine.specs.MachineGood.{MachineGood}
 use Rattle.rl_machine.specs.MachineLaws.{Found, found_at, laws_of, seated, not_open, OpensAt, opens_at, block_good, opened_calls}
 use Rattle.rl_machine.specs.SoundLaws.{kept_desks}
+use Rattle.rl_asks.specs.Answering.{AnswersNext}
 use Rattle.rl_asks.specs.Idle.{IsIdle}
 use Rattle.rl_machine.specs.Rest.{RestsWith}
 use Rattle.rl_machine.specs.RestLaws.{idle_makes, idle_rests}
-use Rattle.rl_machine.specs.Causes.{cause_at, cause_on, AtomCause, StepCause, IsFinished}
+use Rattle.rl_machine.specs.Causes.{cause_at, cause_on, AtomCause, StepCause, StepTells, IsFinished}
 
 -- a card that is held isn't free
 pub held_not_free : (n holder : ℕ) → n ≡ holder + 1 → (n == 0) ≡ false
@@ -95,13 +96,25 @@ module _ (C V : Type 0) (table : C → ShardTable V) (good : GoodOf C V) (cause 
     to_cause None e = lawful.rests t.found.shard.held t.view
     to_cause (Some at) e = lawful.causes t.found.shard.held t.found.shard.views (events_of t.found.shard.trace) t.found.deeds k t.view at seat e
 
+    -- and what it has to say
+    to_answer : (o : Option Atom) → t.found.shard.table.core.next t.view ≡ o → AnswersNext t.found.shard.held o (answer_to t.found.shard.table t.found.shard.held t.view o)
+    to_answer None e = refl
+    to_answer (Some at) e = lawful.answers t.found.shard.held t.found.shard.views (events_of t.found.shard.trace) t.found.deeds k t.view at seat e
+
+    -- what is said of the view's next atom and its answer is said of the machine's
+    said_there : (says : CauseOf C V) → says t.found.core t.found.shard.held t.view (t.found.shard.table.core.next t.view) (answer_to t.found.shard.table t.found.shard.held t.view (t.found.shard.table.core.next t.view)) →
+        AtomCause says cores m k (atom_answer m k)
+    said_there says said =
+        subst (AtomCause says cores m k) (sym answer_there)
+        (subst (λ o. cause_on says k (answer_to t.found.shard.table t.found.shard.held t.view (t.found.shard.table.core.next t.view)) o (slice_get m.shards (place_of m k))) (sym t.found.has_core)
+        (subst (cause_on says k (answer_to t.found.shard.table t.found.shard.held t.view (t.found.shard.table.core.next t.view)) (Some t.found.core)) (sym t.found.has)
+        (subst (λ o. cause_at says t.found.core t.found.shard o (answer_to t.found.shard.table t.found.shard.held t.view (t.found.shard.table.core.next t.view))) (sym t.has_view) said)))
+
     cause_there : AtomCause cause cores m k (atom_answer m k)
-    cause_there =
-        subst (AtomCause cause cores m k) (sym answer_there)
-        (subst (λ o. cause_on cause k (answer_to t.found.shard.table t.found.shard.held t.view (t.found.shard.table.core.next t.view)) o (slice_get m.shards (place_of m k))) (sym t.found.has_core)
-        (subst (cause_on cause k (answer_to t.found.shard.table t.found.shard.held t.view (t.found.shard.table.core.next t.view)) (Some t.found.core)) (sym t.found.has)
-        (subst (λ o. cause_at cause t.found.core t.found.shard o (answer_to t.found.shard.table t.found.shard.held t.view (t.found.shard.table.core.next t.view))) (sym t.has_view)
-        (to_cause (t.found.shard.table.core.next t.view) refl))))
+    cause_there = said_there cause (to_cause (t.found.shard.table.core.next t.view) refl)
+
+    answers_there : AtomCause (λ core h x next a. AnswersNext h next a) cores m k (atom_answer m k)
+    answers_there = said_there (λ core h x next a. AnswersNext h next a) (to_answer (t.found.shard.table.core.next t.view) refl)
 
     -- no answer but Finished where there is no atom
     finished_to : (o : Option Atom) → t.found.shard.table.core.next t.view ≡ o → answer_to t.found.shard.table t.found.shard.held t.view o ≡ Finished → o ≡ None
@@ -237,6 +250,10 @@ module _ (C V : Type 0) (table : C → ShardTable V) (good : GoodOf C V) (cause 
     -- each answer of a step has its cause
     pub step_cause : StepCause cause cores m k (answer_of_step m k)
     step_cause = cause_there acts (block_opened m k) k fine_opened still_there (stands_there acts (block_opened m k) k fine_opened still_there)
+
+    -- and says what it has to say
+    pub step_tells : StepTells cores m k (answer_of_step m k)
+    step_tells = answers_there acts (block_opened m k) k fine_opened still_there (stands_there acts (block_opened m k) k fine_opened still_there)
 
     -- a step that is answered by Busy changes nothing but the count of answers, and the block that it may have opened
     pub step_busy : (node holder : ℕ) → answer_of_step m k ≡ Busy node holder → stepped m k ≡ only_counted (block_opened m k) (Busy node holder)

@@ -6,7 +6,7 @@ ghost use Rattle.rl_model.specs.Geom.{GeomFits};
 ghost use Rattle.rl_word.specs.Shapes.{IsProper, layout_of};
 ghost use Rattle.rl_step.specs.Answers.{steps_made};
 ghost use Rattle.rl_ops.specs.Ops.{OpsFit};
-ghost use Rattle.rl_machine.specs.Causes.{StepCause, IsFinished, OnlyCountsBusy};
+ghost use Rattle.rl_machine.specs.Causes.{StepCause, StepTells, IsFinished, OnlyCountsBusy};
 ghost use Rattle.rl_machine.specs.Cores.{EachCore};
 ghost use Rattle.rl_machine.specs.Promises.{EachKeepsQueues, IsSound, StaysSound};
 ghost use Rattle.rl_machine.specs.Records.{journal_at, transcripts_at, owned_by, window_of};
@@ -15,6 +15,7 @@ ghost use Rattle.rl_machine.specs.Running.{running, cores_of};
 ghost use Rattle.rl_machine.specs.Start.{start_of};
 ghost use Rattle.rl_machine.specs.Rest.{RestsWith, counted_more, with_steps};
 ghost use Rattle.rl_machine.specs.Rested.{Tells};
+ghost use Rattle.rl_machine.specs.Told.{told_by};
 ghost use Rattle.rl_machine.specs.RunActs.{EachSays};
 
 use crate::records;
@@ -120,6 +121,7 @@ impl<C: ShardCore> Machine<C> {
         ensures calls { IfOk result (λ _. self.new.calls ≡ self.old.calls) }
         ensures answer { IfOk result (λ answer. answer ≡ answer_of_step (running C.shard_table self.old) rank) }
         ensures cause { IfOk result (StepCause C.cause (cores_of self.old) (running C.shard_table self.old) rank) }
+        ensures tells { IfOk result (StepTells (cores_of self.old) (running C.shard_table self.old) rank) }
         ensures finished { IfOk result (λ answer. (answer ≡ Stepped.Finished) ↔ IsFinished (running C.shard_table self.old) rank) }
         ensures held_off { IfOk result (λ answer. (node holder : ℕ) → answer ≡ Stepped.Busy node holder → RestsWith (running C.shard_table self.new) rank answer) }
         ensures over { IfOk result (λ answer. answer ≡ Stepped.Finished → RestsWith (running C.shard_table self.new) rank answer) }
@@ -137,6 +139,7 @@ impl<C: ShardCore> Machine<C> {
         requires few { steps_made self.old.steps < 2 ^ 32 - 1 }
         ensures cores { cores_of self.new ≡ cores_of self.old }
         ensures stepped { IfOk result (λ _. running C.shard_table self.new ≡ stepped (running C.shard_table self.old) rank) }
+        ensures answer { IfOk result (λ end. end.told ≡ told_by (answer_of_step (running C.shard_table self.old) rank)) }
         ensures told { IfOk result (λ end. Tells (running C.shard_table self.new) rank end.place end.told) }
         ensures kept { OnErr result (self.new ≡ self.old) }
     {
@@ -310,10 +313,11 @@ impl<C: TellsAll> Machine<C> {
     }
 }
 
-/// At every moment, whatever the order of the steps: on each shard at most one rank writes, none reads beside it, and each
-/// queue of the lock keeps its promise; a rank's next atom is one of a card, or a local compare-and-swap, only where the lock
-/// lets the rank make one; journal and transcripts are legal; and each rank's entries are its first calls, each once, in its
-/// order. For every lock. There is nothing to run.
+/// At every moment, whatever the order of the steps: on each shard at most one rank writes, none reads beside it, and only holders come
+/// to count, volume and journal, which no step changes but a writer's, whose touch then stands behind the trace; each queue of the lock
+/// keeps its promise; a rank's next atom is one of a card, or a local compare-and-swap, only where the lock lets the rank make one;
+/// journal and transcripts are legal; and each rank's entries are its first calls, each once, in its order. For every lock. There is
+/// nothing to run.
 pub fn soundness<C: ShardCore>(machine: &Machine<C>)
     ensures sound { IsSound (running C.shard_table machine.now) }
     ensures stays { StaysSound (running C.shard_table machine.now) }

@@ -4,7 +4,6 @@ ghost use Rattle.std.specs.Prelude.{ℕ, ◌≡◌, ◌+◌, ◌<◌, ◌≤◌,
 ghost use Rattle.rl_model.specs.Geom.{GeomFits};
 ghost use Rattle.rl_step.specs.Answers.{steps_made};
 ghost use Rattle.rl_asks.specs.Asks.{place_after, block_from};
-ghost use Rattle.rl_machine.specs.Causes.{IsFinished};
 ghost use Rattle.rl_machine.specs.Run.{done_of, place_of, has_open_call, opens, atom_made, atom_answer, stepped, answer_of_step};
 ghost use Rattle.rl_machine.specs.Running.{running, cores_of};
 ghost use Rattle.rl_machine.specs.MachineGood.{IsMachine};
@@ -200,16 +199,6 @@ impl<C: ShardCore> MachineState<C> {
         ensures { result ≡ opens (running C.shard_table (machine_view self.now)) rank }
     {
         !self.is_open(rank) && self.has_left(rank)
-    }
-
-    /// Whether no call of the rank is open and none is left.
-    #[inline(always)]
-    pub fn is_finished(&self, rank: u32) -> bool
-        requires there { rank < length self.now.ops.by_rank }
-        requires good { IsMachine C C.View C.shard_table C.good (machine_view self.now) }
-        ensures { result ≡ true → IsFinished (running C.shard_table (machine_view self.now)) rank }
-    {
-        !self.has_left(rank) && !self.is_open(rank)
     }
 
     /// How many entries the rank has on all shards, by its views and by the words.

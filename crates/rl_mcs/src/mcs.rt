@@ -66,6 +66,8 @@ impl Algo for Mcs {
 
     ghost has_shares = { λ shape home knobs. refl };
 
+    ghost has_cohorts = { λ shape home knobs. refl };
+
     ghost suits_knobs = { λ shape knobs. IsBudgeted shape };
 
     fn lock_name() -> LockName {

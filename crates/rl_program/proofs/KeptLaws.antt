@@ -101,6 +101,8 @@ module _ {V : Type 0} (defined : Defined V) (place : ThePlace) (ops : Ops) (sche
       (subst (λ l. IsRankInOrder last.geom k (asked_of (calls_by last k) (get_or l k [])) (done_of last k) (kept_by last k)) alike.sizes (sound.order k there))) in
       record {
         exclusive = λ s S has. (sound.shards s S has).exclusive;
+        guarded = λ s S has. (sound.shards s S has).guarded;
+        changes = sound.changes;
         queues = queues;
         further = further;
         replies = λ s S has. subst (λ geom. IsReplayedByOneThread geom finite.empty 0 (history_on S)) alike.geom (sound.shards s S has).replayed;

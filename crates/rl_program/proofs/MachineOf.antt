@@ -8,7 +8,7 @@ use Rattle.rl_word.specs.Shapes.{TheShape}
 use Rattle.rl_word.specs.declared.locks.LockName.{LockName}
 use Rattle.rl_word.specs.declared.shapes.Knobs.{Knobs}
 use Rattle.rl_step.specs.Answers.{steps_made}
-use Rattle.rl_step.specs.LockQueues.{queues_of, lock_under}
+use Rattle.rl_step.specs.LockQueues.{queues_of, lock_under, cohorts_of}
 use Rattle.rl_place.specs.LockWords.{name_of}
 use Rattle.rl_place.specs.Places.{ThePlace}
 use Rattle.rl_place.specs.Shapes.{shape_of, knobs_of}
@@ -25,7 +25,8 @@ use Rattle.rl_machine.specs.Run.{stepped, run_of, ranks_of, turn_ranks, steps_in
 use Rattle.rl_machine.specs.Start.{site_of, start_of}
 use Rattle.rl_machine.specs.StartLaws.{shard_first}
 use Rattle.rl_machine.specs.ReplayLaws.{stepped_one}
-use Rattle.rl_program.specs.Replay.{AreCohortsOf, AreCohortsBy, IsMachineOf}
+use Rattle.rl_program.specs.Replay.{AreCohortsOf, IsMachineOf}
+use Rattle.rl_program.proofs.CohortLaws.{cohorts_by}
 use Rattle.rl_program.proofs.KeptLaws.{each_shard}
 use Rattle.rl_program.proofs.RunLaws.{table_in, IsAlike, run_alike, steps_are}
 
@@ -43,7 +44,7 @@ ranks_long [] = refl
 ranks_long (t ∷ ts) = let one = turn_long t in let on = ranks_long ts in let both = length-append (turn_ranks t) (ranks_of ts) in omega arith
 
 module _ {V : Type 0} (defined : TheShape → ℕ → Knobs → Site → ShardTable V) (name : LockName) (has_queues : (shape : TheShape) (home : ℕ) (knobs : Knobs) (site : Site) → (defined shape home knobs site).queues ≡ queues_of name shape home knobs)
-    (place : ThePlace) (ops : Ops) (schedule : Schedule) (kind : name ≡ lock_under (name_of place.lock)) (cohorts : AreCohortsBy defined place.lock) (fits : ScheduleFits (length place.paths) schedule) where
+    (place : ThePlace) (ops : Ops) (schedule : Schedule) (kind : name ≡ lock_under (name_of place.lock)) (has_cohorts : (shape : TheShape) (home : ℕ) (knobs : Knobs) (site : Site) → (defined shape home knobs site).cohort ≡ cohorts_of name) (fits : ScheduleFits (length place.paths) schedule) where
   abbrev first : Running V
   first = start_of defined (shape_of place) (knobs_of place.lock) place.geom place.homes ops
 
@@ -88,6 +89,7 @@ module _ {V : Type 0} (defined : TheShape → ℕ → Knobs → Site → ShardTa
             ∙ ap (λ l. queues_of l (shape_of place) home (knobs_of place.lock)) kind ∙ under_queues (name_of place.lock) (shape_of place) home (knobs_of place.lock);
         cohorts = λ s S get.
             let home = some_at place.homes s (let h = slice_get_within last.shards s S get in let a = all in omega arith) in
-            subst (λ T. AreCohortsOf place.lock T.cohort) (sym (table_is s home.0 S home.1 get)) (cohorts (shape_of place) home.0 (knobs_of place.lock) (site_of place.geom ops.by_rank (0 + s)));
+            let named = ap (λ z. z.cohort) (table_is s home.0 S home.1 get) ∙ has_cohorts (shape_of place) home.0 (knobs_of place.lock) (site_of place.geom ops.by_rank (0 + s)) ∙ ap cohorts_of kind in
+            subst (AreCohortsOf place.lock) (sym named) (cohorts_by place.lock);
         few = few;
       }

@@ -14,6 +14,8 @@ use Rattle.rl_history.specs.Reports.{TheShard, TheReport}
 use Rattle.rl_history.specs.Spelling.{report_spelling}
 use Rattle.rl_history.specs.Reading.{report_at}
 use Rattle.rl_history.specs.Lawful.{IsLawful, journal_in, transcripts_in}
+use Rattle.rl_run.specs.Made.{IsRunBy}
+use Rattle.rl_cores.specs.Kinds.{kind_of}
 use Rattle.rl_check.specs.Legal.{LegalIsLawful}
 use Rattle.rl_replay.specs.declared.complaint.Stop.{Stop}
 use Rattle.rl_replay.specs.declared.complaint.Stop.TheVariants as stop
@@ -36,8 +38,8 @@ replies_are place ops report proper lawful s S has =
     let part = lawful.shards s home.0 S home.1 has in
     subst (λ es. IsReplayedByOneThread place.geom map.empty 0 es) (sym part.in_order) (replayed place.geom (journal_in S.entries) (transcripts_in S.entries 0 (length place.paths)) part.legal)
 
-is_run : LegalIsLawful → (texts : Texts) (place : ThePlace) (ops : Ops) (report : TheReport) (text : List ℕ) → OpsFit (length place.paths) place.geom.shards ops → placed texts.place ≡ Ok place → called place texts.calls ≡ Ok ops → text ≡ report_spelling (naming_of place) report → IsLawful place ops report → report_at (naming_of place) text ≡ Ok report → IsRun texts text
-is_run laws texts place ops report text fit p c is lawful again =
+is_run : LegalIsLawful → (texts : Texts) (place : ThePlace) (ops : Ops) (report : TheReport) (text : List ℕ) → OpsFit (length place.paths) place.geom.shards ops → placed texts.place ≡ Ok place → called place texts.calls ≡ Ok ops → text ≡ report_spelling (naming_of place) report → IsLawful place ops report → IsRunBy (kind_of place.lock).defined place ops report → report_at (naming_of place) text ≡ Ok report → IsRun texts text
+is_run laws texts place ops report text fit p c is lawful made again =
     let read : PlaceRead texts.place place = place_read texts.place place p in
     let most = read.proper.most_ranks in
     let ranks : length place.paths < 2 ^ 32 = omega (arith, most) in
@@ -52,6 +54,7 @@ is_run laws texts place ops report text fit p c is lawful again =
       calls_spelled = calls_read place texts.calls ops ranks shards c;
       bytes = is;
       lawful = lawful;
+      made = made;
       legal = (laws place ops report read.proper fit lawful.fits lawful.of_run).1 lawful;
       read = again;
       replies = replies_are place ops report read.proper lawful;
@@ -79,12 +82,13 @@ module _ (file : List ℕ → Option (List ℕ)) (names : RunNames) where
   -- both files were read, and this is the text of a report
   pub was_run : LegalIsLawful → (place : ThePlace) (ops : Ops) (report : TheReport) (text : Vec ℕ Global) → OpsFit (length place.paths) place.geom.shards ops → WasRead {X = ThePlace} (file names.place) (λ place. place) placed (Ok place) →
       WasRead {X = Ops} (file names.calls) (λ ops. ops) (called place) (Ok ops) →
-      text.items ≡ report_spelling (naming_of place) report → IsLawful place ops report → report_at (naming_of place) text.items ≡ Ok report → WasRun file names (Ok text)
+      text.items ≡ report_spelling (naming_of place) report → IsLawful place ops report → IsRunBy (kind_of place.lock).defined place ops report →
+      report_at (naming_of place) text.items ≡ Ok report → WasRun file names (Ok text)
   unfolding run_read
-  was_run laws place ops report text fit r c is lawful again =
+  was_run laws place ops report text fit r c is lawful made again =
       record {
         texts = texts_of r.bytes c.bytes;
         are = (r.fits, c.fits);
         read = ((place, ops), rw (r.ends, c.ends) refl);
-        run = is_run laws (texts_of r.bytes c.bytes) place ops report text.items fit r.ends c.ends is lawful again;
+        run = is_run laws (texts_of r.bytes c.bytes) place ops report text.items fit r.ends c.ends is lawful made again;
       }

@@ -24,7 +24,8 @@ use Rattle.rl_machine.specs.ShardSteps.{events_of}
 use Rattle.rl_asks.specs.Asks.{asked_of}
 use Rattle.rl_machine.specs.Run.{ranks_of, done_of, kept_by}
 use Rattle.rl_machine.specs.RunActs.{EachSays}
-use Rattle.rl_machine.specs.Promises.{journal_on, transcripts_on, history_on, EachKeepsQueues}
+use Rattle.rl_machine.specs.Promises.{journal_on, transcripts_on, history_on, EachKeepsQueues, KeepsGuarded}
+use Rattle.rl_machine.specs.Changes.{OnlyWritersChange}
 use Rattle.rl_cores.specs.Kinds.{Defined, Promised, kind_of}
 use Rattle.rl_program.specs.Replay.{start_with, run_with, report_of}
 
@@ -39,8 +40,14 @@ module _ {V : Type 0} (defined : Defined V) (promised : Promised) (place : ThePl
   -- What is promised of the run of a schedule over a placement and calls, for the kind of lock that is defined so, and promises this
   -- beyond every lock. Here m is the machine at the end of the run; since all of it holds of every schedule, it holds at every moment.
   pub record IsKept : Type 0 where
-    -- on no shard is a writer ever beside another holder; and who touches the table holds the lock, as a writer where it writes
+    -- on no shard is a writer ever beside another holder; and whose event is a touch holds the lock, as a writer where the touch writes
     pub exclusive : OnShards m (λ S. IsExclusive (events_of S.trace))
+    -- these touches are the accesses to count, volume and journal: whichever atom a rank comes to make there, as the lock lets it, is told as one;
+    -- but for the loads of a get alone that isn't at the lock (under `seq`). No other atom is told so
+    pub guarded : OnShards m KeepsGuarded
+    -- and whichever step comes next: where it changes count, volume or journal of a shard, its rank is a writer there, and its touch is put
+    -- behind the trace
+    pub changes : OnlyWritersChange m
     -- no queue with a budget passes its lock more often than that between two settlements, nor, in all, more often than that for each
     -- settlement; each queue serves first who came first; and while no call is open there each was settled and passed as often as it was had
     pub queues : EachKeepsQueues (name_of place.lock) (shape_of place) (knobs_of place.lock) place.homes m

@@ -1,8 +1,6 @@
 -- The run of a placement, calls and a schedule, and the report of it.
 use Rattle.std.specs.Prelude.{◌≡◌, ◌⊎◌, ◌≤◌, ℕ, ◌+◌, Bool, true, List, [], ◌∷◌, All, filter, length, map, slice_get, Some}
 use Rattle.rl_model.specs.declared.call.Call.{Call}
-use Rattle.rl_word.specs.Shapes.{TheShape}
-use Rattle.rl_word.specs.declared.shapes.Knobs.{Knobs}
 use Rattle.rl_step.specs.Answers.{steps_made}
 use Rattle.rl_place.specs.declared.lock.Lock.{Lock}
 use Rattle.rl_place.specs.Places.{ThePlace}
@@ -16,7 +14,6 @@ use Rattle.rl_history.specs.Naming.{has_cohorts, naming_of}
 use Rattle.rl_history.specs.Reports.{TheShard, TheReport, ReplyFits, TallyFits}
 use Rattle.rl_history.specs.Spelling.{is_printed}
 use Rattle.rl_history.specs.Tallies.{tallies_from}
-use Rattle.rl_work.specs.Site.{Site}
 use Rattle.rl_machine.specs.Running.{ShardRun, Running}
 use Rattle.rl_machine.specs.ShardSteps.{events_of}
 use Rattle.rl_machine.specs.Start.{start_of}
@@ -74,10 +71,6 @@ report_of place ops schedule = report_in (queue_count place) (replay_of place op
 -- these are the cohorts of a lock that has cohorts
 abbrev pub AreCohortsOf : Lock → (ℕ → Bool) → Type 0
 AreCohortsOf lock cohort = (c : ℕ) → cohort c ≡ true → (has_cohorts lock ≡ true) × ((c ≡ 1) ⊎ (c ≡ 2))
-
--- so are those of a rank's machine that is defined so
-abbrev pub AreCohortsBy : {V : Type 0} → Defined V → Lock → Type 0
-AreCohortsBy defined lock = (shape : TheShape) (home : ℕ) (knobs : Knobs) (site : Site) → AreCohortsOf lock (defined shape home knobs site).cohort
 
 -- a machine of a placement and calls, which has made no more steps than a schedule has
 pub record IsMachineOf {V : Type 0} (place : ThePlace) (ops : Ops) (m : Running V) : Type 0 where

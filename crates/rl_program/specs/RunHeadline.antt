@@ -12,6 +12,8 @@ use Rattle.rl_history.specs.Spelling.{report_spelling}
 use Rattle.rl_history.specs.Reading.{report_at}
 use Rattle.rl_history.specs.Lawful.{IsLawful}
 use Rattle.rl_check.specs.Legal.{IsLegalReport}
+use Rattle.rl_run.specs.Made.{IsRunBy}
+use Rattle.rl_cores.specs.Kinds.{kind_of}
 use Rattle.rl_replay.specs.Files.{Texts}
 
 -- These texts are run: they spell a placement and calls, and this text is a report of all these calls that is lawful for them. It is a
@@ -28,6 +30,8 @@ pub record IsRun (texts : Texts) (text : List ℕ) : Type 0 where
   -- order; the pairs are the table after them; and no queue with a budget was passed more often, in all, than that for each settlement,
   -- and each was settled and passed as often as it was had
   pub lawful : IsLawful place ops report
+  -- and it is what the ranks' machines know at the end of their shards: those of the placement's lock, as a replay has them
+  pub made : IsRunBy (kind_of place.lock).defined place ops report
   -- so a check finds the report legal
   pub legal : IsLegalReport place ops report
   -- and this text is read as this report

@@ -29,4 +29,5 @@ mod threadless;
 
 pub use generating::generate;
 pub use program::rmalock;
+pub use replaying::replay_report;
 pub use threadless::offline;

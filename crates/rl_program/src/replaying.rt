@@ -10,7 +10,7 @@ ghost use Rattle.rl_check.specs.LawfulReplays.{IsLawfulReplay};
 ghost use Rattle.rl_check.specs.Legal.{IsLegalReport};
 ghost use Rattle.rl_replay.specs.Files.{named};
 ghost use Rattle.rl_program.specs.Command.{Replay};
-ghost use Rattle.rl_program.specs.Replay.{run_with, report_in, queue_count, report_of, AreCohortsBy};
+ghost use Rattle.rl_program.specs.Replay.{run_with, report_in, queue_count, report_of};
 ghost use Rattle.rl_program.specs.Headline.{IsKept, KeepsPromises};
 ghost use Rattle.rl_replay.specs.Reading.{RisesWithFault, SuitsLock};
 ghost use Rattle.rl_program.specs.Answer.{MayRead, WasReplayed};
@@ -43,7 +43,7 @@ fn report_with<C: Resting>(
     requires schedule { ScheduleFits (length place.now.paths) schedule.now }
     ensures report { IfOk result (λ report. report ≡ report_in (queue_count place.now) (run_with C.defined place.now ops schedule.now)) }
     ensures kept { IfOk result (λ _. IsKept C.defined C.promised place.now ops schedule.now) }
-    ensures lawful { AreCohortsBy C.defined place.now.lock → IfOk result (λ report. IsLawfulReplay place.now ops report) }
+    ensures lawful { IfOk result (λ report. IsLawfulReplay place.now ops report) }
 {
     let shape = place.shape(alloc)?;
     let knobs = place.knobs();
@@ -69,7 +69,7 @@ impl CoreTask for ReplayTask<'_> {
     ghost gives = { λ r place kind result.
         IfOk result (λ report. report ≡ report_in (queue_count place) (run_with kind.defined place r.ops r.schedule.now))
         × IfOk result (λ _. IsKept kind.defined kind.promised place r.ops r.schedule.now)
-        × (AreCohortsBy kind.defined place.lock → IfOk result (λ report. IsLawfulReplay place r.ops report)) };
+        × IfOk result (λ report. IsLawfulReplay place r.ops report) };
 
     fn over<C: Resting>(self, place: &Place) -> Result<Report, OutOfMemory> {
         report_with::<C>(self.alloc, place, self.ops, self.schedule)

@@ -3,6 +3,8 @@ ghost use Rattle.std.specs.Prelude.{◌≡◌, length, IfOk, Some};
 ghost use Rattle.rl_place.specs.Places.{IsProper};
 ghost use Rattle.rl_ops.specs.Ops.{OpsFit};
 ghost use Rattle.rl_history.specs.Lawful.{IsLawful};
+ghost use Rattle.rl_run.specs.Made.{IsRunBy};
+ghost use Rattle.rl_cores.specs.Kinds.{kind_of};
 ghost use Rattle.rl_replay.specs.Reading.{RisesWithFault, SuitsLock};
 ghost use Rattle.rl_program.specs.Command.{run_named};
 ghost use Rattle.rl_program.specs.RunAnswer.{MayReadRun, WasRun};
@@ -23,7 +25,8 @@ use std::sync::Wait;
 use std::thread::Threads;
 
 /// A report of a run of all calls of a placement's ranks, a thread for each rank, over the placement's kind of lock; no batch is among the
-/// calls where the lock does none. It may wait, and returns when all calls are done. Refused only for want of memory.
+/// calls where the lock does none. The ranks' machines are those that a replay of the placement has (`made`). It may wait, and returns when
+/// all calls are done. Refused only for want of memory.
 pub fn run_report<G: Gate, R: Threads + Wait + Sync>(
     rt: &R,
     alloc: Global,
@@ -35,6 +38,7 @@ pub fn run_report<G: Gate, R: Threads + Wait + Sync>(
     requires calls { OpsFit (length place.now.paths) place.now.geom.shards ops }
     requires suits { SuitsLock place.now ops }
     ensures lawful { IfOk result (λ report. IsLawful place.now ops report) }
+    ensures made { IfOk result (λ report. IsRunBy (kind_of place.now.lock).defined place.now ops report) }
 {
     settings_suit();
     match &place.lock {

@@ -1,3 +1,4 @@
 pub mod OneByOne
 pub mod Running
 mod WholeRun
+mod MadeLaws

@@ -76,8 +76,12 @@ module _ {C V : Type 0} (table : C → ShardTable V) (good : GoodOf C V) (layout
               let mine : O (who c) = subst O p.2 (subst (IsRankInOrder p.0.geom p.0.rank (asked_of p.0.calls.items p.0.sizes.items) (length p.0.calls.items)) (lists r p.0 p.1) E.order) in
               subst (λ k. IsRankInOrder c.geom k (asked_of c.calls.items c.sizes.items) (length c.calls.items) (map (told_by r) ends)) (are r c e).0 mine;
           at = λ s w e gw ge.
-              let q = ended_at (IsShutSeat table good layout) (IsEnd table) shards rows ends grid a s w e gw ge in
-              (q.0, q.1, q.2 ∙ ap length is ∙ length-map new seats_of ∙ (sym (length-map new who) ∙ ap length same ∙ length-map old who));
+              let q = ended_at (IsShutSeat table good layout) (IsEnd table) shards rows ends grid a s w e gw ge in (
+                q.0,
+                q.1,
+                q.2 ∙ ap length is ∙ length-map new seats_of ∙ (sym (length-map new who) ∙ ap length same ∙ length-map old who),
+                λ r t gt. (q.3 r t gt).2,
+              );
           total = λ r c e.
               let p = get_map_back who new r (who c) (ap (λ l. slice_get l r) same ∙ get_map who old r c e) in
               let E = all_at (IsAtEnd table shards) new r p.0 done p.1 in

@@ -3,6 +3,7 @@ pub mod Rows
 pub mod Calling
 pub mod Callers
 pub mod Told
+pub mod Made
 pub mod Runs
 -- proved; skip at first
 pub mod RowLaws

@@ -115,13 +115,17 @@ module _ {W T E : Type 0} (Q : W → List T → E → Type 0) where
 
 -- the end of a shard, by its number, over a column with a seat of each row
 pub ended_at : {W T E : Type 0} (P : W → ℕ → T → Type 0) (Q : W → List T → E → Type 0) (ws : List W) (rows : List (List T)) (es : List E) → IsGrid P ws rows → AreEnded Q ws rows es →
-    (s : ℕ) (w : W) (e : E) → slice_get ws s ≡ Some w → slice_get es s ≡ Some e → (column : List T) × Q w column e × (length column ≡ length rows)
+    (s : ℕ) (w : W) (e : E) → slice_get ws s ≡ Some w → slice_get es s ≡ Some e → (column : List T) × Q w column e × (length column ≡ length rows) × IsColumn P w column
 ended_at P Q [] rows es G a s w e gw ge = absurd (cc)
 ended_at P Q (v ∷ ws) rows [] G a s w e gw ge = absurd a
-ended_at P Q (v ∷ ws) rows (f ∷ es) G a zero w e gw ge =
-    (heads rows, subst (λ z. Q z (heads rows) e) (same_Some _ _ gw) (subst (Q v (heads rows)) (same_Some _ _ ge) a.0), heads_long P rows (rows_some P v ws rows G))
+ended_at P Q (v ∷ ws) rows (f ∷ es) G a zero w e gw ge = (
+  heads rows,
+  subst (λ z. Q z (heads rows) e) (same_Some _ _ gw) (subst (Q v (heads rows)) (same_Some _ _ ge) a.0),
+  heads_long P rows (rows_some P v ws rows G),
+  subst (λ z. IsColumn P z (heads rows)) (same_Some _ _ gw) (first_column P v ws rows G),
+)
 ended_at P Q (v ∷ ws) rows (f ∷ es) G a (suc s) w e gw ge =
-    let q = ended_at P Q ws (tails rows) es (other_columns P v ws rows G) a.1 s w e gw ge in (q.0, q.1, q.2 ∙ no_rows P rows)
+    let q = ended_at P Q ws (tails rows) es (other_columns P v ws rows G) a.1 s w e gw ge in (q.0, q.1, q.2 ∙ no_rows P rows, q.3)
 
 -- ---- the code's lists, of which the first element is taken again and again
 

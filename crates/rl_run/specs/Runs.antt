@@ -19,7 +19,7 @@ use Rattle.rl_work.specs.Site.{Site}
 use Rattle.rl_shard.specs.declared.closed.Closed.{Closed}
 use Rattle.rl_shard.specs.declared.shard.Shard.{Shard}
 use Rattle.rl_shard.specs.declared.seat.Seat.{Seat}
-use Rattle.rl_shard.specs.Shards.{IsShardOf, IsOf, IsClosed, table_at, desk_at, entries_at, rank_at}
+use Rattle.rl_shard.specs.Shards.{IsShardOf, IsOf, IsClosed, AreClosed, table_at, desk_at, entries_at, rank_at}
 use Rattle.rl_shard.specs.Ends.{IsEnd, transcripts_of}
 use Rattle.rl_run.specs.declared.caller.Caller.{Caller}
 use Rattle.rl_run.specs.Rows.{IsGrid, AreEnded}
@@ -95,6 +95,6 @@ module _ {C V : Type 0} where
     pub ended : AreEnded (IsEnd table) shards rows ends
     pub long : length rows ≡ length cs
     pub order : (r : ℕ) (c : Caller C V) → slice_get cs r ≡ Some c → IsRankInOrder c.geom r (asked_of c.calls.items c.sizes.items) (length c.calls.items) (map (told_by r) ends)
-    -- each shard is closed over a column with a seat of each rank
-    pub at : (s : ℕ) (w : Shard C V) (e : Closed) → slice_get shards s ≡ Some w → slice_get ends s ≡ Some e → (column : List (Seat C V)) × IsEnd table w column e × (length column ≡ length cs)
+    -- each shard is closed over a column with a seat of each rank, none of which has an open block
+    pub at : (s : ℕ) (w : Shard C V) (e : Closed) → slice_get shards s ≡ Some w → slice_get ends s ≡ Some e → (column : List (Seat C V)) × IsEnd table w column e × (length column ≡ length cs) × AreClosed table w column
     pub total : (r : ℕ) (c : Caller C V) → slice_get cs r ≡ Some c → entries_in (map (told_by r) ends) ≡ length c.calls.items

@@ -7,6 +7,7 @@ ghost use Rattle.rl_place.specs.Shapes.{shape_of, knobs_of};
 ghost use Rattle.rl_step.specs.LockQueues.{readers_share, lock_under, spares_gets};
 ghost use Rattle.rl_ops.specs.Ops.{OpsFit, total_calls};
 ghost use Rattle.rl_history.specs.Lawful.{IsLawful};
+ghost use Rattle.rl_run.specs.Made.{IsRunBy};
 ghost use Rattle.rl_run.specs.Runs.{told};
 ghost use Rattle.rl_run.specs.Told.{ToldNumbersFit, all_done, part_of as part_told};
 
@@ -58,8 +59,8 @@ fn parts_of(alloc: Global, mut ends: Vec<Closed>) -> Result<Vec<ShardReport>, Ou
 /// `C` is the core of the placement's lock: it stands on the lock on which the placement's stands, and a get alone is a tenure under it where
 /// the report counts one; none of the calls is in a batch where the core does none. Each shard is a window that the threads share, each rank
 /// has a caller with a seat at each shard, and the gate stands at the callers' blocks and steps. The report tells of a history that one
-/// thread could have made, which holds all calls of each rank, once and in its order; which of several it is depends on how the threads
-/// come to their steps. It waits for its threads. Refused only for want of memory, which is asked for before the first step and after the last.
+/// thread could have made, which holds all calls of each rank, once and in its order, and it is what `C`'s machines of the ranks know at
+/// the end of their shards (`made`); which of several such reports it is depends on how the threads come to their steps. It waits for its threads. Refused only for want of memory, which is asked for before the first step and after the last.
 pub fn run_all<C: ShardCore + Send + Sync, G: Gate, R: Threads + Wait + Sync>(
     rt: &R,
     alloc: Global,
@@ -76,6 +77,7 @@ where
     requires batches { C.batches ≡ false → (k i : ℕ) → slice_index (get_or ops.sizes k []) i ≤ 1 }
     requires calls { OpsFit (length place.now.paths) place.now.geom.shards ops }
     ensures lawful { IfOk result (λ report. IsLawful place.now ops report) }
+    ensures made { IfOk result (λ report. IsRunBy C.defined place.now ops report) }
 {
     let done = all_dones(alloc, &ops)?;
     let (shards, callers) = begin_all::<C>(alloc, place, ops)?;

@@ -158,6 +158,8 @@ impl Algo for Rw {
 
     ghost has_shares = { λ shape home knobs. refl };
 
+    ghost has_cohorts = { λ shape home knobs. refl };
+
     ghost suits_knobs = { SuitsRw };
 
     fn lock_name() -> LockName {

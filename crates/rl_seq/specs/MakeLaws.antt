@@ -1,5 +1,5 @@
 -- Each atom of the work under a sequence lock keeps the rule.
-use Rattle.std.specs.Prelude.{◌≡◌, ℕ, ◌+◌, ◌<◌, ◌≤◌, true, false, List, [], length, map, slice_get, slice_set, Some, refl}
+use Rattle.std.specs.Prelude.{◌≡◌, ◌≢◌, ℕ, ◌+◌, ◌<◌, ◌≤◌, true, false, List, [], length, map, slice_get, slice_set, Some, None, refl}
 use Rattle.std.proofs.Common.{sym, ◌∙◌, ap, subst, inl, inr, arith}
 use Rattle.std.proofs.lemmas.List.{length-take-le}
 use Rattle.std.proofs.lemmas.Option.{same_Some}
@@ -16,7 +16,8 @@ use Rattle.rl_work.specs.AtomLaws.{atom_keeps, atom_can}
 use Rattle.rl_work.specs.EndLaws.{IsPlain, plain_atom}
 use Rattle.rl_work.specs.Locked.{first_reads}
 use Rattle.rl_work.specs.Site.{count_word, volume_base, lock_base}
-use Rattle.rl_work.specs.Ways.{IsWorkAtom, side_turned, standing_done}
+use Rattle.rl_work.specs.LockedLaws.{front_names}
+use Rattle.rl_work.specs.Ways.{IsWorkAtom, IsFrontAtom, side_turned, standing_done}
 use Rattle.rl_work.specs.Work.{TheWork, WorkTurned, has_work, stores, stage_atom, work_atom, work_after}
 use Rattle.rl_work.specs.WorkGood.{WorkSide, WorkGood, FitsAt, IsInCall, side_turned as locked_turned, standing_after as locked_standing}
 use Rattle.rl_seq.specs.declared.stage.SeqStage.{SeqStage}
@@ -28,7 +29,7 @@ use Rattle.rl_seq.specs.KeepLaws.{stays, looks, counts, reads_word, wanted_there
 use Rattle.rl_seq.specs.OutcomeLaws.{Outcome, load_outcome, load_changes}
 use Rattle.rl_seq.specs.Site.{SeqSite, front, version_in}
 use Rattle.rl_seq.specs.SeqGood.{SeqRank, SeqGood, IsSeqApart, SeqFits, as_locked, locked_at, is_between}
-use Rattle.rl_seq.specs.SeqWork.{at_stage, loaded_by, loaded_on, seq_stage_atom, seq_stage_after, seq_table}
+use Rattle.rl_seq.specs.SeqWork.{at_stage, loaded_by, loaded_on, touch_at, seq_stage_atom, seq_stage_after, seq_table}
 use Rattle.rl_seq.specs.WriterLaws.{finds, opens_version, closes_version, writes_on}
 
 -- a side with an atom has an open block
@@ -161,3 +162,22 @@ module _ (at : SeqSite) (words : List ℕ) (low : lock_base at.site ≤ at.behin
       by_stage (stage.Open v) e p = version (atom.Store at.behind (v + 1)) (record { there = omega arith; place = inr (omega arith) }) p
       by_stage (stage.Write v) e p = inside (stage.Write v) e refl p
       by_stage (stage.Close v) e p = version (atom.Store at.behind (v + 2)) (record { there = omega arith; place = inr (omega arith) }) p
+
+    -- an atom that is told as a touch is on a word before the lock's
+    pub fronts_at : (a : Atom) → seq_stage_atom at x.work.work x.work.stage ≡ Some a → touch_at x.work.work x.work.stage ≢ None → IsFrontAtom (lock_base at.site) a
+    fronts_at a planned told = by_stage x.work.stage refl planned told where
+      inside : (st : SeqStage) → x.work.stage ≡ st → locked_at x.standing x.work.work st ≡ record { standing = x.standing; work = x.work.work } → work_atom at.site.geom x.work.work ≡ Some a → IsFrontAtom (lock_base at.site) a
+      inside st e same p =
+          front_names (lock_base at.site) r (home_at (λ z. 0) a) a words [] (plain_atom at.site.geom x.work.work x.work.work.stage a p)
+          (atom_can at.site (front at words) (map as_locked sides) g.locked r (record { standing = x.standing; work = x.work.work }) (locked_there at words sides g r x has st e ∙ ap Some same) a (λ z. 0) [] p)
+
+      by_stage : (st : SeqStage) → x.work.stage ≡ st → seq_stage_atom at x.work.work st ≡ Some a → touch_at x.work.work st ≢ None → IsFrontAtom (lock_base at.site) a
+      by_stage stage.Locked e p told = inside stage.Locked e refl p
+      by_stage stage.Look e p told = absurd (told refl)
+      by_stage (stage.Count v) e p told = absurd (told refl)
+      by_stage (stage.Read v count word) e p told = absurd (told refl)
+      by_stage (stage.Again v count) e p told = absurd (told refl)
+      by_stage stage.Decided e p told = absurd (told refl)
+      by_stage (stage.Open v) e p told = absurd (told refl)
+      by_stage (stage.Write v) e p told = inside (stage.Write v) e refl p
+      by_stage (stage.Close v) e p told = absurd (told refl)

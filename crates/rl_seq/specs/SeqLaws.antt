@@ -4,7 +4,7 @@ use Rattle.std.proofs.Common.{sym, arith}
 use Rattle.std.proofs.lemmas.List.{append-nil}
 use Rattle.rl_step.specs.Do.{do_got}
 use Rattle.rl_work.specs.Ways.{WorkLaws}
-use Rattle.rl_seq.specs.MakeLaws.{makes_at, plain_at}
+use Rattle.rl_seq.specs.MakeLaws.{makes_at, plain_at, fronts_at}
 use Rattle.rl_seq.specs.Site.{SeqSite}
 use Rattle.rl_seq.specs.SeqGood.{SeqGood}
 use Rattle.rl_seq.specs.SeqWork.{seq_table}
@@ -30,6 +30,8 @@ seq_laws at home =
       goes_on = λ words sides r x s. step.goes_on at home words sides r x s;
       follows = λ words cards sides r x a m. step.follows_at at home r x.standing x.work.work (do_got a words cards) x.work.stage;
       touches = λ words sides r x a m. step.touches at home words [] sides r x a m;
+      tells = λ words sides r x a m. step.tells at home words [] sides r x a m;
+      fronts = λ words sides r x a m told. let laid = m.side.laid in fronts_at at words laid.low laid.all sides m.side.is_good r x m.side.there home a m.planned told;
       answers = λ words cards sides r x a m. step.answers_at at home r x.work.work (do_got a words cards) a x.work.stage m.planned;
       alone = λ words cards sides r x a one m. step.alone at home words cards sides r x a m one;
       legal = λ words sides g laid. state.legal at home words sides g;

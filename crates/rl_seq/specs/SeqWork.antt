@@ -139,7 +139,8 @@ seq_stage_after at rank w got (stage.Close version) = is_over w
 abbrev pub seq_after : SeqSite → ℕ → TheSeqWork → ℕ → Worked TheSeqWork
 seq_after at rank x got = seq_stage_after at rank x.work got x.stage
 
--- whether the atom of a stage touches what the lock guards, and if so whether it writes; gets alone and the version don't count
+-- whether the atom of a stage is told as a touch of what the lock guards, and if so whether it writes: the loads of a get alone aren't, which holds
+-- nothing, nor is the version, which stands behind the lock's words
 abbrev pub touch_at : TheWork → SeqStage → Option Bool
 touch_at w stage.Locked = Some (stores w.stage)
 touch_at w (stage.Write version) = Some (stores w.stage)

@@ -6,6 +6,7 @@ use Rattle.std.proofs.lemmas.Bool.Decides.{nat_tests}
 use Rattle.std.proofs.lemmas.Option.{same_Some, slice_get_within}
 use Rattle.rl_word.specs.Places.{get_set_cases, one_at}
 use Rattle.rl_word.specs.declared.acts.Atom.{Atom}
+use Rattle.rl_word.specs.declared.acts.Atom.TheVariants.{Load, Store}
 use Rattle.rl_word.specs.declared.classes.Mode.TheVariants as mode
 use Rattle.rl_model.specs.declared.call.Call.{Call}
 use Rattle.rl_model.specs.declared.call.Call.TheVariants as call
@@ -25,10 +26,10 @@ use Rattle.rl_work.specs.declared.stage.Stage.TheVariants.{Rest, Begin, Read, Jo
 use Rattle.rl_work.specs.AtomLaws.{few_replies, entry_calls, holder_asks}
 use Rattle.rl_work.specs.EndLaws.{Rises, tells_rise, Ends, EndsBy, turn_ends}
 use Rattle.rl_work.specs.Locked.{first_reads}
-use Rattle.rl_work.specs.LockedLaws.{locked_laws}
+use Rattle.rl_work.specs.LockedLaws.{locked_laws, work_tells}
 use Rattle.rl_work.specs.Site.{lock_base}
 use Rattle.rl_work.specs.Unlocked.{wanted, wanted_by, with_word}
-use Rattle.rl_work.specs.Ways.{WorkTable, Worked, IsApart, IsSide, Works, IsOpen, Look, AtomWork, GoesOnAt, TouchesAs, AsksOut, AnswersAs, IsLoadAtom, mode_after, side_after, tenure_of, tenure_by}
+use Rattle.rl_work.specs.Ways.{WorkTable, Worked, IsApart, IsSide, Works, IsOpen, Look, AtomWork, GoesOnAt, TouchesAs, AsksOut, AnswersAs, IsLoadAtom, mode_after, side_after, tenure_of, tenure_by, IsGetAlone, TellsTouch}
 use Rattle.rl_work.specs.Work.{TheWork, WorkTurned, has_work, stores, stage_atom, work_atom, work_after, seen_on, with_seen, TheTranscript}
 use Rattle.rl_work.specs.WorkGood.{WorkSide, WorkGood}
 use Rattle.rl_seq.specs.declared.stage.SeqStage.{SeqStage}
@@ -80,6 +81,14 @@ update_no_get (call.Hold shard ∷ cs) e = absurd (cc)
 some_update : (cs : List Call) → asks_update cs ≡ true → 1 ≤ length cs
 some_update [] e = absurd (cc)
 some_update (c ∷ cs) e = omega arith
+
+reads_is_get : (c : Call) → reads c ≡ true → (key : ℕ) × (c ≡ call.Get key)
+reads_is_get (call.Put key value) e = absurd (cc)
+reads_is_get (call.Get key) e = (key, refl)
+reads_is_get (call.Del key) e = absurd (cc)
+reads_is_get (call.Add key by) e = absurd (cc)
+reads_is_get (call.Cas key old new) e = absurd (cc)
+reads_is_get (call.Hold shard) e = absurd (cc)
 
 -- the entries before the last ones
 last_off : (xs ys : List Entry) → before_last (xs ++ ys) (length ys) ≡ xs
@@ -217,6 +226,38 @@ module _ (at : SeqSite) (home : ℕ) where
           let yes : stores work.stage ≡ true = (fit_at at words sides rule r x m.side.there (stage.Write v) e).0 in
           subst (λ b. TouchesAs (Some b) x.standing) (sym yes) (decided_writes at words sides rule r x m.side.there (ap is_decided e))
       by_stage (stage.Close v) e p = tt
+
+    -- an atom before the lock's words is told as a touch, or it is a get's
+    pub tells : TellsTouch (lock_base at.site) a x.standing x.work.work.calls (touch_at x.work.work x.work.stage)
+    tells = by_stage x.work.stage refl m.planned where
+      low : lock_base at.site ≤ at.behind
+      low = let laid = m.side.laid in laid.low
+
+      alone_get : IsGetting at.site r x.standing work → (x.standing ≡ Out) × IsGetAlone work.calls
+      alone_get q =
+          let g = get_alone work.calls q.open_call.is_block q.get in
+          let c = reads_is_get g.0 g.2 in
+          (q.out, (c.0, g.1 ∙ ap (λ (z : Call). z ∷ []) c.1))
+
+      by_get : (word : ℕ) → IsGetting at.site r x.standing work → Load word ≡ a → TellsTouch (lock_base at.site) a x.standing work.calls None
+      by_get word q p = subst (λ z. TellsTouch (lock_base at.site) z x.standing work.calls None) p (λ under. inr (alone_get q))
+
+      behind_load : Load at.behind ≡ a → TellsTouch (lock_base at.site) a x.standing work.calls None
+      behind_load p = subst (λ z. TellsTouch (lock_base at.site) z x.standing work.calls None) p (λ under. absurd (omega arith))
+
+      behind_store : (v : ℕ) → Store at.behind v ≡ a → TellsTouch (lock_base at.site) a x.standing work.calls None
+      behind_store v p = subst (λ z. TellsTouch (lock_base at.site) z x.standing work.calls None) p (λ under. absurd (omega arith))
+
+      by_stage : (st : SeqStage) → x.work.stage ≡ st → seq_stage_atom at work st ≡ Some a → TellsTouch (lock_base at.site) a x.standing work.calls (touch_at work st)
+      by_stage stage.Locked e p = work_tells at.site.geom work (lock_base at.site) x.standing work.calls work.stage a p
+      by_stage stage.Look e p = behind_load (same_Some _ _ p)
+      by_stage (stage.Count v) e p = by_get _ (fit_at at words sides rule r x m.side.there (stage.Count v) e).0 (same_Some _ _ p)
+      by_stage (stage.Read v count word) e p = by_get _ (fit_at at words sides rule r x m.side.there (stage.Read v count word) e).getting (same_Some _ _ p)
+      by_stage (stage.Again v count) e p = behind_load (same_Some _ _ p)
+      by_stage stage.Decided e p = behind_load (same_Some _ _ p)
+      by_stage (stage.Open v) e p = behind_store _ (same_Some _ _ p)
+      by_stage (stage.Write v) e p = work_tells at.site.geom work (lock_base at.site) x.standing work.calls work.stage a p
+      by_stage (stage.Close v) e p = behind_store _ (same_Some _ _ p)
 
     -- one rank alone finds the version as it left it
     pub alone : length sides ≡ 1 → (seq_after at r x.work (do_got a words cards)).stepped ≡ Moved

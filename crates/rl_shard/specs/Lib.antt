@@ -4,6 +4,8 @@ pub mod Queues
 pub mod Counting
 pub mod Shards
 pub mod Steps
+pub mod Guards
+pub mod Live
 pub mod Ends
 -- of the code's own calls
 pub mod Starts

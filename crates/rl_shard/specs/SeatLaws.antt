@@ -11,6 +11,7 @@ use Rattle.rl_step.specs.Lock.{Deed}
 use Rattle.rl_step.specs.Do.{TheWindow}
 use Rattle.rl_step.specs.Core.{Performs}
 use Rattle.rl_asks.specs.Desks.{Desk, IsDesk, OpensBlock, Turns}
+use Rattle.rl_asks.specs.Answering.{AnswersTo, AnswersNext}
 use Rattle.rl_asks.specs.Standings.{IsUnhindered}
 use Rattle.rl_asks.specs.ShardTables.{ShardTable}
 use Rattle.rl_asks.specs.ShardLaws.{GoodOf, CauseOf, FurtherOf, LawsOf, ShardCoreLaws, IsSeated, IsDeskOf, MayOpen}
@@ -52,14 +53,18 @@ module _ (V : Type 0) (T : ShardTable V) (good : TheWindow → List V → List E
   performs_cause r at x y events answer p =
       let m = p.may_get in
       let g = m.plans.is_ruled in
-      let why = laws.causes m.held (map whole_of m.views) g.trace g.acts m.rank x.whole m.atom (counting.seated V T good cause further layout laws m.held m.views m.rank x g m.plans.has) m.plans.planned in
+      let seat = counting.seated V T good cause further layout laws m.held m.views m.rank x g m.plans.has in
+      let why = laws.causes m.held (map whole_of m.views) g.trace g.acts m.rank x.whole m.atom seat m.plans.planned in
+      let says = laws.answers m.held (map whole_of m.views) g.trace g.acts m.rank x.whole m.atom seat m.plans.planned in
+      let same = ap (λ n. (T.core.after x.whole n).stepped) (sym m.gives) ∙ sym p.answer.same_answer in
       record {
         held = m.held;
         views = m.views;
         is_ruled = g;
         has = subst (λ n. slice_get m.views n ≡ Some x) p.same_rank m.plans.has;
         is_cause = subst (λ o. cause m.held x.whole o answer) (sym m.plans.planned)
-            (subst (cause m.held x.whole (Some m.atom)) (ap (λ n. (T.core.after x.whole n).stepped) (sym m.gives) ∙ sym p.answer.same_answer) why);
+            (subst (cause m.held x.whole (Some m.atom)) same why);
+        tells = subst (λ o. AnswersNext m.held o answer) (sym m.plans.planned) (subst (AnswersTo m.held m.atom) same says);
       }
 
   -- nobody is in the way of a rank that is alone
@@ -129,4 +134,4 @@ module _ (C V : Type 0) (table : C → ShardTable V) (good : GoodOf C V) (cause 
     pub no_cause : next_at table shard s ≡ None → CauseAt table good layout cause shard s Finished
     no_cause e =
         let q = seen in
-        record { held = q.held; views = q.views; is_ruled = q.is_ruled; has = q.has; is_cause = subst (λ o. cause (core_at shard) q.held (view_at s) o Finished) (sym e) ((laws (core_at shard)).rests q.held (view_at s)) }
+        record { held = q.held; views = q.views; is_ruled = q.is_ruled; has = q.has; is_cause = subst (λ o. cause (core_at shard) q.held (view_at s) o Finished) (sym e) ((laws (core_at shard)).rests q.held (view_at s)); tells = subst (λ o. AnswersNext q.held o Finished) (sym e) refl }

@@ -8,6 +8,7 @@ use Rattle.rl_step.specs.Lock.{Deed}
 use Rattle.rl_step.specs.Do.{TheWindow}
 use Rattle.rl_step.specs.Core.{Performs}
 use Rattle.rl_asks.specs.Desks.{Turns}
+use Rattle.rl_asks.specs.Answering.{AnswersNext}
 pub use Rattle.rl_asks.specs.Standings.{IsUnhindered}
 use Rattle.rl_asks.specs.ShardTables.{ShardTable}
 use Rattle.rl_asks.specs.ShardLaws.{GoodOf, CauseOf}
@@ -25,6 +26,8 @@ pub record HasCause {V : Type 0} (T : ShardTable V) (good : TheWindow → List V
   pub is_ruled : CountGood T good layout held views
   pub has : slice_get views rank ≡ Some x
   pub is_cause : cause held x.whole (T.core.next x.whole) answer
+  -- and there it says of the atom what it has to say
+  pub tells : AnswersNext held (T.core.next x.whole) answer
 
 module _ {C V : Type 0} (table : C → ShardTable V) where
   module _ (good : GoodOf C V) (layout : C → Layout) where

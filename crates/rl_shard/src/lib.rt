@@ -8,9 +8,9 @@
 //!   no such counts; `Counting` is the core with them.
 //!
 //! Promise, for every core that keeps the laws of one: between any two table steps the rule holds, so one rank writes at most, and
-//! none reads beside it (`exclusion`), no queue was passed more often than its budget allows (`budgets`), and the two domains stay apart
-//! (`domains`). A step is exactly one table step, or Finished
-//! where no block is open; its answer has its cause (`specs/Steps`). What a closed shard leaves (`specs/Ends`) is legal: the history
+//! none reads beside it (`exclusion`), only holders come to count, volume and journal, and writers to store there (`guards`), no queue was
+//! passed more often than its budget allows (`budgets`), and the two domains stay apart (`domains`). A step is exactly one table step, or
+//! Finished where no block is open; its answer has its cause (`specs/Steps`). What a closed shard leaves (`specs/Ends`) is legal: the history
 //! gives every entry its reply on one thread, the pairs are the table after it, each queue kept its budget in all, and was settled
 //! and passed as often as it was had.
 //! Not said here: that two threads ran, that any rank gets on, or an order in time between ranks.
@@ -28,7 +28,7 @@ mod tallies;
 
 pub use closed::Closed;
 pub use counting::{CountedView, Counting};
-pub use laws::{budgets, domains, exclusion};
+pub use laws::{budgets, domains, exclusion, guards};
 pub use seat::Seat;
 pub use shard::Shard;
 pub use tallies::Tallies;

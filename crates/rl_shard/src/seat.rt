@@ -3,6 +3,7 @@
 ghost use Rattle.std.specs.Prelude.{◌≡◌, ◌↔◌, ◌∷◌, [], Some, None, false, length};
 ghost use Rattle.rl_step.specs.declared.events.Stepped.TheVariants.{Finished};
 ghost use Rattle.rl_work.specs.WorkGood.{IsOpen};
+ghost use Rattle.rl_asks.specs.Desks.{OpensBlock};
 ghost use Rattle.rl_shard.specs.Tallies.{tally_at};
 ghost use Rattle.rl_shard.specs.Shards.{IsOf, IsClosed, core_at, table_at, view_at, desk_at, tallies_at, entries_at, rank_at, steps_at, next_at};
 ghost use Rattle.rl_shard.specs.Steps.{Makes, CauseAt, TurnsAt, IsUnhindered};
@@ -66,7 +67,7 @@ impl<C: ShardCore> Seat<C> {
         shard.window.core().is_open(self.seat.view())
     }
 
-    /// Opens a call alone, where no block is open. It makes no table step and takes no memory.
+    /// Opens a call alone, where no block is open: it is open then. It makes no table step and takes no memory.
     ///
     /// The seat is the shard's. The call is one of the shard, its number `seq` greater than those of all the rank's entries here, and
     /// the seat has room for it: for one more entry, and where it is an update, for one more update.
@@ -77,6 +78,7 @@ impl<C: ShardCore> Seat<C> {
         ensures seat { IsOf C.shard_table C.good C.layout shard.now self.new }
         ensures rank { rank_at self.new ≡ rank_at self.old }
         ensures opened { view_at self.new ≡ (table_at C.shard_table shard.now).opened (call ∷ []) seq (view_at self.old) }
+        ensures desk { OpensBlock (call ∷ []) seq (desk_at C.shard_table shard.now self.old) (desk_at C.shard_table shard.now self.new) }
         ensures tallies { tallies_at self.new ≡ tallies_at self.old }
         ensures no_step { steps_at self.new ≡ steps_at self.old }
     {
@@ -97,6 +99,7 @@ impl<C: ShardCore> Seat<C> {
         ensures seat { IsOf C.shard_table C.good C.layout shard.now self.new }
         ensures rank { rank_at self.new ≡ rank_at self.old }
         ensures opened { view_at self.new ≡ (table_at C.shard_table shard.now).opened calls.now seq (view_at self.old) }
+        ensures desk { OpensBlock calls.now seq (desk_at C.shard_table shard.now self.old) (desk_at C.shard_table shard.now self.new) }
         ensures tallies { tallies_at self.new ≡ tallies_at self.old }
         ensures no_step { steps_at self.new ≡ steps_at self.old }
     {

@@ -50,6 +50,8 @@ impl Algo for Spin {
 
     ghost has_shares = { λ shape home knobs. refl };
 
+    ghost has_cohorts = { λ shape home knobs. refl };
+
     ghost suits_knobs = { λ shape knobs. Unit {0} };
 
     fn lock_name() -> LockName {

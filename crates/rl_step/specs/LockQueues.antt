@@ -130,3 +130,13 @@ does_batches Mcs = true
 does_batches Rw = true
 does_batches Seq = true
 does_batches Combine = false
+
+-- the cohorts that a lock announces: the local one is 1 and the remote one 2, under ALock and what stands on it
+abbrev pub cohorts_of : LockName → ℕ → Bool
+cohorts_of Spin = λ c. false
+cohorts_of Dmcs = λ c. false
+cohorts_of Alock = λ c. (c == 1) || (c == 2)
+cohorts_of Mcs = λ c. false
+cohorts_of Rw = λ c. false
+cohorts_of Seq = λ c. (c == 1) || (c == 2)
+cohorts_of Combine = λ c. (c == 1) || (c == 2)

@@ -6,7 +6,7 @@ ghost use Rattle.rl_word.specs.declared.locks.LockName.{LockName as TheName};
 ghost use Rattle.rl_word.specs.declared.shapes.Knobs.{Knobs as TheKnobs};
 ghost use Rattle.rl_word.specs.Acts.{Layout};
 ghost use Rattle.rl_word.specs.Shapes.{TheShape, IsProper, layout_of};
-ghost use Rattle.rl_step.specs.LockQueues.{queues_of, readers_share};
+ghost use Rattle.rl_step.specs.LockQueues.{queues_of, readers_share, cohorts_of};
 ghost use Rattle.rl_step.specs.Lock.{LockTable, LockState, LockLaws, HandsOn, Deed, MayStep, MayLearn, IsHolder};
 
 use crate::events::{Event, Standing};
@@ -19,6 +19,9 @@ use std::alloc::{AllocError as OutOfMemory, Global};
 /// A rank keeps a view of it, which is a value: it asks, makes the acts that its view plans and learns what each told,
 /// until it holds the lock; once its work is done it leaves, and makes acts again until it is out. A lock knows nothing
 /// of cards: an act through a card counts as one step, at the moment of its store, or of its load where it writes nothing.
+///
+/// Which events it tells of its queues (Join, Announce, Settle, Pass) is the lock's own word: the laws ask that they agree with one
+/// another, with the queues of its name and with who holds it. What ties them to the words of a queue is proved of each lock apart.
 pub trait Algo: Sized + Drop {
     type View: Copy + PartialEq;
 
@@ -49,6 +52,9 @@ pub trait Algo: Sized + Drop {
 
     /// And readers share it where the lock of that name is shared.
     ghost has_shares: { (shape : TheShape) (home : ℕ) (knobs : TheKnobs) → (defined shape home knobs).shares ≡ readers_share name };
+
+    /// And its cohorts are those of the lock of that name.
+    ghost has_cohorts: { (shape : TheShape) (home : ℕ) (knobs : TheKnobs) → (defined shape home knobs).cohort ≡ cohorts_of name };
 
     /// The settings that the lock reads are in their ranges, and the shape has what it needs.
     ghost suits_knobs: { TheShape → TheKnobs → Type 0 };

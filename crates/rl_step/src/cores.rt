@@ -33,7 +33,7 @@ pub trait Core: Drop {
     /// The rule.
     ghost rule: { Self → TheWindow → List Self.View → Type 0 };
 
-    /// The next atom of a rank, with the view's plan; none exactly where it has no call open.
+    /// The next atom of a rank, with the view's plan; none where the core has nothing to do.
     fn next(&self, view: &Self::View) -> Option<(Atom, Plan)>
         requires { MayBe (rule self.now) view.now }
         ensures atom { atom_in result ≡ (table self.now).next view.now }

@@ -24,6 +24,8 @@ pub mod OpenLaws
 pub mod WorkEnds
 pub mod DeskLaws
 pub mod StandLaws
+pub mod GuardLaws
+pub mod AnswerAtoms
 pub mod CauseLaws
 pub mod IdleLaws
 pub mod RoundLaws

@@ -24,8 +24,8 @@ use Rattle.rl_step.specs.declared.events.Standing.TheVariants.{Out, Asking, Writ
 use Rattle.rl_step.specs.declared.events.Stepped.TheVariants.{Busy}
 use Rattle.rl_step.specs.Core.{MayBe, Turned}
 use Rattle.rl_step.specs.Do.{TheWindow, do_atom, do_got}
-use Rattle.rl_step.specs.Exclusion.{writers_of, readers_of, nobody}
-use Rattle.rl_step.specs.ExclusionLaws.{exclusive_append, writers_append, readers_append, is_exclusive}
+use Rattle.rl_step.specs.Exclusion.{writers, readers, writers_of, readers_of, nobody}
+use Rattle.rl_step.specs.ExclusionLaws.{exclusive_append, writers_append, readers_append, is_exclusive, is_writer, writer_found, is_reader, reader_found}
 use Rattle.rl_step.specs.Lock.{IsHolder, LockTable, LockState, Deed, AllOut, Rests}
 use Rattle.rl_step.specs.Queues.{IsFifo, settled, passed, tenures}
 use Rattle.rl_step.specs.QueueLemmas.{within_bound}
@@ -50,10 +50,12 @@ use Rattle.rl_whole.specs.OpenLaws.{IsFirstView, opening_rule, open_keeps, shut_
 use Rattle.rl_whole.specs.Changes.{Match, Change, Goes, goes}
 use Rattle.rl_whole.specs.StandLaws.{atom_change, alone_in, asked_change}
 use Rattle.rl_whole.specs.DeskLaws.{first_is_new, told_is, own_is, settled_is, told_opens, own_opens, own_turns, told_turns}
+use Rattle.rl_whole.specs.GuardLaws.{guarded}
 use Rattle.rl_whole.specs.Domains.{next_card_allowed, next_local_allowed}
 use Rattle.rl_whole.specs.IdleLaws.{held_idle}
 use Rattle.rl_whole.specs.Causes.{Cause}
 use Rattle.rl_whole.specs.CauseLaws.{answer_cause, work_no_take}
+use Rattle.rl_whole.specs.AnswerAtoms.{cause_answers}
 use Rattle.rl_whole.specs.WholeShards.{stand, standing_while, stand_on, IsDoneInCard, whole_shard, WholeGood}
 use Rattle.rl_whole.specs.Events.{all_named, atom_events}
 use Rattle.rl_whole.specs.EventsBy.{by_ranks_more, change_by}
@@ -276,6 +278,21 @@ module _ (V K : Type 0) (L : LockAt V K) (good : Goods V K) (further : List Even
       get_map (stand L.table) vs i x.0 x.1 ∙ ap (λ z. Some z) (holder_at p holds (stand L.table x.0) (L.work.is_open x.0.work) x.2) in
       record { one = λ i j p q. a.one i j (holder Writer tt i p) (holder Writer tt j q); none = λ i j p q. a.none i j (holder Writer tt i p) (holder Reader tt j q) }
 
+  stands_so : (h : TheWindow) (vs : List (WholeView V K)) (t : List Event) (ds : List Deed) (r : ℕ) (x : WholeView V K) → IsSeated T G h vs t ds r x → ((stand_on L x ≡ Writer) ↔ writers t r) × ((stand_on L x ≡ Reader) ↔ readers t r)
+  stands_so h vs t ds r x s =
+      let m : Match (writers_of nobody t) (readers_of nobody t) (map (stand L.table) vs) = s.is_good.match in
+      let b : Bool = L.work.is_open x.work in
+      let here : slice_get (map (stand L.table) vs) r ≡ Some (stand L.table x) = get_map (stand L.table) vs r x s.has in (
+        (
+          λ e. is_writer t r (m.writer r (here ∙ ap (λ z. Some z) (holder_at Writer tt (stand L.table x) b e))),
+          λ w. let same : stand L.table x ≡ Writer = same_Some _ _ (sym here ∙ m.writes r (writer_found t r w)) in ap (λ z. standing_while z (L.work.is_open x.work)) same,
+        ),
+        (
+          λ e. is_reader t r (m.reader r (here ∙ ap (λ z. Some z) (holder_at Reader tt (stand L.table x) b e))),
+          λ w. let same : stand L.table x ≡ Reader = same_Some _ _ (sym here ∙ m.reads r (reader_found t r w)) in ap (λ z. standing_while z (L.work.is_open x.work)) same,
+        ),
+      )
+
   none_open : (h : TheWindow) (vs : List (WholeView V K)) (t : List Event) (ds : List Deed) (r : ℕ) (x : WholeView V K) → IsSeated T G h vs t ds r x → is_open L x ≡ false → next_of L x ≡ None
   none_open h vs t ds r x s shut = shut_is_none V K L good further layout laws home x (may h vs t ds r x s) shut
 
@@ -388,6 +405,7 @@ module _ (V K : Type 0) (L : LockAt V K) (good : Goods V K) (further : List Even
         turns_told = λ h vs t ds r x at s e. told_turns V K L good further layout laws home h vs r x s.is_good.rule s.has at e;
         exclusive = λ h vs t ds g. is_exclusive t g.exclusive;
         alone_in = λ h vs t ds g. alone_on h vs g.rule;
+        stands = stands_so;
         legal = legal;
         sorted = sorted;
         short = short;
@@ -398,11 +416,13 @@ module _ (V K : Type 0) (L : LockAt V K) (good : Goods V K) (further : List Even
         named = λ h vs t ds g. g.named;
         by_ranks = λ h vs t ds g. g.by_ranks;
         orders = λ h vs t ds r x at s e. let a = atom_events V K L good further layout laws home h vs r x at s.is_good.rule s.has e in (a.order, a.few);
+        guards = λ h vs t ds r x at s e. guarded V K L good further layout laws home h vs r x at s.is_good.rule s.has e;
         cards = λ h vs t ds r x at s e kind. subst (λ n. (a : Act) × (by_card a ≡ true) × (L.table.may_make n a ≡ true)) (s.is_good.rule.own r x s.has) (next_card_allowed V K L good further layout laws home x at (may h vs t ds r x s) e kind);
         locals = λ h vs t ds r x at s e kind. subst (λ n. (a : Act) × IsLocalAct a × (L.table.may_make n a ≡ true)) (s.is_good.rule.own r x s.has) (next_local_allowed V K L good further layout laws home x at (may h vs t ds r x s) e kind);
         goes_on = λ h vs t ds r x at s e fin. subst (Cause L h x (Some at)) fin (cause_of h vs t ds r x at s e);
         busy = λ h vs t ds r x at node holder s e b. subst (Cause L h x (Some at)) b (cause_of h vs t ds r x at s e);
         held = held;
+        answers = λ h vs t ds r x at s e. cause_answers L h x at (after_of L x (do_got at h.words h.cards)).stepped (cause_of h vs t ds r x at s e);
         causes = cause_of;
         rests = λ h x. tt;
         unhindered = λ h vs t ds r x answer one s c. unhindered V K L good further layout laws home one h vs r x s.is_good.rule s.has (next_of L x) refl answer c;

@@ -152,6 +152,8 @@ impl<A: Algo, W: Work> ShardCore for Whole<A, W> {
 
     ghost has_queues = { λ shape home knobs site. A.has_queues shape home knobs };
 
+    ghost has_cohorts = { λ shape home knobs site. A.has_cohorts shape home knobs };
+
     ghost has_tenures = { λ shape home knobs site.
         ap (λ f. is_tenure (f (A.defined shape home knobs).shares)) (W.does shape home site (lock_base site + (A.defined shape home knobs).size)).0
         ∙ ap (λ b. is_tenure (W.spares b)) (A.has_shares shape home knobs) };

@@ -284,7 +284,8 @@ impl<A: Algo, W: Work> Whole<A, W> {
     }
 
     /// Opens a block, where none is open: a call alone, or the calls of a batch. `seq` is the number of its first call. The
-    /// lock is asked for in the mode that the work says, or not yet, where the work begins without it. Takes no memory.
+    /// lock is asked for in the mode that the work says, or not yet, where the work begins without it. Takes no memory. That the rule
+    /// stays is promised only of a block that the rank may open (`MayOpen`).
     #[inline(always)]
     pub fn ask_for(&self, view: &mut WholeView<A::View, W::Side>, calls: &[Call], seq: u32)
         requires few { length calls.now ≤ 8 }

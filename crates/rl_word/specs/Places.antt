@@ -1,6 +1,6 @@
 -- What stands at a place of a list: after a write, after a function on all elements, and that it is one element.
 use Rattle.std.specs.Prelude.{◌≡◌, ◌≢◌, ◌⊎◌, ℕ, zero, suc, ◌<◌, List, [], ◌∷◌, length, map, slice_get, slice_set, Some, refl}
-use Rattle.std.proofs.Common.{sym, ◌∙◌, ap, inl, inr, ⊎_elim, arith}
+use Rattle.std.proofs.Common.{sym, ◌∙◌, ap, subst, inl, inr, ⊎_elim, arith}
 use Rattle.std.proofs.lemmas.Option.{same_Some}
 
 -- after a write at r, an element stands at r and is the new one, or stands elsewhere and is an old one
@@ -66,3 +66,9 @@ pub some_at : {X : Type 0} (xs : List X) (r : ℕ) → r < length xs → (v : X)
 some_at [] r h = absurd (omega arith)
 some_at (x ∷ xs) zero h = (x, refl)
 some_at (x ∷ xs) (suc r) h = let k : r < length xs = omega arith in some_at xs r k
+
+-- what holds of each element after a write: it holds of the new one, and of the others as before
+pub each_set : {X : Type 0} (P : ℕ → X → Type 0) (xs : List X) (r : ℕ) (w : X) → P r w → ((i : ℕ) (u : X) → i ≢ r → slice_get xs i ≡ Some u → P i u) →
+    (i : ℕ) (u : X) → slice_get (slice_set xs r w) i ≡ Some u → P i u
+each_set P xs r w here others i u h =
+    ⊎_elim (λ c. subst (λ j. P j u) (sym c.0) (subst (P r) (sym c.1) here)) (λ c. others i u c.0 c.1) (get_set_cases xs r i w u h)

@@ -3,6 +3,7 @@ use Rattle.std.specs.Prelude.{◌≡◌, ℕ, zero, suc, ◌+◌, ◌<◌, ◌�
 use Rattle.std.proofs.Common.{sym, ◌∙◌, ap, subst, inl, inr, ⊎_elim, arith, length-take}
 use Rattle.std.proofs.lemmas.List.{length-map, take_at, get_or-take, append-nil}
 use Rattle.std.proofs.lemmas.Bool.Decides.{nat_tests}
+use Rattle.std.proofs.lemmas.Option.{same_Some}
 use Rattle.std.specs.FinMap as finite
 use Rattle.rl_word.specs.Places.{get_set_cases, get_set_same, one_at}
 use Rattle.rl_word.specs.declared.acts.Atom.{Atom}
@@ -11,6 +12,7 @@ use Rattle.rl_word.specs.declared.classes.Mode.TheVariants as mode
 use Rattle.rl_model.specs.declared.call.Call.{Call}
 use Rattle.rl_model.specs.declared.call.Call.TheVariants as call
 use Rattle.rl_model.specs.declared.entry.Entry.{Entry}
+use Rattle.rl_model.specs.declared.geom.Geom.{Geom}
 use Rattle.rl_model.specs.Asked.{asks_update}
 use Rattle.rl_model.specs.Call.{is_update, reads}
 use Rattle.rl_model.proofs.Counts.{count-append, count-cons}
@@ -20,6 +22,7 @@ use Rattle.rl_step.specs.Lock.{IsHolder, Rests, Suits}
 use Rattle.rl_step.specs.CoreLemmas.{length-do_words}
 use Rattle.rl_step.specs.Do.{do_got, do_words, CanDo}
 use Rattle.rl_step.specs.Core.{home_at}
+use Rattle.rl_volume.specs.declared.write.Write.{Write}
 use Rattle.rl_volume.specs.Volume.{IsVolume}
 use Rattle.rl_journal.specs.Blocks.{calls_of, is_tenure}
 use Rattle.rl_journal.specs.Legal.{IsLegal, table_after}
@@ -28,7 +31,7 @@ use Rattle.rl_work.specs.declared.follow.Follow.TheVariants.{Over}
 use Rattle.rl_work.specs.declared.stage.Stage.{Stage}
 use Rattle.rl_work.specs.declared.stage.Stage.TheVariants.{Rest, Begin, Read, Journal, Volume}
 use Rattle.rl_work.specs.Site.{Site, lock_base, volume_of}
-use Rattle.rl_work.specs.Work.{TheWork, WorkTurned, CanName, CanTurn, batch_in, has_work, stage_atom, stores, work_atom, work_after}
+use Rattle.rl_work.specs.Work.{TheWork, WorkTurned, CanName, CanTurn, batch_in, has_work, stage_atom, stores, work_atom, work_after, write_atom}
 use Rattle.rl_work.specs.WorkGood.{WorkSide, IsApart as LockedApart, IsDone, IsInCall, FitsAt, WorkGood, is_writing, transcripts, opening_words, IsFirst as FirstLocked, side_turned as locked_turned, standing_after as locked_standing}
 use Rattle.rl_work.specs.AtomLaws.{opening_good, open_keeps, shift_keeps, atom_keeps, atom_can, can_name, can_turn, holder_asks, stores_alone, few_replies, entry_calls}
 use Rattle.rl_work.specs.OpeningLaws.{opening_size}
@@ -36,7 +39,7 @@ use Rattle.rl_work.specs.RoomLaws.{journal_short}
 use Rattle.rl_work.specs.RuleLaws.{journal_is, always_legal, always_sorted}
 use Rattle.rl_work.specs.EndLaws.{IsPlain, plain_atom, Rises, tells_rise, Ends, EndsBy, turn_ends}
 use Rattle.rl_work.specs.Locked.{mode_by, mode_of, follow_by, locked_table, locked_good}
-use Rattle.rl_work.specs.Ways.{WorkTable, WorkLaws, IsApart, IsSide, Works, IsFirst, IsWorkAtom, Look, AtomWork, MayWork, MayTurn, GoesOnAt, TouchesAs, AsksOut, journal_of, mode_after, side_after, standing_after, tenure_of, tenure_by, transcripts_from}
+use Rattle.rl_work.specs.Ways.{WorkTable, WorkLaws, IsApart, IsSide, Works, IsFirst, IsWorkAtom, Look, AtomWork, MayWork, MayTurn, GoesOnAt, TouchesAs, AsksOut, journal_of, mode_after, side_after, standing_after, tenure_of, tenure_by, transcripts_from, IsFrontAtom, TellsTouch}
 
 -- a lock that readers share gives them to gets alone, and no writer to a get; another lock has no reader
 read_mode : (b : Bool) → mode_by b ≡ mode.Read → b ≡ true
@@ -99,6 +102,17 @@ holder_open Writer busy next h e = e.0
 holder_open Reader busy next h e = e.0
 holder_open Leaving busy next h e = absurd h
 
+-- each atom of the work inside a lock is told as a touch
+pub work_tells : (geom : Geom) (x : TheWork) (base : ℕ) (st : Standing) (calls : List Call) (stage : Stage) (at : Atom) → stage_atom geom x stage ≡ Some at → TellsTouch base at st calls (Some (stores stage))
+work_tells geom x base st calls Rest at p = absurd (cc)
+work_tells geom x base st calls Begin at p = subst (λ z. TellsTouch base z st calls (Some false)) (same_Some _ _ p) (λ low. inl refl)
+work_tells geom x base st calls (Read count word) at p = subst (λ z. TellsTouch base z st calls (Some false)) (same_Some _ _ p) (λ low. inl refl)
+work_tells geom x base st calls (Journal made) at p = subst (λ z. TellsTouch base z st calls (Some true)) (same_Some _ _ p) (λ low. refl)
+work_tells geom x base st calls (Volume made) at p = subst (λ z. TellsTouch base z st calls (Some true)) (same_Some _ _ p) (by_write (slice_get x.writes made)) where
+  by_write : (o : Option Write) → TellsTouch base (write_atom (x.at + length x.entries) o) st calls (Some true)
+  by_write (Some w) = λ low. refl
+  by_write None = λ low. refl
+
 -- an atom that can be made on the first words of a list is made on them alone
 take_set_in : (n : ℕ) (l : List ℕ) (i v : ℕ) → i < n → take n (slice_set l i v) ≡ slice_set (take n l) i v
 take_set_in zero l i v h = absurd (omega arith)
@@ -122,6 +136,16 @@ on_front base r home (atom.Take n) ws cs p c = absurd p
 on_front base r home (atom.CardLoad w) ws cs p c = absurd p
 on_front base r home (atom.CardStore w v) ws cs p c = absurd p
 on_front base r home (atom.Leave n) ws cs p c = absurd p
+
+-- it names a word of these
+pub front_names : (base r home : ℕ) (at : Atom) (ws cs : List ℕ) → IsPlain at → CanDo home r at (take base ws) cs → IsFrontAtom base at
+front_names base r home (atom.Load w) ws cs p c = let low : w < length (take base ws) = c in let here : w < base = omega (arith, length-take base ws) in here
+front_names base r home (atom.Store w v) ws cs p c = let low : w < length (take base ws) = c in let here : w < base = omega (arith, length-take base ws) in here
+front_names base r home (atom.LocalCas w old new) ws cs p c = absurd p
+front_names base r home (atom.Take n) ws cs p c = absurd p
+front_names base r home (atom.CardLoad w) ws cs p c = absurd p
+front_names base r home (atom.CardStore w v) ws cs p c = absurd p
+front_names base r home (atom.Leave n) ws cs p c = absurd p
 
 -- and it is an atom of the work
 front_atom : (site : Site) (behind r home : ℕ) (at : Atom) (ws cs : List ℕ) → lock_base site ≤ behind → IsPlain at → CanDo home r at (take (lock_base site) ws) cs → IsWorkAtom (locked_table site behind) at
@@ -241,6 +265,10 @@ module _ (site : Site) (behind : ℕ) where
 
     plain : IsWorkAtom T at
     plain = front_atom site behind r (home_at (λ w. w) at) at words cards w.side.laid.low (plain_atom site.geom x.work x.work.stage at w.planned)
+        (atom_can site (take (lock_base site) words) sides rule r x w.side.there at (λ w. w) cards w.planned)
+
+    fronts : IsFrontAtom (lock_base site) at
+    fronts = front_names (lock_base site) r (home_at (λ w. w) at) at words cards (plain_atom site.geom x.work x.work.stage at w.planned)
         (atom_can site (take (lock_base site) words) sides rule r x w.side.there at (λ w. w) cards w.planned)
 
     makes : good (do_words at words) (slice_set sides r (side_after T r x got))
@@ -372,6 +400,8 @@ module _ (site : Site) (behind : ℕ) where
         goes_on = λ words sides r x s. goes_on words sides r x s;
         follows = λ words cards sides r x at w. (asks_out words cards sides r x at w _, same_mode words cards sides r x at w _);
         touches = λ words sides r x at w. touches words [] sides r x at w (stores x.work.stage) refl;
+        tells = λ words sides r x at w. work_tells site.geom x.work (lock_base site) x.standing x.work.calls x.work.stage at w.planned;
+        fronts = λ words sides r x at w told. fronts words [] sides r x at w;
         answers = λ words cards sides r x at w. tt;
         alone = λ words cards sides r x at one w. refl;
         legal = λ words sides g laid. subst (IsLegal site.geom (journal_of site (take (lock_base site) words))) (same_transcripts words 0 sides) (always_legal site (take (lock_base site) words) sides g);

@@ -6,6 +6,7 @@ use Rattle.rl_word.specs.declared.acts.Atom.TheVariants as atom
 use Rattle.rl_word.specs.declared.classes.Mode.{Mode}
 use Rattle.rl_word.specs.declared.classes.Mode.TheVariants as mode
 use Rattle.rl_model.specs.declared.call.Call.{Call}
+use Rattle.rl_model.specs.declared.call.Call.TheVariants as call
 use Rattle.rl_model.specs.declared.entry.Entry.{Entry}
 use Rattle.rl_model.specs.Geom.{GeomFits}
 use Rattle.rl_step.specs.declared.events.Event.{Event}
@@ -278,6 +279,30 @@ TouchesAs None st = Unit {0}
 TouchesAs (Some false) st = IsHolder st
 TouchesAs (Some true) st = st ≡ Writer
 
+-- one get, in no batch
+abbrev pub IsGetAlone : List Call → Type 0
+IsGetAlone calls = (key : ℕ) × (calls ≡ call.Get key ∷ [])
+
+-- an atom on a word before the lock's, which are those of count, volume and journal
+abbrev pub IsFrontAtom : ℕ → Atom → Type 0
+IsFrontAtom base (atom.Load w) = w < base
+IsFrontAtom base (atom.Store w v) = w < base
+IsFrontAtom base (atom.LocalCas w old new) = ⊥
+IsFrontAtom base (atom.Take n) = ⊥
+IsFrontAtom base (atom.CardLoad w) = ⊥
+IsFrontAtom base (atom.CardStore w v) = ⊥
+IsFrontAtom base (atom.Leave n) = ⊥
+
+-- How such an atom is told: a store is a Touch that writes, and a load one that reads, but for those of a get alone by a rank that is out.
+abbrev pub TellsTouch : ℕ → Atom → Standing → List Call → Option Bool → Type 0
+TellsTouch base (atom.Load w) st calls touch = w < base → (touch ≡ Some false) ⊎ ((st ≡ Out) × IsGetAlone calls)
+TellsTouch base (atom.Store w v) st calls touch = w < base → touch ≡ Some true
+TellsTouch base (atom.LocalCas w old new) st calls touch = Unit {0}
+TellsTouch base (atom.Take n) st calls touch = Unit {0}
+TellsTouch base (atom.CardLoad w) st calls touch = Unit {0}
+TellsTouch base (atom.CardStore w v) st calls touch = Unit {0}
+TellsTouch base (atom.Leave n) st calls touch = Unit {0}
+
 -- The answer of an atom of the work that gave got: where it has to wait, of the word that it loaded with this value, it stands at a load
 -- again; it has lost by a load of another value than its guess; and else it has moved.
 abbrev pub AnswersAs : Atom → ℕ → Option Atom → Follow → Stepped → Type 0
@@ -335,7 +360,10 @@ pub record WorkLaws {K : Type 0} (T : WorkTable K) (good : List ℕ → List (Wo
   pub goes_on : (words : List ℕ) (sides : List (WorkSide K)) (r : ℕ) (x : WorkSide K) → IsSide T good words sides r x → GoesOnAt x.standing (T.is_open x.work) (T.next r x.work)
   pub follows : (words cards : List ℕ) (sides : List (WorkSide K)) (r : ℕ) (x : WorkSide K) (at : Atom) → Works T good words sides r x at →
       AsksOut (T.after r x.work (do_got at words cards)).follow x.standing × (T.mode (T.after r x.work (do_got at words cards)).work ≡ mode_after (T.after r x.work (do_got at words cards)).follow (T.mode x.work))
+  -- a holder's atoms on the words before the lock's are touches, and no other atom is one
   pub touches : (words : List ℕ) (sides : List (WorkSide K)) (r : ℕ) (x : WorkSide K) (at : Atom) → Works T good words sides r x at → TouchesAs (T.touch x.work) x.standing
+  pub tells : (words : List ℕ) (sides : List (WorkSide K)) (r : ℕ) (x : WorkSide K) (at : Atom) → Works T good words sides r x at → TellsTouch (lock_base T.site) at x.standing (T.calls x.work) (T.touch x.work)
+  pub fronts : (words : List ℕ) (sides : List (WorkSide K)) (r : ℕ) (x : WorkSide K) (at : Atom) → Works T good words sides r x at → T.touch x.work ≢ None → IsFrontAtom (lock_base T.site) at
   pub answers : (words cards : List ℕ) (sides : List (WorkSide K)) (r : ℕ) (x : WorkSide K) (at : Atom) → Works T good words sides r x at →
       AnswersAs at (do_got at words cards) (T.next r (T.after r x.work (do_got at words cards)).work) (T.after r x.work (do_got at words cards)).follow (T.after r x.work (do_got at words cards)).stepped
   -- one rank alone never waits and never loses

@@ -3,7 +3,7 @@
 //!
 //! The crate holds nothing but tests, and nothing stands on it. It tests `rl_io` (`files`), `rl_text` (`lines`), `rl_model`
 //! (`table`), `rl_place` (`places`, `place_faults`), `rl_ops` (`calls`, `batches`, `schedules`), `rl_history` (`reports`,
-//! `report_faults`, `merging`) and `rl_check` (`checks`) by their public calls.
+//! `report_faults`, `merging`), `rl_check` (`checks`) and `rl_names` (`names`) by their public calls.
 //!
 //! The values that are expected were worked out by hand from what the formats say (FORMATS in `docs/`), or are the outside's own, as
 //! `/dev/null` is empty. What the contracts say for all texts is proved in the crates themselves; here it is seen that they mean
@@ -24,6 +24,8 @@ mod files;
 mod lines;
 #[cfg(test)]
 mod merging;
+#[cfg(test)]
+mod names;
 #[cfg(test)]
 mod place_faults;
 #[cfg(test)]

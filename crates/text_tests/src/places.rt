@@ -1,6 +1,6 @@
 //! Placements worked out by hand: their text printed back, their shapes, names and settings.
 
-use crate::samples::{ALOCK, MCS, RW, SPIN, TREE, place_of};
+use crate::samples::{ALOCK, COMBINE, MCS, RW, SEQ, SPIN, TREE, place_of};
 use rl_place::{Lock, Path, lock_named, lock_word, path_text, place_text, shape_text};
 use rl_text::put_number;
 use rl_word::{Element, LockName};
@@ -13,7 +13,7 @@ const THREE_LEVELS: &str =
 
 #[test]
 fn placements_are_printed_back(rt: HostRuntime) -> Result<(), Fail> {
-    for text in [SPIN, MCS, RW, ALOCK, TREE, THREE_LEVELS] {
+    for text in [SPIN, MCS, RW, ALOCK, TREE, SEQ, COMBINE, THREE_LEVELS] {
         let place = place_of(rt.alloc(), text.as_bytes())?;
         let printed = place_text(rt.alloc(), &place)?;
         assert_eq!(rt; printed.as_slice(), text.as_bytes());
@@ -118,6 +118,8 @@ fn settings_of_locks(rt: HostRuntime) -> Result<(), Fail> {
         (MCS, [0, 0, 0, 0, 0]),
         (RW, [0, 0, 2, 3, 4]),
         (ALOCK, [5, 6, 0, 0, 0]),
+        (SEQ, [5, 6, 0, 0, 0]),
+        (COMBINE, [5, 6, 0, 0, 0]),
     ] {
         let knobs = place_of(rt.alloc(), text.as_bytes())?.knobs();
         let found = [

@@ -27,6 +27,14 @@ pub const MCS: &str =
 pub const RW: &str =
     "rmalock-place 1\nlevels 1\nlock rw\nbudget 1\nwriters 2\nreaders 3\ngroup 4\nshards 1\nbuckets 1\noverflow 0\nrank 0 at 7\nhome 0 7\nend\n";
 
+/// Two ranks under optimistic readers, one at home and one away.
+pub const SEQ: &str =
+    "rmalock-place 1\nlevels 1\nlock seq\nbudget 5 6\nshards 1\nbuckets 1\noverflow 0\nrank 0 at 0\nrank 1 at 1\nhome 0 0\nend\n";
+
+/// The same under flat combining.
+pub const COMBINE: &str =
+    "rmalock-place 1\nlevels 1\nlock combine\nbudget 5 6\nshards 1\nbuckets 1\noverflow 0\nrank 0 at 0\nrank 1 at 1\nhome 0 0\nend\n";
+
 /// The placement that a text spells.
 pub fn place_of(alloc: Global, text: &[u8]) -> Result<Place, TextErr>
     ensures { IfOk result (λ place. IsProper place) }

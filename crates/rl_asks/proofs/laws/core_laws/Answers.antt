@@ -18,3 +18,12 @@ returns-clause-excludes g c = (g.met.C.ShardCore.shard_laws c.args.core.now).alo
 
 pub returns-clause-causes : goal.returns-clause-causes
 returns-clause-causes g c = (g.met.C.ShardCore.shard_laws c.args.core.now).causes
+
+pub returns-clause-stands : goal.returns-clause-stands
+returns-clause-stands g c = (g.met.C.ShardCore.shard_laws c.args.core.now).stands
+
+pub returns-clause-guards : goal.returns-clause-guards
+returns-clause-guards g c = (g.met.C.ShardCore.shard_laws c.args.core.now).guards
+
+pub returns-clause-answers : goal.returns-clause-answers
+returns-clause-answers g c = (g.met.C.ShardCore.shard_laws c.args.core.now).answers

@@ -55,12 +55,12 @@ returns-clause-kept g c =
     where_ok c.report_of_machine.result (is_kept g.C.ShardCore.defined place c.args.ops schedule g.C.ShardCore.promised (subst IsSound run c.in_ok-machine.ensures.sound) queues says)
 
 pub returns-clause-lawful : goal.returns-clause-lawful
-returns-clause-lawful g c = λ cohorts.
+returns-clause-lawful g c =
     let place = c.args.place.now in
     let schedule = c.args.schedule.now in
     let run = ran g.C.ShardCore.defined place c.args.ops c.args.schedule.now _ _ _ _ _ (running g.C.ShardCore.shard_table c.in_ok-machine.machine)
     c.place.view_is c.in_ok-shape.ensures.exact c.knobs-knobs.ensures c.as_slice-homes.ensures.value c.as_slice-turns.ensures c.in_ok-machine.ensures.run in
-    let of = machine_of g.C.ShardCore.defined g.C.ShardCore.name g.met.C.ShardCore.has_queues place c.args.ops schedule c.requires.kind cohorts c.requires.schedule in
+    let of = machine_of g.C.ShardCore.defined g.C.ShardCore.name g.met.C.ShardCore.has_queues place c.args.ops schedule c.requires.kind g.met.C.ShardCore.has_cohorts c.requires.schedule in
     lawful_ok place c.args.ops (run_with g.C.ShardCore.defined place c.args.ops schedule) c.report_of_machine.result
     (subst (λ m. IfOk c.report_of_machine.result (λ report. report ≡ report_in (queue_count place) m)) run c.report_of_machine.ensures.report) c.report_of_machine.ensures.numbers
     (λ numbers. lawful place c.args.ops c.requires.proper c.requires.calls (run_with g.C.ShardCore.defined place c.args.ops schedule) (subst IsSound run c.in_ok-machine.ensures.sound) of numbers)

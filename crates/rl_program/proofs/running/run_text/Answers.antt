@@ -24,4 +24,4 @@ returns-in_err-report_text-clause-run g c =
 pub returns-clause-run : goal.returns-clause-run
 returns-clause-run g c =
     was_run _ _ c.report_laws.ensures.legal _ _ _ _ c.in_ok-ops.ensures.fits c.in_ok-place.ensures.read (still_read (c.in_ok-place.ensures.same.files c.args.files.calls.now) c.in_ok-ops.ensures.read)
-    c.in_ok-report_text.ensures.text c.in_ok-report.ensures.lawful (c.in_ok-report_text.ensures.again c.in_ok-report.ensures.lawful.fits)
+    c.in_ok-report_text.ensures.text c.in_ok-report.ensures.lawful c.in_ok-report.ensures.made (c.in_ok-report_text.ensures.again c.in_ok-report.ensures.lawful.fits)

@@ -2,7 +2,7 @@
 use Rattle.std.proofs.Common.{◌<◌, length, sym, subst}
 use Rattle.rl_machine.specs.Running.{running}
 use Rattle.rl_machine.specs.State.{machine_view}
-use Rattle.rl_machine.specs.StateSteps.{step_keeps, cause_told, finished_told, busy_told, held_told, over_told, counted_told, calls_told}
+use Rattle.rl_machine.specs.StateSteps.{step_keeps, cause_told, tells_told, finished_told, busy_told, held_told, over_told, counted_told, calls_told}
 use Rattle.rl_machine.proofs.machine.Machine.step.Goals as goal
 
 pub invariant_of-self-2 : goal.invariant_of-self-2
@@ -13,6 +13,9 @@ invariant_of-self-2 g c =
 
 pub returns-clause-cause : goal.returns-clause-cause
 returns-clause-cause g c = cause_told _ _ g.C.ShardCore.shard_table g.C.ShardCore.good g.C.ShardCore.cause g.C.ShardCore.further g.C.ShardCore.layout g.met.C.ShardCore.shard_laws _ _ c.self.view_is c.args.rank c.in_ok-made.made.answer c.self.invariant c.requires.there c.in_ok-made.ensures.answer
+
+pub returns-clause-tells : goal.returns-clause-tells
+returns-clause-tells g c = tells_told _ _ g.C.ShardCore.shard_table g.C.ShardCore.good g.C.ShardCore.cause g.C.ShardCore.further g.C.ShardCore.layout g.met.C.ShardCore.shard_laws _ _ c.self.view_is c.args.rank c.in_ok-made.made.answer c.self.invariant c.requires.there c.in_ok-made.ensures.answer
 
 pub returns-clause-finished : goal.returns-clause-finished
 returns-clause-finished g c = finished_told _ _ g.C.ShardCore.shard_table g.C.ShardCore.good g.C.ShardCore.cause g.C.ShardCore.further g.C.ShardCore.layout g.met.C.ShardCore.shard_laws _ _ c.self.view_is c.args.rank c.in_ok-made.made.answer c.self.invariant c.requires.there c.in_ok-made.ensures.answer

@@ -1,8 +1,9 @@
 -- The seat's view is one that the rule allows, and the opened block keeps it so.
 use Rattle.std.proofs.Common.{rules}
+use Rattle.rl_window.specs.Seats.{with_view}
 use Rattle.rl_window.specs.SeatLemmas.{port_known, reviewed}
 use Rattle.rl_shard.specs.Counting.{counting_rule}
-use Rattle.rl_shard.specs.SeatLaws.{begun}
+use Rattle.rl_shard.specs.SeatLaws.{begun, seat_opens}
 use Rattle.rl_shard.proofs.seat.Seat.begin_batch.Goals as goal
 
 pub open_block-requires-clause-possible : goal.open_block-requires-clause-possible
@@ -16,3 +17,8 @@ returns-clause-seat g c = record {
   kept = begun _ _ g.C.ShardCore.shard_table g.C.ShardCore.good g.C.ShardCore.cause g.C.ShardCore.further g.C.ShardCore.layout g.met.C.ShardCore.shard_laws c.args.shard.now.window c.args.self.now.seat c.open_block.new.view c.args.calls.now c.args.seq c.requires.seat.seat c.requires.seat.kept
       (record { shut = c.requires.closed; fits = c.requires.open; takes = c.requires.takes }) (search rules);
 }
+
+pub returns-clause-desk : goal.returns-clause-desk
+returns-clause-desk g c =
+    seat_opens _ _ g.C.ShardCore.shard_table g.C.ShardCore.good g.C.ShardCore.cause g.C.ShardCore.further g.C.ShardCore.layout g.met.C.ShardCore.shard_laws c.args.shard.now c.args.self.now c.requires.seat (record { seat = with_view c.args.self.now.seat c.open_block.new.view }) c.args.calls.now c.args.seq
+    (record { shut = c.requires.closed; fits = c.requires.open; takes = c.requires.takes }) (search rules)

@@ -1,6 +1,6 @@
 use Rattle.std.proofs.Common.{◌≡◌, ◌-◌, length}
 use Rattle.rl_check.specs.OneThread.{IsToldTo}
-use Rattle.rl_check.proofs.one_thread.one_thread.Given as goal
+use Rattle.rl_check.proofs.due_replies.one_thread.Given as goal
 
 abbrev pub invariant-loop-place : goal.invariant-loop-place
 invariant-loop-place l = record {

@@ -1,5 +1,5 @@
 use Rattle.rl_check.proofs.Taking.{first_told, told_still}
-use Rattle.rl_check.proofs.one_thread.one_thread.Goals as goal
+use Rattle.rl_check.proofs.due_replies.one_thread.Goals as goal
 
 pub loop-place-init : goal.loop-place-init
 loop-place-init c =

@@ -1,6 +1,6 @@
 use Rattle.std.proofs.Common.{◌≡◌, ◌++◌, map, take, Some}
 use Rattle.rl_model.specs.declared.entry.Reply.{Reply}
-use Rattle.rl_check.proofs.one_thread.OneThread.tell.Given as goal
+use Rattle.rl_check.proofs.due_replies.OneThread.tell.Given as goal
 
 abbrev pub invariant-loop-reply : goal.invariant-loop-reply
 invariant-loop-reply l = record {

@@ -1,5 +1,5 @@
 use Rattle.rl_check.proofs.Taking.{alone_more, none_more, fits_more, batch_more, same_part}
-use Rattle.rl_check.proofs.one_thread.OneThread.take_block.Goals as goal
+use Rattle.rl_check.proofs.due_replies.OneThread.take_block.Goals as goal
 
 pub returns-then-entry-eq0-clause-told : goal.returns-then-entry-eq0-clause-told
 returns-then-entry-eq0-clause-told c =
