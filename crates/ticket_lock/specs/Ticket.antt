@@ -9,9 +9,9 @@ use Rattle.rl_step.specs.declared.events.Event.TheVariants.{EnterW}
 use Rattle.rl_step.specs.declared.events.Standing.{Standing}
 use Rattle.rl_step.specs.declared.events.Standing.TheVariants as standing
 use Rattle.rl_step.specs.Lock.{LockTable, Told, no_local}
-use Rattle.own_lock.specs.declared.view.TicketView.{TicketView}
-use Rattle.own_lock.specs.declared.view.Phase.{Phase}
-use Rattle.own_lock.specs.declared.view.Phase.TheVariants.{Out, Drawing, Waiting, Inside, Releasing}
+use Rattle.ticket_lock.specs.declared.view.TicketView.{TicketView}
+use Rattle.ticket_lock.specs.declared.view.Phase.{Phase}
+use Rattle.ticket_lock.specs.declared.view.Phase.TheVariants.{Out, Drawing, Waiting, Inside, Releasing}
 
 -- the view of rank r in phase p, and what is learnt where that is the view
 abbrev pub at_phase : ℕ → Phase → TicketView

@@ -4,8 +4,8 @@ ghost use Rattle.std.proofs.Common.{rules};
 ghost use Rattle.std.specs.Prelude.{◌≡◌, ◌<◌, ◌^◌, length, refl};
 ghost use Rattle.rl_word.specs.declared.locks.LockName.TheVariants as TheName;
 ghost use Rattle.rl_step.specs.Lock.{no_more};
-ghost use Rattle.own_lock.specs.Ticket.{ticket_table, TicketGood};
-ghost use Rattle.own_lock.specs.TicketLaws.{ticket_laws};
+ghost use Rattle.ticket_lock.specs.Ticket.{ticket_table, TicketGood};
+ghost use Rattle.ticket_lock.specs.TicketLaws.{ticket_laws};
 
 use crate::view::{Phase, TicketView};
 use arrayvec::ArrayVec;
@@ -50,6 +50,8 @@ impl Algo for Ticket {
     ghost has_queues = { λ shape home knobs. refl };
 
     ghost has_shares = { λ shape home knobs. refl };
+
+    ghost has_cohorts = { λ shape home knobs. refl };
 
     ghost suits_knobs = { λ shape knobs. Unit {0} };
 

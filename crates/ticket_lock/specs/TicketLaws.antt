@@ -15,10 +15,10 @@ use Rattle.rl_step.specs.declared.events.Event.TheVariants.{EnterW}
 use Rattle.rl_step.specs.declared.events.Standing.TheVariants as standing
 use Rattle.rl_step.specs.Lock.{LockLaws, found, Told, IsHolder, Rests, Shift, holds_only, Suits, InOrder, AllNamed, FindsOld, IsLoad, PlansLoad, first_views, no_local, no_more}
 use Rattle.rl_step.specs.LockLemmas.{length-first_views, first_views_at}
-use Rattle.own_lock.specs.declared.view.TicketView.{TicketView}
-use Rattle.own_lock.specs.declared.view.Phase.{Phase}
-use Rattle.own_lock.specs.declared.view.Phase.TheVariants.{Out, Drawing, Waiting, Inside, Releasing}
-use Rattle.own_lock.specs.Ticket.{ticket_table, at_phase, told_as, ticket_plan, ticket_learn, ticket_leave, ticket_standing, ticket_of, tickets, drawn, words_at, HasTurn, IsLine, TicketGood}
+use Rattle.ticket_lock.specs.declared.view.TicketView.{TicketView}
+use Rattle.ticket_lock.specs.declared.view.Phase.{Phase}
+use Rattle.ticket_lock.specs.declared.view.Phase.TheVariants.{Out, Drawing, Waiting, Inside, Releasing}
+use Rattle.ticket_lock.specs.Ticket.{ticket_table, at_phase, told_as, ticket_plan, ticket_learn, ticket_leave, ticket_standing, ticket_of, tickets, drawn, words_at, HasTurn, IsLine, TicketGood}
 
 -- one ticket for who has one, and none else
 abbrev one : Option ℕ → ℕ
