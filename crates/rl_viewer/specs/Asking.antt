@@ -36,3 +36,13 @@ asked_by (place ∷ calls ∷ schedule ∷ []) = asked_for (record { place = pla
 asked_by (place ∷ calls ∷ schedule ∷ from ∷ to ∷ []) =
     asked_for (record { place = place; calls = calls; schedule = schedule }) (window_by (number_of from) (number_of to))
 asked_by _ = None
+
+-- the window of no steps that stands before a step, which is at most the most steps of a schedule
+abbrev pub moment_by : Option ℕ → Option Window
+moment_by (Some step) = if nat_le step 2000000 then Some (window_at step step) else None
+moment_by None = None
+
+-- `PLACE CALLS SCHEDULE STEP` asks for what stands before that step; other words are no form of this
+abbrev pub asked_before : List (List ℕ) → Option TheAsked
+asked_before (place ∷ calls ∷ schedule ∷ step ∷ []) = asked_for (record { place = place; calls = calls; schedule = schedule }) (moment_by (number_of step))
+asked_before _ = None

@@ -2,7 +2,7 @@
 ghost use Rattle.std.specs.Prelude.{◌≡◌, ◌≤◌, map, string_bytes, IfSome};
 ghost use Rattle.std.specs.Option.{option_map};
 ghost use Rattle.rl_text.specs.Number.{number_of};
-ghost use Rattle.rl_viewer.specs.Asking.{is_in, window_by, the_asked, asked_by};
+ghost use Rattle.rl_viewer.specs.Asking.{is_in, window_by, moment_by, the_asked, asked_by, asked_before};
 
 use rl_ops::MOST_STEPS;
 use rl_replay::Files;
@@ -70,6 +70,44 @@ pub fn asked_in(words: &[String]) -> Option<Asked<'_>>
             window: ALL_STEPS,
         }),
         [place, calls, schedule, from, to] => match window_of(from.as_str(), to.as_str()) {
+            Some(window) => Some(Asked {
+                files: Files {
+                    place: place.as_str(),
+                    calls: calls.as_str(),
+                    schedule: schedule.as_str(),
+                },
+                window,
+            }),
+            None => None,
+        },
+        _ => None,
+    }
+}
+
+/// The window of no steps that stands before a step, where the word is a number of at most 2,000,000.
+fn moment_of(step: &str) -> Option<Window>
+    ensures window { result ≡ moment_by (number_of step.now) }
+    ensures few { IfSome result (λ window. window.to ≤ 2000000) }
+{
+    let step = number(step.as_bytes())?;
+    if step <= u64::from(MOST_STEPS) {
+        Some(Window {
+            from: step as u32,
+            to: step as u32,
+        })
+    } else {
+        None
+    }
+}
+
+/// What the words `PLACE CALLS SCHEDULE STEP` ask for: what stands before that step. Its window begins there, and has no steps. Nothing where the
+/// words are others.
+pub fn asked_before(words: &[String]) -> Option<Asked<'_>>
+    ensures asked { option_map the_asked result ≡ asked_before (map string_bytes words.now) }
+    ensures few { IfSome result (λ asked. asked.window.to ≤ 2000000) }
+{
+    match words {
+        [place, calls, schedule, step] => match moment_of(step.as_str()) {
             Some(window) => Some(Asked {
                 files: Files {
                     place: place.as_str(),

@@ -1,5 +1,6 @@
 //! The top call of a viewer: what it shows of a replay, or the line that says why there is none.
-ghost use Rattle.std.specs.Prelude.{◌≡◌, ◌≢◌, ◌<◌, ◌≤◌, ℕ, List, None, length, take, map, string_bytes, IfOk};
+ghost use Rattle.std.specs.Prelude.{◌≡◌, ◌≢◌, ◌<◌, ◌≤◌, ℕ, List, None, length, take, map, string_bytes, IfOk, IfSome};
+ghost use Rattle.std.specs.Option.{option_map};
 ghost use Rattle.rl_io.specs.Outside.{Appends, GoesOn};
 ghost use Rattle.rl_place.specs.Places.{IsProper};
 ghost use Rattle.rl_ops.specs.Ops.{OpsFit};
@@ -63,6 +64,43 @@ fn answer<K: Sink>(out: &mut K, text: &[u8], status: u8) -> u8
     }
 }
 
+/// Shows what is asked for, and gives the status: 0 after the viewer's bytes, 1 after the usage line, where nothing is asked for, 2 after the
+/// line that refuses a file, 3 where a file could not be read, 4 where a write failed, 5 for want of memory. The bytes with status 0 may
+/// show the replay by what the viewer says (`V.shows`). A sink with room for the answer tells its bytes afterwards as before.
+pub fn show_asked<V: Viewer, S: Source, K: Sink>(
+    alloc: Global,
+    usage: &[u8],
+    asked: Option<Asked<'_>>,
+    source: &mut S,
+    out: &mut K,
+) -> u8
+    requires may_read { MayRead (S.may_open source.old) (option_map the_asked asked) }
+    requires few { IfSome asked (λ asked. asked.window.to ≤ 2000000) }
+    ensures done { IsDone K.tells_on out.old out.new (K.written out.old) (K.written out.new) V.shows usage.now (S.file source.old) (option_map the_asked asked.entry) result }
+    ensures status { result ≤ 5 }
+    ensures read_fault { result ≡ 3 → S.faults source.old < S.faults source.new }
+    ensures read_quiet { result ≢ 3 → S.faults source.new ≡ S.faults source.old }
+    ensures write_fault { result ≡ 4 → K.faults out.old < K.faults out.new }
+    ensures write_quiet { result ≢ 4 → K.faults out.new ≡ K.faults out.old }
+    ensures unread { option_map the_asked asked.entry ≡ None → source.new ≡ source.old }
+{
+    let Some(asked) = asked else {
+        return answer(out, usage, 1);
+    };
+    match shown::<V, S>(alloc, source, asked) {
+        Ok(text) => answer(out, text.as_slice(), 0),
+        Err(Stop::Refused(complaint)) => {
+            let name = asked.files.name(complaint.which);
+            match refusal_line(alloc, name, complaint.trouble) {
+                Ok(line) => answer(out, line.as_slice(), 2),
+                Err(OutOfMemory) => 5,
+            }
+        }
+        Err(Stop::Fault) => 3,
+        Err(Stop::Memory) => 5,
+    }
+}
+
 /// Shows what the words of the command line ask for, and gives the status: 0 after the viewer's bytes, 1 after the usage line,
 /// where the words are no form, 2 after the line that refuses a file, 3 where a file could not be read, 4 where a write failed,
 /// 5 for want of memory. The bytes with status 0 may show the replay by what the viewer says (`V.shows`). A sink with room for the
@@ -83,19 +121,5 @@ pub fn show_replay<V: Viewer, S: Source, K: Sink>(
     ensures write_quiet { result ≢ 4 → K.faults out.new ≡ K.faults out.old }
     ensures unread { asked_by (map string_bytes words.now) ≡ None → source.new ≡ source.old }
 {
-    let Some(asked) = asked_in(words) else {
-        return answer(out, usage, 1);
-    };
-    match shown::<V, S>(alloc, source, asked) {
-        Ok(text) => answer(out, text.as_slice(), 0),
-        Err(Stop::Refused(complaint)) => {
-            let name = asked.files.name(complaint.which);
-            match refusal_line(alloc, name, complaint.trouble) {
-                Ok(line) => answer(out, line.as_slice(), 2),
-                Err(OutOfMemory) => 5,
-            }
-        }
-        Err(Stop::Fault) => 3,
-        Err(Stop::Memory) => 5,
-    }
+    show_asked::<V, S, K>(alloc, usage, asked_in(words), source, out)
 }

@@ -1,3 +1,2 @@
--- to be believed, in reading order
-pub mod Listing
+-- to be believed
 pub mod Answer

@@ -4,17 +4,17 @@ ghost use Rattle.rl_viewer.specs.Asking.{asked_by};
 ghost use Rattle.rl_viewer.specs.Answer.{MayRead};
 ghost use Rattle.rmalock_steps.specs.Answer.{IsDone};
 
-use crate::listing::Lister;
 use rl_io::{Sink, Source};
+use rl_shown::Lister;
 use rl_viewer::show_replay;
 use std::alloc::Global;
 
 /// The one line that says which words are a form.
-const USAGE: &[u8] = b"usage: rmalock_steps PLACE CALLS SCHEDULE [FROM TO]\n";
+const USAGE: &[u8] = b"usage: rmalock-steps PLACE CALLS SCHEDULE [FROM TO]\n";
 
 /// Lists what the words of the command line ask for, and gives the status: 0 after a listing, 1 after the usage line, where the
 /// words are no form, 2 after the line that refuses a file, 3 where a file could not be read, 4 where a write failed, 5 for want
-/// of memory. The bytes with status 0 are exactly the listing of the run (`listing_of` of `specs/Listing`). A sink with room for the
+/// of memory. The bytes with status 0 are exactly the listing of the run (`listing_of` of `rl_shown`). A sink with room for the
 /// answer tells its bytes afterwards as before.
 pub fn list_replay<S: Source, K: Sink>(
     alloc: Global,

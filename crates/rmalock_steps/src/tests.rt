@@ -13,7 +13,7 @@ const TWO_SHARDS: &str =
 
 const PUT_AND_GET: &str = "rmalock-calls 1\n0 put 7 5\n1 get 7\nend\n";
 
-const USAGE: &str = "usage: rmalock_steps PLACE CALLS SCHEDULE [FROM TO]\n";
+const USAGE: &str = "usage: rmalock-steps PLACE CALLS SCHEDULE [FROM TO]\n";
 
 fn words(rt: &HostRuntime, line: &[&str]) -> Result<Vec<String>, OutOfMemory> {
     let mut words = Vec::new(rt.alloc());
@@ -53,7 +53,7 @@ fn a_busy_card_and_a_lost_compare(rt: HostRuntime) -> Result<(), Fail> {
     let schedule = "rmalock-schedule 1\n0 2\n1 1\n0 2\n1 2\nend\n";
     let (status, text) = listed(&rt, &["p", "c", "s"], [TWO_RANKS, PUT_AND_GET, schedule])?;
     assert_eq!(rt; status, 0);
-    let wanted = "rmalock-steps 1
+    let wanted = "rmalock-steps 2
 replay spin
 0 rank 0 take card 0 moved
 1 rank 0 card-load word = 0 moved
@@ -76,7 +76,7 @@ fn a_window_on_the_second_shard(rt: HostRuntime) -> Result<(), Fail> {
     let texts = [TWO_SHARDS, calls, schedule];
     let (status, text) = listed(&rt, &["p", "c", "s", "1", "7"], texts)?;
     assert_eq!(rt; status, 0);
-    let wanted = "rmalock-steps 1
+    let wanted = "rmalock-steps 2
 replay alock
 1 rank 0 shard 1 store status 0 := 0 moved
 2 rank 0 shard 1 local-cas local tail 0 to 1 = 0 moved event join local 0

@@ -1,0 +1,149 @@
+-- Cores that are made one after the other, and what a run leaves of a machine's shards.
+use Rattle.std.proofs.Common.{◌≡◌, ℕ, zero, suc, ◌+◌, ◌<◌, ◌^◌, List, [], ◌∷◌, ◌++◌, length, map, take, slice_get, slice_set, Option, Some, None, Result, Bool, true, false, refl, sym, ap, ◌∙◌, subst, add-one, arith}
+use Rattle.std.specs.Prelude.{OnOk}
+use Rattle.std.proofs.lemmas.Option.{same_Some}
+use Rattle.std.proofs.lemmas.List.{length-map}
+use Rattle.rl_word.specs.Places.{get_map, get_map_back, map_set, set_same_get}
+use Rattle.rl_word.specs.Acts.{Layout}
+use Rattle.rl_word.specs.declared.acts.Atom.{Atom}
+use Rattle.rl_model.specs.declared.call.Call.{Call}
+use Rattle.rl_model.specs.declared.geom.Geom.{Geom}
+use Rattle.rl_step.specs.Core.{CoreTable, CoreLaws}
+use Rattle.rl_step.specs.Do.{TheWindow}
+use Rattle.rl_work.specs.Site.{Site, lock_base}
+use Rattle.rl_asks.specs.ShardTables.{ShardTable}
+use Rattle.rl_asks.specs.ShardLaws.{GoodOf, CauseOf, FurtherOf, LawsOf}
+use Rattle.rl_machine.specs.Running.{ShardRun, Running}
+use Rattle.rl_machine.specs.Ruled.{AreRuled}
+use Rattle.rl_machine.specs.ShardSteps.{events_of, opened_at, makes, made_at}
+use Rattle.rl_machine.specs.Run.{changed_if, opens, opened_if, block_opened, atom_made, stepped, run_of}
+use Rattle.rl_machine.specs.Start.{site_of, first_shards}
+use Rattle.rl_machine.specs.Run.{on_shard}
+use Rattle.rl_machine.specs.Records.{window_of}
+use Rattle.rl_machine.specs.NextAtoms.{behind_journal}
+use Rattle.rl_text.specs.Spelling.{text_of}
+use Rattle.rl_place.specs.Places.{ThePlace}
+use Rattle.rl_history.specs.Naming.{TheNaming}
+use Rattle.rl_names.specs.declared.word_map.WordMap.{WordMap}
+use Rattle.rl_names.specs.Layout.{map_of}
+use Rattle.rl_shown.specs.Cores.{tables_of}
+use Rattle.rl_shown.specs.State.{words_lines, shard_lines, lines_of_shard}
+
+-- one more of the first shards
+pub tables_more : {V : Type 0} (tables : ℕ → Site → ShardTable V) (nodes : ℕ) (geom : Geom) (calls : List (List Call)) (from : ℕ) (homes : List ℕ) (i home : ℕ) → slice_get homes i ≡ Some home →
+    map (λ (S : ShardRun V). S.table) (first_shards tables nodes geom calls from (take (i + 1) homes)) ≡ map (λ (S : ShardRun V). S.table) (first_shards tables nodes geom calls from (take i homes)) ++ tables home (site_of geom calls (from + i)) ∷ []
+tables_more tables nodes geom calls from homes i home e = rw add-one (more from homes i e) where
+  more : (from : ℕ) (homes : List ℕ) (i : ℕ) → slice_get homes i ≡ Some home →
+      map (λ (S : ShardRun _). S.table) (first_shards tables nodes geom calls from (take (suc i) homes)) ≡ map (λ (S : ShardRun _). S.table) (first_shards tables nodes geom calls from (take i homes)) ++ tables home (site_of geom calls (from + i)) ∷ []
+  more from [] i e = absurd (cc)
+  more from (h ∷ homes) zero e =
+      let at : from ≡ from + zero = omega arith in
+      ap (λ z. tables z (site_of geom calls from) ∷ []) (same_Some _ _ e) ∙ ap (λ n. tables home (site_of geom calls n) ∷ []) at
+  more from (h ∷ homes) (suc i) e =
+      let at : (from + 1) + i ≡ from + suc i = omega arith in
+      ap (λ z. tables h (site_of geom calls from) ∷ z) (more (from + 1) homes i e ∙ ap (λ n. map (λ (S : ShardRun _). S.table) (first_shards tables nodes geom calls (from + 1) (take i homes)) ++ tables home (site_of geom calls n) ∷ []) at)
+
+-- one more core
+pub cores_more : {C T : Type 0} (table : C → T) (cores : List C) (core : C) → map table (cores ++ core ∷ []) ≡ map table cores ++ table core ∷ []
+cores_more table [] core = refl
+cores_more table (c ∷ cores) core = ap (λ z. table c ∷ z) (cores_more table cores core)
+
+-- ---- no step changes a table
+
+module _ {V : Type 0} where
+  same_tables : (shards : List (ShardRun V)) (s : ℕ) (f : ShardRun V → ShardRun V) (found : Option (ShardRun V)) → slice_get shards s ≡ found → ((S : ShardRun V) → (f S).table ≡ S.table) →
+      map (λ (S : ShardRun V). S.table) (changed_if shards s f found) ≡ map (λ (S : ShardRun V). S.table) shards
+  same_tables shards s f None e keeps = refl
+  same_tables shards s f (Some S) e keeps =
+      map_set (λ (Z : ShardRun V). Z.table) shards s (f S) ∙ ap (slice_set (map (λ (Z : ShardRun V). Z.table) shards) s) (keeps S)
+      ∙ set_same_get (map (λ (Z : ShardRun V). Z.table) shards) s S.table (get_map (λ (Z : ShardRun V). Z.table) shards s S e)
+
+  opened_table : (k : ℕ) (block : List Call) (seq : ℕ) (S : ShardRun V) (x : Option V) → (opened_at S k block seq x).table ≡ S.table
+  opened_table k block seq S None = refl
+  opened_table k block seq S (Some x) = refl
+
+  makes_table : (k step : ℕ) (S : ShardRun V) (x : V) (at : Option Atom) → (makes S k step x at).table ≡ S.table
+  makes_table k step S x None = refl
+  makes_table k step S x (Some at) = refl
+
+  made_table : (k step : ℕ) (S : ShardRun V) (x : Option V) → (made_at S k step x).table ≡ S.table
+  made_table k step S None = refl
+  made_table k step S (Some x) = makes_table k step S x (S.table.core.next x)
+
+  opened_tables : (m : Running V) (k : ℕ) (b : Bool) → (tables_of (opened_if m k b) ≡ tables_of m) × ((opened_if m k b).calls ≡ m.calls)
+  opened_tables m k false = (refl, refl)
+  opened_tables m k true = (same_tables m.shards _ _ _ refl (λ S. opened_table k _ _ S (slice_get S.views k)), refl)
+
+  made_tables : (m : Running V) (k : ℕ) → tables_of (atom_made m k) ≡ tables_of m
+  made_tables m k = same_tables m.shards _ _ _ refl (λ S. made_table k _ S (slice_get S.views k))
+
+  -- nor what the ranks ask for
+  pub run_tables : (m : Running V) (ks : List ℕ) → (tables_of (run_of m ks) ≡ tables_of m) × ((run_of m ks).calls ≡ m.calls)
+  run_tables m [] = (refl, refl)
+  run_tables m (k ∷ ks) =
+      let on = run_tables (stepped m k) ks in
+      let opened = opened_tables m k (opens m k) in
+      (on.0 ∙ made_tables (block_opened m k) k ∙ opened.0, on.1 ∙ opened.1)
+
+-- ---- a shard of a machine, and a core that has its table
+
+-- the words of the shard, by a core that has its table
+pub record IsSized {V : Type 0} (T : ShardTable V) (h : TheWindow) : Type 0 where
+  pub all : length h.words ≡ lock_base T.site + T.behind
+  pub few : length h.words < 2 ^ 32
+  pub sized : T.core.size ≡ length h.words
+
+module _ (C V : Type 0) (table : C → ShardTable V) (good : GoodOf C V) (cause : CauseOf C V) (further : FurtherOf C) (layout : C → Layout) (laws : LawsOf C V table good cause further layout)
+    (atoms : C → CoreTable V) (rule : C → TheWindow → List V → Type 0) (ruled : (c : C) (h : TheWindow) (vs : List V) (t : _) (ds : _) → good c h vs t ds → rule c h vs) (core_laws : (c : C) → CoreLaws (atoms c) (rule c)) (same : (c : C) → (table c).core ≡ atoms c)
+    (cores : List C) (m : Running V) (are : AreRuled C V table good cores m) where
+  pub is_sized : (s : ℕ) (S : ShardRun V) → slice_get m.shards s ≡ Some S → IsSized S.table S.held
+  is_sized s S has =
+      let q = are.shards s S has in
+      let lawful = laws q.core in
+      let size : length S.held.words ≡ (atoms q.core).size = (core_laws q.core).sized S.held S.views (ruled q.core S.held S.views (events_of S.trace) q.acts q.is.is_good) in
+      subst (λ T. IsSized T S.held) (sym q.is.table_is)
+      (record {
+        all = lawful.words S.held S.views (events_of S.trace) q.acts q.is.is_good;
+        few = (let all = lawful.words S.held S.views (events_of S.trace) q.acts q.is.is_good in let few = lawful.fits S.held S.views (events_of S.trace) q.acts q.is.is_good in omega arith);
+        sized = ap (λ z. z.size) (same q.core) ∙ sym size;
+      })
+
+  -- what is found of a shard by a core that has its table
+  pub record Held (T : ShardTable V) (place : ThePlace) (naming : TheNaming) (s : ℕ) (h : TheWindow) (map : WordMap) : Type 0 where
+    pub all : length h.words ≡ map.lock_at + T.behind
+    pub few : length h.words < 2 ^ 32
+    pub sized : T.core.size ≡ length h.words
+    pub lines : words_lines naming map s T.core.home h.words ≡ lines_of_shard place naming m s
+
+  pub held_by : (s : ℕ) (core : C) (h : TheWindow) (place : ThePlace) (naming : TheNaming) (behind : ℕ) (map : WordMap) → slice_get (tables_of m) s ≡ Some (table core) → window_of m s ≡ Some h → behind ≡ behind_journal m s → map ≡ map_of place naming behind →
+      Held (table core) place naming s h map
+  held_by s core h place naming behind map found held at is =
+      let back = get_map_back (λ (S : ShardRun V). S.table) m.shards s (table core) found in
+      let S : ShardRun V = back.0 in
+      let same_held : S.held ≡ h = same_Some _ _ (ap (on_shard None (λ (Z : ShardRun V). Some Z.held)) (sym back.1) ∙ held) in
+      let base : behind ≡ lock_base S.table.site = at ∙ ap (on_shard 0 (λ (Z : ShardRun V). lock_base Z.table.site)) back.1 in
+      let map_is : map ≡ map_of place naming (lock_base S.table.site) = is ∙ ap (map_of place naming) base in
+      let told : lines_of_shard place naming m s ≡ words_lines naming (map_of place naming (lock_base S.table.site)) s S.table.core.home S.held.words = ap (on_shard [] (shard_lines place naming s)) back.1 in
+      let sized : IsSized S.table S.held = is_sized s S back.1 in
+      let here : IsSized (table core) h = subst (λ z. IsSized (table core) z) same_held (subst (λ z. IsSized z S.held) back.2 sized) in
+      let base_same : lock_base S.table.site ≡ lock_base (table core).site = ap (λ (z : ShardTable V). lock_base z.site) back.2 in
+      record {
+        all = here.all ∙ ap (λ n. n + (table core).behind) (sym (ap (λ z. z.lock_at) map_is ∙ base_same));
+        few = here.few;
+        sized = here.sized;
+        lines = ap (λ z. words_lines naming z s (table core).core.home h.words) map_is
+            ∙ ap (λ z. words_lines naming (map_of place naming (lock_base S.table.site)) s (table core).core.home z.words) (sym same_held)
+            ∙ ap (λ (z : ShardTable V). words_lines naming (map_of place naming (lock_base S.table.site)) s z.core.home S.held.words) (sym back.2)
+            ∙ sym told;
+      }
+
+-- the lines of a shard were appended
+pub told_shard : {E : Type 0} (result : Result (Unit {0}) E) (before after : List ℕ) (xs ys : List (List (List ℕ))) → xs ≡ ys → OnOk result (after ≡ before ++ text_of xs) → OnOk result (after ≡ before ++ text_of ys)
+told_shard result before after xs ys same told = subst (λ z. OnOk result (after ≡ before ++ text_of z)) same told
+
+-- a core of the list has the table of the shard with its number
+pub core_at : {C V : Type 0} (table : C → ShardTable V) (cores : List C) (m : Running V) (s : ℕ) (core : C) → map table cores ≡ tables_of m → slice_get cores s ≡ Some core → slice_get (tables_of m) s ≡ Some (table core)
+core_at table cores m s core have at = ap (λ z. slice_get z s) (sym have) ∙ get_map table cores s core at
+
+pub as_many : {C V : Type 0} (table : C → ShardTable V) (cores : List C) (m : Running V) → map table cores ≡ tables_of m → length cores ≡ length m.shards
+as_many table cores m have = sym (length-map cores table) ∙ ap length have ∙ length-map m.shards (λ (S : ShardRun _). S.table)

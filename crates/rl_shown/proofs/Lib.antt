@@ -1,0 +1,4 @@
+pub mod ListingLaws
+pub mod FrontLaws
+pub mod CoresLaws
+pub mod TellingLaws

@@ -1,0 +1,4 @@
+-- to be believed, in reading order
+pub mod Listing
+pub mod State
+pub mod Cores
