@@ -7,7 +7,7 @@ use Rattle.rl_viewer.specs.Answer as viewer
 
 -- the one line that says which words are a form
 abbrev pub usage_text : List ℕ
-usage_text = codes "usage: rmalock_picture PLACE CALLS SCHEDULE [FROM TO]" ++ 10 ∷ []
+usage_text = codes "usage: rmalock-picture PLACE CALLS SCHEDULE [FROM TO]" ++ 10 ∷ []
 
 -- any bytes may be a picture
 abbrev pub IsPicture : Replay → Window → List ℕ → Type 0

@@ -1,18 +1,20 @@
 //! The picture of what was seen of a replay.
-ghost use Rattle.std.specs.Prelude.{◌<◌};
-
 use crate::labels::{Labels, Word, labels_of, width_of};
 use crate::lanes::{Band, Cell, Doing, Lane};
+use crate::legend::{draw_legend, height_of_legend};
+use crate::scale::{LEFT, Scale, rows_of};
 use crate::svg::{Area, Px, Spot, Svg};
 use rl_history::Naming;
 use rl_place::{Path, path_text};
 use rl_step::Stepped;
 use rl_viewer::Window;
+use rl_word::LockName;
 use std::alloc::{AllocError as OutOfMemory, Global};
 
 /// What is drawn: the lanes of the ranks, with the steps of the window, and what the placement says of ranks and shards.
 #[derive(Clone, Copy)]
 pub struct Scene<'a> {
+    pub lock: LockName,
     pub naming: &'a Naming,
     /// The path of each rank's node.
     pub paths: &'a [Path],
@@ -26,16 +28,16 @@ pub struct Scene<'a> {
     pub steps: u32,
 }
 
-/// Where the lanes begin, and what is left free behind them.
-const LEFT: Px = Px(100);
-
+/// What is left free behind the lanes, and behind a label that stands out of them.
 const BEHIND: Px = Px(60);
 
-/// The least width of the picture, which the legend needs.
-const LEAST: Px = Px(690);
+const BEHIND_LABEL: Px = Px(10);
 
-/// The heights of the parts: the title, a row of labels, what is free below them, the bands and the cells of a lane, the gap below it, the step numbers
-/// and the legend.
+/// The least width of the picture, which the legend needs.
+const LEAST: Px = Px(790);
+
+/// The heights of the parts: the title, a row of labels, what is free below them, the bands and the cells of a lane, the gap below it, and the step
+/// numbers with the gap below them.
 const TITLE: Px = Px(46);
 
 const LABEL: Px = Px(11);
@@ -50,55 +52,22 @@ const CELL: Px = Px(18);
 
 const GAP: Px = Px(12);
 
-const FOOT: Px = Px(14);
+const FOOT: Px = Px(22);
 
-const LEGEND: Px = Px(82);
-
-/// Which steps are shown, and how wide each is.
-#[derive(Clone, Copy)]
-struct Scale {
-    first: u32,
-    last: u32,
-    cell: Px,
-}
-
-impl Scale {
-    /// As wide as it can be without too wide a picture.
-    fn of(window: Window, steps: u32) -> Scale {
-        let first = window.from;
-        let last = window.to.min(steps).max(first);
-        let cell = match last.saturating_sub(first) {
-            0..=80 => Px(20),
-            81..=160 => Px(14),
-            161..=500 => Px(8),
-            _ => Px(4),
-        };
-        Scale { first, last, cell }
-    }
-
-    /// Where a step begins.
-    fn x(&self, step: u32) -> Px {
-        LEFT + self.cell * step.saturating_sub(self.first)
-    }
-
-    /// Every how many steps a number stands at the foot.
-    fn every(&self) -> u32
-        ensures { 0 < result }
-    {
-        match self.cell.0 {
-            20 => 1,
-            14 => 2,
-            8 => 5,
-            _ => 10,
-        }
-    }
+/// A row of the picture: the steps that it shows, the labels of each lane in them, and where it begins.
+#[derive(Drop)]
+struct Row {
+    scale: Scale,
+    labels: Vec<Labels>,
+    top: Px,
 }
 
 /// How a cell looks.
-fn look_of_cell(answer: Stepped) -> &'static str {
-    match answer {
+fn look_of_cell(cell: &Cell) -> &'static str {
+    match cell.answer {
         Stepped::Moved => "moved",
         Stepped::Waiting { .. } => "waiting",
+        Stepped::Lost { .. } if cell.lost_look => "look",
         Stepped::Lost { .. } => "lost",
         Stepped::Busy { .. } => "busy",
         Stepped::Finished => "finished",
@@ -112,63 +81,85 @@ fn look_of_band(doing: Doing) -> &'static str {
         Doing::Writing => "writing",
         Doing::Reading => "reading",
         Doing::Leaving => "leaving",
+        Doing::Looking => "looking",
+        Doing::Refused => "refused",
+        Doing::Answered => "answered",
         Doing::InCard { .. } => "card",
+        Doing::Serving { .. } => "serving",
+        Doing::Stopped => "stopped",
     }
 }
 
 /// Whether what is written on a band has to be light.
 fn is_dark(doing: Doing) -> bool {
-    match doing {
-        Doing::Writing | Doing::Reading => true,
-        Doing::Asking | Doing::Leaving | Doing::InCard { .. } => false,
-    }
+    matches!(doing, Doing::Writing | Doing::Reading)
+}
+
+/// Whether a band tells how a rank stands to a shard.
+fn is_of_shard(doing: Doing) -> bool {
+    !matches!(
+        doing,
+        Doing::InCard { .. } | Doing::Serving { .. } | Doing::Stopped
+    )
 }
 
 /// What is written on a band; the shard's number too where there are several.
 fn band_text(alloc: Global, scene: &Scene<'_>, band: Band) -> Result<String, OutOfMemory> {
     let Band { doing, shard, .. } = band;
     let naming = scene.naming;
-    if naming.shards > 1 && !matches!(doing, Doing::InCard { .. }) {
+    if naming.shards > 1 && is_of_shard(doing) {
         format!(in alloc; "{doing}, shard {shard}")
     } else {
         format!(in alloc; "{doing}")
     }
 }
 
-/// Draws a band from this height on, with its text where there is room for it.
-fn draw_band(
+/// Where the part of a band is that a row shows.
+fn area_of(scale: Scale, band: Band, y: Px, height: Px) -> Option<Area> {
+    let from = band.from.max(scale.first);
+    let to = band.to.min(scale.last);
+    if from >= to {
+        return None;
+    }
+    Some(Area {
+        x: scale.x(from),
+        y,
+        width: scale.cell() * to.saturating_sub(from),
+        height,
+    })
+}
+
+/// Draws a band in its area, with its text where there is room for it.
+fn draw_band(svg: &mut Svg, area: Area, doing: Doing, text: &str) -> Result<(), OutOfMemory> {
+    svg.area_that_tells(area, look_of_band(doing), text)?;
+    if width_of(text).0 > area.width.0 {
+        return Ok(());
+    }
+    let class = if is_dark(doing) { "light" } else { "plain" };
+    let spot = Spot {
+        x: area.x + Px(3),
+        y: area.y + Px(10),
+    };
+    svg.words(spot, class, text)
+}
+
+/// Draws bands from this height on, as far as the row shows them.
+fn draw_bands(
     alloc: Global,
     svg: &mut Svg,
     scene: &Scene<'_>,
     scale: Scale,
-    band: Band,
+    bands: &[Band],
     y: Px,
     height: Px,
 ) -> Result<(), OutOfMemory> {
-    let x = scale.x(band.from);
-    let steps = band.to.saturating_sub(band.from);
-    let width = scale.cell * steps;
-    let text = band_text(alloc, scene, band)?;
-    let area = Area {
-        x,
-        y,
-        width,
-        height,
-    };
-    svg.area_that_tells(area, look_of_band(band.doing), text.as_str())?;
-    if width_of(text.as_str()).0 > width.0 {
-        return Ok(());
+    for band in bands {
+        if let Some(area) = area_of(scale, *band, y, height) {
+            let text = band_text(alloc, scene, *band)?;
+            draw_band(svg, area, band.doing, text.as_str())?;
+        }
     }
-    let class = if is_dark(band.doing) {
-        "light"
-    } else {
-        "plain"
-    };
-    let spot = Spot {
-        x: x + Px(3),
-        y: y + Px(10),
-    };
-    svg.words(spot, class, text.as_str())
+    Ok(())
 }
 
 /// Draws the steps of a lane.
@@ -180,14 +171,17 @@ fn draw_cells(
     y: Px,
 ) -> Result<(), OutOfMemory> {
     for cell in cells {
+        if !scale.shows(cell.step) {
+            continue;
+        }
         let area = Area {
             x: scale.x(cell.step),
             y,
-            width: scale.cell,
+            width: scale.cell(),
             height: CELL,
         };
         let told = format!(in alloc; "{cell}")?;
-        svg.area_that_tells(area, look_of_cell(cell.answer), told.as_str())?;
+        svg.area_that_tells(area, look_of_cell(cell), told.as_str())?;
     }
     Ok(())
 }
@@ -211,9 +205,18 @@ fn draw_labels(
     Ok(())
 }
 
+/// How high the band is that tells whose calls a rank does: only flat combining has one.
+fn height_of_service(lock: LockName) -> Px {
+    if matches!(lock, LockName::Combine) {
+        CARD
+    } else {
+        Px(0)
+    }
+}
+
 /// How high a lane is, with its labels.
-fn height_of(labels: &Labels) -> Px {
-    LABEL * labels.rows + PAD + BAND + CARD + CELL
+fn height_of(lock: LockName, labels: &Labels) -> Px {
+    LABEL * labels.rows + PAD + BAND + height_of_service(lock) + CARD + CELL
 }
 
 /// Writes which rank a lane is of, and where it sits.
@@ -240,56 +243,49 @@ fn draw_name(
     Ok(())
 }
 
-/// Draws a lane whose top is at this height.
+/// Draws a lane whose bands begin at this height.
 fn draw_lane(
     alloc: Global,
     svg: &mut Svg,
     scene: &Scene<'_>,
     scale: Scale,
     lane: &Lane,
-    labels: &Labels,
-    top: Px,
+    bands: Px,
 ) -> Result<(), OutOfMemory> {
-    let bands = top + LABEL * labels.rows + PAD;
-    let cards = bands + BAND;
-    let cells = cards + CARD;
-    for band in lane.standing.as_slice() {
-        draw_band(alloc, svg, scene, scale, *band, bands, BAND)?;
+    let service = bands + BAND;
+    let card = service + height_of_service(scene.lock);
+    let cells = card + CARD;
+    let rows = [
+        (&lane.standing, bands, BAND),
+        (&lane.service, service, CARD),
+        (&lane.card, card, CARD),
+        (&lane.stop, cells, CELL),
+    ];
+    for (row, y, height) in rows {
+        draw_bands(alloc, svg, scene, scale, row.as_slice(), y, height)?;
     }
-    for band in lane.card.as_slice() {
-        draw_band(alloc, svg, scene, scale, *band, cards, CARD)?;
-    }
-    draw_cells(alloc, svg, scale, lane.cells.as_slice(), cells)?;
-    draw_labels(svg, scale, labels, top, bands)
+    draw_cells(alloc, svg, scale, lane.cells.as_slice(), cells)
 }
 
 /// Draws what lies behind the lanes: a ground for each, and lines down at some steps.
-fn draw_ground(
-    svg: &mut Svg,
-    scale: Scale,
-    labels: &[Labels],
-    bottom: Px,
-) -> Result<(), OutOfMemory> {
-    let width = scale.cell * scale.last.saturating_sub(scale.first);
-    let mut top = TITLE;
-    for lane in labels {
+fn draw_ground(svg: &mut Svg, scene: &Scene<'_>, row: &Row, bottom: Px) -> Result<(), OutOfMemory> {
+    let scale = row.scale;
+    let mut top = row.top;
+    for lane in &row.labels {
+        let height = height_of(scene.lock, lane);
         let area = Area {
             x: LEFT,
             y: top,
-            width,
-            height: height_of(lane),
+            width: scale.cell() * scale.last.saturating_sub(scale.first),
+            height,
         };
         svg.area(area, "lane")?;
-        top = top + height_of(lane) + GAP;
+        top = top + height + GAP;
     }
-    let every = scale.every();
     for step in scale.first..scale.last {
-        if step % every == 0 && step % 5 == 0 {
-            let spot = Spot {
-                x: scale.x(step),
-                y: TITLE,
-            };
-            svg.line_down(spot, bottom, "grid")?;
+        if scale.is_ruled(step) {
+            let x = scale.x(step);
+            svg.line_down(Spot { x, y: row.top }, bottom, "grid")?;
         }
     }
     Ok(())
@@ -298,37 +294,39 @@ fn draw_ground(
 /// Writes the numbers of the steps along the foot.
 fn draw_numbers(alloc: Global, svg: &mut Svg, scale: Scale, y: Px) -> Result<(), OutOfMemory> {
     svg.words(Spot { x: Px(10), y }, "plain", "step")?;
-    let every = scale.every();
     for step in scale.first..scale.last {
-        if step % every == 0 {
+        if scale.is_numbered(step) {
             let number = format!(in alloc; "{step}")?;
-            let spot = Spot {
-                x: scale.x(step) + Px(scale.cell.0 / 2),
-                y,
-            };
-            svg.words(spot, "number", number.as_str())?;
+            let x = scale.middle(step);
+            svg.words(Spot { x, y }, "number", number.as_str())?;
         }
     }
     Ok(())
 }
 
+/// Which of how many steps are shown.
+fn steps_shown(alloc: Global, scene: &Scene<'_>) -> Result<String, OutOfMemory> {
+    let Scene { window, steps, .. } = *scene;
+    let first = window.from;
+    let last = window.to.min(steps);
+    if first < last {
+        let last = last.saturating_sub(1);
+        format!(in alloc; "steps {first} to {last} of {steps}")
+    } else if steps == 0 {
+        String::from_str(alloc, "the schedule has no steps")
+    } else {
+        format!(in alloc; "no step is shown: from {first} on there is none, of {steps}")
+    }
+}
+
 /// Writes the title: the lock, how many ranks and shards there are, which steps are shown, and where the shards live.
-fn draw_title(
-    alloc: Global,
-    svg: &mut Svg,
-    scene: &Scene<'_>,
-    scale: Scale,
-) -> Result<(), OutOfMemory> {
+fn draw_title(alloc: Global, svg: &mut Svg, scene: &Scene<'_>) -> Result<(), OutOfMemory> {
     let naming = scene.naming;
     let lock = naming.lock;
     let ranks = naming.ranks;
     let shards = naming.shards;
-    let Scale { first, last, .. } = scale;
-    let last = last.saturating_sub(1);
-    let steps = scene.steps;
-    let title = format!(in alloc;
-        "{lock}: ranks {ranks}, shards {shards}; steps {first} to {last} of {steps}"
-    )?;
+    let shown = steps_shown(alloc, scene)?;
+    let title = format!(in alloc; "{lock}: ranks {ranks}, shards {shards}; {shown}")?;
     let spot = Spot {
         x: Px(10),
         y: Px(20),
@@ -347,119 +345,88 @@ fn draw_title(
     svg.words(spot, "plain", homes.as_str())
 }
 
-/// One line of the legend: a field for each look, and what it means.
-fn draw_meanings(
-    svg: &mut Svg,
-    name: &str,
-    meanings: &[(&str, &str)],
-    y: Px,
-) -> Result<(), OutOfMemory> {
-    svg.words(Spot { x: Px(10), y }, "plain", name)?;
-    let mut x = LEFT;
-    for (look, meaning) in meanings {
-        let area = Area {
-            x,
-            y: Px(y.0.saturating_sub(9)),
-            width: Px(20),
-            height: Px(11),
-        };
-        svg.area(area, look)?;
-        let spot = Spot { x: x + Px(24), y };
-        svg.words(spot, "plain", meaning)?;
-        x = spot.x + width_of(meaning) + Px(14);
-    }
-    Ok(())
-}
-
-/// Writes what the labels mean, where the lock has queues.
-fn draw_labels_meaning(svg: &mut Svg, naming: &Naming, y: Px) -> Result<(), OutOfMemory> {
-    if naming.queues.is_empty() {
-        return Ok(());
-    }
-    svg.words(Spot { x: Px(10), y }, "plain", "a label")?;
-    svg.words(
-        Spot { x: LEFT, y },
-        "plain",
-        "join: it stands at the queue's end; settle: it has the queue anew, with the whole budget; pass: it hands the queue on",
-    )?;
-    if !naming.cohorts {
-        return Ok(());
-    }
-    let below = Spot {
-        x: LEFT,
-        y: y + Px(14),
-    };
-    svg.words(
-        below,
-        "plain",
-        "announce: the head of a cohort has stored that the other cohort goes first",
-    )
-}
-
-/// Draws the legend.
-fn draw_legend(svg: &mut Svg, naming: &Naming, y: Px) -> Result<(), OutOfMemory> {
-    let steps = [
-        ("moved", "moved"),
-        ("waiting", "waits on a word"),
-        ("lost", "compare lost"),
-        ("busy", "card taken"),
-        ("finished", "no call left"),
-    ];
-    let ranks = [
-        ("asking", "asks"),
-        ("writing", "holds, alone"),
-        ("reading", "holds, as a reader"),
-        ("leaving", "gives it back"),
-        ("card", "in a node's card"),
-    ];
-    draw_meanings(svg, "a step", &steps, y + Px(16))?;
-    draw_meanings(svg, "a rank", &ranks, y + Px(34))?;
-    draw_labels_meaning(svg, naming, y + Px(52))
-}
-
-/// The labels of all lanes.
+/// The labels of all lanes in a row.
 fn all_labels(alloc: Global, scene: &Scene<'_>, scale: Scale) -> Result<Vec<Labels>, OutOfMemory> {
     let mut all = Vec::new(alloc);
     for lane in scene.lanes {
-        all.push(labels_of(alloc, scene.naming, scale.cell, lane.marks.as_slice())?)?;
+        all.push(labels_of(alloc, scene.naming, scale, lane.marks.as_slice())?)?;
     }
     Ok(all)
 }
 
-/// Draws the lanes one below the other.
+/// The rows of the picture, one below the other.
+fn all_rows(alloc: Global, scene: &Scene<'_>) -> Result<Vec<Row>, OutOfMemory> {
+    let mut rows = Vec::new(alloc);
+    let mut top = TITLE;
+    for scale in rows_of(alloc, scene.window, scene.steps)? {
+        let labels = all_labels(alloc, scene, scale)?;
+        let row = Row { scale, labels, top };
+        top = bottom_of(scene.lock, &row) + FOOT;
+        rows.push(row)?;
+    }
+    Ok(rows)
+}
+
+/// Where the lanes of a row end.
+fn bottom_of(lock: LockName, row: &Row) -> Px {
+    let mut bottom = row.top;
+    for lane in &row.labels {
+        bottom = bottom + height_of(lock, lane) + GAP;
+    }
+    bottom
+}
+
+/// How wide the picture has to be for a row.
+fn width_of_row(row: &Row) -> Px {
+    let mut width = row.scale.x(row.scale.last) + BEHIND;
+    for lane in &row.labels {
+        width = width.max(lane.right + BEHIND_LABEL);
+    }
+    width
+}
+
+/// Draws the lanes of a row one below the other.
 fn draw_lanes(
     alloc: Global,
     svg: &mut Svg,
     scene: &Scene<'_>,
-    scale: Scale,
-    labels: &[Labels],
+    row: &Row,
 ) -> Result<(), OutOfMemory> {
-    let mut top = TITLE;
+    let mut top = row.top;
     for (rank, lane) in scene.lanes.iter().enumerate() {
-        if let Some(labels) = labels.get(rank) {
-            let name = top + LABEL * labels.rows + PAD + BAND;
-            draw_name(alloc, svg, scene, rank, name)?;
-            draw_lane(alloc, svg, scene, scale, lane, labels, top)?;
-            top = top + height_of(labels) + GAP;
+        if let Some(labels) = row.labels.get(rank) {
+            let bands = top + LABEL * labels.rows + PAD;
+            draw_name(alloc, svg, scene, rank, bands + BAND)?;
+            draw_lane(alloc, svg, scene, row.scale, lane, bands)?;
+            draw_labels(svg, row.scale, labels, top, bands)?;
+            top = top + height_of(scene.lock, labels) + GAP;
         }
     }
     Ok(())
 }
 
+/// Draws a row.
+fn draw_row(alloc: Global, svg: &mut Svg, scene: &Scene<'_>, row: &Row) -> Result<(), OutOfMemory> {
+    let bottom = bottom_of(scene.lock, row);
+    draw_ground(svg, scene, row, bottom)?;
+    draw_lanes(alloc, svg, scene, row)?;
+    draw_numbers(alloc, svg, row.scale, bottom + Px(6))
+}
+
 /// The picture of a scene. Refused only for want of memory.
 pub fn draw(alloc: Global, scene: &Scene<'_>) -> Result<Vec<u8>, OutOfMemory> {
-    let scale = Scale::of(scene.window, scene.steps);
-    let labels = all_labels(alloc, scene, scale)?;
+    let rows = all_rows(alloc, scene)?;
+    let mut width = LEAST;
     let mut bottom = TITLE;
-    for lane in &labels {
-        bottom = bottom + height_of(lane) + GAP;
+    for row in &rows {
+        width = width.max(width_of_row(row));
+        bottom = bottom_of(scene.lock, row) + FOOT;
     }
-    let width = LEAST.max(scale.x(scale.last) + BEHIND);
-    let mut svg = Svg::new(alloc, width, bottom + FOOT + LEGEND)?;
-    draw_title(alloc, &mut svg, scene, scale)?;
-    draw_ground(&mut svg, scale, labels.as_slice(), bottom)?;
-    draw_lanes(alloc, &mut svg, scene, scale, labels.as_slice())?;
-    draw_numbers(alloc, &mut svg, scale, bottom + Px(6))?;
-    draw_legend(&mut svg, scene.naming, bottom + FOOT)?;
+    let mut svg = Svg::new(alloc, width, bottom + height_of_legend(scene.lock))?;
+    draw_title(alloc, &mut svg, scene)?;
+    for row in &rows {
+        draw_row(alloc, &mut svg, scene, row)?;
+    }
+    draw_legend(&mut svg, scene.lock, bottom)?;
     svg.finish()
 }

@@ -1,6 +1,7 @@
-//! The labels of what happened: their words, and rows in which no label covers another.
+//! The labels of what happened: their words, and rows in which no label covers another, or its line down.
 
-use crate::lanes::Mark;
+use crate::lanes::{Happening, Mark};
+use crate::scale::Scale;
 use crate::svg::Px;
 use rl_history::{Naming, QueueName};
 use rl_step::Event;
@@ -31,11 +32,12 @@ pub struct Label {
     pub text: String,
 }
 
-/// The labels of a lane, and how many rows they need.
+/// The labels of a lane, how many rows they need, and where the last of them ends.
 #[derive(Drop)]
 pub struct Labels {
     pub labels: Vec<Label>,
     pub rows: u32,
+    pub right: Px,
 }
 
 /// How wide a text is, at the most.
@@ -81,7 +83,7 @@ fn pass_text(
 }
 
 /// What is written for an event; nothing for what the bands tell already.
-fn text_of(alloc: Global, naming: &Naming, event: Event) -> Result<Option<String>, OutOfMemory> {
+fn event_text(alloc: Global, naming: &Naming, event: Event) -> Result<Option<String>, OutOfMemory> {
     match event {
         Event::Join { queue, .. } => {
             let queue = word_of(queue_named(naming, queue));
@@ -101,42 +103,82 @@ fn text_of(alloc: Global, naming: &Naming, event: Event) -> Result<Option<String
     }
 }
 
-/// The lowest row that is free from `left` on, which is taken until `right`. `ends` has the end of each row's last label.
-fn take_row(ends: &mut Vec<Px>, left: Px, right: Px) -> Result<u32, OutOfMemory> {
+/// What is written of something that happened.
+fn text_of(alloc: Global, naming: &Naming, what: Happening) -> Result<Option<String>, OutOfMemory> {
+    match what {
+        Happening::Event(event) => event_text(alloc, naming, event),
+        Happening::Remark(remark) => Ok(Some(format!(in alloc; "{remark}")?)),
+    }
+}
+
+/// A label for each step with something that has words: all of one step together.
+fn texts_of(
+    alloc: Global,
+    naming: &Naming,
+    scale: Scale,
+    marks: &[Mark],
+) -> Result<Vec<Label>, OutOfMemory> {
+    let mut labels: Vec<Label> = Vec::new(alloc);
+    for mark in marks {
+        if !scale.tells(mark.step) {
+            continue;
+        }
+        if let Some(text) = text_of(alloc, naming, mark.what)? {
+            append(&mut labels, mark.step, text)?;
+        }
+    }
+    Ok(labels)
+}
+
+/// Appends what happened in a step, behind what happened before it in the same step.
+fn append(labels: &mut Vec<Label>, step: u32, text: String) -> Result<(), OutOfMemory> {
+    if let Some(last) = labels.last_mut() {
+        if last.step == step {
+            last.text.push_str(", ")?;
+            return last.text.push_str(text.as_str());
+        }
+    }
+    labels.push(Label { step, row: 0, text })?;
+    Ok(())
+}
+
+/// The lowest row in which a text from `left` to `right` ends before each label of that row or a higher one, which all begin behind it: a label's
+/// line goes down through the rows below it. `begins` has where the first of them begins, for each row.
+fn take_row(begins: &mut Vec<Px>, left: Px, right: Px) -> Result<u32, OutOfMemory> {
     let mut row = 0u32;
-    for end in ends.iter_mut() {
-        if end.0 <= left.0 {
-            *end = right;
+    for begin in begins.iter_mut() {
+        let is_free = right.0 < begin.0;
+        *begin = left;
+        if is_free {
             return Ok(row);
         }
         row = row.saturating_add(1);
     }
-    ends.push(right)?;
+    begins.push(left)?;
     Ok(row)
 }
 
-/// The labels of a lane's marks, where `cell` is the width of a step.
+/// The labels of a lane's marks that a row of the picture shows.
 pub fn labels_of(
     alloc: Global,
     naming: &Naming,
-    cell: Px,
+    scale: Scale,
     marks: &[Mark],
 ) -> Result<Labels, OutOfMemory> {
-    let mut labels = Vec::new(alloc);
-    let mut ends = Vec::new(alloc);
+    let mut labels = texts_of(alloc, naming, scale, marks)?;
+    let mut begins = Vec::new(alloc);
     let mut rows = 0u32;
-    for mark in marks {
-        if let Some(text) = text_of(alloc, naming, mark.event)? {
-            let left = cell * mark.step;
-            let right = left + width_of(text.as_str());
-            let row = take_row(&mut ends, left, right)?;
-            rows = rows.max(row.saturating_add(1));
-            labels.push(Label {
-                step: mark.step,
-                row,
-                text,
-            })?;
-        }
+    let mut right = Px(0);
+    for label in labels.iter_mut().rev() {
+        let left = scale.x(label.step);
+        let end = left + width_of(label.text.as_str());
+        label.row = take_row(&mut begins, left, end)?;
+        rows = rows.max(label.row.saturating_add(1));
+        right = right.max(end);
     }
-    Ok(Labels { labels, rows })
+    Ok(Labels {
+        labels,
+        rows,
+        right,
+    })
 }

@@ -17,7 +17,7 @@ use std::alloc::{AllocError as OutOfMemory, Global};
 const MOST_SHOWN: u32 = 2000;
 
 /// The one line that says which words are a form.
-const USAGE: &[u8] = b"usage: rmalock_picture PLACE CALLS SCHEDULE [FROM TO]\n";
+const USAGE: &[u8] = b"usage: rmalock-picture PLACE CALLS SCHEDULE [FROM TO]\n";
 
 /// The steps of a window that are shown: as many as a picture may have.
 fn shown(window: Window) -> Window
@@ -57,6 +57,7 @@ impl Viewer for Drawer {
         let shape = place.shape(alloc)?;
         let naming = Naming::of(alloc, &place)?;
         let scene = Scene {
+            lock: place.lock.name(),
             naming: &naming,
             paths: place.paths.as_slice(),
             nodes: shape.node_of.as_slice(),

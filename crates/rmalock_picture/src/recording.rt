@@ -10,12 +10,13 @@ ghost use Rattle.rl_ops.specs.Schedule.{ScheduleFits, TurnFits};
 ghost use Rattle.rl_step.specs.Answers.{steps_made};
 ghost use Rattle.rl_replay.specs.Reading.{SuitsLock};
 
+use crate::deeds::{Deed, Remark, deed_of};
 use crate::lanes::{Cell, Lane, Moment};
 use rl_asks::{Resting, ShardCore};
 use rl_cores::{CoreTask, over_lock};
 use rl_history::Naming;
 use rl_machine::Machine;
-use rl_names::put_step;
+use rl_names::{WordMap, put_step};
 use rl_ops::{Ops, Schedule, Turn};
 use rl_place::Place;
 use rl_step::Event;
@@ -36,8 +37,8 @@ fn first_lanes(alloc: Global, ranks: u32, first: u32) -> Result<Vec<Lane>, OutOf
     ensures { IfOk result (λ lanes. vec_len lanes ≡ ranks) }
 {
     let mut lanes = Vec::new(alloc);
-    for _ in 0..ranks {
-        lanes.push(Lane::new(alloc, first))?;
+    for rank in 0..ranks {
+        lanes.push(Lane::new(alloc, rank, first))?;
     }
     Ok(lanes)
 }
@@ -51,20 +52,35 @@ fn events_of_step(events: &[(u32, Event)], step: u32) -> &[(u32, Event)] {
     &events[first..]
 }
 
-/// Makes one step of a rank, the step with this number, and takes it down; in words where the lane shows it.
+/// What a rank's next step does to a word. Its next block is opened.
+fn next_deed<C: ShardCore>(view: View<'_>, machine: &mut Machine<C>, rank: u32) -> Option<Deed>
+    requires there { rank < length machine.old.calls }
+    requires fits { GeomFits view.place.now.geom }
+    ensures ranks { machine.new.calls ≡ machine.old.calls }
+    ensures counted { machine.new.steps ≡ machine.old.steps }
+{
+    machine.open_next(rank);
+    let next = machine.next_atom(rank)?;
+    let behind = machine.behind_journal(machine.place(rank));
+    deed_of(&WordMap::of(view.place, view.naming, behind), next)
+}
+
+/// Makes one step of a rank, the step with this number, and takes it down; in words where the lane shows it. Gives what the step is called
+/// beyond its events.
 fn make_step<C: ShardCore>(
     view: View<'_>,
     machine: &mut Machine<C>,
     lane: &mut Lane,
     rank: u32,
     step: u32,
-) -> Result<(), OutOfMemory>
+) -> Result<Option<Remark>, OutOfMemory>
     requires there { rank < length machine.old.calls }
     requires few { steps_made machine.old.steps < 2 ^ 32 - 1 }
     requires fits { GeomFits view.place.now.geom }
     ensures ranks { IfOk result (λ _. length machine.new.calls ≡ length machine.old.calls) }
     ensures counted { IfOk result (λ _. steps_made machine.new.steps ≡ steps_made machine.old.steps + 1) }
 {
+    let deed = next_deed(view, machine, rank);
     let mut told = Vec::new(view.alloc);
     let answer = if lane.shows(step) {
         put_step(&mut told, view.place, view.naming, machine, rank)?
@@ -73,12 +89,29 @@ fn make_step<C: ShardCore>(
     };
     let shard = machine.place(rank);
     let moment = Moment {
-        cell: Cell { step, answer, told },
+        cell: Cell::new(step, answer, deed, told),
+        deed,
         shard,
         standing: machine.standing(rank),
         card: machine.card(rank),
     };
-    lane.note(moment, events_of_step(machine.events(shard), step))?;
+    lane.note(moment, events_of_step(machine.events(shard), step))
+}
+
+/// Tells the lane of a rank whose posted call another rank has done with a step.
+fn tell_owner(
+    lanes: &mut Vec<Lane>,
+    remark: Option<Remark>,
+    step: u32,
+    shard: u32,
+) -> Result<(), OutOfMemory>
+    ensures lanes { IfOk result (λ _. vec_len lanes.new ≡ vec_len lanes.old) }
+{
+    if let Some(Remark::DoneFor { rank }) = remark {
+        if let Some(lane) = lanes.get_mut(rank as usize) {
+            lane.is_answered(step, shard)?;
+        }
+    }
     Ok(())
 }
 
@@ -105,8 +138,22 @@ fn make_steps<C: ShardCore>(
         if step >= view.until {
             return Ok(step);
         }
-        make_step(view, machine, &mut lanes[rank as usize], rank, step)?;
+        let remark = make_step(view, machine, &mut lanes[rank as usize], rank, step)?;
+        tell_owner(lanes, remark, step, machine.place(rank))?;
         step += 1;
+    }
+    Ok(step)
+}
+
+/// Tells the lane of a rank that it stops before this step.
+fn stop_rank(lanes: &mut Vec<Lane>, until: u32, rank: u32, step: u32) -> Result<u32, OutOfMemory>
+    ensures lanes { IfOk result (λ _. vec_len lanes.new ≡ vec_len lanes.old) }
+    ensures step { IfOk result (λ next. next ≡ step) }
+{
+    if step < until {
+        if let Some(lane) = lanes.get_mut(rank as usize) {
+            lane.stops(step)?;
+        }
     }
     Ok(step)
 }
@@ -132,7 +179,7 @@ fn make_turn<C: ShardCore>(
         Turn::Steps { rank, count } => {
             make_steps(view, machine, lanes, u32::from(rank), count, step)
         }
-        Turn::Stop { .. } => Ok(step),
+        Turn::Stop { rank } => stop_rank(lanes, view.until, u32::from(rank), step),
     }
 }
 

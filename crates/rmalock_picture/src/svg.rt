@@ -91,17 +91,25 @@ text { font-family: sans-serif; font-size: 10px; fill: #111 }
 .moved { fill: #56b4e9; stroke: #333; stroke-width: 0.5 }
 .waiting { fill: url(#dots); stroke: #333; stroke-width: 0.5 }
 .lost { fill: url(#slashes); stroke: #333; stroke-width: 0.5 }
+.look { fill: url(#backslashes); stroke: #333; stroke-width: 0.5 }
 .busy { fill: url(#bars); stroke: #333; stroke-width: 0.5 }
 .finished { fill: #fff; stroke: #333; stroke-width: 0.5; stroke-dasharray: 2 2 }
 .asking { fill: url(#strokes); stroke: #555; stroke-width: 0.5 }
 .writing { fill: #222; stroke: #222; stroke-width: 0.5 }
 .reading { fill: #009e73; stroke: #222; stroke-width: 0.5 }
 .leaving { fill: #c8c8c8; stroke: #555; stroke-width: 0.5 }
+.looking { fill: #dcecdf; stroke: #555; stroke-width: 0.5 }
+.refused { fill: url(#crosses); stroke: #555; stroke-width: 0.5 }
+.answered { fill: #c9ecd9; stroke: #555; stroke-width: 0.5 }
+.serving { fill: #d9c9ee; stroke: #555; stroke-width: 0.5 }
+.stopped { fill: #aaa; stroke: #222; stroke-width: 0.5 }
 .card { fill: url(#posts); stroke: #222; stroke-width: 0.5 }
 </style>
 <defs>
 <pattern id=\"dots\" width=\"5\" height=\"5\" patternUnits=\"userSpaceOnUse\"><rect width=\"5\" height=\"5\" fill=\"#f0e442\"/><circle cx=\"2.5\" cy=\"2.5\" r=\"1.1\" fill=\"#222\"/></pattern>
 <pattern id=\"slashes\" width=\"5\" height=\"5\" patternUnits=\"userSpaceOnUse\"><rect width=\"5\" height=\"5\" fill=\"#d55e00\"/><path d=\"M-1 1L1 -1M0 5L5 0M4 6L6 4\" stroke=\"#fff\" stroke-width=\"1.4\"/></pattern>
+<pattern id=\"backslashes\" width=\"5\" height=\"5\" patternUnits=\"userSpaceOnUse\"><rect width=\"5\" height=\"5\" fill=\"#f3b183\"/><path d=\"M-1 4L1 6M0 0L5 5M4 -1L6 1\" stroke=\"#222\" stroke-width=\"1\"/></pattern>
+<pattern id=\"crosses\" width=\"6\" height=\"6\" patternUnits=\"userSpaceOnUse\"><rect width=\"6\" height=\"6\" fill=\"#fff\"/><path d=\"M0 0L6 6M6 0L0 6\" stroke=\"#e9b08a\" stroke-width=\"1\"/></pattern>
 <pattern id=\"bars\" width=\"4\" height=\"4\" patternUnits=\"userSpaceOnUse\"><rect width=\"4\" height=\"4\" fill=\"#cc79a7\"/><path d=\"M0 2H4\" stroke=\"#222\" stroke-width=\"1.4\"/></pattern>
 <pattern id=\"strokes\" width=\"6\" height=\"6\" patternUnits=\"userSpaceOnUse\"><rect width=\"6\" height=\"6\" fill=\"#fff\"/><path d=\"M-1 5L1 7M0 0L6 6M5 -1L7 1\" stroke=\"#bbb\" stroke-width=\"1\"/></pattern>
 <pattern id=\"posts\" width=\"4\" height=\"4\" patternUnits=\"userSpaceOnUse\"><rect width=\"4\" height=\"4\" fill=\"#e69f00\"/><path d=\"M2 0V4\" stroke=\"#fbdc9a\" stroke-width=\"1\"/></pattern>

@@ -12,7 +12,7 @@ const TWO_HOLDS: &str = "rmalock-calls 1\n0 hold 0\n1 hold 0\nend\n";
 
 const LOST: &str = "rmalock-schedule 1\n0 4\n1 3\nend\n";
 
-const USAGE: &str = "usage: rmalock_picture PLACE CALLS SCHEDULE [FROM TO]\n";
+const USAGE: &str = "usage: rmalock-picture PLACE CALLS SCHEDULE [FROM TO]\n";
 
 fn words(rt: &HostRuntime, line: &[&str]) -> Result<Vec<String>, OutOfMemory> {
     let mut words = Vec::new(rt.alloc());
@@ -105,6 +105,32 @@ fn a_window_of_one_step(rt: HostRuntime) -> Result<(), Fail> {
     assert_eq!(rt; count(text, b"<title>step "), 1);
     assert_eq!(rt;
         count(text, b"<title>step 5: card-load word = 1 lost 0</title>"),
+        1
+    );
+    Ok(())
+}
+
+/// Rank 0 stops in the card; its lane says so from there on, and a label where.
+#[test]
+fn a_rank_that_stops(rt: HostRuntime) -> Result<(), Fail> {
+    let schedule = "rmalock-schedule 1\n0 2\nstop 0\n1 4\nend\n";
+    let (status, text) = drawn(&rt, &["p", "c", "s"], schedule)?;
+    let text = text.as_slice();
+    assert_eq!(rt; status, 0);
+    assert_eq!(rt; count(text, b"<title>stopped</title>"), 1);
+    assert_eq!(rt; count(text, b">stopped</text>"), 2);
+    Ok(())
+}
+
+/// Seven steps are made, and none of them is shown.
+#[test]
+fn a_window_behind_the_end(rt: HostRuntime) -> Result<(), Fail> {
+    let (status, text) = drawn(&rt, &["p", "c", "s", "10", "12"], LOST)?;
+    let text = text.as_slice();
+    assert_eq!(rt; status, 0);
+    assert_eq!(rt; count(text, b"<title>step "), 0);
+    assert_eq!(rt;
+        count(text, b"no step is shown: from 10 on there is none, of 7"),
         1
     );
     Ok(())
