@@ -119,6 +119,43 @@ fn spin(rt: HostRuntime) -> Result<(), Fail> {
     Ok(())
 }
 
+/// A put into an empty bucket touches what the lock guards with each atom between: it loads the count and the bucket, and stores the six words of
+/// its entry, three of the bucket and the count.
+#[test]
+fn touches_of_a_put(rt: HostRuntime) -> Result<(), Fail> {
+    look(
+        &rt,
+        "rmalock-place 1\nlevels 1\nlock spin\nshards 1\nbuckets 1\noverflow 0\nrank 0 at 0\nhome 0 0\nend\n",
+        "rmalock-calls 1\n0 put 0 7\nend\n",
+        "000000000000000000000",
+        "m m m+0 m m*0 m*0 m!0 m!0 m!0 m!0 m!0 m!0 m!0 m!0 m!0 m!0-0 m m m m f",
+    )
+}
+
+/// A put, a batch that is undone, since its second put finds no room, and one that is done: by the machine, and by a caller on this thread. An
+/// undone batch stores its twelve words of the journal and the count, and nothing else.
+#[test]
+fn touches_of_batches(rt: HostRuntime) -> Result<(), Fail> {
+    look(
+        &rt,
+        "rmalock-place 1\nlevels 1\nlock spin\nshards 1\nbuckets 1\noverflow 0\nrank 0 at 0\nhome 0 0\nend\n",
+        "rmalock-calls 2\n0 put 0 1\n0 batch 2\n0 put 0 5\n0 put 1 6\n0 batch 2\n0 del 0\n0 put 1 7\nend\n",
+        "0000000000000000000000000000000000000000000000000000000000000000000000000000",
+        "m m m+0 m m*0 m*0 m!0 m!0 m!0 m!0 m!0 m!0 m!0 m!0 m!0 m!0-0 m m m m m m m+0 m m*0 m*0 m*0 m*0 m*0 m!0 m!0 m!0 m!0 m!0 m!0 m!0 m!0 m!0 m!0 m!0 m!0 m!0-0 m m m m m m m+0 m m*0 m*0 m*0 m*0 m!0 m!0 m!0 m!0 m!0 m!0 m!0 m!0 m!0 m!0 m!0 m!0 m!0 m!0 m!0 m!0 m!0-0 m m m m f",
+    )
+}
+
+/// Under a version a hold is done by ALock, and leaves the version alone.
+#[test]
+fn a_hold_beside_a_version(rt: HostRuntime) -> Result<(), Fail> {
+    look_together(
+        &rt,
+        "seq\nbudget 1 1",
+        "1",
+        &[("000000000", "m m mj0.0 ma1 ms0.0+0 m*0-0 m m f")],
+    )
+}
+
 /// A joiner that finds the queue taken, a leaver that waits for its link, a rank that is passed to. Behind the volume of four words
 /// stand the tail, word 6, and then the next word and the status word of each rank: words 7 and 8, 9 and 10.
 #[test]

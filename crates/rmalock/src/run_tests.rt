@@ -238,7 +238,15 @@ fn reply_of(report: &Report, rank: u32, seq: u32) -> Option<(u32, Reply)> {
 /// Two ranks that go on to each of their calls only together: they run side by side, or the gate gives up.
 #[test]
 fn two_ranks_wait_for_each_other(rt: HostRuntime) -> Result<(), Fail> {
-    for lock in ["alock\nbudget 4 4", "spin", "dmcs", "mcs\nbudget 4"] {
+    for lock in [
+        "spin",
+        "dmcs",
+        "alock\nbudget 4 4",
+        "mcs\nbudget 4",
+        "rw\nbudget 4\nwriters 4\nreaders 16\ngroup 2",
+        "seq\nbudget 4 4",
+        "combine\nbudget 4 4",
+    ] {
         let place = one_shard(&rt, lock, "buckets 2\noverflow 0", "01")?;
         let calls = "rmalock-calls 1\n0 put 0 5\n0 get 0\n1 put 1 6\n1 get 1\nend\n";
         for _ in 0..10 {
@@ -252,6 +260,43 @@ fn two_ranks_wait_for_each_other(rt: HostRuntime) -> Result<(), Fail> {
             assert!(rt; matches!(reply_of(&report, 1, 1), Some((_, Reply::Val(6)))));
         }
     }
+    Ok(())
+}
+
+/// Notes before which calls each of two ranks asks it: a digit a call, which is the call's number and one more.
+#[derive(Drop)]
+struct Noting {
+    noted: [AtomicU64; 2],
+}
+
+impl Gate for Noting {
+    fn before(&self, rank: u32, call: u32) {
+        if let Some(noted) = self.noted.get(rank as usize) {
+            let so_far = noted.load(Ordering::SeqCst);
+            let digit = u64::from(call) + 1;
+            noted.store(
+                so_far.wrapping_mul(10).wrapping_add(digit),
+                Ordering::SeqCst,
+            );
+        }
+    }
+
+    fn after(&self, _rank: u32, _answer: u32) {}
+}
+
+/// A gate is asked before each block, by the rank and by the number of the block's first call: rank 0 has a call, a batch of two and a call, which
+/// are its calls 0, 1 and 3; rank 1 has two calls.
+#[test]
+fn blocks_have_the_numbers_of_their_calls(rt: HostRuntime) -> Result<(), Fail> {
+    let place = one_shard(&rt, "spin", "buckets 2\noverflow 0", "00")?;
+    let calls =
+        "rmalock-calls 2\n0 put 0 1\n0 batch 2\n0 put 0 2\n0 del 0\n0 get 0\n1 get 1\n1 put 1 3\nend\n";
+    let gate = Noting {
+        noted: [AtomicU64::new(0), AtomicU64::new(0)],
+    };
+    report_of(&rt, &place, calls, &gate)?;
+    assert_eq!(rt; gate.noted[0].load(Ordering::SeqCst), 124);
+    assert_eq!(rt; gate.noted[1].load(Ordering::SeqCst), 12);
     Ok(())
 }
 

@@ -330,6 +330,26 @@ fn all_closed<C: ShardCore>(shard: &Shard<C>, seats: &[Seat<C>]) -> bool
     true
 }
 
+/// What the seats tell: each one's rank, and the first of its entries.
+fn told_by_seats<C: ShardCore>(
+    alloc: Global,
+    shard: &Shard<C>,
+    seats: &Vec<Seat<C>>,
+) -> Result<Vec<(u32, Option<Entry>)>, OutOfMemory> {
+    let mut told = Vec::new(alloc);
+    for seat in seats {
+        told.push((seat.rank(), seat.transcript(shard).first().copied()))?;
+    }
+    Ok(told)
+}
+
+/// What is left of a shard, and what its seats told before.
+#[derive(Drop)]
+struct Left {
+    closed: Closed,
+    told: Vec<(u32, Option<Entry>)>,
+}
+
 /// Opens the shard, begins the first call of each rank, steps the seats in threads, and then by turns as long as a call may still be open;
 /// and closes the shard.
 fn closed_by_threads<C: ShardCore + Send + Sync, R: Threads + Sync>(
@@ -337,7 +357,7 @@ fn closed_by_threads<C: ShardCore + Send + Sync, R: Threads + Sync>(
     alloc: Global,
     place: &Place,
     calls: &[Vec<Call>],
-) -> Result<Option<Closed>, OutOfMemory>
+) -> Result<Option<Left>, OutOfMemory>
 where
     C::View: Send + Sync,
     requires proper { IsProper place.now }
@@ -350,8 +370,9 @@ where
     if !all_closed(&shard, seats.as_slice()) {
         return Ok(None);
     }
+    let told = told_by_seats(alloc, &shard, &seats)?;
     match shard.close(seats) {
-        Ok(closed) => Ok(Some(closed)),
+        Ok(closed) => Ok(Some(Left { closed, told })),
         Err(_) => Ok(None),
     }
 }
@@ -361,12 +382,12 @@ fn closed_of<R: Threads + Sync + AllocGlobal>(
     rt: &R,
     place: &str,
     calls: &str,
-) -> Result<Option<Closed>, TextErr> {
+) -> Result<Option<Left>, TextErr> {
     let alloc = rt.alloc();
     let (place, ops) = read_both(alloc, place, calls)?;
     let calls = ops.by_rank.as_slice();
     settings_suit();
-    let closed = match &place.lock {
+    let left = match &place.lock {
         Lock::Spin => closed_by_threads::<SpinCore, R>(rt, alloc, &place, calls)?,
         Lock::Dmcs => closed_by_threads::<DmcsCore, R>(rt, alloc, &place, calls)?,
         Lock::Alock { .. } => closed_by_threads::<AlockCore, R>(rt, alloc, &place, calls)?,
@@ -375,7 +396,7 @@ fn closed_of<R: Threads + Sync + AllocGlobal>(
         Lock::Seq { .. } => closed_by_threads::<SeqCore, R>(rt, alloc, &place, calls)?,
         Lock::Combine { .. } => closed_by_threads::<CombineCore, R>(rt, alloc, &place, calls)?,
     };
-    Ok(closed)
+    Ok(left)
 }
 
 /// The value of the put that is the last of so many updates.
@@ -395,6 +416,18 @@ fn is_answered(journal: &[Entry], entry: &Entry) -> bool {
         (Call::Get { .. }, Reply::Nothing, None) => true,
         (Call::Get { .. }, Reply::Val(found), Some(value)) => found == value,
         _ => false,
+    }
+}
+
+/// Looks that each seat told its rank, and the first entry that the shard then left of the rank.
+fn look_at_seats<R: Abort>(rt: &R, left: &Left) {
+    assert_eq!(rt; left.told.len(), left.closed.transcripts.len());
+    let transcripts = left.closed.transcripts.as_slice();
+    for (rank, told) in left.told.as_slice().iter().enumerate() {
+        let first = transcripts
+            .get(rank)
+            .and_then(|own| own.as_slice().first().copied());
+        assert_eq!(rt; (told.0 as usize, told.1), (rank, first));
     }
 }
 
@@ -429,6 +462,8 @@ fn two_threads_over_each_lock(rt: HostRuntime) -> Result<(), Fail> {
         "alock\nbudget 1 1",
         "mcs\nbudget 1",
         "rw\nbudget 1\nwriters 1\nreaders 2\ngroup 32",
+        "seq\nbudget 1 1",
+        "combine\nbudget 1 1",
     ] {
         for node in 0..2u32 {
             let place = format!(in rt.alloc();
@@ -436,8 +471,9 @@ fn two_threads_over_each_lock(rt: HostRuntime) -> Result<(), Fail> {
             )?;
             for (call, puts) in [("put 0 7", 2), ("get 0", 1)] {
                 let calls = format!(in rt.alloc(); "rmalock-calls 1\n0 put 0 5\n1 {call}\nend\n")?;
-                let closed = closed_of(&rt, &place, &calls)?.ok_or("not closed")?;
-                look(&rt, &closed, puts);
+                let left = closed_of(&rt, &place, &calls)?.ok_or("not closed")?;
+                look_at_seats(&rt, &left);
+                look(&rt, &left.closed, puts);
             }
         }
     }

@@ -187,32 +187,54 @@ fn a_call_is_done_by_another_rank(rt: HostRuntime) -> Result<(), Fail> {
     Ok(())
 }
 
-/// What the steps of these ranks tell, by the machine and by single seats: its answers and the events, and each answer by itself.
-fn answers<R: AllocGlobal + Abort>(
+/// What the steps of a get beside a writer tell. The get finds version 0, the count and the bucket, which it doesn't touch by its lock; the writer
+/// enters, and touches all of the table with each atom but those on the version, behind the last of which it leaves; the get has lost, waits
+/// since the version is 1, and then reads all.
+const TOLD_BESIDE_A_WRITER: &str =
+    "m m m m m mj0.0 ma1 ms0.0+0 m*0 m*0 m m l0.1 w19.1 m!0 m!0 m!0 m!0 m!0 m!0 m!0 m!0 m!0 m!0 m-0 m m m m m m m m";
+
+/// What the steps of the rank that does the calls of both tell, behind the six of the other's post: its own post, the way in, its flag, the
+/// count; its put, by a copy, the bucket, the entry, the bucket's words and the count, the answer and the flag; the other's get, by a copy and
+/// three words; its own answer. Who does a call touches for it.
+const TOLD_BY_ONE_FOR_BOTH: &str =
+    "m m m m m m m m m m m m m m mj0.0 ma1 ms0.0+0 m m*0 m m m m m m m*0 m!0 m!0 m!0 m!0 m!0 m!0 m!0 m!0 m!0 m!0 m m m m m m m m m m m*0 m*0 m*0 m m m m m m m m-0 m m";
+
+/// And what those of the other tell: the way in, its flag, its answer, the way out.
+const TOLD_BY_THE_OTHER: &str = "m m mj0.1 ma1 ms0.1+1 m m m m m-1 m m";
+
+/// Looks that the steps of these ranks tell this, by the machine; and that single seats answer so.
+fn look_told<R: AllocGlobal + Abort>(
     rt: &R,
     lock: &str,
     calls: &str,
     ranks: &str,
-) -> Result<String, Fail> {
+    want: &str,
+) -> Result<(), Fail> {
     let place = two_at_home(rt, lock)?;
-    trial_and_seats(rt, &place, calls, ranks)
+    let told = trial_and_seats(rt, &place, calls, ranks)?;
+    assert_eq!(rt; told.as_str(), want);
+    Ok(())
 }
 
-/// Seats on one thread answer as the machine does: the get has lost in step 12, having found version 0 first and 1 now, waits in step 13
-/// since the version is 1, and moves on in all others; under flat combining all 71 move on.
+/// The machine and seats on one thread tell all answers and events, touches too. The version is word 19: behind six words of the table, six of
+/// the journal, and the seven of ALock.
 #[test]
 fn seats_answer_alike(rt: HostRuntime) -> Result<(), Fail> {
-    let told = answers(&rt, "seq", PUT_AND_GET, GET_BESIDE_A_WRITER)?;
-    for (step, sign) in told.as_str().split(' ').enumerate() {
-        match step {
-            12 => assert_eq!(rt; sign, "l0.1"),
-            13 => assert!(rt; sign.starts_with("w") && sign.ends_with(".1")),
-            _ => assert!(rt; sign.starts_with("m")),
-        }
-    }
-    let told = answers(&rt, "combine", PUT_ONE_AND_GET, BOTH_CALLS_BY_ONE)?;
-    assert!(rt; told.as_str().split(' ').all(|sign| sign.starts_with("m")));
-    Ok(())
+    look_told(
+        &rt,
+        "seq",
+        PUT_AND_GET,
+        GET_BESIDE_A_WRITER,
+        TOLD_BESIDE_A_WRITER,
+    )?;
+    let want = format!(in rt.alloc(); "{TOLD_BY_ONE_FOR_BOTH} {TOLD_BY_THE_OTHER}")?;
+    look_told(
+        &rt,
+        "combine",
+        PUT_ONE_AND_GET,
+        BOTH_CALLS_BY_ONE,
+        want.as_str(),
+    )
 }
 
 /// Threads that are led by the same turns get the same answers.
