@@ -1,10 +1,31 @@
-"""here: what lies in this clone, for the scripts: the programs, built where they have to be; the plain program of bench/peer, with which
-they are compared; and the worked cases of crates/worked_cases."""
-import os, subprocess, sys
+"""here: what lies in this clone, for the scripts: the programs; the plain program of bench/peer, with which they are compared; and the worked
+cases of crates/worked_cases. The scripts `check-*` take the programs as they are built (`built`), all others build them where they have to (`program`)."""
+import os, shutil, subprocess, sys
 
 TOP = os.path.dirname(os.path.dirname(os.path.abspath(__file__)))
 CASES = os.path.join(TOP, "crates", "worked_cases", "data")
 SUITES = "spin dmcs alock mcs rw seq combine words check faults".split()
+# The status of a check that found no program, and so tried nothing.
+NOTHING_TRIED = 77
+
+
+def caller():
+    return os.path.basename(sys.argv[0])
+
+
+def built(name="rmalock"):
+    """The path of a program that is built already, or that the environment names (`program` says how). Where there is none, that is said, and the
+    script ends with the status of nothing tried."""
+    other, found = os.environ.get(name.upper()), ""
+    if other:
+        found = os.path.abspath(other)
+    else:
+        told = subprocess.run([os.path.join(TOP, "scripts", "run-program"), "--built", name], stdout=subprocess.PIPE, universal_newlines=True)
+        found = told.stdout.strip()
+    if not os.access(found, os.X_OK):
+        print("%s: %s isn't built, nothing tried" % (caller(), other or name), flush=True)
+        sys.exit(NOTHING_TRIED)
+    return found
 
 
 def program(name="rmalock"):
@@ -25,7 +46,7 @@ def program(name="rmalock"):
 def timed_program():
     """The path of rmalock, whose time is taken. The build without proofs checks itself as it runs, which makes it slow: that is said."""
     if os.environ.get("RMALOCK_UNPROVED") == "1":
-        print("%s: the unproved build checks itself as it runs, so its times tell nothing of the proved one's" % os.path.basename(sys.argv[0]), flush=True)
+        print("%s: the unproved build checks itself as it runs, so its times tell nothing of the proved one's" % caller(), flush=True)
     return program()
 
 
@@ -34,7 +55,9 @@ def peer(left_out):
     done = subprocess.run([os.path.join(TOP, "bench", "peer", "build")], stdout=subprocess.PIPE, universal_newlines=True)
     if done.returncode == 0:
         return done.stdout.strip()
-    print("%s: without the plain program of bench/peer, %s" % (os.path.basename(sys.argv[0]), left_out), flush=True)
+    if shutil.which("rustc"):
+        sys.exit("%s: the plain program of bench/peer can't be built" % caller())
+    print("%s: without the plain program of bench/peer, %s" % (caller(), left_out), flush=True)
     return None
 
 
