@@ -4,7 +4,7 @@ import os, shutil, subprocess, sys
 
 TOP = os.path.dirname(os.path.dirname(os.path.abspath(__file__)))
 CASES = os.path.join(TOP, "crates", "worked_cases", "data")
-SUITES = "spin dmcs alock mcs rw seq combine words check faults".split()
+SUITES = "spin dmcs alock mcs rw seq combine words check faults by_hand".split()
 # The status of a check that found no program, and so tried nothing.
 NOTHING_TRIED = 77
 
