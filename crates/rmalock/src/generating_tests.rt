@@ -1,75 +1,59 @@
 //! Placements and calls made from numbers, worked out by hand.
 
-use rl_model::Call;
-use rl_place::{Lock, Path};
-use rl_program::generate;
-use std::test::*;
+ghost use Rattle.std.specs.Prelude.{◌≤◌};
 
-/// The path of a node at the first level.
-fn node(number: u32) -> Path {
-    Path {
-        len: 1,
-        parts: [number, 0, 0],
-    }
+use rl_ops::ops_text;
+use rl_place::place_text;
+use rl_program::generate;
+use std::alloc::{AllocError as OutOfMemory, Global};
+use std::process::Abort;
+
+/// The texts of a placement and of calls that are made from a number.
+fn made(
+    alloc: Global,
+    number: u64,
+    ranks: u32,
+    calls: u32,
+) -> Result<(Vec<u8>, Vec<u8>), OutOfMemory>
+    requires some_ranks { 1 ≤ ranks }
+    requires most_ranks { ranks ≤ 32 }
+    requires most_calls { calls ≤ 20000 }
+{
+    let (place, ops) = generate(alloc, number, ranks, calls)?;
+    Ok((place_text(alloc, &place)?, ops_text(alloc, &ops)?))
+}
+
+/// Looks that the ranks sit on these nodes, and the shards are at home there; and that these are the calls.
+fn look(rt: &impl Abort, made: &(Vec<u8>, Vec<u8>), seats: &str, calls: &str) {
+    let head =
+        "rmalock-place 1\nlevels 1\nlock alock\nbudget 4 4\nshards 4\nbuckets 16\noverflow 16\n";
+    let rest = made.0.as_slice().strip_prefix(head.as_bytes());
+    assert!(rt; rest.is_some_and(|rest| rest == seats.as_bytes()));
+    assert_eq!(rt; made.1.as_slice(), calls.as_bytes());
 }
 
 /// The generator that begins with 1 has the high bits 16838, 5758, 10113, 17515 and 31051: an add (16838 mod 8 is 6) of key 58 by 113, and
-/// a get (17515 mod 8 is 3) of key 51.
+/// a get (17515 mod 8 is 3) of key 51. Seven calls of three ranks are of every kind. Of nine ranks 0 to 3 sit on node 0, 4 to 7 on node 1, and
+/// rank 8 on node 2; the fourth shard is at home on node 0 again.
 #[test]
-fn two_calls_of_one_rank(rt: HostRuntime) {
-    let (place, ops) = generate(rt.alloc(), 1, 1, 2).expect(&rt, "memory");
-    assert!(rt;
-        matches!(
-            place.lock,
-            Lock::Alock {
-                local: 4,
-                remote: 4
-            }
-        )
+fn placements_and_calls_of_numbers(rt: HostRuntime) -> Result<(), OutOfMemory> {
+    look(
+        &rt,
+        &made(rt.alloc(), 1, 1, 2)?,
+        "rank 0 at 0\nhome 0 0\nhome 1 0\nhome 2 0\nhome 3 0\nend\n",
+        "rmalock-calls 1\n0 add 58 113\n0 get 51\nend\n",
     );
-    assert_eq!(rt; place.homes.as_slice(), [0, 0, 0, 0].as_slice());
-    let lists = ops.by_rank.into_vec();
-    assert_eq!(rt; lists.len(), 1);
-    let wanted = [Call::Add { key: 58, by: 113 }, Call::Get { key: 51 }];
-    assert_eq!(rt; lists[0].as_slice(), wanted.as_slice());
-}
-
-/// Seven calls of three ranks, of every kind.
-#[test]
-fn seven_calls_of_three_ranks(rt: HostRuntime) {
-    let (place, ops) = generate(rt.alloc(), 15, 3, 7).expect(&rt, "memory");
-    let path = node(0);
-    assert_eq!(rt; place.paths.as_slice(), [path, path, path].as_slice());
-    let lists = ops.by_rank.into_vec();
-    let first = [
-        Call::Add { key: 3, by: 874 },
-        Call::Put {
-            key: 92,
-            value: 653,
-        },
-        Call::Cas {
-            key: 91,
-            old: 26,
-            new: 245,
-        },
-    ];
-    let second = [Call::Add { key: 81, by: 272 }, Call::Get { key: 58 }];
-    let third = [Call::Del { key: 17 }, Call::Get { key: 18 }];
-    assert_eq!(rt; lists.len(), 3);
-    assert_eq!(rt; lists[0].as_slice(), first.as_slice());
-    assert_eq!(rt; lists[1].as_slice(), second.as_slice());
-    assert_eq!(rt; lists[2].as_slice(), third.as_slice());
-    let sizes = ops.sizes.into_vec();
-    assert_eq!(rt; sizes[0].as_slice(), [1, 1, 1].as_slice());
-    assert_eq!(rt; sizes[1].as_slice(), [1, 1].as_slice());
-}
-
-/// Ranks 0 to 3 sit on node 0, 4 to 7 on node 1, and rank 8 on node 2; the fourth shard is at home on node 0 again.
-#[test]
-fn nine_ranks_on_three_nodes(rt: HostRuntime) {
-    let (place, ops) = generate(rt.alloc(), 7, 9, 0).expect(&rt, "memory");
-    assert_eq!(rt; place.paths.len(), 9);
-    assert_eq!(rt; place.paths.as_slice()[8], node(2));
-    assert_eq!(rt; place.homes.as_slice(), [0, 1, 2, 0].as_slice());
-    assert_eq!(rt; ops.by_rank.into_vec().len(), 9);
+    look(
+        &rt,
+        &made(rt.alloc(), 15, 3, 7)?,
+        "rank 0 at 0\nrank 1 at 0\nrank 2 at 0\nhome 0 0\nhome 1 0\nhome 2 0\nhome 3 0\nend\n",
+        "rmalock-calls 1\n0 add 3 874\n0 put 92 653\n0 cas 91 26 245\n1 add 81 272\n1 get 58\n2 del 17\n2 get 18\nend\n",
+    );
+    look(
+        &rt,
+        &made(rt.alloc(), 7, 9, 0)?,
+        "rank 0 at 0\nrank 1 at 0\nrank 2 at 0\nrank 3 at 0\nrank 4 at 1\nrank 5 at 1\nrank 6 at 1\nrank 7 at 1\nrank 8 at 2\nhome 0 0\nhome 1 1\nhome 2 2\nhome 3 0\nend\n",
+        "rmalock-calls 1\nend\n",
+    );
+    Ok(())
 }

@@ -2,6 +2,8 @@
 #![tactic(auto)]
 
 #[cfg(test)]
+mod answers;
+#[cfg(test)]
 mod callers;
 #[cfg(test)]
 mod check_tests;
@@ -18,11 +20,11 @@ mod robust_tests;
 #[cfg(test)]
 mod run_tests;
 #[cfg(test)]
+mod schedules;
+#[cfg(test)]
 mod seat_tests;
 #[cfg(test)]
 mod signs;
-#[cfg(test)]
-mod tests;
 #[cfg(test)]
 mod trials;
 #[cfg(test)]

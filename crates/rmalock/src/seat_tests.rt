@@ -9,8 +9,9 @@ ghost use Rattle.rl_place.specs.Shapes.{shape_of, knobs_of};
 ghost use Rattle.rl_cores.specs.Fresh.{IsFresh};
 ghost use Rattle.rl_shard.specs.Shards.{IsOf, IsShardOf, AreOf, AreClosed, rank_at};
 
+use crate::schedules::one_shard;
 use crate::signs::{answer_sign, answers_alone};
-use crate::trials::{read_both, trial};
+use crate::trials::{look_same, read_both, trial};
 use rl_asks::{Resting, ShardCore};
 use rl_cores::{
     AlockCore, CombineCore, CoreTask, DmcsCore, McsCore, RwCore, SeqCore, SpinCore, over_lock,
@@ -24,7 +25,6 @@ use rl_step::Stepped;
 use rl_text::TextErr;
 use std::alloc::{AllocError as OutOfMemory, Global};
 use std::process::Abort;
-use std::test::Fail;
 use std::thread::{Threads, for_each_mut};
 
 /// Room for one call of each rank, which may be an update.
@@ -230,6 +230,31 @@ fn answers_told(alloc: Global, told: &str) -> Result<String, OutOfMemory> {
     Ok(text)
 }
 
+/// Whether a rank has more calls than one.
+fn has_more_than_one(calls: &[Vec<Call>]) -> bool {
+    calls.iter().any(|own| own.len() > 1)
+}
+
+/// What seats answer in these turns, where no rank has more calls than one, and their tallies.
+fn seats_of(
+    alloc: Global,
+    place: &str,
+    calls: &str,
+    turns: &[u8],
+) -> Result<Option<String>, TextErr> {
+    let (place, ops) = read_both(alloc, place, calls)?;
+    let calls = ops.by_rank.as_slice();
+    if has_more_than_one(calls) {
+        return Ok(None);
+    }
+    let task = SeatsTask {
+        alloc,
+        calls,
+        turns,
+    };
+    Ok(Some(over_lock(&place, task)?))
+}
+
 /// What the steps of these ranks tell, as the machine and callers make them. Where no rank has more calls than one, it looks that seats, all
 /// on this thread, answer the same, and that their tallies are those of the machine's events.
 pub(crate) fn trial_and_seats<R: AllocGlobal + Abort>(
@@ -237,26 +262,12 @@ pub(crate) fn trial_and_seats<R: AllocGlobal + Abort>(
     place: &str,
     calls: &str,
     ranks: &str,
-) -> Result<String, Fail> {
+) -> Result<String, TextErr> {
     let alloc = rt.alloc();
     let told = trial(rt, place, calls, ranks)?.told;
-    let (place, ops) = read_both(alloc, place, calls)?;
-    let calls = ops.by_rank.as_slice();
-    for own in calls {
-        if own.len() > 1 {
-            return Ok(told);
-        }
+    if let Some(seats) = seats_of(alloc, place, calls, ranks.as_bytes())? {
+        look_same(rt, &seats, &answers_told(alloc, &told)?);
     }
-    let turns = ranks.as_bytes();
-    let seats = over_lock(
-        &place,
-        SeatsTask {
-            alloc,
-            calls,
-            turns,
-        },
-    )?;
-    assert_eq!(rt; seats, answers_told(alloc, &told)?);
     Ok(told)
 }
 
@@ -419,63 +430,95 @@ fn is_answered(journal: &[Entry], entry: &Entry) -> bool {
     }
 }
 
+/// The first entry of a rank's transcript.
+fn first_of(transcripts: &[Vec<Entry>], rank: usize) -> Option<Entry> {
+    transcripts.get(rank)?.as_slice().first().copied()
+}
+
 /// Looks that each seat told its rank, and the first entry that the shard then left of the rank.
 fn look_at_seats<R: Abort>(rt: &R, left: &Left) {
-    assert_eq!(rt; left.told.len(), left.closed.transcripts.len());
     let transcripts = left.closed.transcripts.as_slice();
+    assert!(rt; left.told.len() == transcripts.len());
     for (rank, told) in left.told.as_slice().iter().enumerate() {
-        let first = transcripts
-            .get(rank)
-            .and_then(|own| own.as_slice().first().copied());
-        assert_eq!(rt; (told.0 as usize, told.1), (rank, first));
+        assert!(rt; told.0 as usize == rank);
+        assert!(rt; told.1 == first_of(transcripts, rank));
+    }
+}
+
+/// Looks that the journal has so many updates, each at its place, with the replies that belong to them.
+fn look_at_journal<R: Abort>(rt: &R, journal: &[Entry], puts: u32) {
+    assert!(rt; journal.len() == puts as usize);
+    for (place, entry) in journal.iter().enumerate() {
+        assert!(rt; entry.at as usize == place && is_answered(journal, entry));
+    }
+}
+
+/// Looks that an entry is the first call of its rank, with the reply that belongs to it, and where it is an update the one at its place.
+fn look_at_entry<R: Abort>(rt: &R, journal: &[Entry], rank: usize, entry: &Entry) {
+    assert!(rt; entry.rank as usize == rank && entry.seq == 0);
+    assert!(rt; is_answered(journal, entry));
+    let noted = journal.get(entry.at as usize);
+    assert!(rt; matches!(entry.call, Call::Get { .. }) || noted == Some(entry));
+}
+
+/// Looks that there are two ranks with an entry each.
+fn look_at_transcripts<R: Abort>(rt: &R, journal: &[Entry], transcripts: &[Vec<Entry>]) {
+    assert!(rt; transcripts.len() == 2);
+    for (rank, transcript) in transcripts.iter().enumerate() {
+        assert!(rt; transcript.len() == 1);
+        for entry in transcript {
+            look_at_entry(rt, journal, rank, entry);
+        }
     }
 }
 
 /// Looks that a closed shard is that of two ranks which made one call each, puts and gets of key 0, in some order.
-fn look<R: AllocGlobal + Abort>(rt: &R, closed: &Closed, puts: u32) {
-    assert_eq!(rt; closed.journal.len(), puts as usize);
-    for (place, entry) in closed.journal.as_slice().iter().enumerate() {
-        assert_eq!(rt; entry.at as usize, place);
-        assert!(rt; is_answered(closed.journal.as_slice(), entry));
-    }
-    assert_eq!(rt; closed.transcripts.len(), 2);
-    for (rank, transcript) in closed.transcripts.as_slice().iter().enumerate() {
-        assert_eq!(rt; transcript.len(), 1);
-        for entry in transcript {
-            assert_eq!(rt; (entry.rank as usize, entry.seq), (rank, 0));
-            assert!(rt; is_answered(closed.journal.as_slice(), entry));
-            let noted = closed.journal.as_slice().get(entry.at as usize);
-            assert!(rt; matches!(entry.call, Call::Get { .. }) || noted == Some(entry));
-        }
-    }
-    let last = value_after(closed.journal.as_slice(), puts);
+fn look<R: Abort>(rt: &R, closed: &Closed, puts: u32) {
+    let journal = closed.journal.as_slice();
+    look_at_journal(rt, journal, puts);
+    look_at_transcripts(rt, journal, closed.transcripts.as_slice());
     let pair = closed.pairs.as_slice().first();
-    assert_eq!(rt; (closed.pairs.len(), pair.map(|p| p.1)), (1, last));
+    assert!(rt; closed.pairs.len() == 1 && pair.map(|p| p.1) == value_after(journal, puts));
 }
+
+/// Makes these calls by two threads, each with a seat, from opening to close.
+fn look_at_threads<R: Threads + Sync + AllocGlobal + Abort>(
+    rt: &R,
+    place: &str,
+    calls: &str,
+    puts: u32,
+) -> Result<(), TextErr> {
+    let left = closed_of(rt, place, calls)?;
+    assert!(rt; left.is_some());
+    if let Some(left) = &left {
+        look_at_seats(rt, left);
+        look(rt, &left.closed, puts);
+    }
+    Ok(())
+}
+
+/// Two puts, and a put and a get, over a lock, with the ranks on these nodes.
+fn look_at_lock<R: Threads + Sync + AllocGlobal + Abort>(
+    rt: &R,
+    lock: &str,
+    nodes: &str,
+) -> Result<(), TextErr> {
+    let place = one_shard(rt.alloc(), lock, "buckets 1\noverflow 0", nodes)?;
+    let puts = "rmalock-calls 1\n0 put 0 5\n1 put 0 7\nend\n";
+    look_at_threads(rt, &place, puts, 2)?;
+    let put_and_get = "rmalock-calls 1\n0 put 0 5\n1 get 0\nend\n";
+    look_at_threads(rt, &place, put_and_get, 1)
+}
+
+const LOCKS: &str =
+    "spin|dmcs|alock;budget 1 1|mcs;budget 1|rw;budget 1;writers 1;readers 2;group 32|seq;budget 1 1|combine;budget 1 1";
 
 /// Two threads, each with a seat, from opening to close, over each lock, with both ranks at home and with one elsewhere.
 #[test]
-fn two_threads_over_each_lock(rt: HostRuntime) -> Result<(), Fail> {
-    for lock in [
-        "spin",
-        "dmcs",
-        "alock\nbudget 1 1",
-        "mcs\nbudget 1",
-        "rw\nbudget 1\nwriters 1\nreaders 2\ngroup 32",
-        "seq\nbudget 1 1",
-        "combine\nbudget 1 1",
-    ] {
-        for node in 0..2u32 {
-            let place = format!(in rt.alloc();
-                "rmalock-place 1\nlevels 1\nlock {lock}\nshards 1\nbuckets 1\noverflow 0\nrank 0 at 0\nrank 1 at {node}\nhome 0 0\nend\n"
-            )?;
-            for (call, puts) in [("put 0 7", 2), ("get 0", 1)] {
-                let calls = format!(in rt.alloc(); "rmalock-calls 1\n0 put 0 5\n1 {call}\nend\n")?;
-                let left = closed_of(&rt, &place, &calls)?.ok_or("not closed")?;
-                look_at_seats(&rt, &left);
-                look(&rt, &left.closed, puts);
-            }
-        }
+fn two_threads_over_each_lock(rt: HostRuntime) -> Result<(), TextErr> {
+    for lock in LOCKS.split('|') {
+        look_at_lock(&rt, lock, "00")?;
+        look_at_lock(&rt, lock, "01")?;
     }
     Ok(())
 }

@@ -21,7 +21,6 @@ use rl_step::Steps;
 use rl_text::{TEXT_LIMIT, TextErr};
 use std::alloc::{AllocError as OutOfMemory, Global};
 use std::process::Abort;
-use std::test::Fail;
 
 /// Whether so few steps were made that one more can be.
 fn has_room(steps: Steps) -> bool
@@ -177,15 +176,14 @@ pub(crate) fn read_both(alloc: Global, place: &str, calls: &str) -> Result<(Plac
     Ok((place, ops))
 }
 
-/// What comes of the steps of these ranks, which are given by their digits, over the placement and the calls of these texts. Looks that
-/// callers on one thread answer the same.
-pub(crate) fn trial<R: AllocGlobal + Abort>(
-    rt: &R,
+/// What comes of the steps of these ranks, which are given by their digits, over the placement and the calls of these texts, and what
+/// callers answer.
+fn tried(
+    alloc: Global,
     place: &str,
     calls: &str,
     ranks: &str,
-) -> Result<Outcome, Fail> {
-    let alloc = rt.alloc();
+) -> Result<(Outcome, String), TextErr> {
     let (place, ops) = read_both(alloc, place, calls)?;
     let again = read_calls(alloc, &place, calls)?;
     let ranks = ranks.as_bytes();
@@ -195,7 +193,25 @@ pub(crate) fn trial<R: AllocGlobal + Abort>(
         again,
         ranks,
     };
-    let (trial, by_callers) = over_lock(&place, task)?;
-    assert_eq!(rt; by_callers, answers_alone(alloc, &trial.told)?);
-    Ok(trial)
+    Ok(over_lock(&place, task)?)
+}
+
+/// Looks that a text is this one.
+pub(crate) fn look_same(rt: &impl Abort, made: &str, wanted: &str) {
+    assert_eq!(rt; made, wanted);
+}
+
+/// What comes of the steps of these ranks, which are given by their digits, over the placement and the calls of these texts. Looks that
+/// callers on one thread answer the same.
+pub(crate) fn trial<R: AllocGlobal + Abort>(
+    rt: &R,
+    place: &str,
+    calls: &str,
+    ranks: &str,
+) -> Result<Outcome, TextErr> {
+    let alloc = rt.alloc();
+    let (outcome, by_callers) = tried(alloc, place, calls, ranks)?;
+    let alone = answers_alone(alloc, &outcome.told)?;
+    look_same(rt, &by_callers, &alone);
+    Ok(outcome)
 }
