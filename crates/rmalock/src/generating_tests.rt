@@ -1,6 +1,8 @@
 //! Placements and calls made from numbers, worked out by hand.
 
 ghost use Rattle.std.specs.Prelude.{◌≤◌};
+ghost use Rattle.rl_place.specs.declared.limits.TheConstants.{MOST_RANKS};
+ghost use Rattle.rl_ops.specs.declared.ops.TheConstants.{MOST_CALLS};
 
 use rl_ops::ops_text;
 use rl_place::place_text;
@@ -16,8 +18,8 @@ fn made(
     calls: u32,
 ) -> Result<(Vec<u8>, Vec<u8>), OutOfMemory>
     requires some_ranks { 1 ≤ ranks }
-    requires most_ranks { ranks ≤ 32 }
-    requires most_calls { calls ≤ 20000 }
+    requires most_ranks { ranks ≤ MOST_RANKS }
+    requires most_calls { calls ≤ MOST_CALLS }
 {
     let (place, ops) = generate(alloc, number, ranks, calls)?;
     Ok((place_text(alloc, &place)?, ops_text(alloc, &ops)?))
