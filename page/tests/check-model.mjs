@@ -12,17 +12,16 @@ import { standingAt } from "../model/standings.mjs";
 import { replayOf } from "./random-replays.mjs";
 import { checkReplay, checkWindow } from "./replay-checks.mjs";
 import { STORIES } from "./stories.mjs";
-import { replaysOf, stepsOf } from "./worked-cases.mjs";
+import { replaysOf } from "./worked-cases.mjs";
 
 const FILES = ["place", "calls", "schedule"];
 const [program, folder] = process.argv.slice(2, 4).map((it) => path.resolve(it));
 const all = process.argv[4] === "--all";
 const MADE = all ? 200 : 20; // how many replays are made
 const CASES = 9; // how many worked cases of each lock are read where not all are
-const LARGEST = 20000; // how many steps a worked case may have
 const SUITES = ["spin", "dmcs", "alock", "mcs", "rw", "seq", "combine"];
 
-const counts = { stories: 0, made: 0, cases: 0, steps: 0, left: 0, wrong: 0 };
+const counts = { stories: 0, made: 0, cases: 0, steps: 0, wrong: 0 };
 
 // The replay that the program tells of these files, or of a window of it.
 function told(files, window) {
@@ -107,12 +106,8 @@ function checkCases() {
   for (const suite of SUITES) {
     const replays = replaysOf(suite);
     for (const it of all ? replays : spread(replays, CASES)) {
-      if (stepsOf(it) > LARGEST) {
-        counts.left += 1;
-      } else {
-        put(it.files);
-        check("cases", `${suite}, case ${it.name}`, it.words.slice(1).map((name) => path.join(folder, name)), 1);
-      }
+      put(it.files);
+      check("cases", `${suite}, case ${it.name}`, it.words.slice(1).map((name) => path.join(folder, name)), 1);
     }
   }
 }
@@ -121,7 +116,6 @@ checkStories();
 checkMade();
 checkCases();
 const part = all ? "all replays" : "some replays, --all takes all";
-const left = counts.left > 0 ? `, ${counts.left} worked cases of more than ${LARGEST} steps left out` : "";
-console.log(`check-pages: the model over ${part}: ${counts.stories} stories, ${counts.made} made from numbers, ${counts.cases} worked cases${left}; ` +
+console.log(`check-pages: the model over ${part}: ${counts.stories} stories, ${counts.made} made from numbers, ${counts.cases} worked cases; ` +
   `${counts.steps} steps, ${counts.wrong} wrong`);
 process.exitCode = counts.wrong === 0 ? 0 : 1;
