@@ -1,5 +1,5 @@
 -- What is promised of flat combining, as statements.
-use Rattle.std.specs.Prelude.{◌≡◌, ℕ, false, List, ◌∷◌}
+use Rattle.std.specs.Prelude.{◌≡◌, ◌<◌, ℕ, ◌+◌, ◌*◌, false, List, ◌∷◌}
 use Rattle.rl_word.specs.declared.acts.Atom.{Atom}
 use Rattle.rl_work.specs.Ways.{WorkLaws, IsSide, Works}
 use Rattle.rl_combine.specs.declared.stage.Stage.TheVariants.{Sweep}
@@ -28,3 +28,8 @@ abbrev pub FlagsMove : Type 0
 FlagsMove =
     (S : CombineSite) (node : ℕ → ℕ) (words : List ℕ) (sides : List RankSide) (rank : ℕ) (x : RankSide) (at : Atom) → Works (combine_table S node) (CombineGood S) words sides rank x at → (k : ℕ) →
     FlagMoves S words at rank x k
+
+-- The nine words of a rank's post live on its owner's node, which the work counts from its own first word: so who waits for its answer
+-- loads a word of its own node
+abbrev pub PostsAtTheirOwners : Type 0
+PostsAtTheirOwners = (S : CombineSite) (node : ℕ → ℕ) (owner i : ℕ) → i < 9 → (combine_table S node).home (9 * owner + i) ≡ node owner

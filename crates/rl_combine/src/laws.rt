@@ -13,4 +13,6 @@ pub fn combine_laws()
     ensures flags { rule.FlagsSay }
     // The owner alone stores 1 to its flag and takes it back to 0, and a writer alone stores 2, over a 1.
     ensures moves { rule.FlagsMove }
+    // The words of a post live on its owner's node.
+    ensures homes { rule.PostsAtTheirOwners }
 {}

@@ -1,5 +1,5 @@
 -- Under the rule of flat combining over any lock flags say what they have to, and a flag that was found 1 is made 2.
-use Rattle.std.proofs.Common.{◌≡◌, ◌≢◌, ℕ, ◌+◌, ◌<◌, ◌≤◌, ◌==◌, Bool, true, false, ◌||◌, cond, count_by, List, [], ◌∷◌, ◌++◌, length, map, slice_get, slice_index, Option, Some, None, refl, sym, ap, ◌∙◌, subst, inl, inr, ⊎_elim, arith}
+use Rattle.std.proofs.Common.{◌≡◌, ◌≢◌, ℕ, ◌+◌, ◌*◌, ◌<◌, ◌≤◌, ◌==◌, Bool, true, false, ◌||◌, cond, count_by, List, [], ◌∷◌, ◌++◌, length, map, slice_get, slice_index, Option, Some, None, refl, sym, ap, ◌∙◌, subst, inl, inr, ⊎_elim, arith}
 use Rattle.std.proofs.lemmas.Bool.Decides.{nat_tests}
 use Rattle.std.proofs.lemmas.List.{length-map}
 use Rattle.std.proofs.lemmas.Option.{same_Some, slice_get_within}
@@ -18,11 +18,12 @@ use Rattle.rl_step.specs.Do.{TheWindow, do_got}
 use Rattle.rl_step.specs.Lock.{LockTable, LockState, Deed, Rests}
 use Rattle.rl_volume.specs.Seen.{SeenWords, next_word}
 use Rattle.rl_volume.specs.Walk.{most_reads}
+use Rattle.rl_volume.specs.Words.{volume_words}
 use Rattle.rl_volume.specs.declared.write.Write.{Write}
 use Rattle.rl_work.specs.declared.stage.Stage.{Stage as BlockStage}
 use Rattle.rl_work.specs.declared.stage.Stage.TheVariants as block
 use Rattle.rl_work.specs.AtomLaws.{few_loads}
-use Rattle.rl_work.specs.Site.{count_word, volume_base}
+use Rattle.rl_work.specs.Site.{count_word, volume_base, lock_base}
 use Rattle.rl_work.specs.Ways.{IsSide}
 use Rattle.rl_work.specs.Work.{TheWork, WorkTurned, stage_atom as block_atom, stage_after as block_after, with_seen, write_atom, left_of, at_rest}
 use Rattle.rl_work.specs.WorkGood.{WorkSide as Seat, FitsAt as BlockFits, IsReading as SeatReading}
@@ -419,6 +420,51 @@ module _ (V : Type 0) (base : ℕ) (table : LockTable V) (S : CombineSite) (node
         let f = reads_for r owner word x q in
         few_loads S.site (front_of S h.words) rule.seats rule.work owner (seat_for owner word x f) f.seat x.work.posted x.work.count word refl refl
 
+    -- the lock's words and the post words lie behind the volume
+    loads_of_lock : (b : Atom) (word : ℕ) → word < volume_words S.site.geom → shifted base b ≡ Load (volume_base + word) → ⊥
+    loads_of_lock (atom.Load w) word low e =
+        let there : base ≡ lock_base S.site = g.rule.base_is in
+        let same : base + w ≡ volume_base + word = (cc) in omega arith
+    loads_of_lock (atom.Store w v) word low e = absurd (cc)
+    loads_of_lock (atom.LocalCas w old new) word low e = absurd (cc)
+    loads_of_lock (atom.Take n) word low e = absurd (cc)
+    loads_of_lock (atom.CardLoad w) word low e = absurd (cc)
+    loads_of_lock (atom.CardStore w v) word low e = absurd (cc)
+    loads_of_lock (atom.Leave n) word low e = absurd (cc)
+
+    posts_behind : (i word : ℕ) → word < volume_words S.site.geom → S.behind + i ≡ volume_base + word → ⊥
+    posts_behind i word low same =
+        let there : base ≡ lock_base S.site = g.rule.base_is in
+        let behind : S.behind ≡ base + table.size = g.rule.behind_is in omega arith
+
+    -- whoever loads a word of the volume reads it for a posted call: neither words of the lock nor post words lie there, and no other stage
+    -- loads one
+    reads_there : (rank : ℕ) (w : TheCombineSide) (word : ℕ) (st : Stage) → w.stage ≡ st → word < volume_words S.site.geom → stage_atom S rank w st ≡ Some (Load (volume_base + word)) → (owner : ℕ) × (w.stage ≡ Read owner word)
+    reads_there rank w word Rest e low is = absurd (cc)
+    reads_there rank w word (Post made) e low is = absurd (cc)
+    reads_there rank w word Raise e low is = absurd (cc)
+    reads_there rank w word Look e low is = let same : flag_word S rank ≡ volume_base + word = (cc) in absurd (posts_behind (9 * rank + 0) word low same)
+    reads_there rank w word Count e low is = let same : count_word ≡ volume_base + word = (cc) in absurd (omega arith)
+    reads_there rank w word (Sweep owner) e low is = let same : flag_word S owner ≡ volume_base + word = (cc) in absurd (posts_behind (9 * owner + 0) word low same)
+    reads_there rank w word (Copy owner made) e low is = let same : post_word S owner (1 + made) ≡ volume_base + word = (cc) in absurd (posts_behind (9 * owner + (1 + made)) word low same)
+    reads_there rank w word (Read owner there) e low is = let same : volume_base + there ≡ volume_base + word = (cc) in (owner, e ∙ ap (Read owner) (omega arith))
+    reads_there rank w word (Journal owner made) e low is = absurd (cc)
+    reads_there rank w word (Volume owner made) e low is = stores (slice_get w.writes made) is where
+      stores : (o : Option Write) → Some (write_atom (w.count + 1) o) ≡ Some (Load (volume_base + word)) → (owner : ℕ) × (w.stage ≡ Read owner word)
+      stores (Some v) q = absurd (cc)
+      stores None q = absurd (cc)
+    reads_there rank w word (Answer owner made) e low is = absurd (cc)
+    reads_there rank w word (Mark owner) e low is = absurd (cc)
+    reads_there rank w word (Collect made) e low is = let same : post_word S rank (6 + made) ≡ volume_base + word = (cc) in absurd (posts_behind (9 * rank + (6 + made)) word low same)
+    reads_there rank w word Lower e low is = absurd (cc)
+
+    loads_so : (r word : ℕ) (x : WholeView V TheCombineSide) → slice_get vs r ≡ Some x → next_of L x ≡ Some (Load (volume_base + word)) → word < volume_words S.site.geom → (owner : ℕ) × ReadsFor T h vs r owner word x
+    loads_so r word x has next low =
+        ⊎_elim
+        (λ q. absurd (loads_of_lock q.0 word low q.2))
+        (λ q. let p = reads_there x.rank x.work word x.work.stage refl low q.2 in (p.0, record { there = has; reads = p.1 }))
+        (next_either V TheCombineSide L good further layout laws home x (Load (volume_base + word)) next)
+
     pub goes_on_found : GoesOnFound T h vs
     goes_on_found r owner x at q next =
         ⊎_elim
@@ -454,5 +500,5 @@ module _ (V : Type 0) (base : ℕ) (table : LockTable V) (S : CombineSite) (node
             now = now_on;
             holds = λ r owner x at q next. ⊎_elim (λ stores. inl stores) (λ still. inr still.0) (goes_on_found r owner x at q next);
           };
-          loads = record { whose = whose_on; fresh = fresh_on; one_more = more_on; few = few_on };
+          loads = record { whose = whose_on; fresh = fresh_on; one_more = more_on; few = few_on; loads = loads_so };
         }

@@ -1,8 +1,10 @@
 -- Under the rule of blocks that are done under their lock, over any lock, what holders have read still stands.
-use Rattle.std.proofs.Common.{◌≡◌, ◌<◌, ℕ, ◌+◌, Bool, true, false, List, [], ◌∷◌, ◌++◌, drop, length, map, slice_get, slice_index, take, Some, refl, sym, ap, ◌∙◌, subst, ⊎_elim, arith, length-append}
+use Rattle.std.proofs.Common.{◌≡◌, ◌<◌, ℕ, ◌+◌, Bool, true, false, List, [], ◌∷◌, ◌++◌, drop, length, map, slice_get, slice_index, take, Option, Some, None, refl, sym, ap, ◌∙◌, subst, ⊎_elim, arith, length-append}
 use Rattle.std.proofs.lemmas.Option.{same_Some}
 use Rattle.rl_word.specs.Places.{get_map}
 use Rattle.rl_word.specs.Acts.{Layout}
+use Rattle.rl_word.specs.declared.acts.Atom.{Atom}
+use Rattle.rl_word.specs.declared.acts.Atom.TheVariants as atom
 use Rattle.rl_word.specs.declared.acts.Atom.TheVariants.{Load}
 use Rattle.rl_model.specs.declared.call.Call.{Call}
 use Rattle.rl_step.specs.declared.events.Event.{Event}
@@ -14,6 +16,8 @@ use Rattle.rl_step.specs.Lock.{LockTable, LockState, Deed, IsHolder, Rests}
 use Rattle.rl_volume.specs.Decision.{written}
 use Rattle.rl_volume.specs.Seen.{SeenWords, AgreesWith}
 use Rattle.rl_volume.specs.Walk.{most_reads}
+use Rattle.rl_volume.specs.Words.{volume_words}
+use Rattle.rl_volume.specs.declared.write.Write.{Write}
 use Rattle.std.specs.FinMap as finite
 use Rattle.rl_journal.specs.Blocks.{in_turn}
 use Rattle.rl_journal.specs.Legal.{table_after}
@@ -23,13 +27,13 @@ use Rattle.rl_work.specs.AtomLaws.{few_loads}
 use Rattle.rl_work.specs.Locked.{locked_table, locked_good, locked_turn}
 use Rattle.rl_work.specs.Site.{Site, count_word, volume_base, lock_base, volume_of}
 use Rattle.rl_work.specs.Ways.{IsApart}
-use Rattle.rl_work.specs.Work.{TheWork, WorkTurned, with_seen, work_after, stage_after, left_of, read_on}
+use Rattle.rl_work.specs.Work.{TheWork, WorkTurned, with_seen, work_after, stage_atom, stage_after, write_atom, left_of, read_on}
 use Rattle.rl_work.specs.WorkGood.{WorkSide, WorkGood, FitsAt, IsReading, HasDecided, is_writing}
 use Rattle.rl_asks.specs.ShardTables.{ShardTable}
 use Rattle.rl_whole.specs.declared.whole.WholeView.{WholeView}
 use Rattle.rl_whole.specs.Running.{LockAt, Goods, BothLaws}
-use Rattle.rl_whole.specs.Whole.{work_side, next_of, after_of, work_turned}
-use Rattle.rl_whole.specs.WholeLaws.{apart}
+use Rattle.rl_whole.specs.Whole.{shifted, work_side, next_of, after_of, work_turned}
+use Rattle.rl_whole.specs.WholeLaws.{apart, next_either}
 use Rattle.rl_whole.specs.WholeShards.{stand, standing_while, whole_shard, WholeGood}
 use Rattle.rl_whole.specs.AtWork.{resting, after_none}
 use Rattle.rl_cores.specs.Holding.{Reads, ReadsAlone, KeepsReads}
@@ -151,6 +155,35 @@ module _ (V : Type 0) (base : ℕ) (table : LockTable V) (site : Site) (behind :
         nothing_decided : (r count word : ℕ) (x : WholeView V TheWork) (q : Reads T h vs r count word x) → (reading r count word x q).partly.first ≡ [] → x.work.replies ≡ []
         nothing_decided r count word x q none = (reading r count word x q).partly.replies_are ∙ ap (λ cs. (in_turn site.geom (table_after site.geom finite.empty rule.journal) cs).1) none
 
+    -- whoever loads a word of the volume reads it for its block: no word of the lock lies there, and no other stage loads one
+    reads_there : (w : TheWork) (word : ℕ) (st : Stage) → w.stage ≡ st → stage_atom site.geom w st ≡ Some (Load (volume_base + word)) → (count : ℕ) × (w.stage ≡ Read count word)
+    reads_there w word Rest e is = absurd (cc)
+    reads_there w word Begin e is = let same : count_word ≡ volume_base + word = (cc) in absurd (omega arith)
+    reads_there w word (Read count there) e is = let same : volume_base + there ≡ volume_base + word = (cc) in (count, e ∙ ap (Read count) (omega arith))
+    reads_there w word (Journal made) e is = absurd (cc)
+    reads_there w word (Volume made) e is = stores (slice_get w.writes made) is where
+      stores : (o : Option Write) → Some (write_atom (w.at + length w.entries) o) ≡ Some (Load (volume_base + word)) → (count : ℕ) × (w.stage ≡ Read count word)
+      stores (Some v) q = absurd (cc)
+      stores None q = absurd (cc)
+
+    loads_of_lock : (b : Atom) (word : ℕ) → word < volume_words site.geom → shifted base b ≡ Load (volume_base + word) → ⊥
+    loads_of_lock (atom.Load w) word low e =
+        let there : base ≡ lock_base site = g.rule.base_is in
+        let same : base + w ≡ volume_base + word = (cc) in omega arith
+    loads_of_lock (atom.Store w v) word low e = absurd (cc)
+    loads_of_lock (atom.LocalCas w old new) word low e = absurd (cc)
+    loads_of_lock (atom.Take n) word low e = absurd (cc)
+    loads_of_lock (atom.CardLoad w) word low e = absurd (cc)
+    loads_of_lock (atom.CardStore w v) word low e = absurd (cc)
+    loads_of_lock (atom.Leave n) word low e = absurd (cc)
+
+    loads_so : (r word : ℕ) (x : WholeView V TheWork) → slice_get vs r ≡ Some x → next_of L x ≡ Some (Load (volume_base + word)) → word < volume_words site.geom → (count : ℕ) × Reads T h vs r count word x
+    loads_so r word x has next low =
+        ⊎_elim
+        (λ q. absurd (loads_of_lock q.0 word low q.2))
+        (λ q. let p = reads_there x.work word x.work.stage refl q.2 in (p.0, record { there = has; reads = p.1 }))
+        (next_either V TheWork L good further layout laws home x (Load (volume_base + word)) next)
+
     pub keeps_reads : KeepsReads T h vs
     keeps_reads =
         record {
@@ -160,4 +193,5 @@ module _ (V : Type 0) (base : ℕ) (table : LockTable V) (site : Site) (behind :
           fresh = fresh_on;
           one_more = one_more_on;
           few = λ r count word x call q. few_loads site front sides rule r (work_side table x) (there r x q.is.there) call count word q.alone q.is.reads;
+          loads = loads_so;
         }

@@ -6,4 +6,5 @@ pub mod HolderLaws
 pub mod ReaderLaws
 pub mod SweepLaws
 pub mod CombinerLaws
+pub mod PostHomes
 pub mod SwapLaws

@@ -6,6 +6,7 @@ use Rattle.rl_word.specs.declared.acts.Atom.TheVariants.{Load, Store}
 use Rattle.rl_step.specs.declared.events.Standing.TheVariants.{Writer}
 use Rattle.rl_step.specs.Do.{TheWindow, do_got}
 use Rattle.rl_volume.specs.Walk.{most_reads}
+use Rattle.rl_volume.specs.Words.{volume_words}
 use Rattle.rl_work.specs.Site.{count_word, volume_base}
 use Rattle.rl_asks.specs.ShardTables.{ShardTable}
 use Rattle.rl_model.specs.Call.{is_update}
@@ -46,6 +47,11 @@ module _ {V : Type 0} (T : ShardTable (WholeView V TheCombineSide)) where
   abbrev pub EndsVisit : ℕ → ℕ → WholeView V TheCombineSide → Type 0
   EndsVisit owner got x =
       ((x.work.stage ≡ Sweep owner) × (T.core.next x ≡ Some (Load (flag_word posts owner))) × (got ≢ 1)) ⊎ ((x.work.stage ≡ Mark owner) × (T.core.next x ≡ Some (Store (flag_word posts owner) 2)))
+
+  -- the nine post words of each rank live on its node, by these nodes of the ranks: so a rank that waits for its answer loads a word of its
+  -- own node
+  abbrev pub PostsAtHome : List ℕ → Type 0
+  PostsAtHome nodes = (rank i : ℕ) → i < 9 → T.core.home (post_word posts rank i) ≡ slice_index nodes rank
 
   module _ (h : TheWindow) (vs : List (WholeView V TheCombineSide)) where
     -- the posts of the ranks
@@ -97,6 +103,8 @@ module _ {V : Type 0} (T : ShardTable (WholeView V TheCombineSide)) where
       pub one_more : (r owner word got : ℕ) (x : WholeView V TheCombineSide) → ReadsFor r owner word x → T.core.next x ≡ Some (Load (volume_base + word)) → loaded (T.core.after x got).view ≡ loaded x ++ (word, got) ∷ []
       -- and before each it has loaded fewer than the call can want: of a get fewer than 3 + 2 * overflow. So it loads no more for it
       pub few : (r owner word : ℕ) (x : WholeView V TheCombineSide) → ReadsFor r owner word x → length (loaded x) < most_reads T.site.geom x.work.posted
+      -- and these are all its loads of the volume: whoever loads a word of it next reads so
+      pub loads : (r word : ℕ) (x : WholeView V TheCombineSide) → slice_get vs r ≡ Some x → T.core.next x ≡ Some (Load (volume_base + word)) → word < volume_words T.site.geom → (owner : ℕ) × ReadsFor r owner word x
 
     pub record KeepsCombining : Type 0 where
       pub posted : KeepsPosts

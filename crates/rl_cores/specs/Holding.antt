@@ -8,6 +8,7 @@ use Rattle.rl_step.specs.Lock.{IsHolder}
 use Rattle.rl_volume.specs.Decision.{written}
 use Rattle.rl_volume.specs.Seen.{AgreesWith}
 use Rattle.rl_volume.specs.Walk.{most_reads}
+use Rattle.rl_volume.specs.Words.{volume_words}
 use Rattle.rl_work.specs.declared.stage.Stage.TheVariants.{Begin, Read}
 use Rattle.rl_work.specs.Site.{count_word, volume_base, lock_base, volume_of}
 use Rattle.rl_work.specs.Work.{TheWork}
@@ -47,3 +48,5 @@ module _ {V : Type 0} (T : ShardTable (WholeView V TheWork)) (h : TheWindow) (vs
         (loaded (T.core.after x got).view ≡ loaded x ++ (word, got) ∷ []) × ((T.core.after x got).view.work.writes ≡ x.work.writes)
     -- and before each it has loaded fewer than the call can want: of a get fewer than 3 + 2 * overflow. So it loads no more for it
     pub few : (r count word : ℕ) (x : WholeView V TheWork) (call : Call) → ReadsAlone r count word x call → length (loaded x) < most_reads T.site.geom call
+    -- and these are all its loads of the volume: whoever loads a word of it next reads so
+    pub loads : (r word : ℕ) (x : WholeView V TheWork) → slice_get vs r ≡ Some x → T.core.next x ≡ Some (Load (volume_base + word)) → word < volume_words T.site.geom → (count : ℕ) × Reads r count word x

@@ -1,8 +1,12 @@
 //! What holds of flat combining at every moment, on machines and on shards that threads share.
 
+ghost use Rattle.std.specs.Prelude.{ℕ};
+ghost use Rattle.rl_word.specs.Shapes.{TheShape};
+ghost use Rattle.rl_word.specs.declared.shapes.Knobs.{Knobs as TheKnobs};
+ghost use Rattle.rl_work.specs.Site.{Site};
 ghost use Rattle.rl_machine.specs.Running.{running};
 ghost use Rattle.rl_cores.specs.OnShards.{EachShard, EachMoment, EachState};
-ghost use Rattle.rl_cores.specs.Combining.{KeepsCombining};
+ghost use Rattle.rl_cores.specs.Combining.{KeepsCombining, PostsAtHome};
 ghost use Rattle.rl_cores.specs.SweepRuns.{StoresTwoFirst};
 
 use rl_asks::ShardCore;
@@ -32,3 +36,10 @@ pub fn combiners_of_shard<A: Algo>(shard: &Shard<Whole<A, CombineWork>>)
 {
     let _ = shard;
 }
+
+/// Where the posts live, whatever the placement's shape, the shard's home and site: each rank's post words on the node on which the rank
+/// sits, so that a rank that waits for its answer loads a word of its own node, and whoever has the lock goes to the others'. A machine's
+/// and a shard's tables are those that are defined so. There is nothing to run.
+pub fn posts_at_home<A: Algo>()
+    ensures { (shape : TheShape) (home : ℕ) (knobs : TheKnobs) (site : Site) → PostsAtHome (⟦<Whole<A, CombineWork> as ShardCore>⟧.defined shape home knobs site) shape.node_of }
+{}

@@ -13,7 +13,7 @@ use rl_work::LockedWork;
 
 /// Ranks that read under their lock on every shard of a machine, now and after whatever steps of its ranks, over whatever lock, also one that
 /// readers share: a rank that reads for its block holds the lock, and what it has found still stands; for a call alone it loads few words,
-/// each of them once it has found the count. There is nothing to run.
+/// each of them once it has found the count; and nobody loads a word of the volume but so. There is nothing to run.
 pub fn holders_of_machine<A: Algo>(machine: &Machine<Whole<A, LockedWork>>)
     ensures now { EachShard KeepsReads (running ⟦<Whole<A, LockedWork> as ShardCore>⟧.shard_table machine.now) }
     ensures stays { EachMoment KeepsReads (running ⟦<Whole<A, LockedWork> as ShardCore>⟧.shard_table machine.now) }

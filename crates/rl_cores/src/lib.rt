@@ -31,7 +31,7 @@ mod settings;
 mod tests;
 
 pub use choice::{CoreTask, over_lock};
-pub use combiners::{combiners_of_machine, combiners_of_shard};
+pub use combiners::{combiners_of_machine, combiners_of_shard, posts_at_home};
 pub use domains::{alock_domains, dmcs_domains, mcs_domains, rw_domains, spin_domains};
 pub use holders::{holders_of_machine, holders_of_shard};
 pub use loads::few_loads;
