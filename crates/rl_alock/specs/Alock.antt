@@ -8,7 +8,7 @@ use Rattle.rl_word.specs.declared.acts.Act.TheVariants.{Load, Store, LocalCas}
 use Rattle.rl_word.specs.Acts.{by_card}
 use Rattle.rl_step.specs.declared.events.Event.{Event}
 use Rattle.rl_step.specs.declared.events.Event.TheVariants as event
-use Rattle.rl_step.specs.Lock.{LockTable, Told, Deed, no_local}
+use Rattle.rl_step.specs.Lock.{LockTable, Told, no_local}
 use Rattle.rl_step.specs.Queues.{QueueOf}
 use Rattle.rl_step.specs.LockQueues.{sits_at, same, cohort_queue}
 use Rattle.rl_step.specs.Overtaking.{IsOvertakenAtMost}
@@ -159,9 +159,10 @@ alock_table K =
       may_make = λ r a. domain (cohort_of K r) r a;
     }
 
--- WHAT IT SAYS FURTHER: a cohort that has announced itself is overtaken by the other's budget and one of its ranks at most.
-abbrev pub BoundsOvertaking : Cohorts → List Event → List Deed → Type 0
-BoundsOvertaking K t ds = (c : Cohort) → IsOvertakenAtMost (is_in K c) (cohort_no c) (budget_in K (other c) + 1) t
+-- WHAT IT SAYS FURTHER: a cohort that has announced itself is overtaken by the other's budget and one of its ranks at most. The events alone
+-- say it, whatever else is given, as all acts or all atoms.
+abbrev pub BoundsOvertaking : {X : Type 0} → Cohorts → List Event → X → Type 0
+BoundsOvertaking K t xs = (c : Cohort) → IsOvertakenAtMost (is_in K c) (cohort_no c) (budget_in K (other c) + 1) t
 
 -- TWO DOMAINS: which acts the ranks on the shard's home may make, and which all others.
 pub record HasTwoDomains (K : Cohorts) : Type 0 where

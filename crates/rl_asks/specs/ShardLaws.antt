@@ -14,6 +14,7 @@ use Rattle.rl_step.specs.Core.{Turned}
 use Rattle.rl_step.specs.Do.{TheWindow, do_atom, do_got}
 use Rattle.rl_step.specs.Exclusion.{IsExclusive, writers, readers}
 use Rattle.rl_step.specs.Lock.{Deed, InOrder, AllNamed}
+use Rattle.rl_step.specs.Batches.{AreActsOf}
 use Rattle.rl_step.specs.QueuePromises.{KeepQueues, CountTenures}
 use Rattle.rl_journal.specs.Legal.{IsLegal, table_after}
 use Rattle.rl_journal.specs.History.{history, IsSorted}
@@ -26,7 +27,7 @@ use Rattle.rl_asks.specs.EventRanks.{AreByRanks}
 use Rattle.rl_asks.specs.Standings.{AloneIn, leaves, IsUnhindered}
 use Rattle.rl_asks.specs.Touches.{IsGuarded}
 use Rattle.rl_asks.specs.Desks.{Desk, OpensBlock, Turns, entries_of}
-use Rattle.rl_asks.specs.ShardTables.{ShardTable, opening_held, first_views, journal_at, kept_in}
+use Rattle.rl_asks.specs.ShardTables.{ShardTable, opening_held, first_views, transition_by, journal_at, kept_in}
 
 -- the table is one of this site, its words are those of the site and those behind the journal, and the work's own are the last of these
 pub record IsLaidAtSite {V : Type 0} (T : ShardTable V) (site : Site) : Type 0 where
@@ -155,6 +156,9 @@ module _ {V : Type 0} (T : ShardTable V) (good : TheWindow → List V → List E
     -- ---- what the lock says further
 
     pub says : (h : TheWindow) (vs : List V) (t : List Event) (ds : List Deed) → good h vs t ds → further t ds
+    -- and the acts of which it speaks are those of the atoms, by the lock's words before and after each and by what it told
+    pub shows : (h : TheWindow) (vs : List V) (t : List Event) (ds : List Deed) (r : ℕ) (v : V) (at : Atom) → IsSeated h vs t ds r v → T.core.next v ≡ Some at →
+        AreActsOf (T.deeds v (do_got at h.words h.cards)) (transition_by T h v at)
 
 -- ---- of all cores of a kind
 

@@ -1,14 +1,16 @@
 -- A rank's machine on one shard as plain functions, with what machines, shards, seats and callers read of it: the wall between a lock
 -- with its work and all that stands above.
-use Rattle.std.specs.Prelude.{ℕ, ◌+◌, Bool, List, [], ◌∷◌, ◌++◌, replicate, take, Option}
+use Rattle.std.specs.Prelude.{ℕ, ◌+◌, Bool, List, [], ◌∷◌, ◌++◌, replicate, take, drop, Option}
 use Rattle.rl_word.specs.declared.acts.Act.{Act}
+use Rattle.rl_word.specs.declared.acts.Atom.{Atom}
 use Rattle.rl_model.specs.declared.call.Call.{Call}
 use Rattle.rl_model.specs.declared.entry.Entry.{Entry}
 use Rattle.rl_model.specs.declared.geom.Geom.{Geom}
 use Rattle.rl_step.specs.declared.events.Standing.{Standing}
 use Rattle.rl_step.specs.Core.{CoreTable}
-use Rattle.rl_step.specs.Do.{TheWindow}
+use Rattle.rl_step.specs.Do.{TheWindow, do_words, do_got}
 use Rattle.rl_step.specs.Lock.{Deed}
+use Rattle.rl_step.specs.Transitions.{Transition}
 use Rattle.rl_step.specs.Queues.{QueueOf}
 use Rattle.rl_work.specs.Site.{Site, lock_base}
 use Rattle.rl_work.specs.Rule.{journal_of}
@@ -58,6 +60,15 @@ module _ {V : Type 0} (T : ShardTable V) where
   abbrev pub first_views : ℕ → List ℕ → List V
   first_views rank [] = []
   first_views rank (room ∷ rooms) = T.first room rank ∷ first_views (rank + 1) rooms
+
+  -- the words behind the journal: the lock's, as the lock numbers them, and behind these the work's own
+  abbrev pub words_behind : List ℕ → List ℕ
+  words_behind words = drop (lock_base T.site) words
+
+  -- an atom of a rank with this view: the lock's words before and after it, and what it told
+  abbrev pub transition_by : TheWindow → V → Atom → Transition
+  transition_by h v at =
+      record { before = words_behind h.words; after = words_behind (do_words at h.words); events = (T.core.after v (do_got at h.words h.cards)).events }
 
   -- the shard's journal, as its words say
   abbrev pub journal_at : List ℕ → List Entry

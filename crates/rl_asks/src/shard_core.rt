@@ -12,7 +12,9 @@ ghost use Rattle.rl_step.specs.declared.events.Event.{Event as TheEvent};
 ghost use Rattle.rl_step.specs.declared.events.Stepped.{Stepped as TheAnswer};
 ghost use Rattle.rl_step.specs.Core.{MayBe};
 ghost use Rattle.rl_step.specs.Do.{TheWindow};
-ghost use Rattle.rl_step.specs.Lock.{Deed, HandsOn};
+ghost use Rattle.rl_step.specs.Lock.{Deed};
+ghost use Rattle.rl_step.specs.Transitions.{Transition as TheTransition};
+ghost use Rattle.rl_step.specs.Batches.{HandsOn};
 ghost use Rattle.rl_step.specs.LockQueues.{queues_of, readers_share, cohorts_of};
 ghost use Rattle.rl_work.specs.Site.{Site as TheSite, site_of};
 ghost use Rattle.rl_asks.specs.Desks.{entries_of};
@@ -39,7 +41,7 @@ pub trait ShardCore: Core {
     /// Why an atom, or none, is answered as it is, by the words and cards that it found.
     ghost cause: { Self → TheWindow → Self.View → Option TheAtom → TheAnswer → Type 0 };
 
-    /// What the lock says of all events and acts so far, beyond the laws.
+    /// What the lock says of all events and acts so far, beyond the laws: its own way to say what is promised.
     ghost further: { Self → List TheEvent → List Deed → Type 0 };
 
     /// Where the ranks sit.
@@ -48,8 +50,9 @@ pub trait ShardCore: Core {
     /// The machine as it is defined: by a shape, the home of the shard, the settings, and the site.
     ghost defined: { TheShape → ℕ → TheKnobs → TheSite → ShardTable Self.View };
 
-    /// What its lock says further, by the first three.
-    ghost promised: { TheShape → ℕ → TheKnobs → List TheEvent → List Deed → Type 0 };
+    /// What is promised beyond the laws, by the first three: of all events so far, and of all atoms, of each the lock's words before and after
+    /// it and what it told. It speaks of no act.
+    ghost promised: { TheShape → ℕ → TheKnobs → List TheEvent → List TheTransition → Type 0 };
 
     /// The lock's name.
     ghost name: { TheName };

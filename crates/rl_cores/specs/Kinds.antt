@@ -4,7 +4,8 @@ use Rattle.std.specs.Prelude.{ℕ, List}
 use Rattle.rl_word.specs.Shapes.{TheShape}
 use Rattle.rl_word.specs.declared.shapes.Knobs.{Knobs}
 use Rattle.rl_step.specs.declared.events.Event.{Event}
-use Rattle.rl_step.specs.Lock.{LockTable, Deed, no_more}
+use Rattle.rl_step.specs.Lock.{LockTable, no_more}
+use Rattle.rl_step.specs.Transitions.{Transition}
 use Rattle.rl_spin.specs.declared.view.SpinView.{SpinView}
 use Rattle.rl_spin.specs.Spin.{spin_table}
 use Rattle.rl_queue.specs.declared.view.QueueView.{QueueView}
@@ -33,9 +34,9 @@ use Rattle.rl_place.specs.declared.lock.Lock.TheVariants as lock
 abbrev pub Defined : Type 0 → Type 0
 Defined V = TheShape → ℕ → Knobs → Site → ShardTable V
 
--- by the first three, what is promised of the events and acts on the shard
+-- by the first three, what is promised of the events on the shard and of its atoms, by the lock's words before and after each
 abbrev pub Promised : Type 1
-Promised = TheShape → ℕ → Knobs → List Event → List Deed → Type 0
+Promised = TheShape → ℕ → Knobs → List Event → List Transition → Type 0
 
 -- A kind of lock: what a rank knows on one shard; the rank's machine there; and what the kind promises beyond what every lock promises.
 pub record Kind : Type 1 where
@@ -107,7 +108,7 @@ mcs =
       promised = λ shape home knobs. no_more;
     }
 
--- between two acts that lower the arrive word of a group at most as many readers of the group enter as the settings say
+-- while no atom lowers the arrive word of a group at most as many readers of the group enter as the settings say
 abbrev pub rw : Kind
 rw =
     record {

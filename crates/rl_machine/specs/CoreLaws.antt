@@ -1,5 +1,5 @@
 -- The cores of a machine that was just made, and what their locks say further of every run.
-use Rattle.std.specs.Prelude.{◌≡◌, ℕ, zero, suc, ◌+◌, ◌≤◌, ◌<◌, false, List, [], ◌∷◌, ◌++◌, length, map, replicate, slice_get, slice_index, get_or, Some}
+use Rattle.std.specs.Prelude.{◌≡◌, ℕ, zero, suc, ◌+◌, ◌≤◌, ◌<◌, false, List, [], ◌∷◌, ◌++◌, length, map, replicate, slice_get, slice_index, get_or, Some, refl}
 use Rattle.std.specs.List.{AllByRecursion}
 use Rattle.std.proofs.Common.{sym, ◌∙◌, ap, subst, ⊎_elim, arith}
 use Rattle.std.proofs.lemmas.List.{length-map}
@@ -13,7 +13,9 @@ use Rattle.rl_journal.specs.Lists.{get_more_cases}
 use Rattle.rl_step.specs.declared.events.Event.{Event}
 use Rattle.rl_step.specs.Queues.{QueueOf}
 use Rattle.rl_step.specs.QueuePromises.{KeepQueues, CountTenures}
-use Rattle.rl_step.specs.Lock.{Deed, HandsOn}
+use Rattle.rl_step.specs.Lock.{Deed}
+use Rattle.rl_step.specs.Transitions.{Transition}
+use Rattle.rl_step.specs.Batches.{AreShown, HandsOn}
 use Rattle.rl_ops.specs.Ops.{total_calls}
 use Rattle.rl_work.specs.Site.{Site}
 use Rattle.rl_asks.specs.OpsBridge.{CanBegin}
@@ -24,11 +26,13 @@ use Rattle.rl_machine.specs.ShardSteps.{events_of}
 use Rattle.rl_machine.specs.Start.{site_of, first_shards, start}
 use Rattle.rl_machine.specs.StartLaws.{shard_first, shards_length, AreCores, start_good}
 use Rattle.rl_machine.specs.Run.{on_shard, run_of, trace_of, AreThere}
-use Rattle.rl_machine.specs.RunActs.{run_acts, acts_on, SaysOn}
+use Rattle.rl_machine.specs.RunTransitions.{transitions_on, SaysOn}
+use Rattle.rl_machine.specs.RunActs.{run_acts}
 use Rattle.rl_machine.specs.MachineGood.{MachineGood, IsMachine}
 use Rattle.rl_machine.specs.Promises.{IsSound, KeepsQueues}
 use Rattle.rl_machine.specs.SoundLaws.{is_sound}
 use Rattle.rl_machine.specs.MachineLaws.{Found, found_at, laws_of, run_good}
+use Rattle.rl_machine.specs.TransitionLaws.{run_shown}
 use Rattle.rl_machine.specs.Cores.{EachCore}
 
 -- one core more
@@ -39,6 +43,12 @@ core_more P homes cores home core each at is =
     (λ q. each s h c getH q.1)
     (λ q. subst (λ z. P z c) (one_at homes s home h (ap (slice_get homes) q.0 ∙ at) getH) (subst (P home) q.1 is))
     (get_more_cases cores core s c getC)
+
+-- before the first act there is none on any shard
+nothing_at : (n s : ℕ) → get_or {A = List Deed} (replicate n []) s [] ≡ []
+nothing_at zero s = refl
+nothing_at (suc n) zero = refl
+nothing_at (suc n) (suc s) = nothing_at n s
 
 -- a home of the list
 pub home_there : (P : ℕ → Type 0) (homes : List ℕ) (i d : ℕ) → AllByRecursion P homes → i < length homes → P (get_or homes i d)
@@ -91,21 +101,22 @@ module _ (C V : Type 0) (table : C → ShardTable V) (good : GoodOf C V) (cause 
       trace_is : trace_of (run_of first ks) s ≡ found.shard.trace
       trace_is = ap (on_shard [] (λ (S : ShardRun V). S.trace)) found.has
 
-      acts_are : acts_on first ks s ≡ found.deeds
-      acts_are =
-          let many_shards : length first.shards ≡ length cores = shards_length tables is.nodes geom calls 0 homes ∙ sym all in
-          ap (λ n. get_or (run_acts (replicate n []) first ks) s []) many_shards ∙ get_or_from_slice_get acts s found.deeds [] found.has_acts
+      -- the atoms show the acts
+      shown : AreShown found.deeds (transitions_on first ks s)
+      shown =
+          let none : get_or (replicate (length cores) []) s [] ≡ [] = nothing_at (length cores) s in
+          subst (λ ds. AreShown ds (transitions_on first ks s)) (get_or_from_slice_get acts s found.deeds [] found.has_acts)
+          (run_shown C V table good cause further layout laws cores (replicate (length cores) []) first ks s [] begins there (subst (λ ds. AreShown ds []) (sym none) AreShown.none))
 
     -- what the locks promise holds of it
-    pub says_on : (promised : ℕ → List Event → List Deed → Type 0) → EachCore (λ home core. HandsOn (further core) (promised home)) homes cores → (ks : List ℕ) → AreThere (length calls) ks →
+    pub says_on : (promised : ℕ → List Event → List Transition → Type 0) → EachCore (λ home core. HandsOn (further core) (promised home)) homes cores → (ks : List ℕ) → AreThere (length calls) ks →
         (s home : ℕ) → slice_get homes s ≡ Some home → SaysOn (promised home) (start tables is.nodes geom homes calls sizes) ks s
     says_on promised hands ks there s home getH =
         let f = found ks there s home getH in
         let lawful = laws_of C V table good cause further layout laws cores f.core f.shard.table f.is.table_is in
         let said : further f.core (events_of f.shard.trace) f.deeds = lawful.says f.shard.held f.shard.views (events_of f.shard.trace) f.deeds f.is.is_good in
-        let told : promised home (events_of f.shard.trace) f.deeds = hands s home f.core getH f.has_core (events_of f.shard.trace) f.deeds said in
-        subst (λ t. promised home (events_of t) (acts_on (start tables is.nodes geom homes calls sizes) ks s)) (sym (trace_is ks there s home getH))
-        (subst (promised home (events_of f.shard.trace)) (sym (acts_are ks there s home getH)) told)
+        subst (λ t. promised home (events_of t) (transitions_on (start tables is.nodes geom homes calls sizes) ks s)) (sym (trace_is ks there s home getH))
+        (hands s home f.core getH f.has_core (events_of f.shard.trace) f.deeds (transitions_on (start tables is.nodes geom homes calls sizes) ks s) (shown ks there s home getH) said)
 
     -- and so do the queues that the locks have by their kind
     pub queues_on : (queues : ℕ → List QueueOf) → ((home : ℕ) (site : Site) → (tables home site).queues ≡ queues home) → (ks : List ℕ) → AreThere (length calls) ks → (s home : ℕ) → slice_get homes s ≡ Some home →

@@ -3,7 +3,8 @@ use Rattle.std.specs.Prelude.{◌≡◌, ℕ, List, slice_get, Some}
 use Rattle.rl_word.specs.Shapes.{TheShape}
 use Rattle.rl_word.specs.declared.shapes.Knobs.{Knobs}
 use Rattle.rl_step.specs.declared.events.Event.{Event}
-use Rattle.rl_step.specs.Lock.{Deed, HandsOn}
+use Rattle.rl_step.specs.Transitions.{Transition}
+use Rattle.rl_step.specs.Batches.{HandsOn}
 use Rattle.rl_asks.specs.ShardLaws.{FurtherOf}
 
 -- each core, with the home of its shard
@@ -11,5 +12,5 @@ abbrev pub EachCore : {C : Type 0} → (ℕ → C → Type 0) → List ℕ → L
 EachCore P homes cores = (s home : ℕ) (core : _) → slice_get homes s ≡ Some home → slice_get cores s ≡ Some core → P home core
 
 -- what the lock of each core says further hands on what its kind of lock promises
-abbrev pub EachHandsOn : {C : Type 0} → FurtherOf C → (TheShape → ℕ → Knobs → List Event → List Deed → Type 0) → TheShape → Knobs → List ℕ → List C → Type 0
+abbrev pub EachHandsOn : {C : Type 0} → FurtherOf C → (TheShape → ℕ → Knobs → List Event → List Transition → Type 0) → TheShape → Knobs → List ℕ → List C → Type 0
 EachHandsOn further promised shape knobs homes cores = EachCore (λ home core. HandsOn (further core) (promised shape home knobs)) homes cores

@@ -4,7 +4,7 @@ pub mod Start
 pub mod ShardSteps
 pub mod Run
 pub mod Rest
-pub mod RunActs
+pub mod RunTransitions
 pub mod Cores
 pub mod Causes
 pub mod Told
@@ -17,11 +17,13 @@ pub mod Whereabouts
 pub mod NextAtoms
 pub mod State
 -- what is true of a machine at every moment
+pub mod RunActs
 pub mod MachineGood
 pub mod Ruled
 -- proved; skip at first
 pub mod EventOrderLaws
 pub mod MachineLaws
+pub mod TransitionLaws
 pub mod BlockEnds
 pub mod ChangeLaws
 pub mod SoundLaws

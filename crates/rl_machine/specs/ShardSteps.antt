@@ -1,5 +1,5 @@
 -- What a step does on one shard: a block is opened, or an atom is made; and its answer.
-use Rattle.std.specs.Prelude.{ℕ, ◌+◌, List, [], ◌++◌, map, Bool, false, slice_get, slice_set, Option, Some, None}
+use Rattle.std.specs.Prelude.{ℕ, ◌+◌, List, [], ◌∷◌, ◌++◌, map, Bool, false, slice_get, slice_set, Option, Some, None}
 use Rattle.rl_word.specs.declared.acts.Atom.{Atom}
 use Rattle.rl_model.specs.declared.call.Call.{Call}
 use Rattle.rl_model.specs.declared.entry.Entry.{Entry}
@@ -7,9 +7,10 @@ use Rattle.rl_step.specs.declared.events.Event.{Event}
 use Rattle.rl_step.specs.declared.events.Stepped.{Stepped}
 use Rattle.rl_step.specs.declared.events.Stepped.TheVariants.{Finished}
 use Rattle.rl_step.specs.Lock.{Deed}
+use Rattle.rl_step.specs.Transitions.{Transition}
 use Rattle.rl_step.specs.Do.{TheWindow, do_atom, do_got}
 use Rattle.rl_machine.specs.Running.{ShardRun}
-use Rattle.rl_asks.specs.ShardTables.{ShardTable}
+use Rattle.rl_asks.specs.ShardTables.{ShardTable, transition_by}
 use Rattle.rl_asks.specs.Desks.{Desk, entries_of, no_desk}
 
 -- the events without their numbers
@@ -60,7 +61,19 @@ module _ {V : Type 0} where
   abbrev pub answer_on : ℕ → ShardRun V → Stepped
   answer_on k S = answer_at S (slice_get S.views k)
 
-  -- the acts that the atom decides
+  -- the atom as the lock's words show it, if it is one
+  abbrev pub transition_of : ShardRun V → V → Option Atom → List Transition
+  transition_of S x None = []
+  transition_of S x (Some at) = transition_by S.table S.held x at ∷ []
+
+  abbrev pub transitions_at : ShardRun V → Option V → List Transition
+  transitions_at S None = []
+  transitions_at S (Some x) = transition_of S x (S.table.core.next x)
+
+  abbrev pub transitions_by : ℕ → ShardRun V → List Transition
+  transitions_by k S = transitions_at S (slice_get S.views k)
+
+  -- the acts of the lock that the atom decides
   abbrev pub deeds_to : ShardRun V → V → Option Atom → List Deed
   deeds_to S x None = []
   deeds_to S x (Some at) = S.table.deeds x (do_got at S.held.words S.held.cards)

@@ -13,7 +13,7 @@
 //! (`specs/Causes`), and however the steps interleave the machine is sound (`specs/Promises`): on each shard the trace is exclusive, the
 //! lock's queues keep what they promise, its events name what the lock has and stand in their order, its two domains stay apart, and
 //! journal and transcripts are legal; and each rank's entries are its first calls, each once, in its order. What a lock promises beside,
-//! and what its queues promise, is said of every run from the start on (`specs/RunActs`).
+//! and what its queues promise, is said of every run from the start on (`specs/RunTransitions`).
 //! Not said here: that a rank ever gets the lock.
 #![tactic(auto)]
 

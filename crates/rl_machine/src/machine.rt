@@ -16,7 +16,7 @@ ghost use Rattle.rl_machine.specs.Start.{start_of};
 ghost use Rattle.rl_machine.specs.Rest.{RestsWith, counted_more, with_steps};
 ghost use Rattle.rl_machine.specs.Rested.{Tells};
 ghost use Rattle.rl_machine.specs.Told.{told_by};
-ghost use Rattle.rl_machine.specs.RunActs.{EachSays};
+ghost use Rattle.rl_machine.specs.RunTransitions.{EachSays};
 
 use crate::records;
 use crate::rest::count_more;

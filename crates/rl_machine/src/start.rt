@@ -4,7 +4,7 @@ ghost use Rattle.std.specs.Prelude.{◌≡◌, ◌<◌, ◌≤◌, length, map, 
 ghost use Rattle.std.specs.List.{AllByRecursion};
 ghost use Rattle.rl_model.specs.Geom.{GeomFits};
 ghost use Rattle.rl_word.specs.Shapes.{IsProper, layout_of};
-ghost use Rattle.rl_step.specs.Lock.{HandsOn};
+ghost use Rattle.rl_step.specs.Batches.{HandsOn};
 ghost use Rattle.rl_ops.specs.Ops.{total_calls};
 ghost use Rattle.rl_machine.specs.Cores.{EachCore, EachHandsOn};
 ghost use Rattle.rl_machine.specs.Running.{shard_run, shard_cores};

@@ -24,7 +24,7 @@ use Rattle.rl_asks.specs.Asks.{asked_of}
 use Rattle.rl_machine.specs.Start.{start_of}
 use Rattle.rl_machine.specs.StartLaws.{shards_length}
 use Rattle.rl_machine.specs.Run.{calls_by, run_of, ranks_of, done_of, kept_by}
-use Rattle.rl_machine.specs.RunActs.{EachSays}
+use Rattle.rl_machine.specs.RunTransitions.{EachSays}
 use Rattle.rl_machine.specs.Promises.{journal_on, transcripts_on, history_on, IsSound, KeepsQueues, EachKeepsQueues}
 use Rattle.rl_cores.specs.Kinds.{Defined, Promised}
 use Rattle.rl_program.specs.Replay.{start_with, run_with}

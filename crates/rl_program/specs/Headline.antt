@@ -23,7 +23,7 @@ use Rattle.rl_machine.specs.Running.{ShardRun, Running}
 use Rattle.rl_machine.specs.ShardSteps.{events_of}
 use Rattle.rl_asks.specs.Asks.{asked_of}
 use Rattle.rl_machine.specs.Run.{ranks_of, done_of, kept_by}
-use Rattle.rl_machine.specs.RunActs.{EachSays}
+use Rattle.rl_machine.specs.RunTransitions.{EachSays}
 use Rattle.rl_machine.specs.Promises.{journal_on, transcripts_on, history_on, EachKeepsQueues, KeepsGuarded}
 use Rattle.rl_machine.specs.Changes.{OnlyWritersChange}
 use Rattle.rl_cores.specs.Kinds.{Defined, Promised, kind_of}
@@ -51,7 +51,9 @@ module _ {V : Type 0} (defined : Defined V) (promised : Promised) (place : ThePl
     -- no queue with a budget passes its lock more often than that between two settlements, nor, in all, more often than that for each
     -- settlement; each queue serves first who came first; and while no call is open there each was settled and passed as often as it was had
     pub queues : EachKeepsQueues (name_of place.lock) (shape_of place) (knobs_of place.lock) place.homes m
-    -- what the kind of lock promises beyond that
+    -- and beyond that, on each shard: under ALock, `seq` and `combine` a cohort that has announced itself is overtaken at most so often, by the
+    -- events; under RMA-RW, while no step lowers the arrive word of a group at most so many of its readers enter, by the lock's words before
+    -- and after each step and by the events; under the other locks nothing
     pub further : EachSays promised (shape_of place) (knobs_of place.lock) place.homes (start_with defined place ops) (ranks_of schedule.turns)
     -- one thread that makes the calls of a shard's history in order, from the empty table, gets the history's replies, `full` exactly
     -- where a new key finds its bucket taken and no overflow cell left; and each entry looked at the number of updates before it

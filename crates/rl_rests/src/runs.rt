@@ -9,7 +9,7 @@ ghost use Rattle.rl_ops.specs.Ops.{OpsFit};
 ghost use Rattle.rl_ops.specs.Schedule.{TurnFits, steps_of};
 ghost use Rattle.rl_machine.specs.Promises.{IsSound, EachKeepsQueues};
 ghost use Rattle.rl_machine.specs.Run.{run_of, stepped, turn_ranks, ranks_of, steps_in};
-ghost use Rattle.rl_machine.specs.RunActs.{EachSays};
+ghost use Rattle.rl_machine.specs.RunTransitions.{EachSays};
 ghost use Rattle.rl_machine.specs.Running.{running, cores_of};
 ghost use Rattle.rl_rests.specs.Rested.{AllRested};
 ghost use Rattle.rl_machine.specs.Start.{start_of};
@@ -118,7 +118,7 @@ fn take_turn<C: Resting>(
 /// says for each shard the node that its words live on, and `ops` what each rank asks for; the ranks of the turns are the
 /// shape's, and there are fewer than 2^32 steps in all. Refused only for want of memory. Whatever the schedule, the machine
 /// is sound (`IsSound`); on each shard the lock's queues, whose members and budgets are the placement's, keep their promises;
-/// and what a lock promises beside holds of its events and acts on each shard.
+/// and what a lock promises beside holds of its events on each shard, and of the atoms there, by the lock's words before and after each.
 /// The contract speaks of the run by its definition (`run_of` of `rl_machine`), which knows no vectors.
 ///
 /// It stands apart from its callers, which makes the loop that takes the steps shorter by some hundredths.

@@ -11,7 +11,8 @@ use Rattle.rl_step.specs.declared.events.Event.{Event}
 use Rattle.rl_step.specs.declared.events.Event.TheVariants as event
 use Rattle.rl_step.specs.declared.events.Standing.{Standing}
 use Rattle.rl_step.specs.declared.events.Standing.TheVariants as standing
-use Rattle.rl_step.specs.Batches.{IsBatchedAtMost}
+use Rattle.rl_step.specs.Transitions.{Transition, IsBatchedAtMost}
+use Rattle.rl_step.specs.Batches.{BatchedFrom}
 use Rattle.rl_step.specs.Lock.{LockTable, Told, Deed, no_local}
 use Rattle.rl_queue.specs.declared.view.Phase.{Phase}
 use Rattle.rl_queue.specs.declared.view.Phase.TheVariants.{Clear, Settle}
@@ -134,6 +135,10 @@ rw_table K =
       may_make = no_local;
     }
 
--- What the lock says further: between two acts that lower the arrive word of a group at most so many readers of the group enter.
-abbrev pub BoundsBatches : Shared → List Event → List Deed → Type 0
-BoundsBatches K t ds = (g : ℕ) → g < groups K → IsBatchedAtMost (mine_of K g) (of_tree K + 2 * g) K.readers ds
+-- What is promised of it beyond: while no atom lowers the arrive word of a group at most so many readers of the group enter.
+abbrev pub BoundsBatches : Shared → List Event → List Transition → Type 0
+BoundsBatches K t ts = (g : ℕ) → g < groups K → IsBatchedAtMost (mine_of K g) (of_tree K + 2 * g) K.readers ts
+
+-- what the lock says of its acts, from which that comes
+abbrev pub KeepsBatches : Shared → List Event → List Deed → Type 0
+KeepsBatches K t ds = (g : ℕ) → g < groups K → BatchedFrom (mine_of K g) (of_tree K + 2 * g) K.readers 0 ds

@@ -10,7 +10,7 @@ use Rattle.rl_step.specs.declared.events.Event.TheVariants as event
 use Rattle.rl_step.specs.Lock.{Told}
 use Rattle.rl_step.specs.BatchLaws.{MayEnter}
 use Rattle.rl_step.specs.Queues.{count}
-use Rattle.rl_step.specs.Batches.{reader_entries}
+use Rattle.rl_step.specs.Transitions.{reader_entries}
 use Rattle.rl_queue.specs.declared.view.Phase.{Phase}
 use Rattle.rl_queue.specs.declared.view.Phase.TheVariants.{Idle, Settle, Granted, Above}
 use Rattle.rl_queue.specs.Choices.{choose}

@@ -15,6 +15,7 @@ use Rattle.rl_step.specs.declared.events.Event.{Event}
 use Rattle.rl_step.specs.declared.events.Standing.TheVariants as standing
 use Rattle.rl_step.specs.Lock.{LockState, found, IsLoad, PlansLoad, Told, FindsOld, LockLaws, Acts, opening, first_views}
 use Rattle.rl_step.specs.LockLemmas.{length-first_views, first_views_at}
+use Rattle.rl_step.specs.Batches.{HandsOn}
 use Rattle.rl_step.specs.BatchLaws.{is_batched}
 use Rattle.rl_step.specs.Queues.{settled, passed, tenures}
 use Rattle.rl_queue.specs.Choices.{choose}
@@ -34,7 +35,7 @@ use Rattle.rl_counter.specs.CounterGood.{GroupGood, IsMark, Loaded, Mark, group_
 use Rattle.rl_counter.specs.Counter.{Turn, arrive_word, busy, counter_act, counter_turn, depart_word, to}
 use Rattle.rl_counter.specs.CounterLaws.{begins, tells_what_it_finds}
 use Rattle.rl_rw.specs.declared.view.RwView.{RwView}
-use Rattle.rl_rw.specs.Rw.{shared_of, Shared, groups, of_tree, counters_of, rw_view, plan_of, from_tree, from_counter, rw_learn, asks_for, rw_standing, rw_table, after_hook, mine_of, BoundsBatches}
+use Rattle.rl_rw.specs.Rw.{shared_of, Shared, groups, of_tree, counters_of, rw_view, plan_of, from_tree, from_counter, rw_learn, asks_for, rw_standing, rw_table, after_hook, mine_of, BoundsBatches, KeepsBatches}
 use Rattle.rl_rw.specs.RwGood.{trees, doings, Place, Moded, Lonely, RwGood}
 use Rattle.rl_rw.specs.RwRows.{out_plans_not, resume_goes}
 use Rattle.rl_rw.specs.RwWords.{groups_low, IsSound}
@@ -199,7 +200,7 @@ module _ (K : Shared) (levels : ℕ) (F : TreeFacts K.rooted levels) (d : IsSoun
     by false o e = let k = F.waits t a got pl e in (k.0, k.1)
 
   -- ALL LAWS OF A LOCK.
-  pub rw_laws : LockLaws (rw_table K) (RwGood K levels) (BoundsBatches K) (layout_of K.rooted.shape)
+  pub rw_laws : LockLaws (rw_table K) (RwGood K levels) (KeepsBatches K) (layout_of K.rooted.shape)
   rw_laws =
       record {
         begins = begins_at;
@@ -225,7 +226,7 @@ module _ (K : Shared) (levels : ℕ) (F : TreeFacts K.rooted levels) (d : IsSoun
         within = λ s q B e g has eb. let o = queue_is K.rooted q e has in F.within g.inside s.words (trees s.views) s.trace q B g.tree o.0 (sym (ap (λ z. z.budget) o.1) ∙ eb);
         fifo = λ s q e g has. F.fifo g.inside s.words (trees s.views) s.trace q g.tree (queue_is K.rooted q e has).0;
         counted = λ s q e g out has. let o = queue_is K.rooted q e has in subst (λ z. settled q s.trace + passed q s.trace ≡ tenures z s.trace) (sym o.1) (F.counted g.inside s.words (trees s.views) s.trace q (all_trees K levels F d s g) g.tree (trees_out s out) o.0);
-        goes_further = λ s g i lt. is_batched (mine_of K i) (of_tree K + 2 * i) K.readers s.deeds (g.batches i lt).so_far;
+        goes_further = λ s g i lt. (g.batches i lt).so_far;
         finds = λ s r v a one h. finds_at s r v.tree v.counter.counter v.counter.doing a one h.is_good h.has h.planned;
         moves_on = λ s r v a one h. moves_at s r v.tree v.counter.counter v.counter.doing a one h.is_good h.has h.planned;
       } where
@@ -238,7 +239,11 @@ sound_of K levels S limited few grouped = record { limited = limited; few = few;
 
 -- so all laws hold of a tree as a lock keeps it, with a budget of the root, at most 1000 readers to a counter, and groups of a rank at least
 pub laws_of : (rooted : Rooted) (readers group : ℕ) → IsTreeLaid rooted (levels_of rooted.shape) → has_above rooted.root ≡ true → readers ≤ 1000 → 0 < group →
-    LockLaws (rw_table (shared_of rooted readers group)) (RwGood (shared_of rooted readers group) (levels_of rooted.shape)) (BoundsBatches (shared_of rooted readers group)) (layout_of rooted.shape)
+    LockLaws (rw_table (shared_of rooted readers group)) (RwGood (shared_of rooted readers group) (levels_of rooted.shape)) (KeepsBatches (shared_of rooted readers group)) (layout_of rooted.shape)
 laws_of rooted readers group laid limited few grouped =
     let S : IsWellShaped rooted (levels_of rooted.shape) = laid_shaped rooted (levels_of rooted.shape) laid in
     rw_laws (shared_of rooted readers group) (levels_of rooted.shape) (tree_facts rooted (levels_of rooted.shape) S) (sound_of (shared_of rooted readers group) (levels_of rooted.shape) S limited few grouped)
+
+-- what it says of its acts gives what is promised, of the lock that was asked for
+pub hands_on : (made asked : Shared) → made ≡ asked → HandsOn (KeepsBatches made) (BoundsBatches asked)
+hands_on made asked same t ds ts shown keeps = subst (λ K. BoundsBatches K t ts) same (λ g lt. is_batched (mine_of made g) (of_tree made + 2 * g) made.readers ds ts shown (keeps g lt))

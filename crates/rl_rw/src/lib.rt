@@ -7,8 +7,8 @@
 //!   and waits until all are clear; one that gives up what is above the root takes them down.
 //!
 //! Promise: `Rw` meets all laws of a lock (`Algo`): no reader is in beside a writer, readers are in beside each other, each element's
-//! queue is served first come, first served, and each is passed on no more often than its budget. It says further (`BoundsBatches`):
-//! between two acts that lower the arrive word of a group, at most as many readers of the group enter as are set.
+//! queue is served first come, first served, and each is passed on no more often than its budget. Further is promised (`BoundsBatches`):
+//! while no step lowers the arrive word of a group, at most as many readers of the group enter as are set.
 //! Not said here: that any rank ever enters.
 #![tactic(auto)]
 

@@ -6,7 +6,7 @@ ghost use Rattle.rl_word.specs.declared.locks.LockName.TheVariants as TheName;
 ghost use Rattle.rl_word.specs.Shapes.{layout_of};
 ghost use Rattle.rl_tree.specs.Tree.{has_above, entry_if};
 ghost use Rattle.rl_tree.specs.TreeShape.{levels_of};
-ghost use Rattle.rl_rw.specs.Rw.{shared_of, shared_in, SuitsRw, counters_of, from_tree, after_hook, from_counter, rw_table, BoundsBatches};
+ghost use Rattle.rl_rw.specs.Rw.{shared_of, shared_in, SuitsRw, counters_of, from_tree, after_hook, from_counter, rw_table, BoundsBatches, KeepsBatches};
 ghost use Rattle.rl_rw.specs.Fits.{MayLeaveHook, Ends};
 ghost use Rattle.rl_rw.specs.RwGood.{RwGood};
 ghost use Rattle.rl_rw.specs.SameViews.{same_rw};
@@ -144,7 +144,7 @@ impl Algo for Rw {
 
     ghost good = { λ s. RwGood (shared_of s.tree.rooted s.counters.readers s.group) (levels_of s.tree.rooted.shape) };
 
-    ghost further = { λ s. BoundsBatches (shared_of s.tree.rooted s.counters.readers s.group) };
+    ghost further = { λ s. KeepsBatches (shared_of s.tree.rooted s.counters.readers s.group) };
 
     ghost layout = { λ s. layout_of s.tree.rooted.shape };
 

@@ -1,15 +1,99 @@
--- Bounded batches along the acts of a run: that acts that keep the bound one by one keep it, and which acts do.
-use Rattle.std.specs.Prelude.{◌≡◌, ◌⊎◌, ℕ, ◌+◌, ◌^◌, ◌%◌, ◌<◌, ◌≤◌, ◌&&◌, Bool, true, false, List, [], ◌∷◌, ◌++◌, length, nat_lt, if◌then◌else◌, slice_index, slice_set, refl}
+-- Bounded batches along the acts of a run: that acts that keep the bound one by one keep it, and which acts do; and that the atoms that show
+-- such acts keep it by the lock's words.
+use Rattle.std.specs.Prelude.{◌≡◌, ◌⊎◌, ℕ, ◌+◌, ◌^◌, ◌%◌, ◌<◌, ◌≤◌, ◌&&◌, ◌==◌, Bool, true, false, List, [], ◌∷◌, ◌++◌, length, nat_lt, if◌then◌else◌, slice_index, slice_set, refl}
 use Rattle.std.proofs.Common.{sym, ◌∙◌, ap, subst, inl, inr, ⊎_elim, arith, get_or-set_same, get_or-set_other}
-use Rattle.std.proofs.lemmas.List.{append-nil}
+use Rattle.std.proofs.lemmas.List.{append-nil, append_assoc}
 use Rattle.std.proofs.lemmas.Bool.Decides.{eqb_tells, nat_tests}
 use Rattle.rl_word.specs.declared.acts.Act.{Act}
-use Rattle.rl_word.specs.declared.acts.Act.TheVariants.{CardAdd}
+use Rattle.rl_word.specs.declared.acts.Act.TheVariants.{Load, Store, LocalCas, CardCas, CardSwap, CardAdd}
 use Rattle.rl_word.specs.Acts.{word_of, written, told}
 use Rattle.rl_step.specs.declared.events.Event.{Event}
 use Rattle.rl_step.specs.Lock.{Deed}
 use Rattle.rl_step.specs.Queues.{count}
-use Rattle.rl_step.specs.Batches.{reader_entries, readers_in, lowers, lowerings, IsBatchedAtMost, since_after, since, BatchedFrom}
+use Rattle.rl_step.specs.Transitions.{Transition, reader_entries, readers_entered, NeverLowered, IsBatchedAtMost}
+use Rattle.rl_step.specs.Batches.{readers_in, lowers, lowerings, since_after, since, BatchedFrom, AreActsOf, AreShown}
+
+-- ---- acts and the atoms that show them
+
+-- one atom more, with its acts
+pub shown_next : (ds es : List Deed) (ts : List Transition) (x : Transition) → AreShown ds ts → AreActsOf es x → AreShown (ds ++ es) (ts ++ x ∷ [])
+shown_next _ es _ x AreShown.none is = subst (λ z. AreShown z (x ∷ [])) (append-nil es) (AreShown.more es [] x [] is AreShown.none)
+shown_next _ es _ x (AreShown.more ds later y ys here rest) is =
+    subst (λ z. AreShown z (y ∷ (ys ++ x ∷ []))) (sym (append_assoc ds later es)) (AreShown.more ds (later ++ es) y (ys ++ x ∷ []) here (shown_next later es ys x rest is))
+
+-- where the atoms fall into two parts, so do the acts that they show
+record SplitAt (ds : List Deed) (p s : List Transition) : Type 0 where
+  first : List Deed
+  later : List Deed
+  is : ds ≡ first ++ later
+  first_shown : AreShown first p
+  later_shown : AreShown later s
+
+split_shown : (ds : List Deed) (p s : List Transition) → AreShown ds (p ++ s) → SplitAt ds p s
+split_shown ds [] s shown = record { first = []; later = ds; is = refl; first_shown = AreShown.none; later_shown = shown }
+split_shown _ (x ∷ p) s (AreShown.more ds later _ _ here rest) =
+    let q : SplitAt later p s = split_shown later p s rest in
+    record {
+      first = ds ++ q.first;
+      later = q.later;
+      is = ap (λ z. ds ++ z) q.is ∙ sym (append_assoc ds q.first q.later);
+      first_shown = AreShown.more ds q.first x p here q.first_shown;
+      later_shown = q.later_shown;
+    }
+
+lowerings_append : (w : ℕ) (ds es : List Deed) → lowerings w (ds ++ es) ≡ lowerings w ds + lowerings w es
+lowerings_append w [] es = omega arith
+lowerings_append w (d ∷ ds) es = let k : lowerings w (ds ++ es) ≡ lowerings w ds + lowerings w es = lowerings_append w ds es in omega arith
+
+readers_append : (mine : ℕ → Bool) (ds es : List Deed) → readers_in mine (ds ++ es) ≡ readers_in mine ds + readers_in mine es
+readers_append mine [] es = omega arith
+readers_append mine (d ∷ ds) es = let k : readers_in mine (ds ++ es) ≡ readers_in mine ds + readers_in mine es = readers_append mine ds es in omega arith
+
+-- where no atom lowers the word none of the acts does
+none_lowers : (w : ℕ) (ds : List Deed) (ts : List Transition) → AreShown ds ts → NeverLowered w ts → lowerings w ds ≡ 0
+none_lowers w _ _ AreShown.none never = refl
+none_lowers w _ _ (AreShown.more ds later x xs here rest) never =
+    let a : lowerings w (ds ++ later) ≡ lowerings w ds + lowerings w later = lowerings_append w ds later in
+    let b : lowerings w ds ≡ 0 = here.lowered w never.0 in
+    let c : lowerings w later ≡ 0 = none_lowers w later xs rest never.1 in omega arith
+
+-- the readers that enter by the acts are those of the atoms
+same_readers : (mine : ℕ → Bool) (ds : List Deed) (ts : List Transition) → AreShown ds ts → readers_in mine ds ≡ readers_entered mine ts
+same_readers mine _ _ AreShown.none = refl
+same_readers mine _ _ (AreShown.more ds later x xs here rest) =
+    let a : readers_in mine (ds ++ later) ≡ readers_in mine ds + readers_in mine later = readers_append mine ds later in
+    let b : readers_in mine ds ≡ reader_entries mine x.events = here.entered mine in
+    let c : readers_in mine later ≡ readers_entered mine xs = same_readers mine later xs rest in omega arith
+
+-- an act which writes no less than it finds, where it tells what it finds, lowers no word
+written_more : (a : Act) (x : ℕ) → x ≤ written a x → nat_lt (written a (told a x)) (told a x) ≡ false
+written_more (Load w) x up = grind (arith, nat_tests)
+written_more (Store w v) x up = grind (arith, nat_tests)
+written_more (LocalCas w old new) x up = grind (arith, nat_tests)
+written_more (CardCas w old new) x up = grind (arith, nat_tests)
+written_more (CardSwap w v) x up = grind (arith, nat_tests)
+written_more (CardAdd w d) x up = grind (arith, nat_tests)
+
+-- the act of an atom that leaves in its word what the act writes there, and that tells the act's events
+pub shows_act : (r : ℕ) (a : Act) (x : Transition) → slice_index x.after (word_of a) ≡ written a (slice_index x.before (word_of a)) →
+    AreActsOf (record { rank = r; act = a; got = told a (slice_index x.before (word_of a)); events = x.events } ∷ []) x
+shows_act r a x wrote = record { lowered = λ w up. at w up; entered = λ mine. omega arith } where
+  at : (w : ℕ) → slice_index x.before w ≤ slice_index x.after w → count ((word_of a == w) && nat_lt (written a (told a (slice_index x.before (word_of a)))) (told a (slice_index x.before (word_of a)))) + 0 ≡ 0
+  at w up =
+      ⊎_elim
+      (λ q.
+      let here : slice_index x.before (word_of a) ≤ slice_index x.after (word_of a) = subst (λ z. slice_index x.before z ≤ slice_index x.after z) (sym q.1) up in
+      let more : slice_index x.before (word_of a) ≤ written a (slice_index x.before (word_of a)) = subst (λ z. slice_index x.before (word_of a) ≤ z) wrote here in
+      ap (λ z. count (z && nat_lt (written a (told a (slice_index x.before (word_of a)))) (told a (slice_index x.before (word_of a)))) + 0) q.0
+      ∙ ap (λ z. count z + 0) (written_more a (slice_index x.before (word_of a)) more))
+      (λ q. ap (λ z. count (z && nat_lt (written a (told a (slice_index x.before (word_of a)))) (told a (slice_index x.before (word_of a)))) + 0) q.0)
+      (eqb_tells (word_of a) w)
+
+-- an atom with no act, by which no reader enters
+pub shows_none : (x : Transition) → ((mine : ℕ → Bool) → reader_entries mine x.events ≡ 0) → AreActsOf [] x
+shows_none x quiet = record { lowered = λ w up. refl; entered = λ mine. sym (quiet mine) }
+
+-- ---- the bound, along the acts
 
 module _ (mine : ℕ → Bool) (w bound : ℕ) where
   pub since-append : (n : ℕ) (ds es : List Deed) → since mine w n (ds ++ es) ≡ since mine w (since mine w n ds) es
@@ -41,14 +125,22 @@ module _ (mine : ℕ → Bool) (w bound : ℕ) where
   low_since n [] s h b = h
   low_since n (d ∷ ds) s h b = low_since (since_after mine w n d) ds s b.0 b.1
 
-  -- deeds that keep it one by one keep it over every stretch
-  pub is_batched : (ds : List Deed) → BatchedFrom mine w bound 0 ds → IsBatchedAtMost mine w bound ds
-  is_batched ds b =
+  -- acts that keep it one by one keep it over every stretch
+  stretch_of : (p u s : List Deed) → BatchedFrom mine w bound 0 (p ++ (u ++ s)) → lowerings w u ≡ 0 → readers_in mine u ≤ bound
+  stretch_of p u s b z =
+      let low : since mine w 0 p ≤ bound = low_since 0 p (u ++ s) (omega arith) b in
+      let k : since mine w 0 p + readers_in mine u ≤ bound = stretch_low (since mine w 0 p) u s low (rest_of 0 p (u ++ s) b) z in omega arith
+
+  -- and so do the atoms that show them, by the words
+  pub is_batched : (ds : List Deed) (ts : List Transition) → AreShown ds ts → BatchedFrom mine w bound 0 ds → IsBatchedAtMost mine w bound ts
+  is_batched ds ts shown b =
       record {
-        stretch = λ p u s e z.
-            let all : BatchedFrom mine w bound 0 (p ++ (u ++ s)) = subst (BatchedFrom mine w bound 0) e b in
-            let low : since mine w 0 p ≤ bound = low_since 0 p (u ++ s) (omega arith) all in
-            let k : since mine w 0 p + readers_in mine u ≤ bound = stretch_low (since mine w 0 p) u s low (rest_of 0 p (u ++ s) all) z in omega arith;
+        stretch = λ p u s e never.
+            let q : SplitAt ds p (u ++ s) = split_shown ds p (u ++ s) (subst (AreShown ds) e shown) in
+            let r : SplitAt q.later u s = split_shown q.later u s q.later_shown in
+            let whole : ds ≡ q.first ++ (r.first ++ r.later) = q.is ∙ ap (λ z. q.first ++ z) r.is in
+            let k : readers_in mine r.first ≤ bound = stretch_of q.first r.first r.later (subst (BatchedFrom mine w bound 0) whole b) (none_lowers w r.first u r.first_shown never) in
+            subst (λ n. n ≤ bound) (same_readers mine r.first u r.first_shown) k;
       }
 
   -- What is kept: so far it is so, and those who have entered since the word was lowered are no more than the word says.

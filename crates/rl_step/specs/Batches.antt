@@ -1,20 +1,12 @@
--- Bounded batches of readers: between two acts that lower a counter's word at most so many readers of its group enter.
-use Rattle.std.specs.Prelude.{◌≡◌, ℕ, ◌+◌, ◌≤◌, ◌==◌, ◌&&◌, Bool, List, [], ◌∷◌, ◌++◌, nat_lt, if◌then◌else◌}
+-- Bounded batches of readers by a lock's own acts: what a lock's proof speaks of. BatchLaws shows that it gives the bound over the words.
+use Rattle.std.specs.Prelude.{◌≡◌, ℕ, ◌+◌, ◌≤◌, ◌==◌, ◌&&◌, Bool, List, [], ◌∷◌, ◌++◌, nat_lt, if◌then◌else◌, slice_index}
 use Rattle.rl_word.specs.Acts.{word_of, written}
 use Rattle.rl_step.specs.declared.events.Event.{Event}
-use Rattle.rl_step.specs.declared.events.Event.TheVariants.{EnterR}
 use Rattle.rl_step.specs.Lock.{Deed}
 use Rattle.rl_step.specs.Queues.{count}
+use Rattle.rl_step.specs.Transitions.{Transition, reader_entries}
 
--- how many of these ranks enter as readers by an event, by the events of one act, and by all acts
-abbrev pub reader_entries_by : (ℕ → Bool) → Event → ℕ
-reader_entries_by these (EnterR k) = count (these k)
-reader_entries_by these _ = 0
-
-abbrev pub reader_entries : (ℕ → Bool) → List Event → ℕ
-reader_entries these [] = 0
-reader_entries these (e ∷ es) = reader_entries_by these e + reader_entries these es
-
+-- how many of these ranks enter as readers by all acts
 abbrev pub readers_in : (ℕ → Bool) → List Deed → ℕ
 readers_in these [] = 0
 readers_in these (d ∷ ds) = reader_entries these d.events + readers_in these ds
@@ -29,11 +21,7 @@ abbrev pub lowerings : ℕ → List Deed → ℕ
 lowerings w [] = 0
 lowerings w (d ∷ ds) = count (lowers w d) + lowerings w ds
 
--- in any stretch of acts none of which lowers the word so many readers of the group, which are mine, enter at most
-pub record IsBatchedAtMost (mine : ℕ → Bool) (w bound : ℕ) (ds : List Deed) : Type 0 where
-  pub stretch : (p u s : List Deed) → ds ≡ p ++ (u ++ s) → lowerings w u ≡ 0 → readers_in mine u ≤ bound
-
--- Below is the same act by act; BatchLaws shows that it says the same. Those who have entered since the word was lowered are counted.
+-- Those who have entered since the word was lowered are counted, and are never more than the bound.
 abbrev pub since_after : (ℕ → Bool) → ℕ → ℕ → Deed → ℕ
 since_after mine w n d = if lowers w d then 0 else n + reader_entries mine d.events
 
@@ -44,3 +32,18 @@ since mine w n (d ∷ ds) = since mine w (since_after mine w n d) ds
 abbrev pub BatchedFrom : (ℕ → Bool) → ℕ → ℕ → ℕ → List Deed → Type 0
 BatchedFrom mine w bound n [] = Unit {0}
 BatchedFrom mine w bound n (d ∷ ds) = (since_after mine w n d ≤ bound) × BatchedFrom mine w bound (since_after mine w n d) ds
+
+-- Acts are those of one atom, as its words and its events show: they lower no word that has as much after it as before, and by them
+-- the readers enter whose entries it told.
+pub record AreActsOf (ds : List Deed) (x : Transition) : Type 0 where
+  pub lowered : (w : ℕ) → slice_index x.before w ≤ slice_index x.after w → lowerings w ds ≡ 0
+  pub entered : (mine : ℕ → Bool) → readers_in mine ds ≡ reader_entries mine x.events
+
+-- so they are of a list of atoms, one atom after the other
+pub data AreShown : List Deed → List Transition → Type 0 where
+  none : AreShown [] []
+  more : (ds later : List Deed) (x : Transition) (xs : List Transition) → AreActsOf ds x → AreShown later xs → AreShown (ds ++ later) (x ∷ xs)
+
+-- what a lock says of all events and acts so far gives what was promised of these events, and of all atoms that show such acts
+abbrev pub HandsOn : (List Event → List Deed → Type 0) → (List Event → List Transition → Type 0) → Type 0
+HandsOn said promised = (t : List Event) (ds : List Deed) (ts : List Transition) → AreShown ds ts → said t ds → promised t ts

@@ -7,6 +7,7 @@ pub mod LockQueues
 pub mod QueuePromises
 pub mod Lock
 pub mod Overtaking
+pub mod Transitions
 pub mod Batches
 pub mod Core
 pub mod Flat

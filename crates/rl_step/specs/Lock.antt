@@ -221,13 +221,9 @@ no_local r (act.CardCas w old new) = true
 no_local r (act.CardSwap w v) = true
 no_local r (act.CardAdd w d) = true
 
--- a lock that says no more than the laws of every lock
-abbrev pub no_more : List Event → List Deed → Type 0
-no_more t ds = Unit {0}
-
--- what is said of all events and acts so far gives what was promised of them
-abbrev pub HandsOn : (List Event → List Deed → Type 0) → (List Event → List Deed → Type 0) → Type 0
-HandsOn said promised = (t : List Event) (ds : List Deed) → said t ds → promised t ds
+-- A lock that says no more than the laws of every lock: nothing of all events, nor of what else is given, as all acts or all atoms.
+abbrev pub no_more : {X : Type 0} → List Event → X → Type 0
+no_more t xs = Unit {0}
 
 -- some good state has this view
 pub record MayStep {V : Type 0} (good : LockState V → Type 0) (v : V) : Type 0 where

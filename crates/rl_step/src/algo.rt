@@ -7,7 +7,9 @@ ghost use Rattle.rl_word.specs.declared.shapes.Knobs.{Knobs as TheKnobs};
 ghost use Rattle.rl_word.specs.Acts.{Layout};
 ghost use Rattle.rl_word.specs.Shapes.{TheShape, IsProper, layout_of};
 ghost use Rattle.rl_step.specs.LockQueues.{queues_of, readers_share, cohorts_of};
-ghost use Rattle.rl_step.specs.Lock.{LockTable, LockState, LockLaws, HandsOn, Deed, MayStep, MayLearn, IsHolder};
+ghost use Rattle.rl_step.specs.Lock.{LockTable, LockState, LockLaws, Deed, MayStep, MayLearn, IsHolder};
+ghost use Rattle.rl_step.specs.Transitions.{Transition as TheTransition};
+ghost use Rattle.rl_step.specs.Batches.{HandsOn};
 
 use crate::events::{Event, Standing};
 use arrayvec::ArrayVec;
@@ -31,7 +33,8 @@ pub trait Algo: Sized + Drop {
     /// Which states the lock can come to, and more that are as good.
     ghost good: { Self → LockState Self.View → Type 0 };
 
-    /// What the lock says of all events and acts so far, beyond the laws of every lock.
+    /// What the lock says of all events and acts so far, beyond the laws of every lock. It is the lock's own way to say it: what is promised
+    /// (`promised`) speaks of no act.
     ghost further: { Self → List TheEvent → List Deed → Type 0 };
 
     /// Where the ranks sit.
@@ -40,8 +43,9 @@ pub trait Algo: Sized + Drop {
     /// The lock as it is defined: by a shape, the home of the shard, and the settings.
     ghost defined: { TheShape → ℕ → TheKnobs → LockTable Self.View };
 
-    /// What it says further, by the same three.
-    ghost promised: { TheShape → ℕ → TheKnobs → List TheEvent → List Deed → Type 0 };
+    /// What is promised beyond the laws of every lock, by the same three: of all events so far, and of all atoms, of each its words before and
+    /// after it and what it told.
+    ghost promised: { TheShape → ℕ → TheKnobs → List TheEvent → List TheTransition → Type 0 };
 
     /// The lock's name.
     ghost name: { TheName };

@@ -19,13 +19,13 @@ use Rattle.rl_whole.specs.SplitActs.{plain_got, told_card}
 use Rattle.rl_whole.specs.Bridge.{Moves, is_work}
 
 -- the effect that an act is learnt, by its tests
-first_learns : (a : Act) (home got : ℕ) (b z : Bool) (h : CardState) (t : ℕ) (l : Bool) →
+pub first_learns : (a : Act) (home got : ℕ) (b z : Bool) (h : CardState) (t : ℕ) (l : Bool) →
     (if b then (if z then Stay InCard Moved else Stay Free (Busy home (got - 1))) else Learn Free got (skips a got)) ≡ Learn h t l → (b ≡ false) × (t ≡ got)
 first_learns a home got true true h t l e = cc
 first_learns a home got true false h t l e = cc
 first_learns a home got false z h t l e = (refl, cc)
 
-load_learns : (home got : ℕ) (b : Bool) (h : CardState) (t : ℕ) (l : Bool) →
+pub load_learns : (home got : ℕ) (b : Bool) (h : CardState) (t : ℕ) (l : Bool) →
     (if b then Learn (ToLeave home) got true else Stay (Loaded got) Moved) ≡ Learn h t l → (b ≡ true) × (t ≡ got)
 load_learns home got true h t l e = (refl, cc)
 load_learns home got false h t l e = cc

@@ -25,6 +25,7 @@ pub mod WorkEnds
 pub mod DeskLaws
 pub mod StandLaws
 pub mod GuardLaws
+pub mod ActLaws
 pub mod AnswerAtoms
 pub mod CauseLaws
 pub mod IdleLaws

@@ -51,6 +51,7 @@ use Rattle.rl_whole.specs.Changes.{Match, Change, Goes, goes}
 use Rattle.rl_whole.specs.StandLaws.{atom_change, alone_in, asked_change}
 use Rattle.rl_whole.specs.DeskLaws.{first_is_new, told_is, own_is, settled_is, told_opens, own_opens, own_turns, told_turns}
 use Rattle.rl_whole.specs.GuardLaws.{guarded}
+use Rattle.rl_whole.specs.ActLaws.{acts_shown}
 use Rattle.rl_whole.specs.Domains.{next_card_allowed, next_local_allowed}
 use Rattle.rl_whole.specs.IdleLaws.{held_idle}
 use Rattle.rl_whole.specs.Causes.{Cause}
@@ -427,4 +428,5 @@ module _ (V K : Type 0) (L : LockAt V K) (good : Goods V K) (further : List Even
         rests = λ h x. tt;
         unhindered = λ h vs t ds r x answer one s c. unhindered V K L good further layout laws home one h vs r x s.is_good.rule s.has (next_of L x) refl answer c;
         says = λ h vs t ds g. subst (λ z. further z ds) g.same (subst (further g.rule.past.trace) g.made (laws.lock.goes_further _ g.rule.lock_part.lock));
+        shows = λ h vs t ds r x at s e. acts_shown V K L good further layout laws home h vs r x s.is_good.rule s.has at e;
       }

@@ -4,7 +4,7 @@ ghost use Rattle.std.specs.Prelude.{◌≡◌, ◌↔◌, ◌++◌, ◌+◌, ◌
 ghost use Rattle.rl_model.specs.Geom.{GeomFits};
 ghost use Rattle.rl_word.specs.Shapes.{IsProper, layout_of};
 ghost use Rattle.rl_step.specs.Core.{MayBe};
-ghost use Rattle.rl_step.specs.Lock.{HandsOn};
+ghost use Rattle.rl_step.specs.Batches.{HandsOn};
 ghost use Rattle.rl_work.specs.Ways.{AsksOut};
 ghost use Rattle.rl_whole.specs.Domains.{KeepsToCards, KeepsToLocals};
 ghost use Rattle.rl_whole.specs.Opening.{first_view, opened_in};

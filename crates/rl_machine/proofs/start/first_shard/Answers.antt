@@ -24,4 +24,4 @@ opening-requires-clause-few g c =
     few_words c.args.geom T.behind T.site c.requires.fits (ap (λ s. s.geom) is) ((g.met.C.ShardCore.shard_laws core).few_words (let few = c.requires.proper.few in let all = c.requires.update_ranks in let same = ap (λ s. length s.rooms) is in omega arith)) (subst (λ l. sum l ≤ 20000) (sym (ap (λ s. s.rooms) is)) c.requires.few)
 
 pub returns-clause-promised : goal.returns-clause-promised
-returns-clause-promised g c = λ t ds said. c.in_ok-core.ensures.promised t ds (subst (λ k. g.C.ShardCore.further k t ds) c.in_ok-state.ensures.core said)
+returns-clause-promised g c = λ t ds ts shown said. c.in_ok-core.ensures.promised t ds ts shown (subst (λ k. g.C.ShardCore.further k t ds) c.in_ok-state.ensures.core said)

@@ -3,7 +3,7 @@ use Rattle.std.proofs.Common.{◌≡◌, ℕ, refl, ◌+◌, ◌<◌, ◌≤◌,
 use Rattle.std.proofs.lemmas.List.{length-map}
 use Rattle.std.proofs.lemmas.Option.{slice_get-get_or}
 use Rattle.rl_word.specs.Shapes.{layout_of}
-use Rattle.rl_step.specs.Lock.{HandsOn}
+use Rattle.rl_step.specs.Batches.{HandsOn}
 use Rattle.rl_ops.specs.Room.{calls_on, updates_on, AreRooms}
 use Rattle.rl_ops.specs.RoomLaws.{first_room}
 use Rattle.rl_machine.specs.Cores.{EachCore}

@@ -1,7 +1,7 @@
 -- The shards so far are the first ones of the start, and the rooms are those of the others.
 use Rattle.std.proofs.Common.{◌≡◌, ◌+◌, length, map, take}
 use Rattle.rl_word.specs.Shapes.{layout_of}
-use Rattle.rl_step.specs.Lock.{HandsOn}
+use Rattle.rl_step.specs.Batches.{HandsOn}
 use Rattle.rl_ops.specs.Room.{AreRooms}
 use Rattle.rl_machine.specs.Cores.{EachCore}
 use Rattle.rl_machine.specs.Running.{shard_run, shard_cores}

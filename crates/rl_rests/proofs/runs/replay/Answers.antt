@@ -6,7 +6,7 @@ use Rattle.rl_ops.specs.declared.schedule.Turn.{Turn}
 use Rattle.rl_ops.specs.declared.schedule.Turn.TheVariants.{Steps}
 use Rattle.rl_ops.specs.Schedule.{steps_of}
 use Rattle.rl_machine.specs.Run.{run_of, turn_ranks, ranks_of, steps_in, AreThere}
-use Rattle.rl_machine.specs.RunActs.{EachSays}
+use Rattle.rl_machine.specs.RunTransitions.{EachSays}
 use Rattle.rl_machine.specs.Start.{start_of}
 use Rattle.std.proofs.Math.Seq.{take-length}
 use Rattle.rl_machine.specs.Promises.{EachKeepsQueues}

@@ -11,4 +11,4 @@ returns-clause-promised c =
     ap (λ z. cohorts_of c.args.home z c.in_ok-local.local c.in_ok-remote.remote) c.in_ok-node_of.ensures ∙
     ap (λ z. cohorts_of c.args.home c.args.shape.now.node_of z c.in_ok-remote.remote) c.in_ok-local.ensures ∙
     ap (λ z. record { home = c.args.home; node_of = c.args.shape.now.node_of; local = c.args.knobs.local; remote = full_budget z.budget }) c.in_ok-remote.ensures in
-    λ t ds b. subst (λ K. BoundsOvertaking K t ds) same b
+    λ t ds ts shown b. subst (λ K. BoundsOvertaking K t ts) same b

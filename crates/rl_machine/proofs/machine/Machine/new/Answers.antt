@@ -7,7 +7,7 @@ use Rattle.rl_model.specs.declared.geom.Geom.{Geom}
 use Rattle.rl_step.specs.declared.tallies.Steps.{Steps}
 use Rattle.rl_step.specs.LockQueues.{queues_of}
 use Rattle.rl_machine.specs.Run.{run_of}
-use Rattle.rl_machine.specs.RunActs.{SaysOn}
+use Rattle.rl_machine.specs.RunTransitions.{SaysOn}
 use Rattle.rl_machine.specs.Promises.{KeepsQueues}
 use Rattle.rl_machine.specs.CoreLaws.{is_machine, are_cores, all_cores, says_on, queues_on}
 use Rattle.rl_asks.specs.OpsBridge.{can_begin}
