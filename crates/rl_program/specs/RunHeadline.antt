@@ -30,7 +30,8 @@ pub record IsRun (texts : Texts) (text : List ℕ) : Type 0 where
   -- order; the pairs are the table after them; and no queue with a budget was passed more often, in all, than that for each settlement,
   -- and each was settled and passed as often as it was had
   pub lawful : IsLawful place ops report
-  -- and it is what the ranks' machines know at the end of their shards: those of the placement's lock, as a replay has them
+  -- and it tells of each shard what some order of the ranks' openings and atoms leaves there, each of the machine that a replay has under the
+  -- placement's lock
   pub made : IsRunBy (kind_of place.lock).defined place ops report
   -- so a check finds the report legal
   pub legal : IsLegalReport place ops report

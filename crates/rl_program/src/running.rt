@@ -25,8 +25,8 @@ use std::sync::Wait;
 use std::thread::Threads;
 
 /// A report of a run of all calls of a placement's ranks, a thread for each rank, over the placement's kind of lock; no batch is among the
-/// calls where the lock does none. The ranks' machines are those that a replay of the placement has (`made`). It may wait, and returns when
-/// all calls are done. Refused only for want of memory.
+/// calls where the lock does none. The report tells of each shard what some order of the ranks' openings and atoms leaves there, each of the
+/// machine that a replay of the placement has (`made`). It may wait, and returns when all calls are done. Refused only for want of memory.
 pub fn run_report<G: Gate, R: Threads + Wait + Sync>(
     rt: &R,
     alloc: Global,

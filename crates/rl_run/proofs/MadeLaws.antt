@@ -1,14 +1,12 @@
 -- All callers are done and all shards closed: with which machine the report was made.
-use Rattle.std.proofs.Common.{◌≡◌, ℕ, ◌+◌, ◌<◌, List, [], ◌∷◌, get_or, length, map, refl, sym, ap, subst, ◌∙◌, arith}
-use Rattle.std.specs.Prelude.{false, sum_by, slice_get, Some, None}
+use Rattle.std.proofs.Common.{◌≡◌, ℕ, ◌<◌, List, get_or, length, map, sym, ap, subst, ◌∙◌, arith}
+use Rattle.std.specs.Prelude.{slice_get, Some, None}
 use Rattle.std.proofs.lemmas.List.{length-map}
-use Rattle.std.proofs.lemmas.List.Sums.{sum_by-cons}
 use Rattle.std.proofs.lemmas.Option.{slice_get_within, get_or_from_slice_get}
 use Rattle.rl_word.specs.Acts.{Layout}
 use Rattle.rl_word.specs.Shapes.{TheShape}
 use Rattle.rl_word.specs.Places.{get_map_back, some_at}
 use Rattle.rl_word.specs.declared.shapes.Knobs.{Knobs}
-use Rattle.rl_asks.specs.Desks.{entries_of}
 use Rattle.rl_asks.specs.ShardTables.{ShardTable, site_with}
 use Rattle.rl_asks.specs.ShardLaws.{GoodOf}
 use Rattle.rl_place.specs.Places.{ThePlace, IsProper}
@@ -20,11 +18,10 @@ use Rattle.rl_work.specs.Site.{Site}
 use Rattle.rl_history.specs.declared.report.Done.{Done}
 use Rattle.rl_history.specs.Reports.{TheShard}
 use Rattle.rl_shard.specs.declared.closed.Closed.{Closed}
-use Rattle.rl_shard.specs.declared.counting.CountedView.{CountedView}
 use Rattle.rl_shard.specs.declared.shard.Shard.{Shard}
-use Rattle.rl_shard.specs.Counting.{settled_by, passed_by}
-use Rattle.rl_shard.specs.Ends.{IsEnd}
-use Rattle.rl_shard.specs.Shards.{table_at, counted_at, entries_at}
+use Rattle.rl_shard.specs.Reached.{IsLeftBehind}
+use Rattle.rl_shard.specs.Ends.{IsEnd, transcripts_of, rooms_at}
+use Rattle.rl_shard.specs.Shards.{core_at, table_at, desk_at}
 use Rattle.rl_run.specs.declared.caller.Caller.{Caller}
 use Rattle.rl_run.specs.Made.{IsLeftBy, IsRunBy}
 use Rattle.rl_run.specs.RowLaws.{ends_long}
@@ -33,48 +30,35 @@ use Rattle.rl_run.specs.RunLaws.{wanted_long}
 use Rattle.rl_run.specs.Told.{all_done, part_of}
 use Rattle.rl_run.proofs.WholeRun.{sizes_long}
 
-module _ {X Y : Type 0} (g : X → Y) where
-  -- what is made of a list in two steps
-  map_twice : {Z : Type 0} (f : Y → Z) (xs : List X) → map (λ x. f (g x)) xs ≡ map f (map g xs)
-  map_twice f [] = refl
-  map_twice f (x ∷ xs) = ap (λ z. f (g x) ∷ z) (map_twice f xs)
-
-  sum_twice : (f : Y → ℕ) (xs : List X) → sum_by (λ x. f (g x)) xs ≡ sum_by f (map g xs)
-  sum_twice f [] = refl
-  sum_twice f (x ∷ xs) = sum_by-cons (λ z. f (g z)) x xs ∙ ap (λ n. f (g x) + n) (sum_twice f xs) ∙ sym (sum_by-cons f (g x) (map g xs))
-
 module _ {C V : Type 0} (D : TheShape → ℕ → Knobs → Site → ShardTable V) (table : C → ShardTable V) (good : GoodOf C V) (layout : C → Layout)
     (place : ThePlace) (ops : Ops) (proper : IsProper place) (fit : OpsFit (length place.paths) place.geom.shards ops)
-    (shards : List (Shard C V)) (cs : List (Caller C V)) (begun : HaveBegun D table good layout place ops shards cs) (ends : List Closed) (run : HasRun table shards cs ends) where
+    (shards : List (Shard C V)) (cs : List (Caller C V)) (begun : HaveBegun D table good layout place ops shards cs) (ends : List Closed) (run : HasRun table layout shards cs ends) where
   as_many : length cs ≡ length ops.by_rank
   as_many =
       sym (length-map cs made_of) ∙ ap length begun.made
       ∙ wanted_long place.geom 0 ops.by_rank ops.sizes begun.rows (sizes_long place.geom.shards ops.by_rank ops.sizes fit.blocks) begun.new.ranks
 
   all_ends : length ends ≡ length shards
-  all_ends = ends_long (IsEnd table) shards run.rows ends run.ended
+  all_ends = ends_long (IsEnd table layout) shards run.rows ends run.ended
 
   abbrev machine : ℕ → ℕ → ShardTable V
   machine s home = D (shape_of place) home (knobs_of place.lock) (site_with place.geom s (map (updates_on place.geom s) ops.by_rank))
 
-  left_by : (s home : ℕ) (e : Closed) → slice_get place.homes s ≡ Some home → slice_get ends s ≡ Some e → (ranks : List (CountedView V)) × (length ranks ≡ length ops.by_rank) × IsLeftBy (machine s home) ranks (told e)
+  left_by : (s home : ℕ) (e : Closed) → slice_get place.homes s ≡ Some home → slice_get ends s ≡ Some e → IsLeftBy (machine s home) (shape_of place).nodes (length ops.by_rank) (told e)
   left_by s home e gh ge =
       let w = some_at shards s (let h = slice_get_within ends s e ge in let a = all_ends in omega arith) in
       let q = run.at s w.0 e w.1 ge in
-      let E : IsEnd table w.0 q.0 e = q.1 in
-      let T : ShardTable V = table_at table w.0 in
+      let E : IsEnd table layout w.0 q.0 e = q.1 in
+      let new = begun.new.each s w.0 w.1 in
       let home_is : get_or place.homes s 0 ≡ home = get_or_from_slice_get place.homes s home 0 gh in
-      let table_is : T ≡ machine s home = (begun.new.each s w.0 w.1).table_is ∙ ap (machine s) home_is in (
-        map counted_at q.0,
-        length-map q.0 counted_at ∙ q.2 ∙ as_many,
-        subst (λ M. IsLeftBy M (map counted_at q.0) (told e)) table_is
-            (record {
-              closed = λ r x get. let b = get_map_back counted_at q.0 r x get in subst (λ (y : CountedView V). (T.own y.whole).is_open ≡ false) b.2 (q.3 r b.0 b.1);
-              transcripts = E.transcripts_are ∙ map_twice counted_at (λ x. entries_of (T.own x.whole)) q.0;
-              settled = λ k low. E.settled_are k low ∙ sum_twice counted_at (settled_by k) q.0;
-              passed = λ k low. E.passed_are k low ∙ sum_twice counted_at (passed_by k) q.0;
-            }),
-      )
+      let table_is : table_at table w.0 ≡ machine s home = new.table_is ∙ ap (machine s) home_is in
+      let rooms : List ℕ = rooms_at table w.0 q.0 in
+      record {
+        rooms = rooms;
+        each_rank = length-map q.0 (λ t. (desk_at table w.0 t).kept.room) ∙ q.2 ∙ as_many;
+        left_behind = subst (λ n. IsLeftBehind (machine s home) n rooms e.journal.items (transcripts_of e) e.pairs.items e.queues.items) new.nodes_are
+            (subst (λ M. IsLeftBehind M (layout (core_at w.0)).nodes rooms e.journal.items (transcripts_of e) e.pairs.items e.queues.items) table_is E.left_behind);
+      }
 
   pub run_by : (parts : List TheShard) (done : List Done) → parts ≡ map part_of (map told ends) → done ≡ all_done ops → IsRunBy D place ops (record { shards = parts; done = done; steps = None })
   run_by parts done parts_are done_is =
@@ -84,5 +68,5 @@ module _ {C V : Type 0} (D : TheShape → ℕ → Knobs → Site → ShardTable 
         all = length-map ends told ∙ all_ends ∙ begun.all ∙ sym proper.each_shard;
         each = λ s home e gh ge.
             let b = get_map_back told ends s e ge in
-            subst (λ z. (ranks : List (CountedView V)) × (length ranks ≡ length ops.by_rank) × IsLeftBy (machine s home) ranks z) b.2 (left_by s home b.0 gh b.1);
+            subst (IsLeftBy (machine s home) (shape_of place).nodes (length ops.by_rank)) b.2 (left_by s home b.0 gh b.1);
       }

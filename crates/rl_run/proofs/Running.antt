@@ -36,7 +36,7 @@ tail_is (x ∷ row) n e = omega arith
 
 module _ {C V : Type 0} (table : C → ShardTable V) (good : GoodOf C V) (layout : C → Layout) where
   -- the entries in a rank's row of seats are those that the ends of the shards have of it
-  by_ends : (ws : List (Shard C V)) (rows : List (List (Seat C V))) (es : List Closed) → AreEnded (IsEnd table) ws rows es → ((r : ℕ) (row : List (Seat C V)) → slice_get rows r ≡ Some row → length row ≡ length ws) →
+  by_ends : (ws : List (Shard C V)) (rows : List (List (Seat C V))) (es : List Closed) → AreEnded (IsEnd table layout) ws rows es → ((r : ℕ) (row : List (Seat C V)) → slice_get rows r ≡ Some row → length row ≡ length ws) →
       (r : ℕ) (row : List (Seat C V)) → slice_get rows r ≡ Some row → entries_on table ws row ≡ map (told_by r) es
   by_ends [] rows [] a long r row g = refl
   by_ends [] rows (e ∷ es) a long r row g = absurd a
@@ -60,7 +60,7 @@ module _ {C V : Type 0} (table : C → ShardTable V) (good : GoodOf C V) (layout
         subst (IsRow (IsShutSeat table good layout) shards r) q.2
         (record { long = K.row.long; each = λ s w t gw gt. let M = K.row.each s w t gw gt in (M.0 ∙ rank, M.1, E.closed s w t gw gt) })
 
-    pub has_run : (rows : List (List (Seat C V))) (ends : List Closed) → rows ≡ map seats_of new → AreEnded (IsEnd table) shards rows ends → HasRun table shards old ends
+    pub has_run : (rows : List (List (Seat C V))) (ends : List Closed) → rows ≡ map seats_of new → AreEnded (IsEnd table layout) shards rows ends → HasRun table layout shards old ends
     has_run rows ends is a =
         let grid : IsGrid (IsShutSeat table good layout) shards rows = subst (IsGrid (IsShutSeat table good layout) shards) (sym is) rows_grid in
         let lists : (r : ℕ) (d : Caller C V) → slice_get new r ≡ Some d → entries_on table shards d.seats.items ≡ map (told_by r) ends =
@@ -76,7 +76,7 @@ module _ {C V : Type 0} (table : C → ShardTable V) (good : GoodOf C V) (layout
               let mine : O (who c) = subst O p.2 (subst (IsRankInOrder p.0.geom p.0.rank (asked_of p.0.calls.items p.0.sizes.items) (length p.0.calls.items)) (lists r p.0 p.1) E.order) in
               subst (λ k. IsRankInOrder c.geom k (asked_of c.calls.items c.sizes.items) (length c.calls.items) (map (told_by r) ends)) (are r c e).0 mine;
           at = λ s w e gw ge.
-              let q = ended_at (IsShutSeat table good layout) (IsEnd table) shards rows ends grid a s w e gw ge in (
+              let q = ended_at (IsShutSeat table good layout) (IsEnd table layout) shards rows ends grid a s w e gw ge in (
                 q.0,
                 q.1,
                 q.2 ∙ ap length is ∙ length-map new seats_of ∙ (sym (length-map new who) ∙ ap length same ∙ length-map old who),

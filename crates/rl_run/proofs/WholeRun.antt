@@ -84,7 +84,7 @@ module _ {C V : Type 0} (D : TheShape → ℕ → Knobs → Site → ShardTable 
     (place : ThePlace) (ops : Ops) (proper : IsProper place) (fit : OpsFit (length place.paths) place.geom.shards ops)
     (shards : List (Shard C V)) (cs : List (Caller C V)) (begun : HaveBegun D table good layout place ops shards cs)
     (name : LockName) (kind : name ≡ lock_under (name_of place.lock)) (has_queues : (shape : TheShape) (home : ℕ) (knobs : Knobs) (site : Site) → (D shape home knobs site).queues ≡ queues_of name shape home knobs)
-    (spares : Bool → Bool) (has_tenures : (shape : TheShape) (home : ℕ) (knobs : Knobs) (site : Site) → (D shape home knobs site).tenure ≡ is_tenure (spares (readers_share name))) (as_told : spares (readers_share name) ≡ spares_gets (name_of place.lock)) (ends : List Closed) (run : HasRun table shards cs ends) where
+    (spares : Bool → Bool) (has_tenures : (shape : TheShape) (home : ℕ) (knobs : Knobs) (site : Site) → (D shape home knobs site).tenure ≡ is_tenure (spares (readers_share name))) (as_told : spares (readers_share name) ≡ spares_gets (name_of place.lock)) (ends : List Closed) (run : HasRun table layout shards cs ends) where
   are : AreClosedShards place ops (map told ends)
   are = closed_shards D name table good layout has_queues spares has_tenures place ops kind as_told proper fit (sizes_long place.geom.shards ops.by_rank ops.sizes fit.blocks) shards begun.rows begun.new begun.all cs begun.made ends run
 

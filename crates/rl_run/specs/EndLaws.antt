@@ -62,18 +62,18 @@ module _ {C V : Type 0} (D : TheShape → ℕ → Knobs → Site → ShardTable 
     (spares : Bool → Bool) (has_tenures : (shape : TheShape) (home : ℕ) (knobs : Knobs) (site : Site) → (D shape home knobs site).tenure ≡ is_tenure (spares (readers_share name)))
     (place : ThePlace) (ops : Ops) (kind : name ≡ lock_under (name_of place.lock)) (as_told : spares (readers_share name) ≡ spares_gets (name_of place.lock)) (proper : IsProper place) (fit : OpsFit (length place.paths) place.geom.shards ops) (long : length ops.sizes ≡ length ops.by_rank)
     (shards : List (Shard C V)) (rows : List (List (Seat C V))) (new : AreNew D table good layout (shape_of place) (knobs_of place.lock) place.geom place.homes ops.by_rank shards rows) (all : length shards ≡ place.geom.shards)
-    (cs : List (Caller C V)) (made : map made_of cs ≡ wanted place.geom 0 ops.by_rank ops.sizes rows) (ends : List Closed) (run : HasRun table shards cs ends) where
+    (cs : List (Caller C V)) (made : map made_of cs ≡ wanted place.geom 0 ops.by_rank ops.sizes rows) (ends : List Closed) (run : HasRun table layout shards cs ends) where
   as_many : length cs ≡ length ops.by_rank
   as_many = sym (length-map cs made_of) ∙ ap length made ∙ wanted_long place.geom 0 ops.by_rank ops.sizes rows long new.ranks
 
   all_ends : length ends ≡ length shards
-  all_ends = ends_long (IsEnd table) shards run.rows ends run.ended
+  all_ends = ends_long (IsEnd table layout) shards run.rows ends run.ended
 
   closed_shard : (s home : ℕ) (e : Closed) → slice_get place.homes s ≡ Some home → slice_get ends s ≡ Some e → IsClosedShard place home (told e)
   closed_shard s home e gh ge =
       let w = some_at shards s (let h = slice_get_within ends s e ge in let a = all_ends in omega arith) in
       let q = run.at s w.0 e w.1 ge in
-      let E : IsEnd table w.0 q.0 e = q.1 in
+      let E : IsEnd table layout w.0 q.0 e = q.1 in
       let n = new.each s w.0 w.1 in
       let T : ShardTable V = table_at table w.0 in
       let site : Site = site_with place.geom s (map (updates_on place.geom s) ops.by_rank) in

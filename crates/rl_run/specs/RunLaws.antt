@@ -22,7 +22,7 @@ use Rattle.rl_shard.specs.declared.shard.Shard.{Shard}
 use Rattle.rl_shard.specs.declared.seat.Seat.{Seat}
 use Rattle.rl_shard.specs.declared.counting.CountedView.{CountedView}
 use Rattle.rl_shard.specs.Counting.{first_counted}
-use Rattle.rl_shard.specs.Shards.{IsShardOf, AreOf, AreClosed, table_at, counted_at, view_at}
+use Rattle.rl_shard.specs.Shards.{IsShardOf, AreOf, AreClosed, core_at, table_at, counted_at, view_at}
 use Rattle.rl_run.specs.Rows.{IsRow, IsColumn, with_column}
 use Rattle.rl_run.specs.RowLaws.{grid_more, with_column_long}
 use Rattle.rl_run.specs.declared.caller.Caller.{Caller}
@@ -55,7 +55,7 @@ module _ {C V : Type 0} (D : TheShape → ℕ → Knobs → Site → ShardTable 
   module _ (shards : List (Shard C V)) (rows : List (List (Seat C V))) (w : Shard C V) (column : List (Seat C V)) (s queues : ℕ) (old : AreNew D table good layout shape knobs geom homes calls shards rows) (all : length shards ≡ s)
       (table_is : table_at table w ≡ D shape (get_or homes s 0) knobs (site_with geom s (map (updates_on geom s) calls))) (site_is : (table_at table w).site ≡ site_with geom s (map (updates_on geom s) calls))
       (first_desk : (room rank : ℕ) → IsNewDesk room ((table_at table w).own ((table_at table w).first room rank))) (is_shard : IsShardOf table (length calls) w) (are : AreOf table good layout w column)
-      (views : map counted_at column ≡ first_counted (table_at table w) queues (map (calls_on geom s) calls)) (closed : AreClosed table w column) where
+      (views : map counted_at column ≡ first_counted (table_at table w) queues (map (calls_on geom s) calls)) (closed : AreClosed table w column) (nodes_are : (layout (core_at w)).nodes ≡ shape.nodes) where
     column_all : length column ≡ length calls
     column_all = column_long (table_at table w) queues (map (calls_on geom s) calls) column views ∙ length-map calls (calls_on geom s)
 
@@ -85,7 +85,7 @@ module _ {C V : Type 0} (D : TheShape → ℕ → Knobs → Site → ShardTable 
               (λ q. old.each i v q.1)
               (λ q.
               let at : i ≡ s = q.0 ∙ all in
-              subst (λ z. IsNewShard D table shape knobs geom homes calls z v) (sym at) (subst (IsNewShard D table shape knobs geom homes calls s) q.1 (record { table_is = table_is; site_is = site_is; is_shard = is_shard })))
+              subst (λ z. IsNewShard D table layout shape knobs geom homes calls z v) (sym at) (subst (IsNewShard D table layout shape knobs geom homes calls s) q.1 (record { table_is = table_is; site_is = site_is; nodes_are = nodes_are; is_shard = is_shard })))
               (get_more_cases shards w i v get);
           rows_are = grid_more (IsNewSeat table good layout geom calls) shards rows w column old.rows_are new_seat long;
           ranks = with_column_long (IsNewSeat table good layout geom calls) rows column long ∙ old.ranks;

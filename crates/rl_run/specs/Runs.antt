@@ -19,7 +19,7 @@ use Rattle.rl_work.specs.Site.{Site}
 use Rattle.rl_shard.specs.declared.closed.Closed.{Closed}
 use Rattle.rl_shard.specs.declared.shard.Shard.{Shard}
 use Rattle.rl_shard.specs.declared.seat.Seat.{Seat}
-use Rattle.rl_shard.specs.Shards.{IsShardOf, IsOf, IsClosed, AreClosed, table_at, desk_at, entries_at, rank_at}
+use Rattle.rl_shard.specs.Shards.{IsShardOf, IsOf, IsClosed, AreClosed, core_at, table_at, desk_at, entries_at, rank_at}
 use Rattle.rl_shard.specs.Ends.{IsEnd, transcripts_of}
 use Rattle.rl_run.specs.declared.caller.Caller.{Caller}
 use Rattle.rl_run.specs.Rows.{IsGrid, AreEnded}
@@ -58,15 +58,16 @@ module _ {C V : Type 0} where
     abbrev pub CallerMayWork : Caller C V → Type 0
     CallerMayWork c = (shards : List (Shard C V)) → IsReady table good layout shards c.geom c.rank c.calls.items c.sizes.items c.seats.items → IsCaller table good layout shards c
 
-  -- a shard of a table that was just made: its core is that of its home and its site, which has the ranks' places
-  pub record IsNewShard (defined : TheShape → ℕ → Knobs → Site → ShardTable V) (table : C → ShardTable V) (shape : TheShape) (knobs : Knobs) (geom : Geom) (homes : List ℕ) (calls : List (List Call)) (s : ℕ) (w : Shard C V) : Type 0 where
+  -- a shard of a table that was just made: its core is that of its home and its site, which has the ranks' places, on the shape's nodes
+  pub record IsNewShard (defined : TheShape → ℕ → Knobs → Site → ShardTable V) (table : C → ShardTable V) (layout : C → Layout) (shape : TheShape) (knobs : Knobs) (geom : Geom) (homes : List ℕ) (calls : List (List Call)) (s : ℕ) (w : Shard C V) : Type 0 where
     pub table_is : table_at table w ≡ defined shape (get_or homes s 0) knobs (site_with geom s (map (updates_on geom s) calls))
     pub site_is : (table_at table w).site ≡ site_with geom s (map (updates_on geom s) calls)
+    pub nodes_are : (layout (core_at w)).nodes ≡ shape.nodes
     pub is_shard : IsShardOf table (length calls) w
 
   -- all shards, and the ranks' rows of seats
   pub record AreNew (defined : TheShape → ℕ → Knobs → Site → ShardTable V) (table : C → ShardTable V) (good : GoodOf C V) (layout : C → Layout) (shape : TheShape) (knobs : Knobs) (geom : Geom) (homes : List ℕ) (calls : List (List Call)) (shards : List (Shard C V)) (rows : List (List (Seat C V))) : Type 0 where
-    pub each : (s : ℕ) (w : Shard C V) → slice_get shards s ≡ Some w → IsNewShard defined table shape knobs geom homes calls s w
+    pub each : (s : ℕ) (w : Shard C V) → slice_get shards s ≡ Some w → IsNewShard defined table layout shape knobs geom homes calls s w
     pub rows_are : IsGrid (IsNewSeat table good layout geom calls) shards rows
     pub ranks : length rows ≡ length calls
 
@@ -90,11 +91,11 @@ module _ {C V : Type 0} where
 
   -- All callers are done and all shards closed: each shard with what its rule tells, over its column of the seats; and each rank's
   -- entries on all shards are its calls, each once and in its order.
-  pub record HasRun (table : C → ShardTable V) (shards : List (Shard C V)) (cs : List (Caller C V)) (ends : List Closed) : Type 0 where
+  pub record HasRun (table : C → ShardTable V) (layout : C → Layout) (shards : List (Shard C V)) (cs : List (Caller C V)) (ends : List Closed) : Type 0 where
     pub rows : List (List (Seat C V))
-    pub ended : AreEnded (IsEnd table) shards rows ends
+    pub ended : AreEnded (IsEnd table layout) shards rows ends
     pub long : length rows ≡ length cs
     pub order : (r : ℕ) (c : Caller C V) → slice_get cs r ≡ Some c → IsRankInOrder c.geom r (asked_of c.calls.items c.sizes.items) (length c.calls.items) (map (told_by r) ends)
     -- each shard is closed over a column with a seat of each rank, none of which has an open block
-    pub at : (s : ℕ) (w : Shard C V) (e : Closed) → slice_get shards s ≡ Some w → slice_get ends s ≡ Some e → (column : List (Seat C V)) × IsEnd table w column e × (length column ≡ length cs) × AreClosed table w column
+    pub at : (s : ℕ) (w : Shard C V) (e : Closed) → slice_get shards s ≡ Some w → slice_get ends s ≡ Some e → (column : List (Seat C V)) × IsEnd table layout w column e × (length column ≡ length cs) × AreClosed table w column
     pub total : (r : ℕ) (c : Caller C V) → slice_get cs r ≡ Some c → entries_in (map (told_by r) ends) ≡ length c.calls.items

@@ -32,7 +32,7 @@ pub fn rows_of<C: ShardCore>(
 fn close_one<C: ShardCore>(shard: Shard<C>, column: Vec<Seat<C>>) -> Result<Closed, OutOfMemory>
     requires rooted { IsShardOf C.shard_table (vec_len column) shard }
     requires column { IsColumn (IsShutSeat C.shard_table C.good C.layout) shard column.items }
-    ensures { IfOk result (λ e. IsEnd C.shard_table shard column.items e) }
+    ensures { IfOk result (λ e. IsEnd C.shard_table C.layout shard column.items e) }
 {
     match shard.close(column) {
         Ok(closed) => Ok(closed),
@@ -48,7 +48,7 @@ pub fn close_all<C: ShardCore>(
 ) -> Result<Vec<Closed>, OutOfMemory>
     requires rooted { All (IsShardOf C.shard_table (vec_len rows)) shards.items }
     requires grid { IsGrid (IsShutSeat C.shard_table C.good C.layout) shards.items (map vec_items rows.items) }
-    ensures { IfOk result (λ ends. AreEnded (IsEnd C.shard_table) shards.items (map vec_items rows.items) ends.items) }
+    ensures { IfOk result (λ ends. AreEnded (IsEnd C.shard_table C.layout) shards.items (map vec_items rows.items) ends.items) }
 {
     let mut ends = Vec::with_capacity(alloc, shards.len())?;
     while shards.len() > 0 {

@@ -9,7 +9,8 @@
 //! Promise, for every core that keeps the laws of one: a step of a caller opens its next block, in order, where none is open and one is
 //! left, and is then the step of its seat, with all that a seat says of it; it answers Finished exactly where all calls are done. After
 //! `Caller::work` no block is open, and the rank's entries on all shards are its calls, all of them, each once and in its order. The report
-//! of a whole run ([`run_all`]) is lawful for its placement and calls.
+//! of a whole run ([`run_all`]) is lawful for its placement and calls, and tells of each shard what some order of the ranks' openings and atoms,
+//! each of the core's machine, leaves there (`specs/Made`).
 //! Not said here: that two threads ran, that a rank gets on, or which of several lawful reports a run gives.
 #![tactic(auto)]
 

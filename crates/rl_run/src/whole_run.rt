@@ -59,8 +59,9 @@ fn parts_of(alloc: Global, mut ends: Vec<Closed>) -> Result<Vec<ShardReport>, Ou
 /// `C` is the core of the placement's lock: it stands on the lock on which the placement's stands, and a get alone is a tenure under it where
 /// the report counts one; none of the calls is in a batch where the core does none. Each shard is a window that the threads share, each rank
 /// has a caller with a seat at each shard, and the gate stands at the callers' blocks and steps. The report tells of a history that one
-/// thread could have made, which holds all calls of each rank, once and in its order, and it is what `C`'s machines of the ranks know at
-/// the end of their shards (`made`); which of several such reports it is depends on how the threads come to their steps. It waits for its threads. Refused only for want of memory, which is asked for before the first step and after the last.
+/// thread could have made, which holds all calls of each rank, once and in its order; and of each shard it tells what some order of the ranks'
+/// openings and atoms leaves there, each of `C`'s machine (`made`). Which of several such reports it is depends on how the threads come to
+/// their steps. It waits for its threads. Refused only for want of memory, which is asked for before the first step and after the last.
 pub fn run_all<C: ShardCore + Send + Sync, G: Gate, R: Threads + Wait + Sync>(
     rt: &R,
     alloc: Global,

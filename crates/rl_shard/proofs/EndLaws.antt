@@ -30,9 +30,10 @@ use Rattle.rl_asks.specs.ShardLaws.{ShardCoreLaws, IsSeated, AllShut}
 use Rattle.rl_shard.specs.declared.counting.CountedView.{CountedView}
 use Rattle.rl_shard.specs.Tallies.{full, tally_at}
 use Rattle.rl_shard.specs.Queues.{is_had_by, settled_if, tenures_of, AreTallied}
-use Rattle.rl_shard.specs.Counting.{whole_of, settled_by, passed_by, AnyFull, ComeTo, CountGood}
+use Rattle.rl_shard.specs.Reached.{IsLeftBehind}
+use Rattle.rl_shard.specs.Counting.{whole_of, rooms_of, settled_by, passed_by, AnyFull, ComeTo, CountGood}
 use Rattle.rl_shard.specs.CountingLaws as counting
-use Rattle.rl_shard.specs.Closing.{entries_in}
+use Rattle.rl_shard.specs.Closing.{entries_in, pairs_left}
 use Rattle.rl_shard.proofs.Tenures.{only_if, sum_same, rank_tenures, element_tenures, had_all}
 
 -- an exact count
@@ -60,6 +61,11 @@ kept_same T words from (x ∷ vs) same =
     let first : T.desk words from x.whole ≡ T.own x.whole = subst (λ n. T.desk words n x.whole ≡ T.own x.whole) here (same 0 x refl) in
     ap (λ d. entries_of d ∷ kept_in T words (from + 1) (map whole_of vs)) first
     ∙ ap (λ z. entries_in T x ∷ z) (kept_same T words (from + 1) vs (λ r y e. let at : from + suc r ≡ (from + 1) + r = omega arith in subst (λ n. T.desk words n y.whole ≡ T.own y.whole) at (same (suc r) y e)))
+
+-- the entries of ranks, by their views without tallies
+entries_twice : {V : Type 0} (T : ShardTable V) (vs : List (CountedView V)) → map (entries_in T) vs ≡ map (λ v. entries_of (T.own v)) (map whole_of vs)
+entries_twice T [] = refl
+entries_twice T (x ∷ vs) = ap (λ z. entries_in T x ∷ z) (entries_twice T vs)
 
 module _ (V : Type 0) (T : ShardTable V) (good : TheWindow → List V → List Event → List Deed → Type 0) (cause : TheWindow → V → Option Atom → Stepped → Type 0) (further : List Event → List Deed → Type 0) (layout : Layout) (laws : ShardCoreLaws T good cause further layout) (h : TheWindow) (vs : List (CountedView V)) (g : CountGood T good layout h vs) (none : (r : ℕ) (x : CountedView V) → slice_get vs r ≡ Some x → (T.own x.whole).is_open ≡ false) where
   -- the journal, and a rank as the machine sees it
@@ -91,7 +97,7 @@ module _ (V : Type 0) (T : ShardTable V) (good : TheWindow → List V → List E
   all_shut : AllShut T good (map whole_of vs)
   all_shut r v e = let x = get_map_back whole_of vs r v e in ap (λ z. (T.own z).is_open) (sym x.2) ∙ none r x.0 x.1
 
-  module _ (shares : Bool) (tenure : T.tenure ≡ is_tenure shares) (tallies : List Tally) (many : length tallies ≡ length T.queues)
+  module _ (tallies : List Tally)
       (settles : (q : ℕ) → q < length T.queues → ((tally_at q tallies).settled ≡ sum_by (settled_by q) vs) × (sum_by (settled_by q) vs < full))
       (passes : (q : ℕ) → q < length T.queues → ((tally_at q tallies).passed ≡ sum_by (passed_by q) vs) × (sum_by (passed_by q) vs < full)) where
     abbrev the_trace : List Event
@@ -103,49 +109,66 @@ module _ (V : Type 0) (T : ShardTable V) (good : TheWindow → List V → List E
     passed_is : (q : ℕ) → q < length T.queues → (tally_at q tallies).passed ≡ passed q the_trace
     passed_is q low = let s = passes q low in s.0 ∙ exact (passed_by q) vs (passed q the_trace) (g.passed_are q low) s.1
 
-    -- a queue of ranks, by the history
-    by_ranks : (q : ℕ) (d : QueueOf) → slice_get T.queues q ≡ Some d → d.of_ranks ≡ true → tenures d the_trace ≡ count_by (is_had_by d shares) (history the_journal (map (entries_in T) vs))
-    by_ranks q d has ranks =
-        let n : ℕ = length layout.node_of in
-        let as_many : length (map (entries_in T) vs) ≡ n = length-map vs (entries_in T) ∙ ranks_are in
-        rank_tenures d ranks n (λ k is. g.members.of_ranks q k d has ranks is) the_trace
-        ∙ ap (sum_below (λ k. only_if (d.members k) (leaves k the_trace))) (sym as_many)
-        ∙ sym (had_all d shares the_trace (map (entries_in T) vs) (λ k es e.
-        let x = get_map_back (entries_in T) vs k es e in (
-          own_ranks T.site.shard k es (own_at k es e).own,
-          laws.left_as h (map whole_of vs) the_trace g.acts k x.0.whole (seat_of k x.0 x.1) (none k x.0 x.1) ∙ ap (λ f. count_by f (entries_in T x.0)) tenure ∙ ap (count_by (is_tenure shares)) x.2,
-        )))
-        ∙ sym (same_entries (is_had_by d shares) T.site.geom the_journal (map (entries_in T) vs) legal_now)
-
-    -- a queue of elements, by the settlements
-    by_elements : (q : ℕ) (d : QueueOf) → slice_get T.queues q ≡ Some d → d.of_ranks ≡ false → tenures d the_trace ≡ sum_below (settled_if d.members tallies) (length tallies)
-    by_elements q d has elements =
-        let n : ℕ = length T.queues in
-        element_tenures d elements n (λ k is. g.members.of_elements q k d has elements is) the_trace
-        ∙ sum_same (λ k. only_if (d.members k) (settled k the_trace)) (settled_if d.members tallies) n (λ k low. ap (only_if (d.members k)) (sym (settled_is k low)))
-        ∙ ap (sum_below (settled_if d.members tallies)) (sym many)
-
-    tenures_is : (q : ℕ) (d : QueueOf) → slice_get T.queues q ≡ Some d → (b : Bool) → d.of_ranks ≡ b → tenures d the_trace ≡ tenures_of shares (history the_journal (map (entries_in T) vs)) tallies d
-    tenures_is q d has true ranks =
-        by_ranks q d has ranks
-        ∙ ap (λ b. if b then count_by (is_had_by d shares) (history the_journal (map (entries_in T) vs)) else sum_below (settled_if d.members tallies) (length tallies)) (sym ranks)
-    tenures_is q d has false elements =
-        by_elements q d has elements
-        ∙ ap (λ b. if b then count_by (is_had_by d shares) (history the_journal (map (entries_in T) vs)) else sum_below (settled_if d.members tallies) (length tallies)) (sym elements)
-
-    pub tallied_now : AreTallied T.queues shares (history the_journal (map (entries_in T) vs)) tallies
-    tallied_now =
+    -- the state of the rule is one that leaves this behind
+    pub left_now : (journal : List Entry) (transcripts : List (List Entry)) (pairs : List (ℕ × ℕ)) → journal ≡ the_journal → transcripts ≡ map (entries_in T) vs → pairs ≡ pairs_left T h.words → IsLeftBehind T layout.nodes (rooms_of T vs) journal transcripts pairs tallies
+    left_now journal transcripts pairs journal_is transcripts_are pairs_are =
         record {
-          each = many;
-          budgets = λ q budget d has is.
-              let low : q < length T.queues = slice_get_within T.queues q d has in
-              let within = (laws.queues h (map whole_of vs) the_trace g.acts g.is_good).totals q budget d has is in
-              subst (λ n. n ≤ budget * (tally_at q tallies).settled) (sym (passed_is q low)) (subst (λ n. passed q the_trace ≤ budget * n) (sym (settled_is q low)) within);
-          tenures = λ q d has.
-              let low : q < length T.queues = slice_get_within T.queues q d has in
-              let s = settled_is q low in
-              let p = passed_is q low in
-              let counted = laws.counted h (map whole_of vs) the_trace g.acts g.is_good all_shut q d has in
-              let same : settled q the_trace + passed q the_trace ≡ (tally_at q tallies).settled + (tally_at q tallies).passed = omega arith in
-              sym same ∙ counted ∙ tenures_is q d has d.of_ranks refl;
+          held = h;
+          views = map whole_of vs;
+          trace = the_trace;
+          reached = g.reached;
+          closed = all_shut;
+          journal_is = journal_is;
+          transcripts_are = transcripts_are ∙ entries_twice T vs;
+          pairs_are = pairs_are;
+          settled_are = settled_is;
+          passed_are = passed_is;
         }
+
+    module _ (shares : Bool) (tenure : T.tenure ≡ is_tenure shares) (many : length tallies ≡ length T.queues) where
+      -- a queue of ranks, by the history
+      by_ranks : (q : ℕ) (d : QueueOf) → slice_get T.queues q ≡ Some d → d.of_ranks ≡ true → tenures d the_trace ≡ count_by (is_had_by d shares) (history the_journal (map (entries_in T) vs))
+      by_ranks q d has ranks =
+          let n : ℕ = length layout.node_of in
+          let as_many : length (map (entries_in T) vs) ≡ n = length-map vs (entries_in T) ∙ ranks_are in
+          rank_tenures d ranks n (λ k is. g.members.of_ranks q k d has ranks is) the_trace
+          ∙ ap (sum_below (λ k. only_if (d.members k) (leaves k the_trace))) (sym as_many)
+          ∙ sym (had_all d shares the_trace (map (entries_in T) vs) (λ k es e.
+          let x = get_map_back (entries_in T) vs k es e in (
+            own_ranks T.site.shard k es (own_at k es e).own,
+            laws.left_as h (map whole_of vs) the_trace g.acts k x.0.whole (seat_of k x.0 x.1) (none k x.0 x.1) ∙ ap (λ f. count_by f (entries_in T x.0)) tenure ∙ ap (count_by (is_tenure shares)) x.2,
+          )))
+          ∙ sym (same_entries (is_had_by d shares) T.site.geom the_journal (map (entries_in T) vs) legal_now)
+
+      -- a queue of elements, by the settlements
+      by_elements : (q : ℕ) (d : QueueOf) → slice_get T.queues q ≡ Some d → d.of_ranks ≡ false → tenures d the_trace ≡ sum_below (settled_if d.members tallies) (length tallies)
+      by_elements q d has elements =
+          let n : ℕ = length T.queues in
+          element_tenures d elements n (λ k is. g.members.of_elements q k d has elements is) the_trace
+          ∙ sum_same (λ k. only_if (d.members k) (settled k the_trace)) (settled_if d.members tallies) n (λ k low. ap (only_if (d.members k)) (sym (settled_is k low)))
+          ∙ ap (sum_below (settled_if d.members tallies)) (sym many)
+
+      tenures_is : (q : ℕ) (d : QueueOf) → slice_get T.queues q ≡ Some d → (b : Bool) → d.of_ranks ≡ b → tenures d the_trace ≡ tenures_of shares (history the_journal (map (entries_in T) vs)) tallies d
+      tenures_is q d has true ranks =
+          by_ranks q d has ranks
+          ∙ ap (λ b. if b then count_by (is_had_by d shares) (history the_journal (map (entries_in T) vs)) else sum_below (settled_if d.members tallies) (length tallies)) (sym ranks)
+      tenures_is q d has false elements =
+          by_elements q d has elements
+          ∙ ap (λ b. if b then count_by (is_had_by d shares) (history the_journal (map (entries_in T) vs)) else sum_below (settled_if d.members tallies) (length tallies)) (sym elements)
+
+      pub tallied_now : AreTallied T.queues shares (history the_journal (map (entries_in T) vs)) tallies
+      tallied_now =
+          record {
+            each = many;
+            budgets = λ q budget d has is.
+                let low : q < length T.queues = slice_get_within T.queues q d has in
+                let within = (laws.queues h (map whole_of vs) the_trace g.acts g.is_good).totals q budget d has is in
+                subst (λ n. n ≤ budget * (tally_at q tallies).settled) (sym (passed_is q low)) (subst (λ n. passed q the_trace ≤ budget * n) (sym (settled_is q low)) within);
+            tenures = λ q d has.
+                let low : q < length T.queues = slice_get_within T.queues q d has in
+                let s = settled_is q low in
+                let p = passed_is q low in
+                let counted = laws.counted h (map whole_of vs) the_trace g.acts g.is_good all_shut q d has in
+                let same : settled q the_trace + passed q the_trace ≡ (tally_at q tallies).settled + (tally_at q tallies).passed = omega arith in
+                sym same ∙ counted ∙ tenures_is q d has d.of_ranks refl;
+          }

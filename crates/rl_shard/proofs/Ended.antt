@@ -17,11 +17,12 @@ use Rattle.rl_shard.specs.declared.counting.Counting.{Counting}
 use Rattle.rl_shard.specs.declared.counting.CountedView.{CountedView}
 use Rattle.rl_shard.specs.Tallies.{full, tally_at}
 use Rattle.rl_shard.specs.Queues.{AreTallied}
-use Rattle.rl_shard.specs.Counting.{whole_of, settled_by, passed_by, counting_rule}
-use Rattle.rl_shard.specs.Shards.{AreClosed, core_at, table_at, counting_at, counted_at, entries_at, tallies_at}
-use Rattle.rl_shard.specs.Ends.{IsEnd, transcripts_of, history_of, all_settled, all_passed}
+use Rattle.rl_shard.specs.Reached.{IsLeftBehind}
+use Rattle.rl_shard.specs.Counting.{whole_of, rooms_of, settled_by, passed_by, counting_rule}
+use Rattle.rl_shard.specs.Shards.{AreClosed, core_at, table_at, counting_at, counted_at, desk_at, entries_at, tallies_at}
+use Rattle.rl_shard.specs.Ends.{IsEnd, transcripts_of, history_of, rooms_at, all_settled, all_passed}
 use Rattle.rl_shard.specs.Closing.{entries_in, IsLeft, AreTotals, pairs_left}
-use Rattle.rl_shard.proofs.EndLaws.{own_at, legal_now, sorted_now, tallied_now}
+use Rattle.rl_shard.proofs.EndLaws.{own_at, legal_now, sorted_now, left_now, tallied_now}
 use Rattle.rl_shard.proofs.SeatLists.{views_closed}
 
 module _ {C V : Type 0} where
@@ -40,6 +41,10 @@ module _ {C V : Type 0} where
   seat_entries : (table : C → ShardTable V) (shard : Shard C V) (seats : List (Seat C V)) → map (entries_in (table_at table shard)) (map counted_at seats) ≡ map (entries_at table shard) seats
   seat_entries table shard [] = refl
   seat_entries table shard (s ∷ seats) = ap (λ z. entries_at table shard s ∷ z) (seat_entries table shard seats)
+
+  seat_rooms : (table : C → ShardTable V) (shard : Shard C V) (seats : List (Seat C V)) → rooms_of (table_at table shard) (map counted_at seats) ≡ rooms_at table shard seats
+  seat_rooms table shard [] = refl
+  seat_rooms table shard (s ∷ seats) = ap (λ z. (desk_at table shard s).kept.room ∷ z) (seat_rooms table shard seats)
 
 module _ (C V : Type 0) (table : C → ShardTable V) (good : GoodOf C V) (cause : CauseOf C V) (further : FurtherOf C) (layout : C → Layout) (laws : LawsOf C V table good cause further layout) (shard : Shard C V) (seats : List (Seat C V)) (closed : AreClosed table shard seats)
     (words cards : List ℕ) (views : List (CountedView V)) (rule : counting_rule table good layout (counting_at shard) (record { words = words; cards = cards }) views) (is : views ≡ map counted_at seats) where
@@ -65,7 +70,7 @@ module _ (C V : Type 0) (table : C → ShardTable V) (good : GoodOf C V) (cause 
       })
 
   pub is_end : (e : Closed) → e.journal.items ≡ journal_at T words → e.pairs.items ≡ pairs_left T words → transcripts_of e ≡ map (entries_in T) views →
-      ((s : Seat C V) → slice_get seats 0 ≡ Some s → AreTotals seats (length (tallies_at s)) e.queues.items) → 0 < length seats → IsEnd table shard seats e
+      ((s : Seat C V) → slice_get seats 0 ≡ Some s → AreTotals seats (length (tallies_at s)) e.queues.items) → 0 < length seats → IsEnd table layout shard seats e
   is_end e journal pairs transcripts sums some =
       let h : TheWindow = record { words = words; cards = cards } in
       let first = some_at seats 0 some in
@@ -78,7 +83,13 @@ module _ (C V : Type 0) (table : C → ShardTable V) (good : GoodOf C V) (cause 
       subst (λ j. IsLegal T.site.geom j (transcripts_of e)) (sym journal)
       (subst (IsLegal T.site.geom (journal_at T words)) (sym transcripts) (legal_now V T (good core) (cause core) (further core) (layout core) (laws core) h views rule shut)) in
       let past : history_of e ≡ history (journal_at T words) (map (entries_in T) views) = ap (λ j. history j (transcripts_of e)) journal ∙ ap (history (journal_at T words)) transcripts in
+      let settled : (q : ℕ) → q < length T.queues → ((tally_at q e.queues.items).settled ≡ sum_by (settled_by q) views) × (sum_by (settled_by q) views < full) =
+      λ q low. let t = totals.settled_are q low in (t.0 ∙ settles q, subst (λ n. n < full) (settles q) t.1) in
+      let passed : (q : ℕ) → q < length T.queues → ((tally_at q e.queues.items).passed ≡ sum_by (passed_by q) views) × (sum_by (passed_by q) views < full) =
+      λ q low. let t = totals.passed_are q low in (t.0 ∙ passes q, subst (λ n. n < full) (passes q) t.1) in
       record {
+        left_behind = subst (λ rooms. IsLeftBehind T (layout core).nodes rooms e.journal.items (transcripts_of e) e.pairs.items e.queues.items) (ap (rooms_of T) is ∙ seat_rooms table shard seats)
+            (left_now V T (good core) (cause core) (further core) (layout core) (laws core) h views rule shut e.queues.items settled passed e.journal.items (transcripts_of e) e.pairs.items journal transcripts pairs);
         transcripts_are = transcripts ∙ ap (map (entries_in T)) is ∙ seat_entries table shard seats;
         own = λ r t has. own_at V T (good core) (cause core) (further core) (layout core) (laws core) h views rule shut r t (ap (λ l. slice_get l r) (sym transcripts) ∙ has);
         legal = legal;
@@ -88,7 +99,5 @@ module _ (C V : Type 0) (table : C → ShardTable V) (good : GoodOf C V) (cause 
         settled_are = λ q low. (totals.settled_are q (let n = totals.each in omega arith)).0;
         passed_are = λ q low. (totals.passed_are q (let n = totals.each in omega arith)).0;
         tallied = λ shares tenure. subst (λ es. AreTallied T.queues shares es e.queues.items) (sym past)
-            (tallied_now V T (good core) (cause core) (further core) (layout core) (laws core) h views rule shut shares tenure e.queues.items totals.each
-            (λ q low. let t = totals.settled_are q low in (t.0 ∙ settles q, subst (λ n. n < full) (settles q) t.1))
-            (λ q low. let t = totals.passed_are q low in (t.0 ∙ passes q, subst (λ n. n < full) (passes q) t.1)));
+            (tallied_now V T (good core) (cause core) (further core) (layout core) (laws core) h views rule shut e.queues.items settled passed shares tenure totals.each);
       }

@@ -21,11 +21,12 @@ use Rattle.rl_work.specs.Site.{Site, lock_base}
 use Rattle.rl_work.specs.WorkGood.{opening_words}
 use Rattle.rl_work.specs.OpeningLaws.{opening_size}
 use Rattle.rl_asks.specs.ShardTables.{ShardTable, site_with, opening_held, first_views}
-use Rattle.rl_asks.specs.ShardLaws.{GoodOf, CauseOf, FurtherOf, LawsOf, ShardCoreLaws, IsLaidAtSite}
+use Rattle.rl_asks.specs.ShardLaws.{GoodOf, CauseOf, FurtherOf, LawsOf, ShardCoreLaws, IsLaidAtSite, IsNewDesk}
 use Rattle.rl_shard.specs.declared.counting.CountedView.{CountedView}
 use Rattle.rl_shard.specs.Tallies.{no_tally, tally_at}
 use Rattle.rl_shard.specs.Queues.{AreMembersThere}
-use Rattle.rl_shard.specs.Counting.{whole_of, settled_by, passed_by, first_counted, CountGood}
+use Rattle.rl_shard.specs.Reached.{IsReached}
+use Rattle.rl_shard.specs.Counting.{whole_of, rooms_of, settled_by, passed_by, first_counted, CountGood}
 use Rattle.rl_shard.specs.Starts.{IsStart}
 use Rattle.rl_asks.specs.Filling.{views_next, first_at, first_length}
 
@@ -48,6 +49,12 @@ nothing_at : (n q : ℕ) → tally_at q (replicate n no_tally) ≡ no_tally
 nothing_at zero q = refl
 nothing_at (suc n) zero = refl
 nothing_at (suc n) (suc q) = nothing_at n q
+
+-- the rooms are those that the first views have
+first_rooms : {V : Type 0} (T : ShardTable V) (first_desk : (room rank : ℕ) → IsNewDesk room (T.own (T.first room rank))) (queues from : ℕ) (rooms : List ℕ) → rooms_of T (map (fresh queues) (first_views T from rooms)) ≡ rooms
+first_rooms T first_desk queues from [] = refl
+first_rooms T first_desk queues from (room ∷ rooms) =
+    ap (λ n. n ∷ rooms_of T (map (fresh queues) (first_views T (from + 1) rooms))) (first_desk room from).room_is ∙ ap (λ l. room ∷ l) (first_rooms T first_desk queues (from + 1) rooms)
 
 -- nothing was counted
 none_settled : {V : Type 0} (q queues : ℕ) (vs : List V) → sum_by (settled_by q) (map (fresh queues) vs) ≡ 0
@@ -73,6 +80,8 @@ module _ (V : Type 0) (T : ShardTable V) (good : TheWindow → List V → List E
         trace = [];
         acts = [];
         is_good = subst (λ l. good (opening_held T.site T.behind layout.nodes) l [] []) (sym (whole_fresh queues vs)) (laws.begins rooms laid fits low ranks few all);
+        reached = subst (λ ro. IsReached T layout.nodes ro (opening_held T.site T.behind layout.nodes) (map whole_of (map (fresh queues) vs)) []) (sym (first_rooms T laws.first_desk queues 0 rooms))
+            (subst (λ l. IsReached T layout.nodes rooms (opening_held T.site T.behind layout.nodes) l []) (sym (whole_fresh queues vs)) IsReached.opening);
         each = λ r x e. let q = get_map_back (fresh queues) vs r x e in ap (λ z. length z.tallies) (sym q.2) ∙ length-replicate queues no_tally ∙ many;
         members = members;
         settled_are = λ q h. inr (none_settled q queues vs);

@@ -9,6 +9,7 @@ use Rattle.rl_step.specs.Core.{CoreTable, Turned}
 use Rattle.rl_step.specs.Queues.{QueueOf, settled, passed}
 use Rattle.rl_asks.specs.ShardTables.{ShardTable, first_views}
 use Rattle.rl_asks.specs.ShardLaws.{GoodOf}
+use Rattle.rl_shard.specs.Reached.{IsReached}
 use Rattle.rl_shard.specs.declared.counting.Counting.{Counting}
 use Rattle.rl_shard.specs.declared.counting.CountedView.{CountedView}
 use Rattle.rl_shard.specs.Tallies.{full, no_tally, tally_at, all_noted}
@@ -17,6 +18,13 @@ use Rattle.rl_shard.specs.Queues.{AreMembersThere}
 module _ {V : Type 0} where
   abbrev pub whole_of : CountedView V → V
   whole_of x = x.whole
+
+  -- the room for a rank's entries at its desk, and at the desks of all ranks
+  abbrev pub room_of : ShardTable V → CountedView V → ℕ
+  room_of T x = (T.own x.whole).kept.room
+
+  abbrev pub rooms_of : ShardTable V → List (CountedView V) → List ℕ
+  rooms_of T vs = map (room_of T) vs
 
   -- how the rank stands at the lock
   abbrev pub standing_of : ShardTable V → CountedView V → Standing
@@ -62,12 +70,14 @@ module _ {V : Type 0} where
   abbrev pub CountsKeepBudgets : List QueueOf → List (CountedView V) → Type 0
   CountsKeepBudgets queues vs = (q budget : ℕ) (queue : QueueOf) → slice_get queues q ≡ Some queue → queue.budget ≡ Some budget → HasFullCount q vs ⊎ (sum_by (passed_by q) vs ≤ budget * sum_by (settled_by q) vs)
 
-  -- The rule of a window: the state is good, by some events and acts; each rank has a tally of each queue; the members of the queues are
-  -- there; and each queue was settled and passed in these events as often as the ranks have counted.
+  -- The rule of a window: the state is good, by some events and acts, and the ranks have come to it, with these events, by what their machines do;
+  -- each rank has a tally of each queue; the members of the queues are there; and each queue was settled and passed in these events as often
+  -- as the ranks have counted.
   pub record CountGood (T : ShardTable V) (good : TheWindow → List V → List Event → List Deed → Type 0) (layout : Layout) (h : TheWindow) (vs : List (CountedView V)) : Type 0 where
     pub trace : List Event
     pub acts : List Deed
     pub is_good : good h (map whole_of vs) trace acts
+    pub reached : IsReached T layout.nodes (rooms_of T vs) h (map whole_of vs) trace
     pub each : (r : ℕ) (x : CountedView V) → slice_get vs r ≡ Some x → length x.tallies ≡ length T.queues
     pub members : AreMembersThere T.queues (length layout.node_of)
     pub settled_are : (q : ℕ) → q < length T.queues → ComeTo (settled_by q) vs (settled q trace)

@@ -2,7 +2,7 @@
 use Rattle.std.specs.Prelude.{◌≡◌, ℕ, List, [], ◌++◌, length, map, slice_get, slice_set, Some, refl}
 use Rattle.std.proofs.Common.{sym, ◌∙◌, ap, subst, ⊎_elim, arith}
 use Rattle.std.proofs.lemmas.List.{append-nil}
-use Rattle.rl_word.specs.Places.{get_map, map_set, get_set_cases}
+use Rattle.rl_word.specs.Places.{get_map, map_set, set_same_get, get_set_cases}
 use Rattle.rl_word.specs.Acts.{Layout}
 use Rattle.rl_word.specs.declared.acts.Atom.{Atom}
 use Rattle.rl_model.specs.declared.call.Call.{Call}
@@ -14,28 +14,42 @@ use Rattle.rl_step.specs.Core.{CoreTable, CoreLaws, Plans, MayBe, MayGet, home_a
 use Rattle.rl_step.specs.Queues.{settled, passed}
 use Rattle.rl_step.specs.QueueLemmas.{settled-append, passed-append}
 use Rattle.std.specs.Prelude.{Option}
+use Rattle.rl_asks.specs.Desks.{Desk, Turns}
 use Rattle.rl_asks.specs.ShardTables.{ShardTable}
 use Rattle.rl_asks.specs.ShardLaws.{ShardCoreLaws, IsSeated, MayOpen}
 use Rattle.rl_shard.specs.declared.counting.CountedView.{CountedView}
 use Rattle.rl_shard.specs.Tallies.{tally_at, all_noted}
-use Rattle.rl_shard.specs.Counting.{whole_of, settled_by, passed_by, counted_after, counted_table, ComeTo, CountGood}
+use Rattle.rl_shard.specs.Reached.{IsReached}
+use Rattle.rl_shard.specs.Counting.{whole_of, room_of, rooms_of, settled_by, passed_by, counted_after, counted_table, ComeTo, CountGood}
 use Rattle.rl_shard.specs.TallyLaws.{Rises, length_all, settles_all, passes_all, come_to_more}
+
+-- a desk's room stays
+same_room : (shard rank : ℕ) (d e : Desk) → Turns shard rank d e → e.kept.room ≡ d.kept.room
+same_room shard rank d e turns = ⊎_elim (λ keeps. ap (λ k. k.room) keeps.same_kept) (λ ends. ends.same_room) turns.way
+
+-- and so do all rooms, where one rank's does
+same_rooms : {V : Type 0} (T : ShardTable V) (vs : List (CountedView V)) (r : ℕ) (x y : CountedView V) → slice_get vs r ≡ Some x → room_of T y ≡ room_of T x → rooms_of T (slice_set vs r y) ≡ rooms_of T vs
+same_rooms T vs r x y has same = map_set (room_of T) vs r y ∙ set_same_get (rooms_of T vs) r (room_of T y) (get_map (room_of T) vs r x has ∙ ap (λ n. Some n) (sym same))
 
 module _ (V : Type 0) (T : ShardTable V) (good : TheWindow → List V → List Event → List Deed → Type 0) (cause : TheWindow → V → Option Atom → Stepped → Type 0) (further : List Event → List Deed → Type 0) (layout : Layout) (laws : ShardCoreLaws T good cause further layout) where
   -- a rank of the window, as the machine without tallies sees it
   pub seated : (h : TheWindow) (vs : List (CountedView V)) (r : ℕ) (x : CountedView V) (g : CountGood T good layout h vs) → slice_get vs r ≡ Some x → IsSeated T good h (map whole_of vs) g.trace g.acts r x.whole
   seated h vs r x g has = record { is_good = g.is_good; has = get_map whole_of vs r x has }
 
-  -- a change of one rank's view keeps the rule, where the state stays good with these events more, and the tallies count them
+  -- a change of one rank's view keeps the rule, where the state stays good with these events more and is one to which the ranks come, the rank's
+  -- room stays, and the tallies count the events
   counts_on : (h k : TheWindow) (vs : List (CountedView V)) (r : ℕ) (x y : CountedView V) (es : List Event) (ds : List Deed) (g : CountGood T good layout h vs) → slice_get vs r ≡ Some x → y.tallies ≡ all_noted es x.tallies →
-      good k (slice_set (map whole_of vs) r y.whole) (g.trace ++ es) ds → CountGood T good layout k (slice_set vs r y)
-  counts_on h k vs r x y es ds g has tallies q =
+      good k (slice_set (map whole_of vs) r y.whole) (g.trace ++ es) ds → room_of T y ≡ room_of T x → IsReached T layout.nodes (rooms_of T vs) k (slice_set (map whole_of vs) r y.whole) (g.trace ++ es) →
+      CountGood T good layout k (slice_set vs r y)
+  counts_on h k vs r x y es ds g has tallies q room come =
       let moved = map_set whole_of vs r y in
       let each : length x.tallies ≡ length T.queues = g.each r x has in
       record {
         trace = g.trace ++ es;
         acts = ds;
         is_good = subst (λ l. good k l (g.trace ++ es) ds) (sym moved) q;
+        reached = subst (λ rooms. IsReached T layout.nodes rooms k (map whole_of (slice_set vs r y)) (g.trace ++ es)) (sym (same_rooms T vs r x y has room))
+            (subst (λ l. IsReached T layout.nodes (rooms_of T vs) k l (g.trace ++ es)) (sym moved) come);
         each = λ i u e. ⊎_elim (λ p. ap (λ z. length z.tallies) p.1 ∙ ap length tallies ∙ length_all es x.tallies ∙ each) (λ p. g.each i u p.1) (get_set_cases vs r i y u e);
         members = g.members;
         settled_are = λ i low. subst (ComeTo (settled_by i) (slice_set vs r y)) (sym (settled-append i g.trace es))
@@ -52,6 +66,8 @@ module _ (V : Type 0) (T : ShardTable V) (good : TheWindow → List V → List E
       let got : ℕ = do_got at h.words h.cards in
       counts_on h (do_atom r at h) vs r x (counted_after T.core x got).view (T.core.after x.whole got).events (g.acts ++ T.deeds x.whole got) g has refl
       (laws.atom_keeps h (map whole_of vs) g.trace g.acts r x.whole at (seated h vs r x g has) e)
+      (same_room T.site.shard r (T.own x.whole) (T.own (T.core.after x.whole got).view) (laws.turns_own h (map whole_of vs) g.trace g.acts r x.whole at (seated h vs r x g has) e))
+      (IsReached.makes h (map whole_of vs) g.trace r x.whole at g.reached (get_map whole_of vs r x has) e)
 
   -- a block that is opened where none is open
   pub open_counts : (h : TheWindow) (vs : List (CountedView V)) (r : ℕ) (x : CountedView V) (calls : List Call) (seq : ℕ) → CountGood T good layout h vs → slice_get vs r ≡ Some x → MayOpen T r x.whole calls seq →
@@ -60,6 +76,9 @@ module _ (V : Type 0) (T : ShardTable V) (good : TheWindow → List V → List E
       counts_on h h vs r x (record x { whole = T.opened calls seq x.whole }) [] g.acts g has refl
       (subst (λ t. good h (slice_set (map whole_of vs) r (T.opened calls seq x.whole)) t g.acts) (sym (append-nil g.trace))
       (laws.open_keeps h (map whole_of vs) g.trace g.acts r x.whole calls seq (seated h vs r x g has) may))
+      (ap (λ k. k.room) (laws.opens_own h (map whole_of vs) g.trace g.acts r x.whole calls seq (seated h vs r x g has) may).same_kept)
+      (subst (λ t. IsReached T layout.nodes (rooms_of T vs) h (slice_set (map whole_of vs) r (T.opened calls seq x.whole)) t) (sym (append-nil g.trace))
+      (IsReached.opens h (map whole_of vs) g.trace r x.whole calls seq g.reached (get_map whole_of vs r x has) may))
 
   -- the laws of the core without tallies, whose rule all that is good meets
   module _ (rule : TheWindow → List V → Type 0) (ruled : (h : TheWindow) (vs : List V) (t : List Event) (ds : List Deed) → good h vs t ds → rule h vs) where

@@ -1,6 +1,7 @@
 -- to be believed, in reading order
 pub mod Tallies
 pub mod Queues
+pub mod Reached
 pub mod Counting
 pub mod Shards
 pub mod Steps

@@ -10,9 +10,9 @@
 //! Promise, for every core that keeps the laws of one: between any two table steps the rule holds, so one rank writes at most, and
 //! none reads beside it (`exclusion`), only holders come to count, volume and journal, and writers to store there (`guards`), no queue was
 //! passed more often than its budget allows (`budgets`), and the two domains stay apart (`domains`). A step is exactly one table step, or
-//! Finished where no block is open; its answer has its cause (`specs/Steps`). What a closed shard leaves (`specs/Ends`) is legal: the history
-//! gives every entry its reply on one thread, the pairs are the table after it, each queue kept its budget in all, and was settled
-//! and passed as often as it was had.
+//! Finished where no block is open; its answer has its cause (`specs/Steps`). What a closed shard leaves (`specs/Ends`) is what some order of the
+//! ranks' openings and atoms leaves, each of the core's machine (`specs/Reached`), and it is legal: the history gives every entry its reply
+//! on one thread, the pairs are the table after it, each queue kept its budget in all, and was settled and passed as often as it was had.
 //! Not said here: that two threads ran, that any rank gets on, or an order in time between ranks.
 #![tactic(auto)]
 

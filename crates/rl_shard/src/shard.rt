@@ -129,7 +129,7 @@ impl<C: ShardCore> Shard<C> {
     }
 
     /// Closes the shard, and gives what it leaves: a legal journal, the table after it, the ranks' transcripts, and the tallies of the
-    /// queues.
+    /// queues. Some order of the ranks' openings and atoms, each of the core's machine, leaves just this.
     ///
     /// These are all the shard's seats, in the order of their ranks, and no block is open.
     ///
@@ -141,7 +141,7 @@ impl<C: ShardCore> Shard<C> {
         requires shard { IsShardOf C.shard_table (vec_len seats) self }
         requires seats { AreOf C.shard_table C.good C.layout self seats.items }
         requires closed { AreClosed C.shard_table self seats.items }
-        ensures end { IfOk result (λ e. IsEnd C.shard_table self seats.items e) }
+        ensures end { IfOk result (λ e. IsEnd C.shard_table C.layout self seats.items e) }
         ensures refused { IfErr result (λ p. (p.0 ≡ self) × (p.1.items ≡ seats.items)) }
     {
         let Ok(parts) = take_parts(&self, seats.as_slice()) else {

@@ -67,7 +67,7 @@ loop-number-preserved g c =
     let queues = length (queues_of g.C.ShardCore.name c.args.shape.now (slice_index homes i) c.args.knobs) in
     let views = made.views ∙ ap (first_counted (table_at g.C.ShardCore.shard_table c.in_ok-shard.shard) queues) taken.0.calls in
     let more = new_more g.C.ShardCore.defined g.C.ShardCore.shard_table g.C.ShardCore.good g.C.ShardCore.layout c.args.shape.now c.args.knobs c.args.geom homes c.args.ops.now.by_rank c.loop-number.shards.items (map vec_items c.loop-number.rows.items) c.in_ok-shard.shard c.in_ok-shard.seats.items i queues c.loop-number.invariant.1 c.loop-number.invariant.0
-    table_is site_is (g.met.C.ShardCore.shard_laws (core_at c.in_ok-shard.shard)).first_desk (subst (λ n. IsShardOf g.C.ShardCore.shard_table n c.in_ok-shard.shard) ranks made.shard) made.seats views made.closed in (
+    table_is site_is (g.met.C.ShardCore.shard_laws (core_at c.in_ok-shard.shard)).first_desk (subst (λ n. IsShardOf g.C.ShardCore.shard_table n c.in_ok-shard.shard) ranks made.shard) made.seats views made.closed (ap (λ l. l.nodes) made.layout) in (
       ap length c.in_ok-push.ensures.items ∙ length-append c.loop-number.shards.items (c.in_ok-shard.shard ∷ []) ∙ ap (λ n. n + 1) c.loop-number.invariant.0,
       subst (λ l. AreNew g.C.ShardCore.defined g.C.ShardCore.shard_table g.C.ShardCore.good g.C.ShardCore.layout c.args.shape.now c.args.knobs c.args.geom homes c.args.ops.now.by_rank l (map vec_items c.in_ok-rows-2.rows.items)) (sym c.in_ok-push.ensures.items)
           (subst (λ l. AreNew g.C.ShardCore.defined g.C.ShardCore.shard_table g.C.ShardCore.good g.C.ShardCore.layout c.args.shape.now c.args.knobs c.args.geom homes c.args.ops.now.by_rank (c.loop-number.shards.items ++ c.in_ok-shard.shard ∷ []) l) (sym c.in_ok-rows-2.ensures) more),

@@ -45,5 +45,5 @@ returns g c =
     let all : All (IsCaller g.C.ShardCore.shard_table g.C.ShardCore.good g.C.ShardCore.layout c.args.shards.items) c.work_all.new.callers = subst (λ l. All (IsCaller g.C.ShardCore.shard_table g.C.ShardCore.good g.C.ShardCore.layout l) c.work_all.new.callers) shards c.work_all.ensures.callers in
     let done : All (IsAtEnd g.C.ShardCore.shard_table c.args.shards.items) c.work_all.new.callers = subst (λ l. All (IsAtEnd g.C.ShardCore.shard_table l) c.work_all.new.callers) shards c.work_all.ensures.all_done in
     let same : map who c.work_all.new.callers ≡ map who c.args.callers.items = c.work_all.ensures.same ∙ ap (map who) c.as_mut_slice.ensures.value in
-    ok_more (λ ends. AreEnded (IsEnd g.C.ShardCore.shard_table) c.args.shards.items (map vec_items c.in_ok-rows.rows.items) ends.items) (λ ends. HasRun g.C.ShardCore.shard_table c.args.shards.items c.args.callers.items ends.items) c.close_all.result
+    ok_more (λ ends. AreEnded (IsEnd g.C.ShardCore.shard_table g.C.ShardCore.layout) c.args.shards.items (map vec_items c.in_ok-rows.rows.items) ends.items) (λ ends. HasRun g.C.ShardCore.shard_table g.C.ShardCore.layout c.args.shards.items c.args.callers.items ends.items) c.close_all.result
     (λ ends a. has_run g.C.ShardCore.shard_table g.C.ShardCore.good g.C.ShardCore.layout c.args.shards.items c.args.callers.items c.work_all.new.callers c.requires.callers all done same (map vec_items c.in_ok-rows.rows.items) ends.items is a) c.close_all.ensures
