@@ -27,6 +27,10 @@ use Rattle.rl_asks.specs.ShardTables.{ShardTable}
 use Rattle.rl_whole.specs.declared.whole.WholeView.{WholeView}
 use Rattle.rl_whole.specs.Running.{lock_with, kinds}
 use Rattle.rl_whole.specs.WholeShards.{whole_shard}
+use Rattle.rl_cores.specs.OnShards.{OfShard}
+use Rattle.rl_cores.specs.Holding.{KeepsReads}
+use Rattle.rl_cores.specs.Optimistic.{KeepsGets}
+use Rattle.rl_cores.specs.Combining.{KeepsCombining}
 use Rattle.rl_place.specs.declared.lock.Lock.{Lock}
 use Rattle.rl_place.specs.declared.lock.Lock.TheVariants as lock
 
@@ -38,11 +42,13 @@ Defined V = TheShape → ℕ → Knobs → Site → ShardTable V
 abbrev pub Promised : Type 1
 Promised = TheShape → ℕ → Knobs → List Event → List Transition → Type 0
 
--- A kind of lock: what a rank knows on one shard; the rank's machine there; and what the kind promises beyond what every lock promises.
+-- A kind of lock: what a rank knows on one shard; the rank's machine there; what the kind promises of events and acts beyond what every lock
+-- promises; and what its way of doing blocks promises of a shard's words and of its ranks' views.
 pub record Kind : Type 1 where
   pub View : Type 0
   pub defined : Defined View
   pub promised : Promised
+  pub ways : OfShard View
 
 -- how blocks are done, by the shape, the shard's home, the site, and the number of the first word behind the lock's
 abbrev pub Way : Type 0 → Type 0
@@ -72,6 +78,7 @@ spin =
       View = WholeView SpinView TheWork;
       defined = under (λ shape home knobs. spin_table home) locked;
       promised = λ shape home knobs. no_more;
+      ways = KeepsReads;
     }
 
 abbrev pub dmcs : Kind
@@ -80,6 +87,7 @@ dmcs =
       View = WholeView QueueView TheWork;
       defined = under (λ shape home knobs. dmcs_table home shape.node_of) locked;
       promised = λ shape home knobs. no_more;
+      ways = KeepsReads;
     }
 
 abbrev pub cohorts : TheShape → ℕ → Knobs → Cohorts
@@ -98,6 +106,7 @@ alock =
       View = WholeView AlockView TheWork;
       defined = under cohort_lock locked;
       promised = bounds_cohorts;
+      ways = KeepsReads;
     }
 
 abbrev pub mcs : Kind
@@ -106,6 +115,7 @@ mcs =
       View = WholeView TreeView TheWork;
       defined = under (λ shape home knobs. mcs_table (mcs_tree home shape)) locked;
       promised = λ shape home knobs. no_more;
+      ways = KeepsReads;
     }
 
 -- while no atom lowers the arrive word of a group at most as many readers of the group enter as the settings say
@@ -115,6 +125,7 @@ rw =
       View = WholeView RwView TheWork;
       defined = under (λ shape home knobs. rw_table (shared_in home shape knobs)) locked;
       promised = λ shape home knobs. BoundsBatches (shared_in home shape knobs);
+      ways = KeepsReads;
     }
 
 -- these two stand on ALock, and promise what it does
@@ -124,6 +135,7 @@ seq =
       View = WholeView AlockView TheSeqWork;
       defined = under cohort_lock optimistic;
       promised = bounds_cohorts;
+      ways = KeepsGets;
     }
 
 abbrev pub combine : Kind
@@ -132,6 +144,7 @@ combine =
       View = WholeView AlockView TheCombineSide;
       defined = under cohort_lock combining;
       promised = bounds_cohorts;
+      ways = KeepsCombining;
     }
 
 -- the kind of a placement's lock

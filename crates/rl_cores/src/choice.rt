@@ -7,6 +7,7 @@ ghost use Rattle.rl_place.specs.Places.{ThePlace, IsProper};
 ghost use Rattle.rl_place.specs.Shapes.{shape_of, knobs_of};
 ghost use Rattle.rl_cores.specs.Kinds.{Kind, kind_of};
 
+use crate::ways::Promising;
 use crate::{AlockCore, CombineCore, DmcsCore, McsCore, RwCore, SeqCore, SpinCore};
 use rl_asks::Resting;
 use rl_place::{Lock, Place};
@@ -24,13 +25,13 @@ pub trait CoreTask {
 
     /// Does it with this core, which is that of the placement's lock: the settings suit it, it asks for the lock on which that one
     /// stands, and it does batches where that one does them.
-    fn over<C: Resting>(self, place: &Place) -> Self::Out
+    fn over<C: Resting + Promising>(self, place: &Place) -> Self::Out
         requires proper { IsProper place.now }
         requires takes { takes self place.now }
         requires knobs { C.suits_knobs (shape_of place.now) (knobs_of place.now.lock) }
         requires kind { C.name ≡ lock_under (name_of place.now.lock) }
         requires batches { C.batches ≡ does_batches (name_of place.now.lock) }
-        ensures { gives self place.now (record { View = C.View; defined = C.defined; promised = C.promised }) result };
+        ensures { gives self place.now (record { View = C.View; defined = C.defined; promised = C.promised; ways = C.ways }) result };
 }
 
 /// Does a task with the core of a placement's lock.

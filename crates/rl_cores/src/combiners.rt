@@ -9,6 +9,7 @@ ghost use Rattle.rl_cores.specs.OnShards.{EachShard, EachMoment, EachState};
 ghost use Rattle.rl_cores.specs.Combining.{KeepsCombining, PostsAtHome};
 ghost use Rattle.rl_cores.specs.SweepRuns.{StoresTwoFirst};
 
+use crate::ways::Promising;
 use rl_asks::ShardCore;
 use rl_combine::CombineWork;
 use rl_machine::{Machine, rules};
@@ -43,3 +44,10 @@ pub fn combiners_of_shard<A: Algo>(shard: &Shard<Whole<A, CombineWork>>)
 pub fn posts_at_home<A: Algo>()
     ensures { (shape : TheShape) (home : ℕ) (knobs : TheKnobs) (site : Site) → PostsAtHome (⟦<Whole<A, CombineWork> as ShardCore>⟧.defined shape home knobs site) shape.node_of }
 {}
+
+/// A posted call is done once at most, by whichever rank, and who has found one in its sweep is a writer until it has told the answer.
+impl<A: Algo> Promising for Whole<A, CombineWork> {
+    ghost ways = { KeepsCombining };
+
+    fn way_laws() {}
+}

@@ -4,6 +4,7 @@ ghost use Rattle.rl_machine.specs.Running.{running};
 ghost use Rattle.rl_cores.specs.OnShards.{EachShard, EachMoment, EachState};
 ghost use Rattle.rl_cores.specs.Holding.{KeepsReads};
 
+use crate::ways::Promising;
 use rl_asks::ShardCore;
 use rl_machine::{Machine, rules};
 use rl_shard::Shard;
@@ -27,4 +28,11 @@ pub fn holders_of_shard<A: Algo>(shard: &Shard<Whole<A, LockedWork>>)
     ensures { let K = ⟦<Whole<A, LockedWork> as ShardCore>⟧ in EachState K.shard_table K.good K.layout KeepsReads shard.now }
 {
     let _ = shard;
+}
+
+/// A rank that reads for its block holds the lock, and what it has found still stands; for a call alone it loads few words.
+impl<A: Algo> Promising for Whole<A, LockedWork> {
+    ghost ways = { KeepsReads };
+
+    fn way_laws() {}
 }

@@ -5,6 +5,8 @@
 //!   has the lock does the calls that all ranks have posted.
 //! - A *kind* is such a core as it is defined (`specs/Kinds`).
 //! - A *task* ([`CoreTask`]) is what is done with the core of a placement's lock, whichever it is; [`over_lock`] chooses the core.
+//! - A core is *promising* ([`Promising`]) by what its way of doing blocks promises beyond every core: to read under the lock, to read without it
+//!   and look twice, or to do each posted call once.
 //!
 //! Promise: each is a shard's core (`ShardCore` of `rl_asks`), so machines of all of them keep what a machine promises; and a task is done with
 //! the core that the placement's lock has by its kind, whose settings suit it (`settings_suit`). What optimistic readers and flat combining
@@ -29,6 +31,7 @@ mod seat_tests;
 mod settings;
 #[cfg(test)]
 mod tests;
+mod ways;
 
 pub use choice::{CoreTask, over_lock};
 pub use combiners::{combiners_of_machine, combiners_of_shard, posts_at_home};
@@ -52,6 +55,7 @@ use rl_spin::Spin;
 use rl_whole::Whole;
 use rl_work::LockedWork;
 pub use settings::settings_suit;
+pub use ways::{Promising, ways_of_machine};
 
 /// Each block under a spin lock.
 pub type SpinCore = Whole<Spin, LockedWork>;

@@ -4,6 +4,7 @@ ghost use Rattle.rl_machine.specs.Running.{running};
 ghost use Rattle.rl_cores.specs.OnShards.{EachShard, EachMoment, EachState};
 ghost use Rattle.rl_cores.specs.Optimistic.{KeepsGets};
 
+use crate::ways::Promising;
 use rl_asks::ShardCore;
 use rl_machine::{Machine, rules};
 use rl_seq::SeqWork;
@@ -28,4 +29,11 @@ pub fn readers_of_shard<A: Algo>(shard: &Shard<Whole<A, SeqWork>>)
     ensures { let K = ⟦<Whole<A, SeqWork> as ShardCore>⟧ in EachState K.shard_table K.good K.layout KeepsGets shard.now }
 {
     let _ = shard;
+}
+
+/// A get alone is nowhere at the lock, and makes loads alone; it waits and loses by the version, which no atom lowers.
+impl<A: Algo> Promising for Whole<A, SeqWork> {
+    ghost ways = { KeepsGets };
+
+    fn way_laws() {}
 }

@@ -27,6 +27,7 @@ use Rattle.rl_machine.specs.Run.{calls_by, run_of, ranks_of, done_of, kept_by}
 use Rattle.rl_machine.specs.RunTransitions.{EachSays}
 use Rattle.rl_machine.specs.Promises.{journal_on, transcripts_on, history_on, IsSound, KeepsQueues, EachKeepsQueues}
 use Rattle.rl_cores.specs.Kinds.{Defined, Promised}
+use Rattle.rl_cores.specs.OnShards.{OfShard, EachShard}
 use Rattle.rl_program.specs.Replay.{start_with, run_with}
 use Rattle.rl_program.specs.Headline.{IsKept}
 use Rattle.rl_program.proofs.RunLaws.{table_in, IsAlike, run_alike}
@@ -91,9 +92,9 @@ module _ {V : Type 0} (defined : Defined V) (place : ThePlace) (ops : Ops) (sche
   each_shard =
       sym (length-map last.shards table_in) ∙ ap length alike.tables ∙ length-map first.shards table_in ∙ shards_length table_of (shape_of place).nodes place.geom ops.by_rank 0 place.homes
 
-  pub is_kept : (promised : Promised) → IsSound last → EachKeepsQueues (name_of place.lock) (shape_of place) (knobs_of place.lock) place.homes last →
-      EachSays promised (shape_of place) (knobs_of place.lock) place.homes first (ranks_of schedule.turns) → IsKept defined promised place ops schedule
-  is_kept promised sound queues further =
+  pub is_kept : (promised : Promised) (ways : OfShard V) → IsSound last → EachKeepsQueues (name_of place.lock) (shape_of place) (knobs_of place.lock) place.homes last →
+      EachSays promised (shape_of place) (knobs_of place.lock) place.homes first (ranks_of schedule.turns) → EachShard ways last → IsKept defined promised ways place ops schedule
+  is_kept promised ways sound queues further kept =
       let in_order : (k : ℕ) → k < length ops.by_rank → IsRankInOrder place.geom k (asked_of (get_or ops.by_rank k []) (get_or ops.sizes k [])) (done_of last k) (kept_by last k) = λ k low.
       let there : k < length last.calls = subst (λ l. k < length l) (sym alike.calls) low in
       subst (λ geom. IsRankInOrder geom k (asked_of (get_or ops.by_rank k []) (get_or ops.sizes k [])) (done_of last k) (kept_by last k)) alike.geom
@@ -105,6 +106,7 @@ module _ {V : Type 0} (defined : Defined V) (place : ThePlace) (ops : Ops) (sche
         changes = sound.changes;
         queues = queues;
         further = further;
+        ways = kept;
         replies = λ s S has. subst (λ geom. IsReplayedByOneThread geom finite.empty 0 (history_on S)) alike.geom (sound.shards s S has).replayed;
         legal = λ s S has. subst (λ geom. IsLegal geom (journal_on S) (transcripts_on S)) alike.geom (sound.shards s S has).legal;
         sorted = λ s S has. (sound.shards s S has).sorted;

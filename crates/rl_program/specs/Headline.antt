@@ -27,18 +27,20 @@ use Rattle.rl_machine.specs.RunTransitions.{EachSays}
 use Rattle.rl_machine.specs.Promises.{journal_on, transcripts_on, history_on, EachKeepsQueues, KeepsGuarded}
 use Rattle.rl_machine.specs.Changes.{OnlyWritersChange}
 use Rattle.rl_cores.specs.Kinds.{Defined, Promised, kind_of}
+use Rattle.rl_cores.specs.OnShards.{OfShard}
 use Rattle.rl_program.specs.Replay.{start_with, run_with, report_of}
 
 -- of each shard of a machine
 abbrev pub OnShards : {V : Type 0} → Running V → (ShardRun V → Type 0) → Type 0
 OnShards m P = (s : ℕ) (S : ShardRun _) → slice_get m.shards s ≡ Some S → P S
 
-module _ {V : Type 0} (defined : Defined V) (promised : Promised) (place : ThePlace) (ops : Ops) (schedule : Schedule) where
+module _ {V : Type 0} (defined : Defined V) (promised : Promised) (ways : OfShard V) (place : ThePlace) (ops : Ops) (schedule : Schedule) where
   abbrev m : Running V
   m = run_with defined place ops schedule
 
   -- What is promised of the run of a schedule over a placement and calls, for the kind of lock that is defined so, and promises this
-  -- beyond every lock. Here m is the machine at the end of the run; since all of it holds of every schedule, it holds at every moment.
+  -- beyond every lock, and this of its way of doing blocks. Here m is the machine at the end of the run; since all of it holds of every
+  -- schedule, it holds at every moment.
   pub record IsKept : Type 0 where
     -- on no shard is a writer ever beside another holder; and whose event is a touch holds the lock, as a writer where the touch writes
     pub exclusive : OnShards m (λ S. IsExclusive (events_of S.trace))
@@ -55,6 +57,10 @@ module _ {V : Type 0} (defined : Defined V) (promised : Promised) (place : ThePl
     -- events; under RMA-RW, while no step lowers the arrive word of a group at most so many of its readers enter, by the lock's words before
     -- and after each step and by the events; under the other locks nothing
     pub further : EachSays promised (shape_of place) (knobs_of place.lock) place.homes (start_with defined place ops) (ranks_of schedule.turns)
+    -- and what its way of doing blocks promises of each shard's words and of its ranks' views: under the five locks that a rank which reads for
+    -- its block holds the lock, and what it has found still stands; under `seq` how a get alone goes without the lock; and under `combine`
+    -- that each posted call is done once at most, and by a writer
+    pub ways : OnShards m (λ S. ways S.table S.held S.views)
     -- one thread that makes the calls of a shard's history in order, from the empty table, gets the history's replies, `full` exactly
     -- where a new key finds its bucket taken and no overflow cell left; and each entry looked at the number of updates before it
     pub replies : OnShards m (λ S. IsReplayedByOneThread place.geom map.empty 0 (history_on S))
@@ -68,7 +74,7 @@ module _ {V : Type 0} (defined : Defined V) (promised : Promised) (place : ThePl
 
 -- of the kind of the placement's lock
 abbrev pub KeepsPromises : ThePlace → Ops → Schedule → Type 0
-KeepsPromises place ops schedule = IsKept (kind_of place.lock).defined (kind_of place.lock).promised place ops schedule
+KeepsPromises place ops schedule = IsKept (kind_of place.lock).defined (kind_of place.lock).promised (kind_of place.lock).ways place ops schedule
 
 -- These texts are replayed: they spell a placement, calls and a schedule, and this text is the report of their run, which keeps its
 -- promises. It is a report that is read again, and a check finds it legal.

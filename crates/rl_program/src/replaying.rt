@@ -18,7 +18,7 @@ ghost use Rattle.rl_program.specs.Answer.{MayRead, WasReplayed};
 use crate::reporting::report_of_machine;
 use rl_asks::Resting;
 use rl_check::report_laws;
-use rl_cores::{CoreTask, over_lock};
+use rl_cores::{CoreTask, Promising, over_lock, ways_of_machine};
 use rl_history::{Report, report_text};
 use rl_io::Source;
 use rl_ops::{Ops, Schedule};
@@ -28,7 +28,7 @@ use rl_rests::replay;
 use std::alloc::{AllocError as OutOfMemory, Global};
 
 /// The report of a replay with this core, which is that of the placement's lock.
-fn report_with<C: Resting>(
+fn report_with<C: Resting + Promising>(
     alloc: Global,
     place: &Place,
     ops: Ops,
@@ -42,7 +42,7 @@ fn report_with<C: Resting>(
     requires suits { SuitsLock place.now ops }
     requires schedule { ScheduleFits (length place.now.paths) schedule.now }
     ensures report { IfOk result (λ report. report ≡ report_in (queue_count place.now) (run_with C.defined place.now ops schedule.now)) }
-    ensures kept { IfOk result (λ _. IsKept C.defined C.promised place.now ops schedule.now) }
+    ensures kept { IfOk result (λ _. IsKept C.defined C.promised C.ways place.now ops schedule.now) }
     ensures lawful { IfOk result (λ report. IsLawfulReplay place.now ops report) }
 {
     let shape = place.shape(alloc)?;
@@ -50,6 +50,7 @@ fn report_with<C: Resting>(
     let homes = place.homes.as_slice();
     let turns = schedule.turns.as_slice();
     let machine = replay::<C>(alloc, &shape, knobs, place.geom, homes, ops, turns)?;
+    ways_of_machine(&machine);
     report_of_machine(alloc, place, &machine)
 }
 
@@ -68,10 +69,10 @@ impl CoreTask for ReplayTask<'_> {
 
     ghost gives = { λ r place kind result.
         IfOk result (λ report. report ≡ report_in (queue_count place) (run_with kind.defined place r.ops r.schedule.now))
-        × IfOk result (λ _. IsKept kind.defined kind.promised place r.ops r.schedule.now)
+        × IfOk result (λ _. IsKept kind.defined kind.promised kind.ways place r.ops r.schedule.now)
         × IfOk result (λ report. IsLawfulReplay place r.ops report) };
 
-    fn over<C: Resting>(self, place: &Place) -> Result<Report, OutOfMemory> {
+    fn over<C: Resting + Promising>(self, place: &Place) -> Result<Report, OutOfMemory> {
         report_with::<C>(self.alloc, place, self.ops, self.schedule)
     }
 }

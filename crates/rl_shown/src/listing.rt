@@ -14,7 +14,7 @@ ghost use Rattle.rl_shown.specs.Listing.{head_lines, listing_with, IsListing};
 
 use crate::stepping::{Scene, take_turn};
 use rl_asks::{Resting, ShardCore};
-use rl_cores::{CoreTask, over_lock};
+use rl_cores::{CoreTask, Promising, over_lock};
 use rl_history::{Naming, put_word};
 use rl_machine::Machine;
 use rl_ops::{Ops, Schedule};
@@ -84,7 +84,7 @@ impl CoreTask for ListTask<'_> {
 
     ghost gives = { λ r place kind result. IfOk result (λ text. text.items ≡ listing_with kind.defined place r.ops r.schedule.now r.window) };
 
-    fn over<C: Resting>(self, place: &Place) -> Result<Vec<u8>, OutOfMemory> {
+    fn over<C: Resting + Promising>(self, place: &Place) -> Result<Vec<u8>, OutOfMemory> {
         list_with::<C>(self.alloc, place, self.ops, self.schedule, self.window)
     }
 }

@@ -14,8 +14,8 @@ use crate::signs::{answer_sign, answers_alone};
 use crate::trials::{look_same, read_both, trial};
 use rl_asks::{Resting, ShardCore};
 use rl_cores::{
-    AlockCore, CombineCore, CoreTask, DmcsCore, McsCore, RwCore, SeqCore, SpinCore, over_lock,
-    settings_suit,
+    AlockCore, CombineCore, CoreTask, DmcsCore, McsCore, Promising, RwCore, SeqCore, SpinCore,
+    over_lock, settings_suit,
 };
 use rl_model::{Call, Entry, Geom, Reply};
 use rl_ops::Room;
@@ -202,7 +202,7 @@ impl CoreTask for SeatsTask<'_> {
 
     ghost gives = { λ b place kind told. Unit {0} };
 
-    fn over<C: Resting>(self, place: &Place) -> Result<String, OutOfMemory> {
+    fn over<C: Resting + Promising>(self, place: &Place) -> Result<String, OutOfMemory> {
         seats_told::<C>(self.alloc, place, self.calls, self.turns)
     }
 }

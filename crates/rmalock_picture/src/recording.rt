@@ -13,7 +13,7 @@ ghost use Rattle.rl_replay.specs.Reading.{SuitsLock};
 use crate::deeds::{Deed, Remark, deed_of};
 use crate::lanes::{Cell, Lane, Moment};
 use rl_asks::{Resting, ShardCore};
-use rl_cores::{CoreTask, over_lock};
+use rl_cores::{CoreTask, Promising, over_lock};
 use rl_history::Naming;
 use rl_machine::Machine;
 use rl_names::{WordMap, put_step};
@@ -245,7 +245,7 @@ impl CoreTask for RecordTask<'_> {
 
     ghost gives = { λ r place kind result. IfOk result (λ lanes. vec_len lanes ≡ length place.paths) };
 
-    fn over<C: Resting>(self, place: &Place) -> Result<Vec<Lane>, OutOfMemory> {
+    fn over<C: Resting + Promising>(self, place: &Place) -> Result<Vec<Lane>, OutOfMemory> {
         record_with::<C>(self.alloc, place, self.ops, self.schedule, self.window)
     }
 }
