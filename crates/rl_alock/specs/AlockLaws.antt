@@ -18,7 +18,7 @@ use Rattle.rl_queue.specs.declared.view.Phase.{Phase}
 use Rattle.rl_queue.specs.declared.view.Phase.TheVariants.{Idle, Clear, Link, Settle, Granted, Look, Hand}
 use Rattle.rl_queue.specs.Choices.{choose}
 use Rattle.rl_queue.specs.Queue.{next_word, status_word, plan_at, turn_at}
-use Rattle.rl_queue.specs.Lane.{SuitsAlone, Listed, Busy, Own, served}
+use Rattle.rl_queue.specs.Lane.{Awaits, SuitsAlone, Listed, Busy, Own, served}
 use Rattle.rl_queue.specs.LaneLaws.{IsFirst, in_line}
 use Rattle.rl_queue.specs.LaneMoves.{link_guess}
 use Rattle.rl_queue.specs.Lane.{lane_of}
@@ -70,6 +70,7 @@ module _ (K : Cohorts) where
                 inside = λ m b. absurd (subst Busy (idle_in c m) b);
               };
               alone = λ m h. subst SuitsAlone (sym (idle_in c m)) tt;
+              awaited = λ m x. absurd (subst Awaits (idle_in c m) x);
               says = record { fifo = refl; tenure = refl; within = λ b e. (tt, omega arith) };
             };
         entered = record {

@@ -18,7 +18,7 @@ use Rattle.rl_queue.specs.declared.view.Phase.{Phase}
 use Rattle.rl_queue.specs.declared.view.Phase.TheVariants.{Idle, Clear, Link, Granted, Look}
 use Rattle.rl_queue.specs.declared.view.QueueView.{QueueView}
 use Rattle.rl_queue.specs.Queue.{next_word, status_word, at_phase, plan_at, turn_at, PlanFits, PhaseFits, GotFits}
-use Rattle.rl_queue.specs.Lane.{SuitsAlone, Listed, Busy, Own}
+use Rattle.rl_queue.specs.Lane.{Awaits, SuitsAlone, Listed, Busy, Own}
 use Rattle.rl_queue.specs.LaneLaws.{IsFirst}
 use Rattle.rl_queue.specs.QueueLaws.{QueueGood}
 use Rattle.rl_queue.specs.QueueMoves.{join_keeps, leave_keeps, beside_keeps, one_first, queue_fifo, queue_counted}
@@ -59,6 +59,7 @@ begins_at home node_of =
           inside = λ m b. absurd (subst Busy (idle m) b);
         };
         alone = λ m h. subst SuitsAlone (sym (idle m)) tt;
+        awaited = λ m x. absurd (subst Awaits (idle m) x);
         says = record { fifo = refl; tenure = refl; within = λ b e. cc };
       };
     }

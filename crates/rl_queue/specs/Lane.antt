@@ -1,5 +1,5 @@
 -- The queue invariant: the line of a queue's members, and what is true of their words, their phases and the trace.
-use Rattle.std.specs.Prelude.{ℕ, ◌≡◌, ◌⊎◌, zero, suc, ◌+◌, ◌-◌, ◌<◌, ◌≤◌, Bool, true, false, List, [], ◌∷◌, ◌++◌, slice_index, Option, Some, None}
+use Rattle.std.specs.Prelude.{ℕ, ◌≡◌, ◌≢◌, ◌⊎◌, zero, suc, ◌+◌, ◌-◌, ◌<◌, ◌≤◌, Bool, true, false, List, [], ◌∷◌, ◌++◌, slice_index, Option, Some, None}
 use Rattle.rl_step.specs.declared.events.Event.{Event}
 use Rattle.rl_step.specs.Queues.{count, joined, given, settled, passed, WithinFrom, room_of}
 use Rattle.rl_queue.specs.declared.view.Phase.{Phase}
@@ -189,10 +189,16 @@ SuitsAlone Wait = ⊥
 SuitsAlone (Await left) = ⊥
 SuitsAlone _ = Unit {0}
 
--- a lane is good with the line l, after the trace t
+-- a member in this phase waits for the next word of its follower
+abbrev pub Awaits : Phase → Type 0
+Awaits (Await left) = Unit {0}
+Awaits _ = ⊥
+
+-- a lane is good with the line l, after the trace t: and who waits for its follower isn't the last of the line
 pub record LaneGood (q : ℕ) (B : Option ℕ) (In : ℕ → Type 0) (L : Lane) (l : List ℕ) (t : List Event) (ended : ℕ) : Type 0 where
   pub inv : QueueInvariant B In L l
   pub alone : (m : ℕ) → IsAlone In m → SuitsAlone (L.phase m)
+  pub awaited : (m : ℕ) → Awaits (L.phase m) → L.tail ≢ m + 1
   pub says : QueueTrace q B t ended (waits_in L l) (credit_in L l) (held_in L l)
 
 -- How a move of member m from phase p to phase q changes the line from l to k: a swing puts the member at its end, a close

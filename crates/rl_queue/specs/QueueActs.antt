@@ -10,12 +10,12 @@ use Rattle.rl_queue.specs.declared.view.Phase.{Phase}
 use Rattle.rl_queue.specs.declared.view.Phase.TheVariants.{Idle, Clear, Reset, Swing, Link, Wait, Settle, Granted, Look, Close, Await, Hand, Above}
 use Rattle.rl_queue.specs.Choices.{other_test}
 use Rattle.rl_queue.specs.Queue.{TheNames, next_word, status_word, full_budget, code_of, code_left, turn_at, moves_to, moves_with, joined_at, look_at, hand_turn}
-use Rattle.rl_queue.specs.Lane.{Lane, lane_of, Has, last_of, Listed, Busy, IsCode, Leads, Line, Own, Guessed, told_left, QueueInvariant, is_pass, served, credit, holds, rest_if, waits_in, credit_in, held_in, QueueTrace, SuitsAlone, IsAlone, LineStep}
+use Rattle.rl_queue.specs.Lane.{Awaits, Lane, lane_of, Has, last_of, Listed, Busy, IsCode, Leads, Line, Own, Guessed, told_left, QueueInvariant, is_pass, served, credit, holds, rest_if, waits_in, credit_in, held_in, QueueTrace, SuitsAlone, IsAlone, LineStep}
 use Rattle.rl_queue.specs.LineLaws.{has_last_of}
 use Rattle.rl_queue.specs.TraceLaws.{trace_quiet, trace_join}
 use Rattle.rl_queue.specs.LaneLaws.{IsFirst, in_line, is_first, swing_first, swing_next}
 use Rattle.rl_queue.specs.LaneMoves.{link_guess, link_moves, close_moves}
-use Rattle.rl_queue.specs.QueueLaws.{IsNaming, Moves, says_first, first_says, QueueGood, tail_write, next_write, status_write, alone_moves, still_keeps, outside_keeps, first_keeps}
+use Rattle.rl_queue.specs.QueueLaws.{IsNaming, Moves, says_first, first_says, QueueGood, tail_write, next_write, status_write, alone_moves, awaited_moves, awaited_stays, still_keeps, outside_keeps, first_keeps}
 
 -- one more at the end of a line waits
 pub rest_more : (b : Bool) (h : ℕ) (r : List ℕ) (m : ℕ) → rest_if b h r ++ m ∷ [] ≡ rest_if b h (r ++ m ∷ [])
@@ -70,7 +70,7 @@ module _ (n : TheNames) (In : ℕ → Type 0) where
 
   -- with no event all stays as it was
   pub no_event : (ws : List ℕ) (ph : ℕ → Phase) (l : List ℕ) (t : List Event) (e : ℕ) → QueueGood n In ws ph l t e → QueueGood n In ws ph l (t ++ []) e
-  no_event ws ph l t e g = record { inv = g.inv; alone = g.alone; says = trace_quiet n.queue n.budget t e _ _ _ _ g.says (omega arith) }
+  no_event ws ph l t e g = record { inv = g.inv; alone = g.alone; awaited = g.awaited; says = trace_quiet n.queue n.budget t e _ _ _ _ g.says (omega arith) }
 
   -- who moves from a phase in which it uses the queue is a member
   pub busy_in : (ws : List ℕ) (ph ph' : ℕ → Phase) (l : List ℕ) (t : List Event) (e m : ℕ) (p p' : Phase) → QueueGood n In ws ph l t e → Moves ph ph' m p p' → Busy p → In m
@@ -160,6 +160,7 @@ module _ (n : TheNames) (In : ℕ → Type 0) where
         record {
           inv = new.1;
           alone = alone_moves n In ph ph' m (Swing 0) Settle mv g.alone (λ s k. tt);
+          awaited = awaited_moves n In ws (slice_set ws n.tail (m + 1)) ph ph' m (Swing 0) Settle mv g.awaited (λ x. absurd x) (λ x ne k q. let at : slice_index (slice_set ws n.tail (m + 1)) n.tail ≡ m + 1 = w.tail in ne (omega arith));
           says = says_first n.queue n.budget M m [] (t ++ event.Join n.queue m ∷ []) e Settle _ mv.now refl (trace_join n.queue n.budget t e 0 0 0 [] m old (omega arith));
         },
         (new.0, refl),
@@ -186,6 +187,7 @@ module _ (n : TheNames) (In : ℕ → Type 0) where
         record {
           inv = new.3;
           alone = alone_moves n In ph ph' m (Swing (suc g')) (Link (suc g')) mv g.alone (λ s k. let k1 : suc g' ≡ 0 = k in absurd (omega arith));
+          awaited = awaited_moves n In ws (slice_set ws n.tail (m + 1)) ph ph' m (Swing (suc g')) (Link (suc g')) mv g.awaited (λ x. absurd x) (λ x ne k q. let at : slice_index (slice_set ws n.tail (m + 1)) n.tail ≡ m + 1 = w.tail in ne (omega arith));
           says = says_first n.queue n.budget M new.0 (new.1 ++ m ∷ []) (t ++ event.Join n.queue m ∷ []) e (ph new.0) (slice_index ws (status_word n new.0)) (mv.others new.0 ne) (w.status new.0 (in_line n.budget In (lane_of n ws ph) l new.0 g.inv hl))
               (subst (λ k. QueueTrace n.queue n.budget (t ++ event.Join n.queue m ∷ []) e k (credit (ph new.0) (slice_index ws (status_word n new.0))) (count (holds (ph new.0) (slice_index ws (status_word n new.0)))))
               (rest_more (served (ph new.0) (slice_index ws (status_word n new.0))) new.0 new.1 m) more);
@@ -206,6 +208,7 @@ module _ (n : TheNames) (In : ℕ → Type 0) where
             (record {
               inv = link_moves n.budget In (lane_of n ws ph) M l m guess g.inv mv.was mv.now w.tail (λ j. w.here) (λ x j ne. w.next x j ne) (λ x j. w.status x j) mv.others;
               alone = alone_moves n In ph ph' m (Link guess) Wait mv g.alone (λ s k. k);
+              awaited = awaited_stays n In ws (slice_set ws (next_word n (guess - 1)) (m + 1)) ph ph' m (Link guess) Wait mv g.awaited w.tail (λ x. absurd x);
               says = at l g.inv.line (λ x h. w.status x (in_line n.budget In (lane_of n ws ph) l x g.inv h)) g.says;
             }),
         refl,
@@ -230,7 +233,7 @@ module _ (n : TheNames) (In : ℕ → Type 0) where
       QueueGood n In ws ph' l (t ++ (turn_at n m Wait s).events) e
   wait_act ws ph ph' l t e m zero g es mv = stays_keeps ws ph ph' l t e m Wait g mv
   wait_act ws ph ph' l t e m (suc zero) g es mv =
-      first_keeps n In ws ph ph' l t (t ++ []) e e m Wait Settle g mv (omega arith) tt (omega arith) (λ a k. tt)
+      first_keeps n In ws ph ph' l t (t ++ []) e e m Wait Settle g mv (omega arith) tt (omega arith) (λ a k. tt) (λ x. absurd x)
       (λ r s.
       let k : QueueTrace n.queue n.budget t e (m ∷ r) 0 0 = subst (λ z. QueueTrace n.queue n.budget t e (rest_if (is_pass z) m r) (z - 2) (count (is_pass z))) es s in
       trace_quiet n.queue n.budget t e 0 0 0 (m ∷ r) k (omega arith))
@@ -243,7 +246,7 @@ module _ (n : TheNames) (In : ℕ → Type 0) where
       let f = granted_facts n.budget k code in
       subst (λ z. QueueGood n In ws ph' l (t ++ z) e) (sym (ap (λ z. z.events) turn))
       (first_keeps n In ws ph ph' l t (t ++ []) e e m Wait (Granted (code_left n.budget (suc (suc k)))) g mv pos tt
-      (f.0, f.1 ∙ ap (told_left n.budget) (sym es)) (λ a k. tt)
+      (f.0, f.1 ∙ ap (told_left n.budget) (sym es)) (λ a k. tt) (λ x. absurd x)
       (λ r s.
       let k1 : QueueTrace n.queue n.budget t e r (suc (suc k) - 2) 1 = subst (λ z. QueueTrace n.queue n.budget t e (rest_if (is_pass z) m r) (z - 2) (count (is_pass z))) es s in
       trace_quiet n.queue n.budget t e (suc (suc k) - 2) (code_left n.budget (suc (suc k))) 1 r k1 f.2))
@@ -251,11 +254,11 @@ module _ (n : TheNames) (In : ℕ → Type 0) where
   -- a first member that was given the queue goes on, with no event
   pub go_on : (ws : List ℕ) (ph ph' : ℕ → Phase) (l : List ℕ) (t : List Event) (e m : ℕ) (p p' : Phase) → QueueGood n In ws ph l t e → Moves ph ph' m p p' →
       IsFirst p (slice_index ws (status_word n m)) → Leads n.budget p' (slice_index ws (status_word n m)) →
-      Own n.budget In p' (slice_index ws (next_word n m)) (slice_index ws (status_word n m)) → (IsAlone In m → SuitsAlone p → SuitsAlone p') →
+      Own n.budget In p' (slice_index ws (next_word n m)) (slice_index ws (status_word n m)) → (IsAlone In m → SuitsAlone p → SuitsAlone p') → (Awaits p' → slice_index ws n.tail ≢ m + 1) →
       served p (slice_index ws (status_word n m)) ≡ true → served p' (slice_index ws (status_word n m)) ≡ true → holds p (slice_index ws (status_word n m)) ≡ false → holds p' (slice_index ws (status_word n m)) ≡ false →
       credit p' (slice_index ws (status_word n m)) ≤ credit p (slice_index ws (status_word n m)) → QueueGood n In ws ph' l (t ++ []) e
-  go_on ws ph ph' l t e m p p' g mv first leads own alone s s' h h' c =
-      first_keeps n In ws ph ph' l t (t ++ []) e e m p p' g mv first leads own alone
+  go_on ws ph ph' l t e m p p' g mv first leads own alone waits s s' h h' c =
+      first_keeps n In ws ph ph' l t (t ++ []) e e m p p' g mv first leads own alone waits
       (λ r old.
       let st : ℕ = slice_index ws (status_word n m) in
       let a : QueueTrace n.queue n.budget t e r (credit p (slice_index ws (status_word n m))) 0 =
@@ -270,20 +273,20 @@ module _ (n : TheNames) (In : ℕ → Type 0) where
       QueueGood n In ws ph' l (t ++ []) e
   look_act ws ph ph' l t e m left false zero g ex mv =
       let o = own_in ws ph ph' l t e m (Look left false) (Close left) g mv in
-      go_on ws ph ph' l t e m (Look left false) (Close left) g mv tt tt o.0 (λ a k. tt) refl refl refl refl (omega arith)
+      go_on ws ph ph' l t e m (Look left false) (Close left) g mv tt tt o.0 (λ a k. tt) (λ x. absurd x) refl refl refl refl (omega arith)
   look_act ws ph ph' l t e m left false (suc s) g ex mv0 =
       let mv : Moves ph ph' m (Look left false) (Hand s left) = record { was = mv0.was; now = mv0.now ∙ look_flat left s; others = mv0.others } in
       let o = own_in ws ph ph' l t e m (Look left false) (Hand s left) g mv in
-      go_on ws ph ph' l t e m (Look left false) (Hand s left) g mv tt tt (o.0, omega arith) (λ a k. tt) refl refl refl refl (omega arith)
+      go_on ws ph ph' l t e m (Look left false) (Hand s left) g mv tt tt (o.0, omega arith) (λ a k. tt) (λ x. absurd x) refl refl refl refl (omega arith)
   look_act ws ph ph' l t e m left true zero g ex mv =
-      go_on ws ph ph' l t e m (Look left true) (Above None) g mv tt tt tt (λ a k. tt) refl refl refl refl (omega arith)
+      go_on ws ph ph' l t e m (Look left true) (Above None) g mv tt tt tt (λ a k. tt) (λ x. absurd x) refl refl refl refl (omega arith)
   look_act ws ph ph' l t e m zero true (suc s) g ex mv0 =
       let mv : Moves ph ph' m (Look 0 true) (Above (Some s)) = record { was = mv0.was; now = mv0.now ∙ look_last s; others = mv0.others } in
-      go_on ws ph ph' l t e m (Look 0 true) (Above (Some s)) g mv tt tt (omega arith) (λ a k. tt) refl refl refl refl (omega arith)
+      go_on ws ph ph' l t e m (Look 0 true) (Above (Some s)) g mv tt tt (omega arith) (λ a k. tt) (λ x. absurd x) refl refl refl refl (omega arith)
   look_act ws ph ph' l t e m (suc k) true (suc s) g ex mv0 =
       let mv : Moves ph ph' m (Look (suc k) true) (Hand s (suc k)) = record { was = mv0.was; now = mv0.now ∙ look_upper k s; others = mv0.others } in
       let o = own_in ws ph ph' l t e m (Look (suc k) true) (Hand s (suc k)) g mv in
-      go_on ws ph ph' l t e m (Look (suc k) true) (Hand s (suc k)) g mv tt tt (o.0, omega arith) (λ a k. tt) refl refl refl refl (omega arith)
+      go_on ws ph ph' l t e m (Look (suc k) true) (Hand s (suc k)) g mv tt tt (o.0, omega arith) (λ a k. tt) (λ x. absurd x) refl refl refl refl (omega arith)
 
   -- it empties the tail
   pub close_won : (ws : List ℕ) (ph ph' : ℕ → Phase) (l : List ℕ) (t : List Event) (e m left : ℕ) → IsNaming n In (length ws) → QueueGood n In ws ph l t e → slice_index ws n.tail ≡ m + 1 → Moves ph ph' m (Close left) Idle →
@@ -300,6 +303,7 @@ module _ (n : TheNames) (In : ℕ → Type 0) where
         record {
           inv = new.1;
           alone = alone_moves n In ph ph' m (Close left) Idle mv g.alone (λ s k. tt);
+          awaited = awaited_moves n In ws (slice_set ws n.tail 0) ph ph' m (Close left) Idle mv g.awaited (λ x. absurd x) (λ x ne k q. let at : slice_index (slice_set ws n.tail 0) n.tail ≡ 0 = w.tail in absurd (omega arith));
           says = trace_quiet n.queue n.budget t e left 0 0 [] at_close (omega arith);
         },
         (new.0, refl),
@@ -314,7 +318,7 @@ module _ (n : TheNames) (In : ℕ → Type 0) where
       let alone : IsAlone In m → ⊥ = λ s.
       let last : last_of m a.0 ≡ m = s _ (in_line n.budget In (lane_of n ws ph) (m ∷ a.0) (last_of m a.0) g1 (has_last_of m a.0)) in
       ne (g1.line.2 ∙ ap (λ z. z + 1) last) in
-      go_on ws ph ph' l t e m (Close left) (Await left) g mv tt tt o (λ s k. alone s) refl refl refl refl (omega arith)
+      go_on ws ph ph' l t e m (Close left) (Await left) g mv tt tt o (λ s k. alone s) (λ x. ne) refl refl refl refl (omega arith)
 
   -- it loads its next word until that isn't 0
   pub await_act : (ws : List ℕ) (ph ph' : ℕ → Phase) (l : List ℕ) (t : List Event) (e m left x : ℕ) → QueueGood n In ws ph l t e → slice_index ws (next_word n m) ≡ x → Moves ph ph' m (Await left) (turn_at n m (Await left) x).phase →
@@ -325,4 +329,4 @@ module _ (n : TheNames) (In : ℕ → Type 0) where
       let mv : Moves ph ph' m (Await left) (Hand s left) = record { was = mv0.was; now = mv0.now ∙ ap (λ z. z.phase) turn; others = mv0.others } in
       let o = own_in ws ph ph' l t e m (Await left) (Hand s left) g mv in
       subst (λ z. QueueGood n In ws ph' l (t ++ z) e) (sym (ap (λ z. z.events) turn))
-      (go_on ws ph ph' l t e m (Await left) (Hand s left) g mv tt tt (o, omega arith) (λ a k. tt) refl refl refl refl (omega arith))
+      (go_on ws ph ph' l t e m (Await left) (Hand s left) g mv tt tt (o, omega arith) (λ a k. tt) (λ x. absurd x) refl refl refl refl (omega arith))

@@ -64,6 +64,7 @@ module _ (n : TheNames) (In : ℕ → Type 0) where
       record {
         inv = record { distinct = tt; listed = λ m h. absurd h; only = λ m h. absurd h; line = empty; own = λ m. tt; inside = λ m b. absurd b };
         alone = λ m h. tt;
+        awaited = λ m x. absurd x;
         says = record { fifo = refl; tenure = refl; within = λ b e. (tt, omega arith) };
       }
 

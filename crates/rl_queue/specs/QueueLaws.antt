@@ -1,6 +1,6 @@
 -- The same over any words: when names give words of their own to each member, and what stays where one member moves.
-use Rattle.std.specs.Prelude.{◌≡◌, ◌≢◌, ℕ, ◌<◌, List, [], ◌∷◌, length, slice_index, slice_set, Option, refl}
-use Rattle.std.proofs.Common.{sym, subst, inl, ⊎_elim, get_or-set_same, get_or-set_other}
+use Rattle.std.specs.Prelude.{◌≡◌, ◌≢◌, ℕ, ◌+◌, ◌<◌, List, [], ◌∷◌, length, slice_index, slice_set, Option, refl}
+use Rattle.std.proofs.Common.{◌∙◌, sym, subst, inl, ⊎_elim, get_or-set_same, get_or-set_other}
 use Rattle.rl_word.specs.Places.{same_or_not}
 use Rattle.rl_word.specs.Acts.{word_of}
 use Rattle.rl_word.specs.declared.classes.Class.{Class}
@@ -8,8 +8,9 @@ use Rattle.rl_word.specs.declared.classes.Class.TheVariants as class
 use Rattle.rl_step.specs.declared.events.Event.{Event}
 use Rattle.rl_step.specs.Queues.{count}
 use Rattle.rl_queue.specs.declared.view.Phase.{Phase}
+use Rattle.rl_queue.specs.declared.view.Phase.TheVariants.{Idle, Clear, Reset, Swing, Await}
 use Rattle.rl_queue.specs.Queue.{TheNames, next_word, status_word, swap_act}
-use Rattle.rl_queue.specs.Lane.{Lane, lane_of, Has, Listed, Busy, Leads, Own, QueueInvariant, served, credit, holds, rest_if, waits_in, credit_in, held_in, QueueTrace, LaneGood, SuitsAlone, IsAlone}
+use Rattle.rl_queue.specs.Lane.{Awaits, Lane, lane_of, Has, Listed, Busy, Leads, Own, QueueInvariant, served, credit, holds, rest_if, waits_in, credit_in, held_in, QueueTrace, LaneGood, SuitsAlone, IsAlone}
 use Rattle.rl_queue.specs.LaneLaws.{IsFirst, in_line, is_first, outside, first_moves, line_frame, own_stays}
 
 -- the words of a queue's members are there, and no two of them are one
@@ -53,6 +54,15 @@ swap_word class.Local w old new = refl
 swap_word class.Card w old new = refl
 swap_word class.Plain w old new = refl
 swap_word class.Fixed w old new = refl
+
+-- who awaits its follower stands in the line
+awaits_listed : (p : Phase) → Awaits p → Listed p
+awaits_listed (Await left) a = tt
+awaits_listed Idle a = absurd a
+awaits_listed Clear a = absurd a
+awaits_listed Reset a = absurd a
+awaits_listed (Swing g) a = absurd a
+awaits_listed _ a = tt
 
 -- what the trace says of a line rests on the first's phase and status alone
 pub says_same : (q : ℕ) (B : Option ℕ) (L M : Lane) (l : List ℕ) (t : List Event) (e : ℕ) → ((x : ℕ) → Has x l → (M.status x ≡ L.status x) × (M.phase x ≡ L.phase x)) →
@@ -117,6 +127,20 @@ module _ (n : TheNames) (In : ℕ → Type 0) where
       (λ q. subst SuitsAlone (sym (mv.others x q)) (old x s))
       (same_or_not x m)
 
+  -- who awaits its follower is still not the last, where one member moves
+  pub awaited_moves : (ws us : List ℕ) (ph ph' : ℕ → Phase) (m : ℕ) (p p' : Phase) → Moves ph ph' m p p' → ((x : ℕ) → Awaits (ph x) → slice_index ws n.tail ≢ x + 1) → (Awaits p' → slice_index us n.tail ≢ m + 1) →
+      ((x : ℕ) → x ≢ m → slice_index ws n.tail ≢ x + 1 → slice_index us n.tail ≢ x + 1) → (x : ℕ) → Awaits (ph' x) → slice_index us n.tail ≢ x + 1
+  awaited_moves ws us ph ph' m p p' mv old own others x a =
+      ⊎_elim
+      (λ q. subst (λ z. slice_index us n.tail ≢ z + 1) (sym q) (own (subst Awaits mv.now (subst (λ z. Awaits (ph' z)) q a))))
+      (λ q. others x q (old x (subst Awaits (mv.others x q) a)))
+      (same_or_not x m)
+
+  -- and where the tail stays
+  pub awaited_stays : (ws us : List ℕ) (ph ph' : ℕ → Phase) (m : ℕ) (p p' : Phase) → Moves ph ph' m p p' → ((x : ℕ) → Awaits (ph x) → slice_index ws n.tail ≢ x + 1) → slice_index us n.tail ≡ slice_index ws n.tail →
+      (Awaits p' → slice_index ws n.tail ≢ m + 1) → (x : ℕ) → Awaits (ph' x) → slice_index us n.tail ≢ x + 1
+  awaited_stays ws us ph ph' m p p' mv old same own = awaited_moves ws us ph ph' m p p' mv old (λ a e. own a (sym same ∙ e)) (λ x ne k e. k (sym same ∙ e))
+
   -- a queue stays good where none of its words and phases changes
   pub still_keeps : (ws us : List ℕ) (ph ph' : ℕ → Phase) (l : List ℕ) (t : List Event) (e : ℕ) → QueueGood ws ph l t e → ((x : ℕ) → ph' x ≡ ph x) → slice_index us n.tail ≡ slice_index ws n.tail →
       ((x : ℕ) → In x → slice_index us (next_word n x) ≡ slice_index ws (next_word n x)) → ((x : ℕ) → In x → slice_index us (status_word n x) ≡ slice_index ws (status_word n x)) → QueueGood us ph' l t e
@@ -134,6 +158,7 @@ module _ (n : TheNames) (In : ℕ → Type 0) where
           inside = λ x b. g.inv.inside x (subst Busy (same x) b);
         };
         alone = λ x s. subst SuitsAlone (sym (same x)) (g.alone x s);
+        awaited = λ x a e. g.awaited x (subst Awaits (same x) a) (sym tl ∙ e);
         says = says_same n.queue n.budget (lane_of n ws ph) (lane_of n us ph') l t e (λ x h. (st x (ins x h), same x)) g.says;
       }
 
@@ -152,6 +177,7 @@ module _ (n : TheNames) (In : ℕ → Type 0) where
             (subst (λ z. Own n.budget In z (slice_index us (next_word n m)) (slice_index us (status_word n m))) (sym mv.now) own)
             (λ b. ins (subst Busy mv.now b));
         alone = alone_moves ph ph' m p p' mv g.alone alone;
+        awaited = awaited_stays ws us ph ph' m p p' mv g.awaited tl (λ a. absurd (now (awaits_listed p' a)));
         says = says_same n.queue n.budget L M l t e
             (λ x h.
             let ne : x ≢ m = λ k. out (g.inv.only m (subst (λ z. Has z l) k h)) in
@@ -161,12 +187,12 @@ module _ (n : TheNames) (In : ℕ → Type 0) where
   -- the head moves and stays the head, and no word changes
   pub first_keeps : (ws : List ℕ) (ph ph' : ℕ → Phase) (l : List ℕ) (t t' : List Event) (e e' m : ℕ) (p p' : Phase) → QueueGood ws ph l t e → Moves ph ph' m p p' →
       IsFirst p (slice_index ws (status_word n m)) → Leads n.budget p' (slice_index ws (status_word n m)) →
-      Own n.budget In p' (slice_index ws (next_word n m)) (slice_index ws (status_word n m)) → (IsAlone In m → SuitsAlone p → SuitsAlone p') →
+      Own n.budget In p' (slice_index ws (next_word n m)) (slice_index ws (status_word n m)) → (IsAlone In m → SuitsAlone p → SuitsAlone p') → (Awaits p' → slice_index ws n.tail ≢ m + 1) →
       ((r : List ℕ) →
       QueueTrace n.queue n.budget t e (rest_if (served p (slice_index ws (status_word n m))) m r) (credit p (slice_index ws (status_word n m))) (count (holds p (slice_index ws (status_word n m)))) →
       QueueTrace n.queue n.budget t' e' (rest_if (served p' (slice_index ws (status_word n m))) m r) (credit p' (slice_index ws (status_word n m))) (count (holds p' (slice_index ws (status_word n m))))) →
       QueueGood ws ph' l t' e'
-  first_keeps ws ph ph' l t t' e e' m p p' g mv first leads own alone says =
+  first_keeps ws ph ph' l t t' e e' m p p' g mv first leads own alone waits says =
       let L : Lane = lane_of n ws ph in
       let M : Lane = lane_of n ws ph' in
       let st : ℕ = slice_index ws (status_word n m) in
@@ -182,5 +208,6 @@ module _ (n : TheNames) (In : ℕ → Type 0) where
             (subst (λ z. Leads n.budget z (slice_index ws (status_word n m))) (sym mv.now) leads)
             (subst (λ z. Own n.budget In z (slice_index ws (next_word n m)) (slice_index ws (status_word n m))) (sym mv.now) own);
         alone = alone_moves ph ph' m p p' mv g.alone alone;
+        awaited = awaited_stays ws ws ph ph' m p p' mv g.awaited refl waits;
         says = says_first n.queue n.budget M m a.0 t' e' p' _ mv.now refl (says a.0 (first_says n.queue n.budget L m a.0 t e p _ mv.was refl s1));
       })

@@ -21,7 +21,7 @@ use Rattle.rl_queue.specs.LineLaws.{chain_next}
 use Rattle.rl_queue.specs.TraceLaws.{trace_quiet, trace_settle, trace_pass, trace_leave, trace_leave_quiet, trace_apart, Apart}
 use Rattle.rl_queue.specs.LaneLaws.{IsFirst, in_line, is_first}
 use Rattle.rl_queue.specs.LaneMoves.{hand_moves}
-use Rattle.rl_queue.specs.QueueLaws.{IsNaming, Moves, says_first, first_says, QueueGood, status_write, alone_moves, outside_keeps, first_keeps}
+use Rattle.rl_queue.specs.QueueLaws.{IsNaming, Moves, says_first, first_says, QueueGood, status_write, alone_moves, awaited_stays, outside_keeps, first_keeps}
 use Rattle.rl_queue.specs.QueueActs.{QueueGoes, own_in, clear_act, reset_act, swing_lost, swing_won, link_act, wait_act, go_on, look_act, close_won, close_lost, await_act, code_more, pass_more, told_whole}
 
 -- who hands the queue over is idle then
@@ -90,6 +90,7 @@ module _ (n : TheNames) (In : ℕ → Type 0) where
         record {
           inv = new.6;
           alone = alone_moves n In ph ph' m (Hand s left) Idle mv g.alone (λ a k. tt);
+          awaited = awaited_stays n In ws (slice_set ws (status_word n s) (code_of n.budget left)) ph ph' m (Hand s left) Idle mv g.awaited w.tail (λ x. absurd x);
           says = says_first n.queue n.budget M s new.0 (t ++ (hand_turn n.queue n.budget s left).events) e Wait (code_of n.budget left) new.4 new.5 (hand_says n.queue n.budget t e s new.0 left at_hand);
         },
         (new.0, (new.1, refl)),
@@ -160,7 +161,7 @@ module _ (n : TheNames) (In : ℕ → Type 0) where
   pub settle_keeps : (ws : List ℕ) (ph ph' : ℕ → Phase) (l : List ℕ) (t : List Event) (e m : ℕ) → QueueGood n In ws ph l t e → Moves ph ph' m Settle (settled_at n.budget) → QueueGood n In ws ph' l (t ++ event.Settle n.queue m ∷ []) e
   settle_keeps ws ph ph' l t e m g mv =
       let o = own_in n In ws ph ph' l t e m Settle (settled_at n.budget) g mv in
-      first_keeps n In ws ph ph' l t (t ++ event.Settle n.queue m ∷ []) e e m Settle (settled_at n.budget) g mv tt tt (omega arith, told_whole n.budget _ o) (λ s k. tt)
+      first_keeps n In ws ph ph' l t (t ++ event.Settle n.queue m ∷ []) e e m Settle (settled_at n.budget) g mv tt tt (omega arith, told_whole n.budget _ o) (λ s k. tt) (λ x. absurd x)
       (λ r s. trace_settle n.queue n.budget t e 0 (full_budget n.budget) r m s (omega arith))
 
   -- the holder begins to leave, with an event that isn't of the queue, such as its leave event
@@ -168,29 +169,29 @@ module _ (n : TheNames) (In : ℕ → Type 0) where
       QueueGood n In ws ph' l (t ++ ev ∷ []) (e + 1)
   leave_keeps ws ph ph' l t e m left u ev g apart mv =
       let o = own_in n In ws ph ph' l t e m (Granted left) (Look left u) g mv in
-      first_keeps n In ws ph ph' l t (t ++ ev ∷ []) e (e + 1) m (Granted left) (Look left u) g mv tt tt o (λ s k. tt)
+      first_keeps n In ws ph ph' l t (t ++ ev ∷ []) e (e + 1) m (Granted left) (Look left u) g mv tt tt o (λ s k. tt) (λ x. absurd x)
       (λ r s. trace_leave n.queue n.budget t ev e left r apart s)
 
   -- the same with no event, as for an element
   pub leave_keeps_quietly : (ws : List ℕ) (ph ph' : ℕ → Phase) (l : List ℕ) (t : List Event) (e m left : ℕ) (u : Bool) → QueueGood n In ws ph l t e → Moves ph ph' m (Granted left) (Look left u) → QueueGood n In ws ph' l t (e + 1)
   leave_keeps_quietly ws ph ph' l t e m left u g mv =
       let o = own_in n In ws ph ph' l t e m (Granted left) (Look left u) g mv in
-      first_keeps n In ws ph ph' l t t e (e + 1) m (Granted left) (Look left u) g mv tt tt o (λ s k. tt)
+      first_keeps n In ws ph ph' l t t e (e + 1) m (Granted left) (Look left u) g mv tt tt o (λ s k. tt) (λ x. absurd x)
       (λ r s. trace_leave_quiet n.queue n.budget t e left r s)
 
   -- what is above was given up
   pub resume_keeps : (ws : List ℕ) (ph ph' : ℕ → Phase) (l : List ℕ) (t : List Event) (e m : ℕ) (s : Option ℕ) → QueueGood n In ws ph l t e → Moves ph ph' m (Above s) (resume_at (Above s)) → QueueGood n In ws ph' l t e
   resume_keeps ws ph ph' l t e m None g mv =
       subst (λ z. QueueGood n In ws ph' l z e) (append-nil t)
-      (go_on n In ws ph ph' l t e m (Above None) (Close 0) g mv tt tt (omega arith) (λ a k. tt) refl refl refl refl (omega arith))
+      (go_on n In ws ph ph' l t e m (Above None) (Close 0) g mv tt tt (omega arith) (λ a k. tt) (λ x. absurd x) refl refl refl refl (omega arith))
   resume_keeps ws ph ph' l t e m (Some s) g mv =
       let o : slice_index ws (next_word n m) ≡ s + 1 = own_in n In ws ph ph' l t e m (Above (Some s)) (Hand s 0) g mv in
       subst (λ z. QueueGood n In ws ph' l z e) (append-nil t)
-      (go_on n In ws ph ph' l t e m (Above (Some s)) (Hand s 0) g mv tt tt (omega arith, o) (λ a k. tt) refl refl refl refl (omega arith))
+      (go_on n In ws ph ph' l t e m (Above (Some s)) (Hand s 0) g mv tt tt (omega arith, o) (λ a k. tt) (λ x. absurd x) refl refl refl refl (omega arith))
 
   -- an event that isn't of the queue changes nothing
   pub beside_keeps : (ws : List ℕ) (ph : ℕ → Phase) (l : List ℕ) (t : List Event) (e : ℕ) (ev : Event) → QueueGood n In ws ph l t e → Apart n.queue n.budget ev → QueueGood n In ws ph l (t ++ ev ∷ []) e
-  beside_keeps ws ph l t e ev g apart = record { inv = g.inv; alone = g.alone; says = trace_apart n.queue n.budget t ev e _ _ _ apart g.says }
+  beside_keeps ws ph l t e ev g apart = record { inv = g.inv; alone = g.alone; awaited = g.awaited; says = trace_apart n.queue n.budget t ev e _ _ _ apart g.says }
 
   -- What follows: one member alone has been given the queue, or must settle.
   pub one_first : (ws : List ℕ) (ph : ℕ → Phase) (l : List ℕ) (t : List Event) (e i j : ℕ) → QueueGood n In ws ph l t e → IsFirst (ph i) (slice_index ws (status_word n i)) → IsFirst (ph j) (slice_index ws (status_word n j)) → i ≡ j

@@ -5,13 +5,14 @@
 //!   is *inside*. To *release* the lock it swaps 0 back in.
 //!
 //! Promise: `Spin` meets all laws of a lock (`Algo`), so it excludes: at most one rank is inside. Readers are writers
-//! to it. It has no queue and no settings.
-//! Not said here: that a rank ever succeeds, or in which order ranks do.
+//! to it. It has no queue and no settings. It has no dead end (`Ending`).
+//! Not said here: that a rank that tries ever succeeds, or in which order ranks do.
 //!
 //! It is the plain compare-and-swap lock of textbooks, made through the network card of the word's home, and is here as
 //! the smallest lock there is.
 #![tactic(auto)]
 
+mod ending;
 mod spin;
 mod view;
 

@@ -118,6 +118,7 @@ module _ (K : Rooted) (levels : ℕ) (S : IsWellShaped K levels) where
         record {
           inv = record { distinct = tt; listed = λ m h. absurd h; only = λ m h. absurd h; line = all_zero size q; own = λ m. tt; inside = λ m b. absurd b };
           alone = λ m h. tt;
+          awaited = λ m x. absurd x;
           says = record { fifo = refl; tenure = refl; within = λ b e. (tt, omega arith) };
         }
 
