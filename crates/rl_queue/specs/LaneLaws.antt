@@ -8,7 +8,7 @@ use Rattle.rl_queue.specs.Lane.{Lane, Has, Distinct, last_of, Listed, Busy, Lead
 use Rattle.rl_queue.specs.LineLaws.{has_last, has_more, has_less, distinct_more, last_more, chain_frame, chain_append, chain_behind, Behind}
 
 -- who stands in the line uses the queue
-listed_busy : (p : Phase) → Listed p → Busy p
+pub listed_busy : (p : Phase) → Listed p → Busy p
 listed_busy Idle h = h
 listed_busy Clear h = absurd h
 listed_busy Reset h = absurd h

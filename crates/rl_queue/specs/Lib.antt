@@ -8,6 +8,7 @@ pub mod RankWords
 pub mod RankViews
 pub mod Standings
 pub mod Dmcs
+pub mod DmcsLeft
 -- proved; skip at first
 pub mod LineLaws
 pub mod LaneLaws
@@ -30,3 +31,7 @@ pub mod DmcsPhases
 pub mod DmcsTurns
 pub mod DmcsActs
 pub mod DmcsLaws
+pub mod Stuck
+pub mod TurnsFall
+pub mod LineGoes
+pub mod DmcsEnding

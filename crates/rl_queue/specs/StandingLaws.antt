@@ -6,7 +6,7 @@ use Rattle.rl_step.specs.Lock.{IsHolder, Suits}
 use Rattle.rl_queue.specs.declared.view.Phase.{Phase}
 use Rattle.rl_queue.specs.declared.view.Phase.TheVariants.{Idle, Granted}
 use Rattle.rl_queue.specs.Queue.{leave_at}
-use Rattle.rl_queue.specs.Lane.{served}
+use Rattle.rl_queue.specs.Lane.{Busy, served}
 use Rattle.rl_queue.specs.LaneLaws.{IsFirst}
 use Rattle.rl_queue.specs.Standings.{standing_of}
 
@@ -32,6 +32,11 @@ leaving_at _ h = absurd h
 pub out_idle : (p : Phase) → standing_of p ≡ Out → p ≡ Idle
 out_idle Idle e = refl
 out_idle _ e = cc
+
+-- and one that isn't uses the queue
+pub not_out_busy : (p : Phase) → (standing_of p ≡ Out → ⊥) → Busy p
+not_out_busy Idle not = absurd (not refl)
+not_out_busy _ not = tt
 
 -- whatever mode was asked for suits, since nobody reads
 pub suits_at : (m : Mode) (p : Phase) → Suits false m (standing_of p)

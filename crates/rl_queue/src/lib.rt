@@ -10,11 +10,13 @@
 //!
 //! Promise: `specs/` says what a good queue is (`Lane`), for any numbering of members, any words and any class of tail, with
 //! and without budget. Each planned act and each move keeps it good (`QueueMoves`), and with it first come, first served,
-//! the pass budget and the count of tenures; it leaves other queues alone (`QueueFrame`). `Dmcs` meets all laws of a lock.
-//! Not said here: what a head has to do before it settles, and that any member ever gets the queue.
+//! the pass budget and the count of tenures; it leaves other queues alone (`QueueFrame`). Where a member uses a good queue, some member
+//! isn't stuck there (`LineGoes`). `Dmcs` meets all laws of a lock, and has no dead end (`Ending`).
+//! Not said here: what a head has to do before it settles, and that a member that waits ever gets the queue.
 #![tactic(auto)]
 
 mod dmcs;
+mod ending;
 mod laws;
 mod queue;
 mod ranks;
