@@ -1,5 +1,6 @@
 -- to be believed, in reading order
 pub mod Alock
+pub mod AlockLeft
 -- proved; skip at first
 pub mod CohortLaws
 pub mod AlockGood
@@ -14,4 +15,5 @@ pub mod AlockLaws
 pub mod AlockPots
 pub mod AlockOvertakes
 pub mod AlockBounded
+pub mod AlockEnding
 pub mod SameViews
