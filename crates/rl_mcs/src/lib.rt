@@ -5,10 +5,11 @@
 //! - A rank that comes to the *hook* above the root goes on in the same act: nothing is above the root.
 //!
 //! Promise: `Mcs` meets all laws of a lock (`Algo`): so it excludes, each element's queue is served first come, first served, and each
-//! but the root's is passed on no more often than its budget.
-//! Not said here: that any rank ever enters.
+//! but the root's is passed on no more often than its budget. It has no dead end (`Ending`).
+//! Not said here: that a rank that asks ever enters.
 #![tactic(auto)]
 
+mod ending;
 mod mcs;
 
 pub use mcs::Mcs;

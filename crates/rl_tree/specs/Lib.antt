@@ -29,3 +29,6 @@ pub mod TreeRest
 pub mod TreeFits
 pub mod TreeLaws
 pub mod SameViews
+pub mod RankGoes
+pub mod Gates
+pub mod TreeGoes

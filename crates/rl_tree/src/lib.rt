@@ -15,8 +15,9 @@
 //! Promise: `tree_laws` says what holds of the good states of the tree of any proper shape, in which each element but the root has a
 //! budget: a member has its queue only where its element has the queue above; one rank at most acts for an element, one stands at the
 //! hook, and one is inside; each queue is good, is served first come, first served, and keeps its budget. Whatever a rank may do keeps
-//! the tree good, and says how the root's gate moves.
-//! Not said here: what a lock does at the hook; that any rank ever comes in.
+//! the tree good, and says how the root's gate moves. Where a rank isn't out, some rank isn't stuck at the queue where it works
+//! (`TreeGoes`).
+//! Not said here: what a lock does at the hook; that a rank that asks ever comes in.
 #![tactic(auto)]
 
 mod laws;
