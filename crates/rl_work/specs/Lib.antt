@@ -8,6 +8,9 @@ pub mod Work
 pub mod Locked
 pub mod WorkGood
 pub mod Rule
+-- for a way of working without a dead end, and what is left of these blocks
+pub mod WorkEnding
+pub mod LockedLeft
 -- for ways of working that read without a lock
 pub mod Unlocked
 -- proved; skip at first
@@ -21,3 +24,6 @@ pub mod AtomLaws
 pub mod RuleLaws
 pub mod EndLaws
 pub mod LockedLaws
+pub mod UnseenLaws
+pub mod LockedSteps
+pub mod LockedEnding

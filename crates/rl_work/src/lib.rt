@@ -14,10 +14,12 @@
 //! Promise: `LockedWork` keeps the laws of a way of working (`specs/Ways`), whatever the lock is that gives a writer alone and readers for
 //! gets alone. Beneath it is a rule of words and sides (`specs/WorkGood`) that each atom keeps ([`work_laws`]): under it the journal's words
 //! are read back as the journal, journal and transcripts are legal, the history is in order, and no rank runs out of room. The code
-//! does what the definitions say, and takes no memory after the start.
-//! Not said here: how a rank comes to hold the lock, and that its work ever ends.
+//! does what the definitions say, and takes no memory after the start. It has no dead end ([`WorkEnding`]): each of its atoms leaves less
+//! to do.
+//! Not said here: how a rank comes to hold the lock.
 #![tactic(auto)]
 
+mod ending;
 mod follow;
 mod laws;
 mod locked;
@@ -27,6 +29,7 @@ mod transcript;
 mod way;
 mod work;
 
+pub use ending::WorkEnding;
 pub use follow::{Follow, WorkStep};
 pub use laws::work_laws;
 pub use locked::LockedWork;
