@@ -13,6 +13,7 @@ pub mod Touches
 pub mod Answering
 pub mod ShardLaws
 pub mod GoodStates
+pub mod ShardEnding
 -- proved; skip at first
 pub mod AskLaws
 pub mod RankLaws
