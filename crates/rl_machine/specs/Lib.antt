@@ -15,6 +15,7 @@ pub mod Promises
 pub mod Records
 pub mod Whereabouts
 pub mod NextAtoms
+pub mod MachineEnding
 pub mod State
 -- what is true of a machine at every moment
 pub mod RunActs
@@ -46,3 +47,6 @@ pub mod RestLaws
 pub mod IdleLaws
 pub mod TurnRests
 pub mod RoundSteps
+pub mod MachineSums
+pub mod MachineGoes
+pub mod NoDeadEnd

@@ -47,7 +47,7 @@ module _ {V : Type 0} where
 opens_not : (b left : Bool) → b ≡ false → (not b && left) ≡ left
 opens_not b left e = ap (λ o. not o && left) e
 
-none_left : (b : Bool) (n m : ℕ) → b ≡ false → (not b && nat_lt n m) ≡ false → m ≤ n
+pub none_left : (b : Bool) (n m : ℕ) → b ≡ false → (not b && nat_lt n m) ≡ false → m ≤ n
 none_left b n m e q =
     let t : nat_lt n m ≡ false = sym (opens_not b (nat_lt n m) e) ∙ q in
     grind (arith, nat_tests)
@@ -179,7 +179,7 @@ module _ (C V : Type 0) (table : C → ShardTable V) (good : GoodOf C V) (cause 
         λ d e. ap (λ (z : Desk). z.is_open) (one_at (desks_by m k) (place_of m k) d (desk_on k t.found.shard) e desk) ∙ shut_desk in
         ap entries_in (sym (kept_desks k m.shards)) ∙ r.total ∙ all_done m.geom (calls_by m k) (sizes_by m k) k (slice_index m.opened k) (desks_by m k) r closed (desk_on k t.found.shard) desk
 
-  shut_done : (acts : List (List Deed)) (m : Running V) (k : ℕ) → Fine acts m → k < length m.calls → has_open_call m k ≡ false → entries_in (map (kept_on k) m.shards) ≡ slice_index m.opened k
+  pub shut_done : (acts : List (List Deed)) (m : Running V) (k : ℕ) → Fine acts m → k < length m.calls → has_open_call m k ≡ false → entries_in (map (kept_on k) m.shards) ≡ slice_index m.opened k
   shut_done acts m k g h shut = all_done_there acts m k g h (stands_there acts m k g h) shut
 
   -- the next block has a call

@@ -13,8 +13,9 @@
 //! (`specs/Causes`), and however the steps interleave the machine is sound (`specs/Promises`): on each shard the trace is exclusive, the
 //! lock's queues keep what they promise, its events name what the lock has and stand in their order, its two domains stay apart, and
 //! journal and transcripts are legal; and each rank's entries are its first calls, each once, in its order. What a lock promises beside,
-//! and what its queues promise, is said of every run from the start on (`specs/RunTransitions`).
-//! Not said here: that a rank ever gets the lock.
+//! and what its queues promise, is said of every run from the start on (`specs/RunTransitions`). Where the cores have no dead end, the machine has
+//! none: from each of its states some steps lead to the end of all calls ([`no_dead_end`]).
+//! Not said here: that a rank ever gets the lock, whatever the schedule.
 #![tactic(auto)]
 
 mod machine;
@@ -26,5 +27,5 @@ mod start;
 mod state;
 mod step_end;
 
-pub use machine::{Machine, NextAtom, RestAt, RoundAt, rules, soundness};
+pub use machine::{Machine, NextAtom, RestAt, RoundAt, no_dead_end, rules, soundness};
 pub use step_end::{StepEnd, StepOutcome};

@@ -31,11 +31,13 @@ use rl_word::{Knobs, Shape};
 use std::alloc::{AllocError as OutOfMemory, Global};
 use std::marker::Model;
 
+mod ending;
 mod next_atoms;
 mod ruled;
 mod waiting;
 mod whereabouts;
 
+pub use ending::no_dead_end;
 pub use next_atoms::NextAtom;
 pub use ruled::rules;
 pub use waiting::{RestAt, RoundAt};

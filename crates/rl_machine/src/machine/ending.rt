@@ -1,0 +1,21 @@
+//! Where no shard has a dead end, no machine has one.
+
+ghost use Rattle.std.specs.Prelude.{ℕ, List, length};
+ghost use Rattle.rl_machine.specs.MachineEnding.{CanFinish, CanFinishIn, machine_left};
+ghost use Rattle.rl_machine.specs.Run.{run_of, AreThere};
+ghost use Rattle.rl_machine.specs.Running.{running, cores_of};
+
+use crate::machine::Machine;
+use rl_asks::ShardEnding;
+
+/// From every state of the machine, whatever schedule led to it, some steps lead to the end of all calls of all ranks: so many at most as
+/// are left to do. And so it is after any further steps. There is nothing to run.
+///
+/// It says nothing of fairness, nor of time: which steps these are the schedule must choose.
+pub fn no_dead_end<C: ShardEnding>(machine: &Machine<C>)
+    ensures now { CanFinish (running C.shard_table machine.now) }
+    ensures soon { CanFinishIn (machine_left C.left C.most (cores_of machine.now) (running C.shard_table machine.now)) (running C.shard_table machine.now) }
+    ensures later { (ks : List ℕ) → AreThere (length machine.now.calls) ks → CanFinish (run_of (running C.shard_table machine.now) ks) }
+{
+    let _ = &machine.state;
+}
