@@ -16,7 +16,11 @@ pub record CanFinish {V : Type 0} (m : Running V) : Type 0 where
   pub there : AreThere (length m.calls) ranks
   pub done : AllDone (run_of m ranks)
 
--- and so many steps at most
+-- and so it is after whatever steps
+abbrev pub CanAlwaysFinish : {V : Type 0} → Running V → Type 0
+CanAlwaysFinish m = (ks : List ℕ) → AreThere (length m.calls) ks → CanFinish (run_of m ks)
+
+-- so many steps at most lead to the end
 pub record CanFinishIn {V : Type 0} (most : ℕ) (m : Running V) : Type 0 where
   pub ranks : List ℕ
   pub there : AreThere (length m.calls) ranks

@@ -3,7 +3,7 @@ use Rattle.std.specs.Prelude.{◌≡◌, ◌⊎◌, ℕ, zero, suc, ◌+◌, ◌
 use Rattle.std.proofs.Common.{◌∙◌, ap, inl, inr, ⊎_elim, arith}
 use Rattle.std.proofs.lemmas.Option.{same_Some}
 use Rattle.std.proofs.Math.Nat.{mul-le-mul_left}
-use Rattle.rl_word.specs.Places.{same_or_not}
+use Rattle.std.proofs.lemmas.Bool.{cases_Bool, cases_lt}
 use Rattle.rl_model.specs.declared.call.Call.{Call}
 use Rattle.rl_machine.specs.Running.{ShardRun}
 use Rattle.std.proofs.lemmas.List.Sums.{sum_by-cons}
@@ -50,16 +50,6 @@ block_less most u u2 n l l2 x x1 x2 a e some turned lt adds few =
 
 -- ---- a rank of which a test says true, or none
 
-true_or_false : (b : Bool) → (b ≡ true) ⊎ (b ≡ false)
-true_or_false true = inl refl
-true_or_false false = inr refl
-
-below : (k n : ℕ) → k < suc n → (k ≡ n → ⊥) → k < n
-below zero zero lt ne = absurd (ne refl)
-below zero (suc n) lt ne = omega arith
-below (suc k) zero lt ne = absurd (omega arith)
-below (suc k) (suc n) lt ne = let q = below k n (omega arith) (λ e. ne (ap suc e)) in omega arith
-
 pub some_or_none : (f : ℕ → Bool) (n : ℕ) → ((k : ℕ) × (k < n) × (f k ≡ true)) ⊎ ((k : ℕ) → k < n → f k ≡ false)
 some_or_none f zero = inr (λ k low. absurd (omega arith))
 some_or_none f (suc n) =
@@ -67,6 +57,6 @@ some_or_none f (suc n) =
     (λ yes. let here : n < suc n = omega arith in inl (n, here, yes))
     (λ no. ⊎_elim
     (λ s. let q : s.0 < n = s.1 in let low : s.0 < suc n = omega arith in inl (s.0, low, s.2))
-    (λ none. inr (λ k low. ⊎_elim (λ (e : k ≡ n). ap f e ∙ no) (λ (ne : k ≡ n → ⊥). none k (below k n low ne)) (same_or_not k n)))
+    (λ none. inr (λ k low. ⊎_elim (λ lt. none k lt) (λ ge. let e : k ≡ n = omega arith in ap f e ∙ no) (cases_lt k n)))
     (some_or_none f n))
-    (true_or_false (f n))
+    (cases_Bool (f n))

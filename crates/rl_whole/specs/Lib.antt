@@ -5,6 +5,9 @@ pub mod Whole
 pub mod Opening
 pub mod Causes
 pub mod Domains
+-- what is left to do of a shard
+pub mod Begun
+pub mod WholeLeft
 -- what is good of a shard
 pub mod WholeShards
 pub mod SeenLoads
@@ -35,3 +38,7 @@ pub mod EventsBy
 pub mod Alone
 pub mod WholeWall
 pub mod AtWork
+pub mod BegunLaws
+pub mod CardEnding
+pub mod LeftLaws
+pub mod WholeEnding

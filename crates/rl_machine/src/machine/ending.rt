@@ -1,8 +1,6 @@
 //! Where no shard has a dead end, no machine has one.
 
-ghost use Rattle.std.specs.Prelude.{ℕ, List, length};
-ghost use Rattle.rl_machine.specs.MachineEnding.{CanFinish, CanFinishIn, machine_left};
-ghost use Rattle.rl_machine.specs.Run.{run_of, AreThere};
+ghost use Rattle.rl_machine.specs.MachineEnding.{CanFinish, CanAlwaysFinish, CanFinishIn, machine_left};
 ghost use Rattle.rl_machine.specs.Running.{running, cores_of};
 
 use crate::machine::Machine;
@@ -15,7 +13,7 @@ use rl_asks::ShardEnding;
 pub fn no_dead_end<C: ShardEnding>(machine: &Machine<C>)
     ensures now { CanFinish (running C.shard_table machine.now) }
     ensures soon { CanFinishIn (machine_left C.left C.most (cores_of machine.now) (running C.shard_table machine.now)) (running C.shard_table machine.now) }
-    ensures later { (ks : List ℕ) → AreThere (length machine.now.calls) ks → CanFinish (run_of (running C.shard_table machine.now) ks) }
+    ensures later { CanAlwaysFinish (running C.shard_table machine.now) }
 {
     let _ = &machine.state;
 }
