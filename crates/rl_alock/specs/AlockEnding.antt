@@ -127,22 +127,22 @@ module _ (K : Cohorts) where
               (⊎_elim (λ q. won q.1) (λ q. lost q.0) (eqb_tells (slice_index s.words (tail_no (cohort_of K m))) g));
         });
       } where
-    tail : ℕ
-    tail = slice_index s.words (tail_no (cohort_of K m))
+        tail : ℕ
+        tail = slice_index s.words (tail_no (cohort_of K m))
 
-    after : List ℕ
-    after = slice_set s.words (tail_no (cohort_of K m)) (if tail == g then m + 1 else tail)
+        after : List ℕ
+        after = slice_set s.words (tail_no (cohort_of K m)) (if tail == g then m + 1 else tail)
 
-    won : tail ≡ g → alock_left K after (slice_set s.views m (learns m (Swing g) st tail)) < alock_left K s.words s.views
-    won e = nearer_view s after m (at_entry m (Swing g) st) (learns m (Swing g) st tail) has (turn_far m (Swing g) st tail e)
+        won : tail ≡ g → alock_left K after (slice_set s.views m (learns m (Swing g) st tail)) < alock_left K s.words s.views
+        won e = nearer_view s after m (at_entry m (Swing g) st) (learns m (Swing g) st tail) has (turn_far m (Swing g) st tail e)
 
-    lost : (tail == g) ≡ false → alock_left K after (slice_set s.views m (learns m (Swing g) st tail)) < alock_left K s.words s.views
-    lost e =
-        let old : near_of K s.words (at_entry m (Swing g) st) ≡ 1 = ap (λ b. if b then 0 else 1) e in
-        let new : near_of K s.words (at_entry m (Swing tail) Announce) ≡ 0 = ap (λ b. if b then 0 else 1) (same_test tail) in
-        changed_view s after m (at_entry m (Swing g) st) (at_entry m (Swing tail) Announce) (learns m (Swing g) st tail) has
-        (ap (λ b. slice_set s.words (tail_no (cohort_of K m)) (if b then m + 1 else tail)) e ∙ set-get_or s.words (tail_no (cohort_of K m)) 0)
-        (ap (λ b. at_entry m (if b then moves_with (joined_at g) (event.Join (tail_no (cohort_of K m)) m) else moves_to (Swing tail)).phase Announce) e) refl (omega (arith, old, new))
+        lost : (tail == g) ≡ false → alock_left K after (slice_set s.views m (learns m (Swing g) st tail)) < alock_left K s.words s.views
+        lost e =
+            let old : near_of K s.words (at_entry m (Swing g) st) ≡ 1 = ap (λ b. if b then 0 else 1) e in
+            let new : near_of K s.words (at_entry m (Swing tail) Announce) ≡ 0 = ap (λ b. if b then 0 else 1) (same_test tail) in
+            changed_view s after m (at_entry m (Swing g) st) (at_entry m (Swing tail) Announce) (learns m (Swing g) st tail) has
+            (ap (λ b. slice_set s.words (tail_no (cohort_of K m)) (if b then m + 1 else tail)) e ∙ set-get_or s.words (tail_no (cohort_of K m)) 0)
+            (ap (λ b. at_entry m (if b then moves_with (joined_at g) (event.Join (tail_no (cohort_of K m)) m) else moves_to (Swing tail)).phase Announce) e) refl (omega (arith, old, new))
 
   -- a head at its entry
   tail_goes : (s : LockState AlockView) (m : ℕ) → slice_get s.views m ≡ Some (at_entry m Settle Tail) → CanGoOn T (alock_left K) s m ⊎ Hangs s m
@@ -220,7 +220,7 @@ module _ (K : Cohorts) where
       let free : Stuck v.0.queue.phase (slice_index s.words (next_word (names_of K c) m)) (slice_index s.words (status_word (names_of K c) m)) → ⊥ =
       λ z. k.goes (subst (λ p. Stuck p (slice_index s.words (next_word (names_of K c) m)) (slice_index s.words (status_word (names_of K c) m))) (sym at) z) in (
         goes_by s m v.0.queue.phase v.0.entry has (subst Busy at k.busy) (g.flat m v.0 v.1)
-        (subst (λ d. Stuck v.0.queue.phase (slice_index s.words (next_word (names_of K d) m)) (slice_index s.words (status_word (names_of K d) m)) → ⊥) (sym i.sits) free),
+            (subst (λ d. Stuck v.0.queue.phase (slice_index s.words (next_word (names_of K d) m)) (slice_index s.words (status_word (names_of K d) m)) → ⊥) (sym i.sits) free),
         i.sits,
       )
 

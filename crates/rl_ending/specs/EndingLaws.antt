@@ -30,9 +30,9 @@ all_out_or_not standing (x ∷ xs) =
     (all_out_or_not standing xs))
     (λ not. inr (0, record { view = x; has = refl; busy = not }))
     (out_or_not (standing x)) where
-  all_of : standing x ≡ Out → ((r : ℕ) (v : _) → slice_get xs r ≡ Some v → standing v ≡ Out) → (r : ℕ) (v : _) → slice_get (x ∷ xs) r ≡ Some v → standing v ≡ Out
-  all_of out rest zero v h = ap standing (sym (same_Some _ _ h)) ∙ out
-  all_of out rest (suc r) v h = rest r v h
+      all_of : standing x ≡ Out → ((r : ℕ) (v : _) → slice_get xs r ≡ Some v → standing v ≡ Out) → (r : ℕ) (v : _) → slice_get (x ∷ xs) r ≡ Some v → standing v ≡ Out
+      all_of out rest zero v h = ap standing (sym (same_Some _ _ h)) ∙ out
+      all_of out rest (suc r) v h = rest r v h
 
 pub ends_for : {V : Type 0} (T : LockTable V) (left : List ℕ → List V → ℕ) (good narrow : LockState V → Type 0) (most : ℕ) → ((s : LockState V) → narrow s → good s) → LockEnds T left good most → LockEnds T left narrow most
 ends_for T left good narrow most wide e =

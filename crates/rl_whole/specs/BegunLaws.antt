@@ -36,12 +36,13 @@ first_in (x ∷ xs) =
     (first_in xs))
     (λ not. inr (0, record { side = x; has = refl; in_card = not; before = λ k u lt e. absurd (omega arith) }))
     (free_or_not x.card) where
-  all_of : x.card ≡ Free → AllFree xs → AllFree (x ∷ xs)
-  all_of free rest zero u e = ap (λ (z : Side _). z.card) (sym (same_Some _ _ e)) ∙ free
-  all_of free rest (suc r) u e = rest r u e
-  before_of : x.card ≡ Free → (r : ℕ) → ((k : ℕ) (u : Side _) → k < r → slice_get xs k ≡ Some u → u.card ≡ Free) → (k : ℕ) (u : Side _) → k < suc r → slice_get (x ∷ xs) k ≡ Some u → u.card ≡ Free
-  before_of free r old zero u lt e = ap (λ (z : Side _). z.card) (sym (same_Some _ _ e)) ∙ free
-  before_of free r old (suc k) u lt e = let b : k < r = omega arith in old k u b e
+      all_of : x.card ≡ Free → AllFree xs → AllFree (x ∷ xs)
+      all_of free rest zero u e = ap (λ (z : Side _). z.card) (sym (same_Some _ _ e)) ∙ free
+      all_of free rest (suc r) u e = rest r u e
+
+      before_of : x.card ≡ Free → (r : ℕ) → ((k : ℕ) (u : Side _) → k < r → slice_get xs k ≡ Some u → u.card ≡ Free) → (k : ℕ) (u : Side _) → k < suc r → slice_get (x ∷ xs) k ≡ Some u → u.card ≡ Free
+      before_of free r old zero u lt e = ap (λ (z : Side _). z.card) (sym (same_Some _ _ e)) ∙ free
+      before_of free r old (suc k) u lt e = let b : k < r = omega arith in old k u b e
 
 module _ {V : Type 0} (T : LockTable V) where
   free_by : (z : Sight V) (r : ℕ) (v : V) (p : Option Act) → begun_by T z r v p Free ≡ z

@@ -176,12 +176,12 @@ module _ (V : Type 0) (T : LockTable V) (good : LockState V → Type 0) (further
       ap (begun T (sight_of T t) 0) es ∙ one_begun T s.sides 0 r x y (sight_of T t) has free ∙ ap (λ k. begun_of T (sight_of T t) k y) at ∙ free_begins T (sight_of T t) r y refl ∙ e in
       nearer t y b before (subst (λ zs. sum_by atoms_of zs ≡ sum_by atoms_of (slice_set s.sides r y)) (sym es) refl) (sum_turned atoms_of s.sides r x y has) (omega arith))
       (bool_cases (by_card a)) where
-    nearer : (t : SplitState V) (y : Side V) → begun_in T t ≡ made T (sight_of T s) r v a → begun_in T s ≡ sight_of T s →
-        sum_by atoms_of t.sides ≡ sum_by atoms_of (slice_set s.sides r y) → sum_by atoms_of (slice_set s.sides r y) + 0 ≡ sum_by atoms_of s.sides + atoms_of y → atoms_of y ≤ 3 → split_left T left t < split_left T left s
-    nearer t y b before es sum few =
-        let lt : left_at T left (begun_in T t) ≡ left_in T left (acted T (lock_of s) r v a) = ap (left_at T left) b in
-        let ls : left_at T left (begun_in T s) ≡ left_in T left (lock_of s) = ap (left_at T left) before in
-        less_four (left_at T left (begun_in T t)) (left_at T left (begun_in T s)) (sum_by atoms_of s.sides) (sum_by atoms_of t.sides) (omega (arith, lt, ls, less)) (omega (arith, es, sum, few))
+        nearer : (t : SplitState V) (y : Side V) → begun_in T t ≡ made T (sight_of T s) r v a → begun_in T s ≡ sight_of T s →
+            sum_by atoms_of t.sides ≡ sum_by atoms_of (slice_set s.sides r y) → sum_by atoms_of (slice_set s.sides r y) + 0 ≡ sum_by atoms_of s.sides + atoms_of y → atoms_of y ≤ 3 → split_left T left t < split_left T left s
+        nearer t y b before es sum few =
+            let lt : left_at T left (begun_in T t) ≡ left_in T left (acted T (lock_of s) r v a) = ap (left_at T left) b in
+            let ls : left_at T left (begun_in T s) ≡ left_in T left (lock_of s) = ap (left_at T left) before in
+            less_four (left_at T left (begun_in T t)) (left_at T left (begun_in T s)) (sum_by atoms_of s.sides) (sum_by atoms_of t.sides) (omega (arith, lt, ls, less)) (omega (arith, es, sum, few))
 
   -- a free side, with its view
   free_side : (s : SplitState V) (r : ℕ) (x : Side V) → slice_get s.sides r ≡ Some x → x.card ≡ Free → slice_get s.sides r ≡ Some (record { view = x.view; card = Free })
