@@ -34,7 +34,7 @@ use Rattle.rl_program.specs.Replay.{start_with, run_with, report_of}
 abbrev pub OnShards : {V : Type 0} → Running V → (ShardRun V → Type 0) → Type 0
 OnShards m P = (s : ℕ) (S : ShardRun _) → slice_get m.shards s ≡ Some S → P S
 
-module _ {V : Type 0} (defined : Defined V) (promised : Promised) (ways : OfShard V) (place : ThePlace) (ops : Ops) (schedule : Schedule) where
+module _ {V : Type 0} (defined : Defined V) (promised : Promised) (way : OfShard V) (place : ThePlace) (ops : Ops) (schedule : Schedule) where
   abbrev m : Running V
   m = run_with defined place ops schedule
 
@@ -60,7 +60,7 @@ module _ {V : Type 0} (defined : Defined V) (promised : Promised) (ways : OfShar
     -- and what its way of doing blocks promises of each shard's words and of its ranks' views: under the five locks that a rank which reads for
     -- its block holds the lock, and what it has found still stands; under `seq` how a get alone goes without the lock; and under `combine`
     -- that each posted call is done once at most, and by a writer
-    pub ways : OnShards m (λ S. ways S.table S.held S.views)
+    pub ways : OnShards m (λ S. way S.table S.held S.views)
     -- one thread that makes the calls of a shard's history in order, from the empty table, gets the history's replies, `full` exactly
     -- where a new key finds its bucket taken and no overflow cell left; and each entry looked at the number of updates before it
     pub replies : OnShards m (λ S. IsReplayedByOneThread place.geom map.empty 0 (history_on S))
