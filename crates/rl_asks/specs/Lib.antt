@@ -14,6 +14,7 @@ pub mod Answering
 pub mod ShardLaws
 pub mod GoodStates
 pub mod ShardEnding
+pub mod ShardGuiding
 -- proved; skip at first
 pub mod AskLaws
 pub mod RankLaws

@@ -10,6 +10,7 @@
 //!   ([`Resting`]): that its next atom changes nothing (`specs/Idle`), or that it goes in a *round* of two loads (`specs/Rounds`), while the
 //!   words that are named have the values that they had.
 //! - And a core may have no dead end ([`ShardEnding`]): while a block is open, some rank's next atom leaves less to do.
+//!   A core that is [`ShardGuiding`] says which rank's.
 //!
 //! Promise, for every core that keeps the laws of one: how its states come under its rule and stay there, and what is known of them then
 //! ([`core_laws`]), of any state that it calls good, however that state was come to. And a rank stays good where it begins, where it opens
@@ -19,6 +20,7 @@
 
 mod blocks;
 mod ending;
+mod guiding;
 mod laws;
 mod opening;
 mod resting;
@@ -27,6 +29,7 @@ mod shard_core;
 
 pub use blocks::{block_from, block_shard};
 pub use ending::ShardEnding;
+pub use guiding::ShardGuiding;
 pub use laws::core_laws;
 pub use opening::{first_views, first_words, lock_base};
 pub use resting::Resting;

@@ -1,5 +1,5 @@
 -- A rank goes on in a tree: it isn't stuck at the queue where it works.
-use Rattle.std.specs.Prelude.{◌≡◌, ◌≢◌, ℕ, ◌+◌, ◌<◌, Bool, true, false, List, slice_get, slice_index, Some}
+use Rattle.std.specs.Prelude.{◌≡◌, ℕ, Bool, true, false, List, slice_get, slice_index, Some}
 use Rattle.rl_queue.specs.declared.view.Phase.{Phase}
 use Rattle.rl_queue.specs.Lane.{Busy}
 use Rattle.rl_queue.specs.Queue.{next_word, status_word}

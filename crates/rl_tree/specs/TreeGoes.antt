@@ -1,13 +1,13 @@
 -- Where some rank isn't out, some rank goes on. Three short inductions: a member that is on its way has a rank that works for it (up the
 -- tree); below an element that has its queue somebody goes on (down); and a rank that is stuck waits for one that works higher (up).
-use Rattle.std.specs.Prelude.{◌≡◌, ◌≢◌, ◌⊎◌, ℕ, zero, suc, ◌+◌, ◌<◌, ◌≤◌, Bool, true, false, List, [], ◌∷◌, length, slice_get, slice_index, Option, Some, None, refl}
+use Rattle.std.specs.Prelude.{◌≡◌, ◌⊎◌, ℕ, zero, suc, ◌+◌, ◌<◌, ◌≤◌, Bool, true, false, List, length, slice_get, slice_index, Some, refl}
 use Rattle.std.proofs.Common.{sym, ◌∙◌, ap, subst, inl, inr, ⊎_elim, arith}
 use Rattle.std.proofs.lemmas.Bool.{cases_lt}
 use Rattle.rl_word.specs.Places.{some_at}
 use Rattle.rl_step.specs.declared.events.Event.{Event}
 use Rattle.rl_step.specs.declared.events.Standing.TheVariants as standing
 use Rattle.rl_queue.specs.declared.view.Phase.{Phase}
-use Rattle.rl_queue.specs.declared.view.Phase.TheVariants.{Idle, Clear, Reset, Swing, Link, Wait, Settle, Granted, Look, Close, Await, Hand, Above}
+use Rattle.rl_queue.specs.declared.view.Phase.TheVariants.{Idle, Clear, Wait, Settle, Granted, Look, Hand, Above}
 use Rattle.rl_queue.specs.Lane.{Lane, lane_of, Busy, is_pass}
 use Rattle.rl_queue.specs.LaneLaws.{busy_or_idle}
 use Rattle.rl_queue.specs.Queue.{next_word, status_word}
@@ -15,11 +15,11 @@ use Rattle.rl_queue.specs.StandingLaws.{not_out_busy}
 use Rattle.rl_tree.specs.declared.view.TreeView.{TreeView}
 use Rattle.rl_tree.specs.Tree.{or_zero, hook_by, path, works_for, behind_at, standing_by, tree_standing}
 use Rattle.rl_tree.specs.declared.rooted.Rooted.{Rooted}
-use Rattle.rl_tree.specs.Elements.{how_many, ranks_in, leaf_of, names_in, tree_of}
-use Rattle.rl_tree.specs.TreeGood.{Matches, Tells, IsGrantedAt, Rest, way_of, below_by, InQueue, TreeGood, gate_of}
+use Rattle.rl_tree.specs.Elements.{how_many, ranks_in, names_in, tree_of}
+use Rattle.rl_tree.specs.TreeGood.{Tells, IsGrantedAt, way_of, InQueue, TreeGood}
 use Rattle.rl_tree.specs.TreeShape.{IsWellShaped}
 use Rattle.rl_tree.specs.TreeWords.{OfNode, OfElement, member_is}
-use Rattle.rl_tree.specs.TreeHolders.{rank_is, rank_there, own_leaf, level_there, at_root, phase_here, at_rest}
+use Rattle.rl_tree.specs.TreeHolders.{rank_there, own_leaf, level_there, at_root, phase_here, at_rest}
 use Rattle.rl_queue.specs.Stuck.{Stuck, Goes}
 use Rattle.rl_queue.specs.LineGoes.{busy_goes}
 use Rattle.rl_tree.specs.RankGoes.{IsFree, GoesIn, RankGoes}
