@@ -54,7 +54,7 @@ cas_few : (at : Words) (old new : ℕ) (o : Option ℕ) → length (cas_by at ol
 cas_few at old new None = omega arith
 cas_few at old new (Some word) = either_few (at word == old) _ _ (omega arith) (omega arith)
 
-decision_few : (geom : Geom) (c : Call) (at : Words) → length (decision geom c at).0 ≤ 5
+pub decision_few : (geom : Geom) (c : Call) (at : Words) → length (decision geom c at).0 ≤ 5
 decision_few geom (Put key value) at = put_few geom at (bucket_of geom key) key value (value_word_of geom at key)
 decision_few geom (Get key) at = omega arith
 decision_few geom (Del key) at = out_few geom at (bucket_of geom key) (place_in geom at (bucket_of geom key) key)

@@ -1,6 +1,7 @@
 -- What was seen stays seen; and a word that is seen now, and wasn't, leaves one less.
 use Rattle.std.specs.Prelude.{◌≡◌, ◌⊎◌, ℕ, zero, suc, ◌+◌, ◌<◌, ◌≤◌, ◌==◌, Bool, true, false, cond, if◌then◌else◌, List, [], ◌∷◌, ◌++◌, Option, Some, None, refl}
 use Rattle.std.proofs.Common.{sym, ap, subst, inl, inr, ⊎_elim, arith}
+use Rattle.std.proofs.lemmas.Bool.{cases_lt}
 use Rattle.std.proofs.lemmas.Bool.Decides.{nat_tests}
 use Rattle.rl_volume.specs.declared.write.Write.{Write}
 use Rattle.rl_volume.specs.Seen.{value_of, with_value, patched}
@@ -64,17 +65,13 @@ pub words_unseen_falls : (n : ℕ) (pairs more : List (ℕ × ℕ)) (word : ℕ)
 words_unseen_falls zero pairs more word low was is stay = absurd (omega arith)
 words_unseen_falls (suc n) pairs more word low was is stay =
     ⊎_elim
-    (λ (e : word ≡ n).
+    (λ lt. let a = stay n in let b = words_unseen_falls n pairs more word lt was is stay in omega arith)
+    (λ ge.
+    let e : word ≡ n = omega arith in
     let a : one_unless (value_of pairs n) ≡ 1 = subst (λ k. one_unless (value_of pairs k) ≡ 1) e was in
     let b : one_unless (value_of more n) ≡ 0 = subst (λ k. one_unless (value_of more k) ≡ 0) e is in
     let c = words_unseen_less n pairs more stay in omega arith)
-    (λ (lt : word < n). let a = stay n in let b = words_unseen_falls n pairs more word lt was is stay in omega arith)
-    (last_or_before n word low) where
-      last_or_before : (n word : ℕ) → word < suc n → (word ≡ n) ⊎ (word < n)
-      last_or_before zero zero lt = inl refl
-      last_or_before zero (suc w) lt = absurd (omega arith)
-      last_or_before (suc n) zero lt = inr (omega arith)
-      last_or_before (suc n) (suc w) lt = ⊎_elim (λ e. inl (ap suc e)) (λ q. inr (let k : w < n = q in omega arith)) (last_or_before n w (omega arith))
+    (cases_lt word n)
 
 pub few_words_unseen : (n : ℕ) (pairs : List (ℕ × ℕ)) → words_unseen n pairs ≤ n
 few_words_unseen zero pairs = omega arith
