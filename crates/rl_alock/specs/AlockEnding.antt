@@ -1,6 +1,6 @@
 -- ALock has no dead end: in each queue somebody goes on, or its head hangs at the entry, being the victim while the other queue isn't
 -- empty; and not both heads are the victim.
-use Rattle.std.specs.Prelude.{◌≡◌, ◌≢◌, ◌⊎◌, ℕ, ◌+◌, ◌*◌, ◌<◌, ◌≤◌, ◌==◌, Bool, true, false, List, [], ◌∷◌, if◌then◌else◌, length, slice_get, slice_index, slice_set, Option, Some, refl}
+use Rattle.std.specs.Prelude.{◌≡◌, ◌≢◌, ◌⊎◌, ℕ, ◌+◌, ◌*◌, ◌<◌, ◌≤◌, ◌==◌, true, false, List, [], ◌∷◌, if◌then◌else◌, length, slice_get, slice_index, slice_set, Some, refl}
 use Rattle.std.proofs.Common.{sym, ◌∙◌, ap, subst, inl, inr, ⊎_elim, arith}
 use Rattle.std.proofs.lemmas.List.{set-get_or}
 use Rattle.std.proofs.lemmas.Bool.Decides.{eqb_tells}
@@ -15,7 +15,7 @@ use Rattle.rl_queue.specs.declared.view.Phase.TheVariants.{Idle, Clear, Reset, S
 use Rattle.rl_queue.specs.Choices.{choose, same_test}
 use Rattle.rl_queue.specs.Lane.{Lane, lane_of, Line, Busy, Has}
 use Rattle.rl_queue.specs.LaneLaws.{listed_busy}
-use Rattle.rl_queue.specs.Queue.{TheNames, Turn, next_word, status_word, swap_act, turn_at, moves_to, moves_with, joined_at, leave_at}
+use Rattle.rl_queue.specs.Queue.{TheNames, next_word, status_word, swap_act, turn_at, moves_to, moves_with, joined_at, leave_at}
 use Rattle.rl_queue.specs.QueueMoves.{at_swap}
 use Rattle.rl_queue.specs.Standings.{standing_of}
 use Rattle.rl_queue.specs.StandingLaws.{not_out_busy}
@@ -66,10 +66,11 @@ module _ (K : Cohorts) where
   abbrev learns : ℕ → Phase → Entry → ℕ → AlockView
   learns m p st got = (alock_learn (names_of K (cohort_of K m)) (cohort_of K m) m p st got).view
 
-  -- a head that hangs: it is the victim, and the other queue isn't empty
-  record Hangs (s : LockState AlockView) (m : ℕ) : Type 0 where
-    waits : slice_index s.words (tail_no (other (cohort_of K m))) ≢ 0
-    victim : slice_index s.words victim_no ≡ cohort_no (cohort_of K m)
+  -- a head that hangs: it looks at the other queue's tail, which isn't 0, and is the victim
+  pub record Hangs (s : LockState AlockView) (m : ℕ) : Type 0 where
+    pub stands : slice_get s.views m ≡ Some (at_entry m Settle Tail)
+    pub waits : slice_index s.words (tail_no (other (cohort_of K m))) ≢ 0
+    pub victim : slice_index s.words victim_no ≡ cohort_no (cohort_of K m)
 
   -- a view that is less far, whatever the words are; and one that is as far, with less change
   nearer_view : (s : LockState AlockView) (words : List ℕ) (m : ℕ) (v u : AlockView) → slice_get s.views m ≡ Some v → far_of u < far_of v → alock_left K words (slice_set s.views m u) < alock_left K s.words s.views
@@ -156,7 +157,7 @@ module _ (K : Cohorts) where
       ap (λ b. (if b then settles_now (names_of K (cohort_of K m)) m else record { view = at_entry m Settle Victim; events = []; waits = false }).view) q.0 in
       inl (by_act s m Settle Tail (Load (tail_no (other (cohort_of K m)))) has refl (subst (λ z. far_of z < 1) (sym view) (omega arith))))
       (λ q. ⊎_elim
-      (λ z. inr (record { waits = q.1; victim = z.1 }))
+      (λ z. inr (record { stands = has; waits = q.1; victim = z.1 }))
       (λ z.
       let view : learns m Settle Tail (slice_index s.words (tail_no (other (cohort_of K m)))) ≡ at_entry m Settle Victim =
       ap (λ b. (if b then settles_now (names_of K (cohort_of K m)) m else record { view = at_entry m Settle Victim; events = []; waits = false }).view) q.0 in
@@ -185,7 +186,7 @@ module _ (K : Cohorts) where
   settle_goes s m Victim has = inl (victim_goes s m has)
 
   -- who uses its queue and isn't stuck there
-  goes_by : (s : LockState AlockView) (m : ℕ) (p : Phase) (st : Entry) → slice_get s.views m ≡ Some (at_entry m p st) → Busy p → Flat p →
+  pub goes_by : (s : LockState AlockView) (m : ℕ) (p : Phase) (st : Entry) → slice_get s.views m ≡ Some (at_entry m p st) → Busy p → Flat p →
       (Stuck p (slice_index s.words (next_word (names_of K (cohort_of K m)) m)) (slice_index s.words (status_word (names_of K (cohort_of K m)) m)) → ⊥) → CanGoOn T (alock_left K) s m ⊎ Hangs s m
   goes_by s m Idle st has busy flat free = absurd busy
   goes_by s m Clear st has busy flat free = inl (by_act s m Clear st _ has refl (turn_far m Clear st 0 tt))
@@ -205,7 +206,7 @@ module _ (K : Cohorts) where
   goes_by s m (Above succ) st has busy flat free = absurd flat
 
   -- a cohort's queue as it stands, and a member of it that goes on, as a rank
-  abbrev lane : LockState AlockView → Cohort → Lane
+  abbrev pub lane : LockState AlockView → Cohort → Lane
   lane s c = lane_of (names_of K c) s.words (phases_of K c s.views)
 
   rank_goes : (s : LockState AlockView) (c : Cohort) (m : ℕ) → AlockGood K s → Goes (lane s c) m → (CanGoOn T (alock_left K) s m ⊎ Hangs s m) × (cohort_of K m ≡ c)
@@ -229,11 +230,11 @@ module _ (K : Cohorts) where
       let k = busy_goes (Some (budget_in K c)) (InCohort K c) (lane s c) (g.line c) m p (g.queue c).inv (g.queue c).awaited e busy in
       let q = rank_goes s c k.0 g k.1 in (k.0, q.0, q.1)
 
-  abbrev g_line : LockState AlockView → Cohort → List ℕ → Type 0
+  abbrev pub g_line : LockState AlockView → Cohort → List ℕ → Type 0
   g_line s c l = Line (Some (budget_in K c)) (lane s c) l
 
   -- a queue whose tail isn't 0 has a member
-  member_in : (s : LockState AlockView) (c : Cohort) (l : List ℕ) → AlockGood K s → g_line s c l → slice_index s.words (tail_no c) ≢ 0 → (m : ℕ) × Has m l
+  pub member_in : (s : LockState AlockView) (c : Cohort) (l : List ℕ) → AlockGood K s → g_line s c l → slice_index s.words (tail_no c) ≢ 0 → (m : ℕ) × Has m l
   member_in s c [] g line ne = absurd (ne line)
   member_in s c (h ∷ r) g line ne = (h, inl refl)
 
@@ -244,7 +245,7 @@ module _ (K : Cohorts) where
       queue_goes s c m.0 (phases_of K c s.views m.0) g refl (listed_busy (phases_of K c s.views m.0) l)
 
   -- not both hang
-  one_hangs : (s : LockState AlockView) (k m : ℕ) → Hangs s k → Hangs s m → cohort_of K m ≡ other (cohort_of K k) → ⊥
+  pub one_hangs : (s : LockState AlockView) (k m : ℕ) → Hangs s k → Hangs s m → cohort_of K m ≡ other (cohort_of K k) → ⊥
   one_hangs s k m h i e = other_differs (cohort_of K k) (same_no (cohort_of K k) (other (cohort_of K k)) (sym h.victim ∙ i.victim ∙ ap cohort_no e))
 
   somebody_goes : (s : LockState AlockView) → AlockGood K s → AllOut T s ⊎ ((r : ℕ) × CanGoOn T (alock_left K) s r)

@@ -1,6 +1,7 @@
 -- to be believed, in reading order
 pub mod Alock
 pub mod AlockLeft
+pub mod AlockUrgency
 -- proved; skip at first
 pub mod CohortLaws
 pub mod AlockGood
@@ -16,4 +17,5 @@ pub mod AlockPots
 pub mod AlockOvertakes
 pub mod AlockBounded
 pub mod AlockEnding
+pub mod AlockGuiding
 pub mod SameViews

@@ -22,7 +22,7 @@ use rl_word::{Act, Class, Knobs, LockName, Mode, Shape, Spot};
 use std::alloc::{AllocError as OutOfMemory, Global};
 
 /// The word that says which cohort yields.
-const VICTIM: u32 = 2;
+pub(crate) const VICTIM: u32 = 2;
 
 /// ALock, the lock of Baran, Nelson-Slivon, Tseng and Palmieri for memory that some ranks reach without the network: the ranks on the
 /// shard's home have a queue of their own, and all others have one. The heads of both meet in an entry for two after Peterson.
@@ -178,7 +178,7 @@ fn enter(view: &mut AlockView, turn: Learnt<QueueView>, events: &mut ArrayVec<Ev
 
 impl Alock {
     /// The cohort of a rank, which is there.
-    fn cohort_of(&self, rank: u32) -> Cohort
+    pub(crate) fn cohort_of(&self, rank: u32) -> Cohort
         requires { rank < length self.now.node_of.items }
         ensures { result ≡ cohort_by (sits_at self.now.home self.now.node_of.items rank) }
     {
@@ -190,7 +190,7 @@ impl Alock {
     }
 
     /// The queue of a cohort.
-    fn names_of(&self, cohort: Cohort) -> &QueueNames
+    pub(crate) fn names_of(&self, cohort: Cohort) -> &QueueNames
         ensures { result.now ≡ names_of (cohorts_of self.now.home self.now.node_of.items self.now.local self.now.remote) cohort }
     {
         match cohort {

@@ -10,13 +10,15 @@
 //! Promise: `Alock` meets all laws of a lock (`Algo`), so it excludes, each cohort is served first come, first served, and no queue is
 //! passed on more often than its budget. It says further (`BoundsOvertaking`): once a cohort has announced itself, and until a rank of
 //! it enters, at most the other's budget and one ranks of the other enter. And it keeps two domains (`two_domains`): ranks on the home
-//! make no act through a card, and all others no local compare-and-swap. It has no dead end (`Ending`).
+//! make no act through a card, and all others no local compare-and-swap. It has no dead end (`Ending`), and says who goes
+//! on (`Guiding`).
 //! Not said here: that a rank that asks ever enters.
 #![tactic(auto)]
 
 mod alock;
 mod cohort;
 mod ending;
+mod guiding;
 mod laws;
 mod view;
 

@@ -1,27 +1,24 @@
 -- RMA-MCS has no dead end.
-use Rattle.std.specs.Prelude.{◌≡◌, ◌≢◌, ◌⊎◌, ℕ, zero, suc, ◌+◌, ◌*◌, ◌-◌, ◌<◌, ◌≤◌, ◌==◌, Bool, true, false, List, [], ◌∷◌, if◌then◌else◌, length, slice_get, slice_index, slice_set, Option, Some, None, refl}
+use Rattle.std.specs.Prelude.{◌≡◌, ◌⊎◌, ℕ, ◌+◌, ◌*◌, ◌<◌, ◌≤◌, ◌==◌, Bool, true, false, List, if◌then◌else◌, slice_get, slice_index, slice_set, Some, refl}
 use Rattle.std.proofs.Common.{sym, ◌∙◌, ap, subst, inl, inr, ⊎_elim, arith}
 use Rattle.std.proofs.lemmas.List.{set-get_or}
 use Rattle.std.proofs.lemmas.Bool.{cases_lt}
 use Rattle.std.proofs.lemmas.Bool.Decides.{eqb_tells}
 use Rattle.rl_word.specs.Acts.{word_of, written, told}
 use Rattle.rl_word.specs.declared.acts.Act.{Act}
-use Rattle.rl_word.specs.declared.acts.Act.TheVariants.{Load, Store, CardCas}
-use Rattle.rl_word.specs.declared.classes.Mode.{Mode}
-use Rattle.rl_step.specs.declared.events.Standing.TheVariants as standing
+use Rattle.rl_word.specs.declared.acts.Act.TheVariants.{Load, CardCas}
 use Rattle.rl_step.specs.declared.events.Event.TheVariants as event
-use Rattle.rl_step.specs.Lock.{LockTable, LockState, AllOut, IsHolder, acted, Told}
+use Rattle.rl_step.specs.Lock.{LockTable, LockState, AllOut, IsHolder, Told}
 use Rattle.rl_queue.specs.declared.view.Phase.{Phase}
 use Rattle.rl_queue.specs.declared.view.Phase.TheVariants.{Idle, Clear, Reset, Swing, Link, Wait, Settle, Granted, Look, Close, Await, Hand, Above}
 use Rattle.rl_queue.specs.Lane.{Busy}
-use Rattle.rl_queue.specs.Queue.{TheNames, Turn, next_word, status_word, plan_at, turn_at, moves_to, moves_with, joined_at, leave_at}
-use Rattle.rl_queue.specs.Standings.{standing_of}
+use Rattle.rl_queue.specs.Queue.{Turn, next_word, status_word, turn_at, moves_to, moves_with, joined_at, leave_at}
 use Rattle.rl_tree.specs.declared.view.TreeView.{TreeView}
 use Rattle.rl_tree.specs.declared.rooted.Rooted.{Rooted}
-use Rattle.rl_tree.specs.Tree.{TheTree, is_none, path, works_for, at_level, hook_by, at_hook, tree_plan, tree_learn, walk_turn, standing_by, tree_standing}
-use Rattle.rl_tree.specs.Elements.{how_many, ranks_in, leaf_of, names_in, tree_of}
+use Rattle.rl_tree.specs.Tree.{is_none, path, works_for, at_level, hook_by, at_hook, tree_plan, walk_turn, standing_by, tree_standing}
+use Rattle.rl_tree.specs.Elements.{ranks_in, names_in, tree_of}
 use Rattle.rl_tree.specs.TreeShape.{IsWellShaped}
-use Rattle.rl_tree.specs.TreeHolders.{rank_there, own_leaf, at_root}
+use Rattle.rl_tree.specs.TreeHolders.{at_root}
 use Rattle.rl_mcs.specs.Mcs.{mcs_table, mcs_learn, past_hook, McsGood}
 use Rattle.rl_ending.specs.Ending.{LockEnds, CanGoOn}
 use Rattle.rl_ending.specs.EndingLaws.{all_out_or_not}
@@ -35,21 +32,21 @@ use Rattle.rl_mcs.specs.McsLeft.{far_by, far_of, near_by, near_of, mcs_left}
 use Rattle.rl_mcs.specs.McsFar.{cap, walk_cap, hook_cap, far_falls, near_few}
 
 module _ (K : Rooted) (n : ℕ) (S : IsWellShaped K n) where
-  abbrev T : LockTable TreeView
+  abbrev pub T : LockTable TreeView
   T = mcs_table K
 
-  abbrev Q : TreeView → ℕ
+  abbrev pub Q : TreeView → ℕ
   Q u = path (tree_of K) u.leaf u.level
 
-  abbrev M : TreeView → ℕ
+  abbrev pub M : TreeView → ℕ
   M u = works_for (tree_of K) u u.level
 
   -- a view's level is one of its path, and below the root there is something above
-  record Placed (u : TreeView) : Type 0 where
-    within : u.level ≤ n
-    low : is_none ((tree_of K).parent (path (tree_of K) u.leaf u.level)) ≡ false → u.level < n
+  pub record Placed (u : TreeView) : Type 0 where
+    pub within : u.level ≤ n
+    pub low : is_none ((tree_of K).parent (path (tree_of K) u.leaf u.level)) ≡ false → u.level < n
 
-  placed : (s : LockState TreeView) (r : ℕ) (v : TreeView) → McsGood K n s → slice_get s.views r ≡ Some v → Placed v
+  pub placed : (s : LockState TreeView) (r : ℕ) (v : TreeView) → McsGood K n s → slice_get s.views r ≡ Some v → Placed v
   placed s r v g has =
       let w : v.level ≤ n = (g.tree.tree.by.shaped r v has).within in
       record {
@@ -111,7 +108,7 @@ module _ (K : Rooted) (n : ℕ) (S : IsWellShaped K n) where
       }
 
   -- a rank at its queue in a phase
-  phase_goes : (s : LockState TreeView) (m : ℕ) (u : TreeView) (p : Phase) → Placed u → slice_get s.views m ≡ Some (at_level u u.level p) → Busy p → IsFree K s.words (Q u) (M u) p → hook_by false p ≡ false → CanGoOn T (mcs_left K n) s m
+  pub phase_goes : (s : LockState TreeView) (m : ℕ) (u : TreeView) (p : Phase) → Placed u → slice_get s.views m ≡ Some (at_level u u.level p) → Busy p → IsFree K s.words (Q u) (M u) p → hook_by false p ≡ false → CanGoOn T (mcs_left K n) s m
   phase_goes s m u Idle at has busy free hook = absurd busy
   phase_goes s m u Clear at has busy free hook = by_act s m (at_level u u.level Clear) _ has refl (turn_far u Clear 0 at tt)
   phase_goes s m u Reset at has busy free hook = by_act s m (at_level u u.level Reset) _ has refl (turn_far u Reset 0 at tt)
@@ -137,12 +134,12 @@ module _ (K : Rooted) (n : ℕ) (S : IsWellShaped K n) where
   query_view : (v : TreeView) → v.query ≡ true → v ≡ record { rank = v.rank; leaf = v.leaf; level = v.level; phase = v.phase; query = true; behind = v.behind }
   query_view v e = ap (λ b. record { rank = v.rank; leaf = v.leaf; level = v.level; phase = v.phase; query = b; behind = v.behind }) e
 
-  query_goes : (s : LockState TreeView) (m : ℕ) (v : TreeView) → slice_get s.views m ≡ Some v → v.query ≡ true → CanGoOn T (mcs_left K n) s m
+  pub query_goes : (s : LockState TreeView) (m : ℕ) (v : TreeView) → slice_get s.views m ≡ Some v → v.query ≡ true → CanGoOn T (mcs_left K n) s m
   query_goes s m v has e =
       let u : TreeView = record { rank = v.rank; leaf = v.leaf; level = v.level; phase = v.phase; query = true; behind = v.behind } in
       by_act s m u (Load (status_word (names_in K (Q v)) (M v))) (has ∙ ap Some (query_view v e)) refl (omega arith)
 
-  level_view : (v : TreeView) → v.query ≡ false → v ≡ at_level v v.level v.phase
+  pub level_view : (v : TreeView) → v.query ≡ false → v ≡ at_level v v.level v.phase
   level_view v e = ap (λ b. record { rank = v.rank; leaf = v.leaf; level = v.level; phase = v.phase; query = b; behind = v.behind }) e
 
   rank_goes : (s : LockState TreeView) (k : ℕ) → McsGood K n s → RankGoes K s.words s.views k → CanGoOn T (mcs_left K n) s k

@@ -5,11 +5,13 @@
 //! - A rank that comes to the *hook* above the root goes on in the same act: nothing is above the root.
 //!
 //! Promise: `Mcs` meets all laws of a lock (`Algo`): so it excludes, each element's queue is served first come, first served, and each
-//! but the root's is passed on no more often than its budget. It has no dead end (`Ending`).
+//! but the root's is passed on no more often than its budget. It has no dead end (`Ending`), and says who goes on
+//! (`Guiding`).
 //! Not said here: that a rank that asks ever enters.
 #![tactic(auto)]
 
 mod ending;
+mod guiding;
 mod mcs;
 
 pub use mcs::Mcs;

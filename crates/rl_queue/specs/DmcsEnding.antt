@@ -1,5 +1,5 @@
 -- D-MCS has no dead end.
-use Rattle.std.specs.Prelude.{◌≡◌, ◌≢◌, ◌⊎◌, ℕ, ◌+◌, ◌*◌, ◌<◌, ◌≤◌, ◌==◌, Bool, true, false, List, if◌then◌else◌, length, slice_get, slice_index, slice_set, Some, None, refl}
+use Rattle.std.specs.Prelude.{◌≡◌, ◌⊎◌, ℕ, ◌+◌, ◌*◌, ◌<◌, ◌≤◌, ◌==◌, Bool, true, false, List, if◌then◌else◌, length, slice_get, slice_index, slice_set, Some, None, refl}
 use Rattle.std.proofs.Common.{sym, ◌∙◌, ap, subst, inl, inr, ⊎_elim, arith}
 use Rattle.std.proofs.lemmas.List.{set-get_or}
 use Rattle.std.proofs.lemmas.Bool.Decides.{eqb_tells}
@@ -14,7 +14,7 @@ use Rattle.rl_queue.specs.declared.view.Phase.{Phase}
 use Rattle.rl_queue.specs.declared.view.Phase.TheVariants.{Idle, Clear, Reset, Swing, Link, Wait, Settle, Granted, Look, Close, Await, Hand, Above}
 use Rattle.rl_queue.specs.declared.view.QueueView.{QueueView}
 use Rattle.rl_queue.specs.Choices.{choose, same_test}
-use Rattle.rl_queue.specs.Lane.{Lane, lane_of, Busy}
+use Rattle.rl_queue.specs.Lane.{lane_of, Busy}
 use Rattle.rl_queue.specs.Queue.{TheNames, Turn, at_phase, plan_at, turn_at, next_word, status_word, moves_to, moves_with, joined_at, leave_at}
 use Rattle.rl_queue.specs.Standings.{standing_of}
 use Rattle.rl_queue.specs.StandingLaws.{not_out_busy}
@@ -111,7 +111,7 @@ module _ (home : ℕ) (node_of : List ℕ) where
       }
 
   -- who uses the queue, isn't stuck and is calm goes on
-  goes_by : (s : LockState QueueView) (m : ℕ) (p : Phase) → slice_get s.views m ≡ Some (at_phase m p) → Busy p → Calm p → (Stuck p (slice_index s.words (next_word N m)) (slice_index s.words (status_word N m)) → ⊥) → CanGoOn T dmcs_left s m
+  pub goes_by : (s : LockState QueueView) (m : ℕ) (p : Phase) → slice_get s.views m ≡ Some (at_phase m p) → Busy p → Calm p → (Stuck p (slice_index s.words (next_word N m)) (slice_index s.words (status_word N m)) → ⊥) → CanGoOn T dmcs_left s m
   goes_by s m Idle has busy calm free = absurd busy
   goes_by s m Clear has busy calm free = by_act s m Clear _ has refl tt
   goes_by s m Reset has busy calm free = by_act s m Reset _ has refl tt

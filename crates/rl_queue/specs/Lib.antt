@@ -9,6 +9,8 @@ pub mod RankViews
 pub mod Standings
 pub mod Dmcs
 pub mod DmcsLeft
+pub mod Urgency
+pub mod DmcsUrgency
 -- proved; skip at first
 pub mod LineLaws
 pub mod LaneLaws
@@ -35,3 +37,5 @@ pub mod Stuck
 pub mod TurnsFall
 pub mod LineGoes
 pub mod DmcsEnding
+pub mod UrgencyLaws
+pub mod DmcsGuiding

@@ -1,9 +1,9 @@
 -- Where somebody uses a queue, somebody goes on: the first of its line, or the second, which links itself; or one that isn't in it yet.
-use Rattle.std.specs.Prelude.{◌≡◌, ◌≢◌, ◌⊎◌, ℕ, zero, suc, ◌+◌, ◌<◌, ◌≤◌, List, [], ◌∷◌, Option, Some, None, refl}
-use Rattle.std.proofs.Common.{sym, ◌∙◌, ap, subst, arith}
+use Rattle.std.specs.Prelude.{◌≡◌, ◌≢◌, ℕ, zero, suc, ◌+◌, ◌<◌, List, [], ◌∷◌, Option, Some, None, refl}
+use Rattle.std.proofs.Common.{sym, subst, arith}
 use Rattle.rl_queue.specs.declared.view.Phase.{Phase}
 use Rattle.rl_queue.specs.declared.view.Phase.TheVariants.{Idle, Clear, Reset, Swing, Link, Wait, Settle, Granted, Look, Close, Await, Hand, Above}
-use Rattle.rl_queue.specs.Lane.{Awaits, Lane, Line, Leads, Chain, Follows, IsCode, Listed, Busy, Has, QueueInvariant}
+use Rattle.rl_queue.specs.Lane.{Awaits, Lane, Line, Leads, Follows, IsCode, Listed, Busy, Has, QueueInvariant}
 use Rattle.rl_queue.specs.Stuck.{Stuck, Goes}
 
 module _ (B : Option ℕ) (In : ℕ → Type 0) (L : Lane) where

@@ -1,12 +1,12 @@
 -- Each act that gets its member on makes the numbers of the phases fall.
-use Rattle.std.specs.Prelude.{◌≡◌, ◌+◌, ◌-◌, ◌<◌, ◌==◌, ℕ, Bool, true, false, if◌then◌else◌, Option, Some, None}
+use Rattle.std.specs.Prelude.{◌+◌, ◌-◌, ◌<◌, ◌==◌, ℕ, Bool, true, false, if◌then◌else◌, Option, Some, None}
 use Rattle.std.proofs.Common.{sym, ap, subst, ⊎_elim}
 use Rattle.std.proofs.lemmas.Bool.Decides.{eqb_tells}
 use Rattle.rl_step.specs.declared.events.Event.TheVariants as event
 use Rattle.rl_queue.specs.declared.view.Phase.{Phase}
 use Rattle.rl_queue.specs.declared.view.Phase.TheVariants.{Idle, Clear, Reset, Swing, Link, Wait, Settle, Granted, Look, Close, Await, Hand, Above}
 use Rattle.rl_queue.specs.Choices.{choose}
-use Rattle.rl_queue.specs.Queue.{TheNames, Turn, code_left, moves_to, moves_with, waits_at, joined_at, look_at, hand_turn, turn_at}
+use Rattle.rl_queue.specs.Queue.{TheNames, code_left, moves_to, moves_with, waits_at, joined_at, look_at, hand_turn, turn_at}
 use Rattle.rl_queue.specs.Stuck.{GetsOn, Falls}
 
 module _ (far after : Phase → ℕ) (falls : Falls far after) where

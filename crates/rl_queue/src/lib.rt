@@ -11,12 +11,13 @@
 //! Promise: `specs/` says what a good queue is (`Lane`), for any numbering of members, any words and any class of tail, with
 //! and without budget. Each planned act and each move keeps it good (`QueueMoves`), and with it first come, first served,
 //! the pass budget and the count of tenures; it leaves other queues alone (`QueueFrame`). Where a member uses a good queue, some member
-//! isn't stuck there (`LineGoes`). `Dmcs` meets all laws of a lock, and has no dead end (`Ending`).
+//! isn't stuck there (`LineGoes`). `Dmcs` meets all laws of a lock, and has no dead end (`Ending`), and says who goes on (`Guiding`).
 //! Not said here: what a head has to do before it settles, and that a member that waits ever gets the queue.
 #![tactic(auto)]
 
 mod dmcs;
 mod ending;
+mod guiding;
 mod laws;
 mod queue;
 mod ranks;
@@ -26,7 +27,7 @@ pub use dmcs::Dmcs;
 pub use laws::queue_laws;
 pub use queue::{
     QueueNames, queue_holder, queue_idle, queue_join, queue_learn, queue_leave, queue_plan,
-    queue_resume, queue_settled, queue_stage, queue_standing,
+    queue_resume, queue_settled, queue_stage, queue_standing, queue_urgency,
 };
 pub use ranks::rank_words;
 pub use view::{Phase, QueueView, Stage};

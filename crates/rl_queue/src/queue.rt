@@ -1,14 +1,16 @@
 //! The acts of one queue: what a member plans in each phase, what it learns, and the moves that are no acts.
 
-ghost use Rattle.std.specs.Prelude.{◌≡◌, ◌↔◌, ℕ, ◌+◌, ◌-◌, ◌<◌, ◌^◌, [], None, length};
+ghost use Rattle.std.specs.Prelude.{◌≡◌, ◌↔◌, ℕ, ◌+◌, ◌-◌, ◌<◌, ◌^◌, [], Some, None, length, drop};
+ghost use Rattle.rl_word.specs.declared.acts.Act.{Act as TheAct};
 ghost use Rattle.rl_queue.specs.QueueFits.{MakesActs};
 ghost use Rattle.rl_step.specs.Lock.{told_with};
 ghost use Rattle.rl_queue.specs.Queue.{PlanFits, GotFits, swap_act, code_of, code_left, look_at, plan_at, turn_at, told_by, at_phase, IsGranted, settled_at, leave_at, resume_at, stage_at};
 ghost use Rattle.rl_queue.specs.Standings.{standing_of};
+ghost use Rattle.rl_queue.specs.Urgency.{loaded, urgent_at};
 
 use crate::view::{Phase, QueueView, Stage};
 use arrayvec::ArrayVec;
-use rl_step::{Event, Learnt, Standing};
+use rl_step::{Event, Learnt, Standing, Words};
 use rl_word::{Act, Class};
 use std::marker::Model;
 
@@ -109,6 +111,27 @@ pub fn queue_plan(view: QueueView, names: &QueueNames) -> Option<Act>
             value: code(names.budget, left),
         }),
         Phase::Idle | Phase::Settle | Phase::Granted { .. } | Phase::Above { .. } => None,
+    }
+}
+
+/// How urgently a member in this phase goes on that plans this act; the words of its lock are those of `words` from number `base` on.
+///
+/// 0 where it needn't wait. None where it is idle, and where it waits for a word that is still 0: its status, by which it is handed the
+/// queue, or its next word, by which its follower links itself.
+#[inline(always)]
+pub fn queue_urgency(phase: Phase, planned: Option<Act>, words: &Words, base: u32) -> Option<u32>
+    requires there { (w : ℕ) → planned ≡ Some (TheAct.Load w) → base + w < length words.now.words }
+    requires fits { (w : ℕ) → planned ≡ Some (TheAct.Load w) → base + w < 2 ^ 32 }
+    ensures { result ≡ urgent_at phase (loaded (drop base words.now.words) planned) }
+{
+    let found = match planned {
+        Some(Act::Load { word }) => words.value(base + word),
+        _ => 0,
+    };
+    match phase {
+        Phase::Idle => None,
+        Phase::Wait | Phase::Await { .. } if found == 0 => None,
+        _ => Some(0),
     }
 }
 

@@ -1,20 +1,20 @@
 -- The spin lock has no dead end: while its word names a rank, that one works or releases the lock; and where the word is 0 every rank
 -- that tries gets in.
-use Rattle.std.specs.Prelude.{◌≡◌, ◌⊎◌, ℕ, zero, suc, ◌+◌, ◌<◌, ◌≤◌, List, slice_get, slice_index, slice_set, sum_by, Some, refl}
+use Rattle.std.specs.Prelude.{◌≡◌, ◌⊎◌, ℕ, zero, suc, ◌+◌, ◌<◌, ◌≤◌, slice_get, slice_index, slice_set, sum_by, Some, refl}
 use Rattle.std.proofs.Common.{sym, ◌∙◌, ap, subst, inl, inr, ⊎_elim, arith}
 use Rattle.rl_step.specs.declared.events.Standing.TheVariants as standing
-use Rattle.rl_step.specs.Lock.{LockState, AllOut, IsHolder}
+use Rattle.rl_step.specs.Lock.{LockState, AllOut}
 use Rattle.rl_spin.specs.declared.view.SpinView.{SpinView}
 use Rattle.rl_spin.specs.declared.view.Phase.{Phase}
 use Rattle.rl_spin.specs.declared.view.Phase.TheVariants.{Out, Trying, Inside, Releasing}
-use Rattle.rl_spin.specs.Spin.{SpinGood, spin_table, at_phase, Owns, spin_standing, spin_learn, told_as}
+use Rattle.rl_spin.specs.Spin.{SpinGood, spin_table, at_phase, Owns, spin_standing, spin_learn}
 use Rattle.rl_spin.specs.SpinLeft.{acts_in, acts_of, spin_left}
-use Rattle.rl_ending.specs.Ending.{LockEnds, CanGoOn, Nears}
+use Rattle.rl_ending.specs.Ending.{LockEnds, CanGoOn}
 use Rattle.rl_ending.specs.Sums.{sum_falls, sum_grows}
 use Rattle.rl_ending.specs.EndingLaws.{all_out_or_not}
 
 -- who owns the word can go on
-owner_goes : (n home : ℕ) (s : LockState SpinView) (r k : ℕ) (p : Phase) → slice_get s.views r ≡ Some (at_phase k p) → Owns p → CanGoOn (spin_table home) spin_left s r
+pub owner_goes : (n home : ℕ) (s : LockState SpinView) (r k : ℕ) (p : Phase) → slice_get s.views r ≡ Some (at_phase k p) → Owns p → CanGoOn (spin_table home) spin_left s r
 owner_goes n home s r k Out has o = absurd o
 owner_goes n home s r k Trying has o = absurd o
 owner_goes n home s r k Inside has o = record { view = at_phase k Inside; has = has; way = inl tt }
@@ -26,7 +26,7 @@ owner_goes n home s r k Releasing has o =
     }
 
 -- and where the word is 0, so can everybody who isn't out
-free_goes : (n home : ℕ) (s : LockState SpinView) (r k : ℕ) (p : Phase) → slice_index s.words 0 ≡ 0 → slice_get s.views r ≡ Some (at_phase k p) → (spin_standing p ≡ standing.Out → ⊥) → CanGoOn (spin_table home) spin_left s r
+pub free_goes : (n home : ℕ) (s : LockState SpinView) (r k : ℕ) (p : Phase) → slice_index s.words 0 ≡ 0 → slice_get s.views r ≡ Some (at_phase k p) → (spin_standing p ≡ standing.Out → ⊥) → CanGoOn (spin_table home) spin_left s r
 free_goes n home s r k Out free has busy = absurd (busy refl)
 free_goes n home s r k Trying free has busy =
     let enters : (spin_learn k Trying (slice_index s.words 0)).view ≡ at_phase k Inside = ap (λ w. (spin_learn k Trying w).view) free in

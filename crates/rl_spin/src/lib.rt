@@ -5,7 +5,7 @@
 //!   is *inside*. To *release* the lock it swaps 0 back in.
 //!
 //! Promise: `Spin` meets all laws of a lock (`Algo`), so it excludes: at most one rank is inside. Readers are writers
-//! to it. It has no queue and no settings. It has no dead end (`Ending`).
+//! to it. It has no queue and no settings. It has no dead end (`Ending`), and says who goes on (`Guiding`).
 //! Not said here: that a rank that tries ever succeeds, or in which order ranks do.
 //!
 //! It is the plain compare-and-swap lock of textbooks, made through the network card of the word's home, and is here as
@@ -13,6 +13,7 @@
 #![tactic(auto)]
 
 mod ending;
+mod guiding;
 mod spin;
 mod view;
 
