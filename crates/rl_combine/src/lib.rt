@@ -10,11 +10,12 @@
 //! Promise: a way of working ([`CombineWork`], [`combine_laws`]), over any lock that lets one writer in at a time. Journal and
 //! transcripts are legal at every moment, also where a call was done by another rank and isn't collected yet; no posted call is
 //! done more than once; a sweep that found a flag 1 has made it 2 before its rank leaves. The code does what the definitions say,
-//! and takes no memory after the start.
-//! Not said here: that a rank ever gets the lock, and so that its call is ever done.
+//! and takes no memory after the start. It has no dead end over a lock that has none (`WorkEnding`).
+//! Not said here: that a rank ever gets the lock, and so that its call is ever done, whatever the schedule.
 #![tactic(auto)]
 
 mod combine;
+mod ending;
 mod laws;
 mod posts;
 mod side;

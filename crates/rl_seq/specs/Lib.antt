@@ -3,6 +3,7 @@ pub mod Site
 pub mod SeqWork
 pub mod SeqGood
 pub mod Rule
+pub mod SeqLeft
 -- what the code needs of its numbers, and the place of its struct
 pub mod SeqCode
 pub mod Place
@@ -22,3 +23,4 @@ pub mod StepLaws
 pub mod SeqLaws
 pub mod CodeLaws
 pub mod VersionLaws
+pub mod SeqEnding

@@ -16,10 +16,11 @@
 //! While it is still the even one that a get has found, nobody writes, and the count and each word that the get has loaded are those
 //! that it found: so a get that finds it again replies what the table at that count says. A get makes no atoms but loads, waits exactly
 //! where the version is odd, loses exactly where the second version is another than the first, and loads few words in each try. The code
-//! does what the definitions say, and takes no memory after the start.
-//! Not said here: how a writer comes to hold the lock, and that a get is ever done.
+//! does what the definitions say, and takes no memory after the start. It has no dead end over a lock that has none (`WorkEnding`).
+//! Not said here: how a writer comes to hold the lock, and that a get is ever done, whatever the schedule.
 #![tactic(auto)]
 
+mod ending;
 mod laws;
 mod side;
 mod stage;
