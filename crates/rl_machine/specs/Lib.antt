@@ -16,6 +16,7 @@ pub mod Records
 pub mod Whereabouts
 pub mod NextAtoms
 pub mod MachineEnding
+pub mod GoesNext
 pub mod State
 -- what is true of a machine at every moment
 pub mod RunActs
@@ -50,3 +51,5 @@ pub mod RoundSteps
 pub mod MachineSums
 pub mod MachineGoes
 pub mod NoDeadEnd
+pub mod Choosing
+pub mod WhoGoes

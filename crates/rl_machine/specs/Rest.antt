@@ -1,5 +1,5 @@
 -- A rank that rests: its steps count one answer, and change nothing else.
-use Rattle.std.specs.Prelude.{◌≡◌, ℕ, ◌+◌, [], Option, Some, None}
+use Rattle.std.specs.Prelude.{◌≡◌, ℕ, ◌+◌}
 use Rattle.rl_step.specs.declared.events.Stepped.{Stepped}
 use Rattle.rl_step.specs.declared.events.Stepped.TheVariants.{Moved, Waiting, Lost, Busy, Finished}
 use Rattle.rl_step.specs.declared.tallies.Steps.{Steps}

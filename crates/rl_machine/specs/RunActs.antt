@@ -1,5 +1,5 @@
 -- The acts of the locks that a run decides on each shard, in order: what a proof of a lock's promises speaks of.
-use Rattle.std.specs.Prelude.{ℕ, List, [], ◌∷◌, ◌++◌, replicate, length, get_or, slice_get, slice_set}
+use Rattle.std.specs.Prelude.{ℕ, List, [], ◌∷◌, ◌++◌, get_or, slice_get, slice_set}
 use Rattle.rl_step.specs.Lock.{Deed}
 use Rattle.rl_machine.specs.Running.{Running}
 use Rattle.rl_machine.specs.ShardSteps.{deeds_on}

@@ -1,5 +1,5 @@
 -- A rank whose block is open on a shard stands there, and opens no other.
-use Rattle.std.specs.Prelude.{◌≡◌, ◌≢◌, ℕ, ◌<◌, true, false, nat_lt, List, length, slice_get, slice_index, Some}
+use Rattle.std.specs.Prelude.{◌≡◌, ◌≢◌, ℕ, ◌<◌, true, false, nat_lt, length, slice_get, slice_index, Some}
 use Rattle.std.proofs.Common.{sym, ◌∙◌, ap, ⊎_elim}
 use Rattle.rl_word.specs.Acts.{Layout}
 use Rattle.rl_word.specs.Places.{get_map, same_or_not}

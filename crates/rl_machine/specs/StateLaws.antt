@@ -41,6 +41,7 @@ module _ (C V : Type 0) (table : C → ShardTable V) (good : GoodOf C V) (m : Ma
   -- a shard of it, where each rank has a view that may be
   pub record IsThere (s : ℕ) (item : ShardState C V) : Type 0 where
     pub has : slice_get (running table (machine_view m)).shards s ≡ Some (shard_run table (shard_view item))
+    pub has_core : slice_get (cores_of (machine_view m)) s ≡ Some item.core
     pub ranks : length item.flat.views.items ≡ length m.ops.by_rank
     pub is_good : IsGood good item
 
@@ -51,7 +52,7 @@ module _ (C V : Type 0) (table : C → ShardTable V) (good : GoodOf C V) (m : Ma
       let core = get_map (λ (x : TheShard C V). x.core) (map shard_view m.shards.items) s (shard_view item) view in
       let deeds = some_at is.acts s (let a = is.is_good.all_acts in let h = slice_get_within (cores_of (machine_view m)) s item.core core in omega arith) in
       let all = is.is_good.shards s (shard_run table (shard_view item)) item.core deeds.0 shard core deeds.1 in
-      record { has = shard; ranks = all.ranks; is_good = record { acts = deeds.0; is_good = all.is_good } }
+      record { has = shard; has_core = core; ranks = all.ranks; is_good = record { acts = deeds.0; is_good = all.is_good } }
 
   -- its journal has few places
   pub few_places : (s : ℕ) (item : ShardState C V) → slice_get m.shards.items s ≡ Some item → sum (table item.core).site.rooms ≤ 20000

@@ -1,5 +1,5 @@
 -- The atoms of a run on a shard show the acts that it decides there, for every core.
-use Rattle.std.specs.Prelude.{◌≡◌, ◌≢◌, ◌==◌, ℕ, ◌<◌, Bool, true, false, List, [], ◌∷◌, ◌++◌, if◌then◌else◌, length, get_or, slice_get, slice_set, Option, Some, None, refl}
+use Rattle.std.specs.Prelude.{◌≡◌, ℕ, ◌<◌, List, [], ◌∷◌, ◌++◌, if◌then◌else◌, length, get_or, slice_get, slice_set, Option, Some, None, refl}
 use Rattle.std.proofs.Common.{sym, ◌∙◌, ap, subst, ⊎_elim, arith, append_assoc, get_or-set_same, get_or-set_other}
 use Rattle.std.proofs.lemmas.List.{append-nil}
 use Rattle.std.proofs.lemmas.Option.{get_or_from_slice_get, slice_get_within}
@@ -16,7 +16,7 @@ use Rattle.rl_asks.specs.ShardTables.{transition_by}
 use Rattle.rl_asks.specs.ShardLaws.{GoodOf, CauseOf, FurtherOf, LawsOf}
 use Rattle.rl_machine.specs.Running.{ShardRun, Running}
 use Rattle.rl_machine.specs.ShardSteps.{events_of, deeds_to, deeds_at, deeds_on, transition_of, transitions_at, transitions_by}
-use Rattle.rl_machine.specs.Run.{on_shard, place_of, opens, block_opened, stepped, run_of, AreThere}
+use Rattle.rl_machine.specs.Run.{on_shard, place_of, opens, block_opened, stepped, AreThere}
 use Rattle.rl_machine.specs.RunActs.{acts_with, atom_acts, step_acts, run_acts}
 use Rattle.rl_machine.specs.RunTransitions.{atom_there, step_there, transitions_on}
 use Rattle.rl_machine.specs.MachineGood.{MachineGood}

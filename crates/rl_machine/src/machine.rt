@@ -32,6 +32,7 @@ use std::alloc::{AllocError as OutOfMemory, Global};
 use std::marker::Model;
 
 mod ending;
+mod guiding;
 mod next_atoms;
 mod ruled;
 mod waiting;

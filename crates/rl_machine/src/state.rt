@@ -119,6 +119,7 @@ impl<C: ShardCore> MachineState<C> {
         requires there { shard < length self.now.shards.items }
         requires good { IsMachine C C.View C.shard_table C.good (machine_view self.now) }
         ensures has { slice_get (running C.shard_table (machine_view self.now)).shards shard ≡ Some (running_shard C.shard_table result.now) }
+        ensures core { slice_get (cores_of (machine_view self.now)) shard ≡ Some result.now.core }
         ensures ranks { length result.now.flat.views.items ≡ length self.now.ops.by_rank }
         ensures few { length result.now.flat.views.items < 2 ^ 32 }
         ensures good { IsGood C.good result.now }
@@ -132,6 +133,7 @@ impl<C: ShardCore> MachineState<C> {
         requires there { rank < length self.now.ops.by_rank }
         requires good { IsMachine C C.View C.shard_table C.good (machine_view self.now) }
         ensures has { slice_get (running C.shard_table (machine_view self.now)).shards (place_of (running C.shard_table (machine_view self.now)) rank) ≡ Some (running_shard C.shard_table result.now) }
+        ensures core { slice_get (cores_of (machine_view self.now)) (place_of (running C.shard_table (machine_view self.now)) rank) ≡ Some result.now.core }
         ensures ranks { length result.now.flat.views.items ≡ length self.now.ops.by_rank }
         ensures good { IsGood C.good result.now }
     {

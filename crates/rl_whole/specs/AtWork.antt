@@ -1,6 +1,6 @@
 -- What a rank's atom is in a good state: one of the lock, which leaves the rank's work as it is and the words that the work sees; or one of
 -- its work. A rank that is out of the lock with its block open is in no card, and its next atom is one of its work.
-use Rattle.std.specs.Prelude.{◌≡◌, ◌⊎◌, ℕ, Bool, true, false, List, map, slice_get, Option, Some, None, refl}
+use Rattle.std.specs.Prelude.{◌≡◌, ◌⊎◌, ℕ, true, false, List, map, slice_get, Some, None, refl}
 use Rattle.std.proofs.Common.{sym, ◌∙◌, ap, subst, inl, inr, ⊎_elim}
 use Rattle.rl_word.specs.Places.{get_map}
 use Rattle.rl_word.specs.Acts.{Layout}

@@ -1,7 +1,7 @@
 -- Between the lock's part and the work's part of the rule: what an atom of the lock does to a standing, and an atom of the work to
 -- the words.
-use Rattle.std.specs.Prelude.{◌≡◌, ◌⊎◌, ℕ, zero, suc, ◌+◌, ◌-◌, ◌<◌, ◌==◌, Bool, true, false, cond, List, [], ◌∷◌, ◌++◌, length, take, drop, if◌then◌else◌, slice_index, slice_set, Option, Some, None, refl}
-use Rattle.std.proofs.Common.{sym, ◌∙◌, ap, subst, ⊎_elim, arith}
+use Rattle.std.specs.Prelude.{◌≡◌, ◌⊎◌, ℕ, ◌+◌, ◌-◌, ◌==◌, Bool, true, false, cond, List, [], ◌∷◌, ◌++◌, take, drop, if◌then◌else◌, slice_index, slice_set, Option, Some, None, refl}
+use Rattle.std.proofs.Common.{◌∙◌, ap, subst, ⊎_elim, arith}
 use Rattle.std.proofs.lemmas.List.{take-set-le, drop-set-lt, drop-set-add}
 use Rattle.rl_word.specs.declared.acts.Act.{Act}
 use Rattle.rl_word.specs.declared.acts.Atom.{Atom}

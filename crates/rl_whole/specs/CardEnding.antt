@@ -1,6 +1,6 @@
 -- Where a lock has no dead end, it has none with its card acts split: the first rank that is in a card goes on, or, where nobody is in
 -- one, whoever goes on at the lock.
-use Rattle.std.specs.Prelude.{◌≡◌, ◌⊎◌, ℕ, zero, suc, ◌+◌, ◌*◌, ◌<◌, ◌≤◌, ◌==◌, true, false, List, [], ◌∷◌, map, slice_get, slice_index, slice_set, Option, Some, None, refl, sum_by}
+use Rattle.std.specs.Prelude.{◌≡◌, ℕ, zero, suc, ◌+◌, ◌*◌, ◌<◌, ◌≤◌, ◌==◌, true, List, map, slice_get, slice_index, slice_set, Option, Some, None, refl, sum_by}
 use Rattle.std.proofs.Common.{sym, ◌∙◌, ap, subst, inl, inr, ⊎_elim, arith}
 use Rattle.std.proofs.lemmas.Option.{same_Some}
 use Rattle.std.proofs.lemmas.List.{set-get_or}
@@ -12,16 +12,16 @@ use Rattle.rl_word.specs.declared.acts.Atom.TheVariants as atom
 use Rattle.rl_step.specs.declared.events.Event.{Event}
 use Rattle.rl_step.specs.declared.events.Stepped.TheVariants.{Moved}
 use Rattle.rl_step.specs.Lock.{LockTable, LockState, LockLaws, Deed, IsHolder, acted}
-use Rattle.rl_step.specs.Do.{do_words, do_cards, do_got}
+use Rattle.rl_step.specs.Do.{do_words, do_got}
 use Rattle.rl_whole.specs.declared.card_state.CardState.{CardState}
 use Rattle.rl_whole.specs.declared.card_state.CardState.TheVariants.{Free, InCard, Loaded, ToLeave}
 use Rattle.rl_whole.specs.declared.effect.Effect.TheVariants.{Stay, Learn}
 use Rattle.rl_whole.specs.declared.side.Side.{Side}
-use Rattle.rl_whole.specs.Split.{SplitState, LockGood, StandsStill, Leads, card_atom, card_after, card_in, card_of, first_atom, home_of, lock_of, moved, side_atom, skips, turned_by, view_of}
+use Rattle.rl_whole.specs.Split.{SplitState, LockGood, StandsStill, Leads, card_atom, card_after, card_in, card_of, first_atom, home_of, lock_of, moved, skips, turned_by, view_of}
 use Rattle.rl_whole.specs.SplitActs.{bool_cases, first_card, plain_words, plain_got, skipped_words, told_card, after_plain, after_take, after_load, after_skip}
-use Rattle.rl_ending.specs.Ending.{LockEnds, CanGoOn, Nears, left_in}
+use Rattle.rl_ending.specs.Ending.{LockEnds, Nears, left_in}
 use Rattle.rl_ending.specs.Sums.{sum_falls, sum_turned}
-use Rattle.rl_whole.specs.Begun.{Sight, atoms_of, made, begun_by, begun_of, begun, sight_of, begun_in, left_at, split_left, IsQuiet, Holds, AtomNears, SomebodyGoes}
+use Rattle.rl_whole.specs.Begun.{Sight, atoms_of, made, begun_by, begun_of, begun, sight_of, begun_in, left_at, split_left, AtomNears, SomebodyGoes}
 use Rattle.rl_whole.specs.BegunLaws.{AllFree, IsFirstIn, first_in, free_begins, all_free_begin, same_begun, one_begun}
 
 module _ (V : Type 0) (T : LockTable V) (good : LockState V → Type 0) (further : List Event → List Deed → Type 0) (layout : Layout) (laws : LockLaws T good further layout) (left : List ℕ → List V → ℕ) (most : ℕ) (ends : LockEnds T left good most) where
@@ -120,7 +120,7 @@ module _ (V : Type 0) (T : LockTable V) (good : LockState V → Type 0) (further
   has_atom ws (Some a) InCard still in_card = (atom.CardLoad (word_of a), refl)
   has_atom ws (Some a) (Loaded g) still in_card = (atom.CardStore (word_of a) (written a g), refl)
 
-  first_goes : (s : SplitState V) (r : ℕ) → LockGood T good layout s → IsFirstIn s.sides r → AtomNears T left s r
+  pub first_goes : (s : SplitState V) (r : ℕ) → LockGood T good layout s → IsFirstIn s.sides r → AtomNears T left s r
   first_goes s r g f =
       let x : Side V = f.side in
       let next = has_atom s.words (T.plan x.view) x.card (g.still r x f.has) f.in_card in
@@ -187,7 +187,7 @@ module _ (V : Type 0) (T : LockTable V) (good : LockState V → Type 0) (further
   free_side : (s : SplitState V) (r : ℕ) (x : Side V) → slice_get s.sides r ≡ Some x → x.card ≡ Free → slice_get s.sides r ≡ Some (record { view = x.view; card = Free })
   free_side s r x has free = has ∙ ap (λ c. Some (record { view = x.view; card = c })) free
 
-  act_goes : (s : SplitState V) (r : ℕ) (v : V) → LockGood T good layout s → AllFree s.sides → slice_get (map view_of s.sides) r ≡ Some v → Nears T left (lock_of s) r v → AtomNears T left s r
+  pub act_goes : (s : SplitState V) (r : ℕ) (v : V) → LockGood T good layout s → AllFree s.sides → slice_get (map view_of s.sides) r ≡ Some v → Nears T left (lock_of s) r v → AtomNears T left s r
   act_goes s r v g free has n =
       let back = get_map_back view_of s.sides r v has in
       let x : Side V = record { view = v; card = Free } in

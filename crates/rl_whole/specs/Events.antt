@@ -1,6 +1,6 @@
 -- The events of an atom stand in the order of their kinds, and name what the lock has.
-use Rattle.std.specs.Prelude.{◌≡◌, ℕ, ◌+◌, ◌<◌, ◌≤◌, Bool, true, false, List, [], ◌∷◌, ◌++◌, length, slice_get, slice_index, Option, Some, None, refl}
-use Rattle.std.proofs.Common.{sym, ap, subst, arith}
+use Rattle.std.specs.Prelude.{◌≡◌, ℕ, ◌≤◌, Bool, List, [], ◌∷◌, ◌++◌, length, slice_get, Option, Some, None, refl}
+use Rattle.std.proofs.Common.{sym, subst, arith}
 use Rattle.rl_word.specs.Places.{get_map}
 use Rattle.rl_word.specs.Acts.{Layout}
 use Rattle.rl_word.specs.declared.acts.Atom.{Atom}

@@ -1,7 +1,7 @@
 -- A Take that finds another rank in the card is idle, and so is a load of the lock that waits and is learnt without a trace, and one of
 -- the work by which the rank waits on.
 use Rattle.std.specs.Prelude.{[], Bool, ◌≡◌, ℕ, ◌+◌, ◌++◌, ◌-◌, ◌^◌, ◌<◌, ◌==◌, true, false, List, length, if◌then◌else◌, slice_index, slice_set, Some, None, refl}
-use Rattle.std.proofs.Common.{sym, ◌∙◌, ap, subst, ⊎_elim, arith}
+use Rattle.std.proofs.Common.{sym, ◌∙◌, ap, subst, arith}
 use Rattle.rl_word.specs.Acts.{Layout, word_of, by_card}
 use Rattle.rl_word.specs.declared.acts.Act.{Act}
 use Rattle.rl_word.specs.declared.acts.Act.TheVariants as act

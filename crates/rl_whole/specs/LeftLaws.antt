@@ -1,6 +1,7 @@
 -- What is left at the lock where nobody is in a card and one side changes; and the inequalities.
 use Rattle.std.specs.Prelude.{◌≡◌, ◌⊎◌, ℕ, zero, suc, ◌+◌, ◌*◌, ◌<◌, ◌≤◌, Bool, true, false, List, [], ◌∷◌, map, slice_get, slice_set, Option, Some, None, is_some, refl, sum_by}
 use Rattle.std.proofs.Common.{sym, ◌∙◌, ap, inl, inr, ⊎_elim, arith}
+use Rattle.std.proofs.lemmas.Bool.{cases_Bool}
 use Rattle.std.proofs.lemmas.Option.{same_Some}
 use Rattle.std.proofs.Math.Nat.{mul-le-mul_left}
 use Rattle.rl_word.specs.Places.{get_set_cases, map_set}
@@ -59,10 +60,6 @@ pub some_next : {X : Type 0} (o : Option X) → is_some o ≡ true → (x : X) �
 some_next None e = cc
 some_next (Some x) e = (x, refl)
 
-true_or_false : (b : Bool) → (b ≡ true) ⊎ (b ≡ false)
-true_or_false true = inl refl
-true_or_false false = inr refl
-
 -- an element of which a test says true, or none
 pub some_or_all : {X : Type 0} (f : X → Bool) (xs : List X) → ((r : ℕ) × (x : X) × (slice_get xs r ≡ Some x) × (f x ≡ true)) ⊎ ((r : ℕ) (x : X) → slice_get xs r ≡ Some x → f x ≡ false)
 some_or_all f [] = inr (λ r x e. cc)
@@ -70,7 +67,7 @@ some_or_all f (x ∷ xs) =
     ⊎_elim
     (λ yes. inl (0, x, refl, yes))
     (λ no. ⊎_elim (λ s. inl (suc s.0, s.1, s.2, s.3)) (λ none. inr (all_of no none)) (some_or_all f xs))
-    (true_or_false (f x)) where
+    (cases_Bool (f x)) where
       all_of : f x ≡ false → ((r : ℕ) (u : _) → slice_get xs r ≡ Some u → f u ≡ false) → (r : ℕ) (u : _) → slice_get (x ∷ xs) r ≡ Some u → f u ≡ false
       all_of isnt none zero u e = ap f (sym (same_Some _ _ e)) ∙ isnt
       all_of isnt none (suc r) u e = none r u e

@@ -8,6 +8,7 @@ pub mod Domains
 -- what is left to do of a shard
 pub mod Begun
 pub mod WholeLeft
+pub mod WholeGuiding
 -- what is good of a shard
 pub mod WholeShards
 pub mod SeenLoads
@@ -42,3 +43,4 @@ pub mod BegunLaws
 pub mod CardEnding
 pub mod LeftLaws
 pub mod WholeEnding
+pub mod WholeGuides

@@ -1,5 +1,5 @@
 -- The start of a window, and a call that is opened in it: both meet the rule, for every lock and every way of working.
-use Rattle.std.specs.Prelude.{◌≡◌, ℕ, zero, suc, ◌+◌, ◌^◌, ◌<◌, Bool, true, false, ◌||◌, List, [], ◌∷◌, ◌++◌, length, map, replicate, take, drop, count_by, slice_get, slice_set, Option, Some, None, is_some, refl}
+use Rattle.std.specs.Prelude.{◌≡◌, ℕ, zero, suc, ◌+◌, ◌^◌, ◌<◌, Bool, true, false, ◌||◌, List, [], ◌∷◌, ◌++◌, length, map, replicate, take, count_by, slice_get, slice_set, Option, Some, None, is_some, refl}
 use Rattle.std.proofs.Common.{sym, ◌∙◌, ap, subst, ⊎_elim, arith, length-set, length-append}
 use Rattle.std.proofs.lemmas.List.{length-replicate, length-map, drop_at}
 use Rattle.std.proofs.lemmas.Option.{slice_get_within}

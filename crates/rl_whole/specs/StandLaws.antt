@@ -1,6 +1,6 @@
 -- What an atom does to its rank's standing, and that at most one rank stands as writer.
-use Rattle.std.specs.Prelude.{◌≡◌, ℕ, List, [], map, slice_get, slice_set, Option, Some, None, refl}
-use Rattle.std.proofs.Common.{sym, ◌∙◌, ap, subst}
+use Rattle.std.specs.Prelude.{◌≡◌, ℕ, List, [], map, slice_get, Option, Some, None, refl}
+use Rattle.std.proofs.Common.{sym, subst}
 use Rattle.rl_word.specs.Places.{get_map, get_map_back, one_at}
 use Rattle.rl_word.specs.Acts.{Layout}
 use Rattle.rl_word.specs.declared.acts.Atom.{Atom}

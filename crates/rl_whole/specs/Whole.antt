@@ -1,5 +1,5 @@
 -- A rank's whole machine over any lock: the lock's atoms, and the work of a block while it holds; and the rule of its window.
-use Rattle.std.specs.Prelude.{◌≡◌, ℕ, ◌+◌, ◌-◌, ◌^◌, ◌<◌, List, [], ◌∷◌, ◌++◌, Bool, true, false, ◌||◌, ◌==◌, length, map, take, drop, count_by, if◌then◌else◌, nat_lt, slice_get, Option, Some, None}
+use Rattle.std.specs.Prelude.{◌≡◌, ℕ, ◌+◌, ◌-◌, ◌^◌, ◌<◌, List, [], ◌∷◌, ◌++◌, Bool, true, false, ◌||◌, length, map, take, drop, count_by, if◌then◌else◌, nat_lt, slice_get, Option, Some, None}
 use Rattle.std.proofs.Common.{ap}
 use Rattle.rl_word.specs.declared.classes.Mode.{Mode}
 use Rattle.rl_word.specs.declared.acts.Atom.{Atom}

@@ -1,6 +1,7 @@
 -- Where a lock and a way of working have no dead end, their shard has none.
 use Rattle.std.specs.Prelude.{◌≡◌, ◌⊎◌, ℕ, ◌+◌, ◌*◌, ◌<◌, ◌≤◌, Bool, true, false, ◌||◌, List, map, slice_get, slice_set, Option, Some, None, is_some, refl}
 use Rattle.std.proofs.Common.{sym, ◌∙◌, ap, subst, inl, inr, ⊎_elim, arith}
+use Rattle.std.proofs.lemmas.Option.{same_Some}
 use Rattle.rl_word.specs.Places.{get_map, get_map_back, map_set, set_same_get}
 use Rattle.rl_word.specs.Acts.{Layout}
 use Rattle.rl_word.specs.declared.acts.Atom.{Atom}
@@ -171,12 +172,12 @@ module _ (V K : Type 0) (L : LockAt V K) (good : Goods V K) (further : List Even
           subst (λ n. GoesOnAt (L.table.standing x.side.view) (L.work.is_open x.work) (L.work.next n x.work)) (sym (g.own r x has))
           (laws.work.goes_on h.words sides r (work_side L.table x) (work_at V K L good further layout laws home h vs g r x has))
 
-      holder_works : AllFree (map side_of vs) → IsHolder (L.table.standing x.side.view) → Goes r x
+      pub holder_works : AllFree (map side_of vs) → IsHolder (L.table.standing x.side.view) → Goes r x
       holder_works quiet holds =
           let n = some_next (L.work.next x.rank x.work) (holder_goes (L.table.standing x.side.view) (L.work.is_open x.work) (L.work.next x.rank x.work) holds goes_on) in
           work_goes quiet (holder_rests (L.table.standing x.side.view) holds) (inl holds) n.0 n.1
 
-      out_works : AllFree (map side_of vs) → ((i : ℕ) (u : WholeView V K) → slice_get vs i ≡ Some u → L.table.standing u.side.view ≡ standing.Out) → L.work.is_open x.work ≡ true → Goes r x
+      pub out_works : AllFree (map side_of vs) → ((i : ℕ) (u : WholeView V K) → slice_get vs i ≡ Some u → L.table.standing u.side.view ≡ standing.Out) → L.work.is_open x.work ≡ true → Goes r x
       out_works quiet out in_block =
           let mine : L.table.standing x.side.view ≡ standing.Out = out r x has in
           let on : GoesOnAt standing.Out (L.work.is_open x.work) (L.work.next x.rank x.work) = subst (λ z. GoesOnAt z (L.work.is_open x.work) (L.work.next x.rank x.work)) mine goes_on in
@@ -184,6 +185,11 @@ module _ (V K : Type 0) (L : LockAt V K) (good : Goods V K) (further : List Even
           let all : (i : ℕ) (u : WorkSide K) → slice_get sides i ≡ Some u → u.standing ≡ standing.Out =
           λ i u e. let back = get_map_back (work_side L.table) vs i u e in ap (λ (z : WorkSide K). z.standing) (sym back.2) ∙ out i back.0 back.1 in
           work_goes quiet (subst Rests (sym mine) tt) (inr all) n.0 n.1
+
+      pub atom_leads : AtomNears L.table left state r → Goes r x
+      atom_leads n =
+          let same : n.side ≡ x.side = same_Some _ _ (sym n.has ∙ has_side) in
+          lock_goes n.at (subst (λ z. side_atom L.table z ≡ Some n.at) same n.next) (subst (λ z. split_left L.table left (moved L.table state r z n.at) < split_left L.table left state) same n.less)
 
     abbrev Shut : Type 0
     Shut = AllShut (whole_shard L home) (WholeGood L good layout) vs
@@ -208,9 +214,7 @@ module _ (V K : Type 0) (L : LockAt V K) (good : Goods V K) (further : List Even
     atom_goes r n =
         let back = get_map_back side_of vs r n.side n.has in
         let x : WholeView V K = back.0 in
-        named r x back.1
-        (lock_goes r x back.1 n.at (subst (λ z. side_atom L.table z ≡ Some n.at) (sym back.2) n.next)
-        (subst (λ z. split_left L.table left (moved L.table state r z n.at) < split_left L.table left state) (sym back.2) n.less))
+        named r x back.1 (atom_leads r x back.1 n)
 
     somebody : Somebody
     somebody =

@@ -1,5 +1,5 @@
 -- A rank's machine over any lock and any way of working keeps the laws of one.
-use Rattle.std.specs.Prelude.{◌≡◌, ◌≢◌, ◌↔◌, ℕ, zero, suc, ◌+◌, ◌-◌, ◌*◌, ◌==◌, ◌^◌, ◌<◌, ◌≤◌, Bool, true, false, List, [], ◌∷◌, ◌++◌, count_by, length, map, take, drop, slice_get, slice_index, slice_set, Option, Some, None, refl}
+use Rattle.std.specs.Prelude.{◌≡◌, ◌↔◌, ℕ, zero, suc, ◌+◌, ◌-◌, ◌==◌, ◌^◌, ◌<◌, ◌≤◌, Bool, true, false, List, [], ◌∷◌, ◌++◌, count_by, length, map, take, drop, slice_get, slice_index, slice_set, Option, Some, None, refl}
 use Rattle.std.specs.FinMap as finite
 use Rattle.std.proofs.Common.{sym, ◌∙◌, ap, subst, ⊎_elim, inl, inr, arith, length-set}
 use Rattle.std.proofs.lemmas.List.{length-map, drop-take, take-take}
@@ -44,7 +44,7 @@ use Rattle.rl_whole.specs.declared.whole.WholeView.{WholeView}
 use Rattle.rl_whole.specs.Running.{LockAt, Goods, BothLaws, lock_with, kinds}
 use Rattle.rl_whole.specs.Opening.{first_view, opened_in}
 use Rattle.rl_whole.specs.Split.{lock_of, view_of, home_of, first_at, card_atom, side_atom}
-use Rattle.rl_whole.specs.Whole.{side_of, work_side, split_of, is_open, next_of, after_of, counts, made_deeds, own_desk, told_desk, Good}
+use Rattle.rl_whole.specs.Whole.{side_of, work_side, split_of, is_open, next_of, after_of, counts, made_deeds, Good}
 use Rattle.rl_whole.specs.WholeLaws.{keeps_at, laid, next_either, after_lock, after_work, work_at, works_at}
 use Rattle.rl_whole.specs.OpenLaws.{IsFirstView, opening_rule, open_keeps, shut_is_none, none_is_shut, closed_is_out, closed_parts, closed_work}
 use Rattle.rl_whole.specs.Changes.{Match, Change, Goes, goes}

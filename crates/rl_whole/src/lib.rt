@@ -12,13 +12,15 @@
 //! says all that machines, shards, seats and callers need of it (`specs/WholeShards`, proved in `specs/WholeWall`), and it sees where a
 //! rank waits (`Resting`). Beneath it: a card names who is in it, a word loaded in a card stands still, the lock never sees a card, and
 //! neither lock nor work sees the other's words. Over a lock and a way of working that have no dead end it has none (`ShardEnding`): a
-//! card's holder has an atom that nobody can keep from it.
+//! card's holder has an atom that nobody can keep from it. Where the lock says who goes on the shard does too (`ShardGuiding`,
+//! `specs/WholeGuiding`).
 //! Not said here: that a rank that asks ever gets the lock.
 #![tactic(auto)]
 
 mod card_state;
 mod effect;
 mod ending;
+mod guiding;
 mod idle;
 mod round;
 mod shift;

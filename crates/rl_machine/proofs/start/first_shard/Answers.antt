@@ -1,5 +1,5 @@
 -- There is room for the journal, and so the words are few.
-use Rattle.std.proofs.Common.{◌≡◌, ◌≤◌, length, ap, sym, ◌∙◌, subst, arith}
+use Rattle.std.proofs.Common.{◌≤◌, length, ap, sym, ◌∙◌, subst, arith}
 use Rattle.std.specs.List.{sum}
 use Rattle.rl_model.specs.Geom.{GeomFits}
 use Rattle.rl_asks.specs.ShardTables.{site_with}

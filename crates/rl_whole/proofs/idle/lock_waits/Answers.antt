@@ -1,5 +1,5 @@
 -- What the calls of the lock ask follows from the rule; and the load is idle.
-use Rattle.std.proofs.Common.{◌≡◌, ◌+◌, ◌<◌, ◌^◌, [], true, length, slice_index, refl, ap, sym, ◌∙◌, subst, arith}
+use Rattle.std.proofs.Common.{◌+◌, ◌<◌, ◌^◌, length, slice_index, refl, ap, sym, ◌∙◌, subst, arith}
 use Rattle.rl_step.specs.Lock.{MayLearn}
 use Rattle.rl_asks.specs.Idle.{IsIdle}
 use Rattle.rl_whole.specs.Running.{lock_at, good_at, tables, goods}
@@ -9,7 +9,6 @@ use Rattle.rl_whole.specs.Whole.{next_of}
 use Rattle.rl_whole.specs.WholeShards.{shard_at}
 use Rattle.rl_whole.proofs.idle.lock_waits.Goals as goal
 use Rattle.rl_whole.proofs.idle.lock_waits.Goals.{After-value-value}
-use Rattle.rl_whole.proofs.idle.lock_waits.Given.{Over}
 
 pub overflow_add-at : goal.overflow_add-at
 overflow_add-at g c =

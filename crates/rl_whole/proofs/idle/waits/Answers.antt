@@ -1,5 +1,4 @@
 -- What the lock's plan asks follows from the rule.
-use Rattle.std.proofs.Common.{Some, ap, sym, ◌∙◌}
 use Rattle.rl_whole.specs.Running.{lock_at, good_at, tables, goods}
 use Rattle.rl_whole.specs.WholeOwes.{may_step}
 use Rattle.rl_whole.proofs.idle.waits.Goals as goal

@@ -1,5 +1,5 @@
 -- There are few ranks.
-use Rattle.std.proofs.Common.{◌≡◌, length, map, ap, sym, ◌∙◌, List, Vec, Global, arith}
+use Rattle.std.proofs.Common.{length, ap, List, Vec, Global, arith}
 use Rattle.std.proofs.lemmas.List.{length-map}
 use Rattle.rl_model.specs.declared.call.Call.{Call}
 use Rattle.rl_machine.proofs.machine.Machine.transcripts.Goals as goal

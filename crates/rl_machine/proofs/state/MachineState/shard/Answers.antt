@@ -15,6 +15,9 @@ there g c =
 pub returns-clause-has : goal.returns-clause-has
 returns-clause-has g c = (there g (goal.at.returns-clause-has g c).After-index).has
 
+pub returns-clause-core : goal.returns-clause-core
+returns-clause-core g c = (there g (goal.at.returns-clause-core g c).After-index).has_core
+
 pub returns-clause-ranks : goal.returns-clause-ranks
 returns-clause-ranks g c = (there g (goal.at.returns-clause-ranks g c).After-index).ranks
 
