@@ -1,0 +1,4 @@
+-- to be believed
+pub mod WayOn
+-- proved; skip at first
+pub mod WayOnLaws

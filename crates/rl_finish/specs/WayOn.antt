@@ -1,0 +1,26 @@
+-- A way on to the end of all calls, and the turns that it is written as.
+use Rattle.std.specs.Prelude.{◌≢◌, ℕ, ◌<◌, List, [], ◌∷◌}
+use Rattle.rl_ops.specs.declared.schedule.Turn.{Turn}
+use Rattle.rl_ops.specs.declared.schedule.Turn.TheVariants.{Steps, Stop}
+use Rattle.rl_ops.specs.Schedule.{rank_of}
+use Rattle.rl_asks.specs.ShardGuiding.{UrgentOf}
+use Rattle.rl_machine.specs.Running.{Running}
+use Rattle.rl_machine.specs.Run.{stepped}
+use Rattle.rl_machine.specs.GoesNext.{GoesNext}
+
+-- each rank of the list is the one that goes next at its moment; of a machine over these cores
+module _ {C V : Type 0} (urgent : UrgentOf C V) (cores : List C) where
+  abbrev pub IsWayOn : Running V → List ℕ → Type 0
+  IsWayOn m [] = Unit {0}
+  IsWayOn m (rank ∷ ranks) = GoesNext urgent cores m rank × IsWayOn (stepped m rank) ranks
+
+-- the turn has a step
+abbrev pub HasSteps : Turn → Type 0
+HasSteps (Steps rank count) = 0 < count
+HasSteps (Stop rank) = ⊥
+
+-- each turn is all steps that one rank makes one after the other: it has some, and the next turn is another rank's
+abbrev pub AreWhole : List Turn → Type 0
+AreWhole [] = Unit {0}
+AreWhole (t ∷ []) = HasSteps t
+AreWhole (t ∷ u ∷ ts) = HasSteps t × (rank_of t ≢ rank_of u) × AreWhole (u ∷ ts)
