@@ -66,6 +66,7 @@ suits_rw place budgets writers readers group proper is =
     let fits : LockFits place.levels (lock.Rw budgets writers readers group) = subst (LockFits place.levels) is proper.lock in
     let named : (n : ℕ) → 1 ≤ n → (n == 0) ≡ false = λ n some. ne_eqb n 0 (λ e. omega (arith, some, e)) in
     let modest = fits.most_writers in
+    let served = fits.some_readers in
     let few = fits.most_readers in
     let some = fits.some_group in
     let small = fits.most_group in
@@ -73,6 +74,7 @@ suits_rw place budgets writers readers group proper is =
     (record {
       budgeted = levels_budgeted place budgets proper fits.each.each_level (λ n some. ap (λ l. budget_of l n) is ∙ ap (λ b. if b then Some writers else level_budget budgets n) (named n some));
       writers = omega (arith, modest);
+      served = omega (arith, served);
       readers = omega (arith, few);
       some = omega (arith, some);
       group = omega (arith, small);

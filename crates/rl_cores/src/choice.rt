@@ -9,7 +9,7 @@ ghost use Rattle.rl_cores.specs.Kinds.{Kind, kind_of};
 
 use crate::ways::Promising;
 use crate::{AlockCore, CombineCore, DmcsCore, McsCore, RwCore, SeqCore, SpinCore};
-use rl_asks::Resting;
+use rl_asks::{Resting, ShardGuiding};
 use rl_place::{Lock, Place};
 
 /// What is done with the core of a placement's lock, whichever it is.
@@ -25,7 +25,7 @@ pub trait CoreTask {
 
     /// Does it with this core, which is that of the placement's lock: the settings suit it, it asks for the lock on which that one
     /// stands, and it does batches where that one does them.
-    fn over<C: Resting + Promising>(self, place: &Place) -> Self::Out
+    fn over<C: Resting + Promising + ShardGuiding>(self, place: &Place) -> Self::Out
         requires proper { IsProper place.now }
         requires takes { takes self place.now }
         requires knobs { C.suits_knobs (shape_of place.now) (knobs_of place.now.lock) }

@@ -15,8 +15,8 @@
 //! have found still stands ([`holders_of_machine`], [`holders_of_shard`]). Over each lock seats, and the ranks of a machine, keep its two
 //! domains apart ([`alock_domains`], [`alock_domains_of_machine`] and those of the others). Few words of the volume are loaded for a call
 //! alone under its lock ([`few_loads`], [`holders_of_machine`]), in each try of a get under optimistic readers ([`readers_of_machine`]), and
-//! for each posted call by the rank that does it ([`combiners_of_machine`]). Spin, D-MCS, ALock and RMA-MCS, with each block under the lock,
-//! have no dead end: from every state of a machine some steps lead to the end of all calls ([`spin_no_dead_end`] and the others).
+//! for each posted call by the rank that does it ([`combiners_of_machine`]). All seven have no dead end: from every state of a machine, whatever
+//! schedule led to it, some steps lead to the end of all calls ([`spin_no_dead_end`] and the others).
 //! Not said here: that a rank ever gets the lock, whatever the schedule; how many words are loaded for a batch, or beside optimistic readers under the lock.
 #![tactic(auto)]
 
@@ -38,7 +38,10 @@ mod ways;
 pub use choice::{CoreTask, over_lock};
 pub use combiners::{combiners_of_machine, combiners_of_shard, posts_at_home};
 pub use domains::{alock_domains, dmcs_domains, mcs_domains, rw_domains, spin_domains};
-pub use endings::{alock_no_dead_end, dmcs_no_dead_end, mcs_no_dead_end, spin_no_dead_end};
+pub use endings::{
+    alock_no_dead_end, combine_no_dead_end, dmcs_no_dead_end, mcs_no_dead_end, rw_no_dead_end,
+    seq_no_dead_end, spin_no_dead_end,
+};
 pub use holders::{holders_of_machine, holders_of_shard};
 pub use loads::few_loads;
 pub use machine_domains::{

@@ -41,10 +41,12 @@ shared_of rooted readers group = record { rooted = rooted; readers = readers; gr
 abbrev pub shared_in : ℕ → TheShape → Knobs → Shared
 shared_in home shape knobs = record { rooted = record { home = home; shape = shape; root = Some knobs.writers }; readers = knobs.readers; group = knobs.group }
 
--- what is asked of the shape and the settings: each element but the root has a budget; so has the root, and all are modest
+-- what is asked of the shape and the settings: each element but the root has a budget; so has the root, and all are modest; and a reader may
+-- come to a counter, since none would ever enter where none may
 pub record SuitsRw (shape : TheShape) (knobs : Knobs) : Type 0 where
   pub budgeted : IsBudgeted shape
   pub writers : knobs.writers ≤ 1000
+  pub served : 0 < knobs.readers
   pub readers : knobs.readers ≤ 1000
   pub some : 0 < knobs.group
   pub group : knobs.group ≤ 32

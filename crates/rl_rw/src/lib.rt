@@ -8,10 +8,14 @@
 //!
 //! Promise: `Rw` meets all laws of a lock (`Algo`): no reader is in beside a writer, readers are in beside each other, each element's
 //! queue is served first come, first served, and each is passed on no more often than its budget. Further is promised (`BoundsBatches`):
-//! while no step lowers the arrive word of a group, at most as many readers of the group enter as are set.
+//! while no step lowers the arrive word of a group, at most as many readers of the group enter as are set. It has no dead end (`Ending`), and says
+//! who goes on (`Guiding`): who goes out of a counter, and where nobody does, a writer that needn't wait; where there is none either, each
+//! reader that asks.
 //! Not said here: that any rank ever enters.
 #![tactic(auto)]
 
+mod ending;
+mod guiding;
 mod rw;
 mod view;
 

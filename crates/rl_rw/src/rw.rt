@@ -40,6 +40,7 @@ pub struct Rw {
     ghost seated: { node_of.items ≡ tree.rooted.shape.node_of },
     ghost counted: { counters ≡ counters_of (shared_of tree.rooted counters.readers group) },
     ghost limited: { has_above tree.rooted.root ≡ true },
+    ghost served: { 0 < counters.readers },
     ghost few: { counters.readers ≤ 1000 },
     ghost grouped: { 0 < group },
     ghost modest: { group ≤ 32 },
@@ -167,7 +168,7 @@ impl Algo for Rw {
     }
 
     /// Makes the lock. Of the settings it reads `writers`, the budget of the root, 0 to 1000; `readers`, how many readers may come to a
-    /// counter, 1000 at most; and `group`, how many ranks share a counter, 1 to 32.
+    /// counter, 1 to 1000; and `group`, how many ranks share a counter, 1 to 32.
     fn make(alloc: Global, shape: &Shape, home: u32, knobs: Knobs) -> Result<Self, OutOfMemory> {
         let tree = Tree::new(alloc, shape, home, Some(knobs.writers))?;
         let groups = groups_of(shape.node_of.len() as u32, knobs.group);

@@ -13,7 +13,7 @@ ghost use Rattle.rl_text.specs.Spelling.{text_of};
 ghost use Rattle.rl_shown.specs.Listing.{head_lines, listing_with, IsListing};
 
 use crate::stepping::{Scene, take_turn};
-use rl_asks::{Resting, ShardCore};
+use rl_asks::{Resting, ShardCore, ShardGuiding};
 use rl_cores::{CoreTask, Promising, over_lock};
 use rl_history::{Naming, put_word};
 use rl_machine::Machine;
@@ -84,7 +84,10 @@ impl CoreTask for ListTask<'_> {
 
     ghost gives = { λ r place kind result. IfOk result (λ text. text.items ≡ listing_with kind.defined place r.ops r.schedule.now r.window) };
 
-    fn over<C: Resting + Promising>(self, place: &Place) -> Result<Vec<u8>, OutOfMemory> {
+    fn over<C: Resting + Promising + ShardGuiding>(
+        self,
+        place: &Place,
+    ) -> Result<Vec<u8>, OutOfMemory> {
         list_with::<C>(self.alloc, place, self.ops, self.schedule, self.window)
     }
 }

@@ -20,7 +20,7 @@ use crate::cores::cores_of;
 use crate::front::{front_of, total_steps};
 use crate::ranks::{put_cards, put_ranks};
 use crate::words::put_words;
-use rl_asks::{Resting, ShardCore};
+use rl_asks::{Resting, ShardCore, ShardGuiding};
 use rl_cores::{CoreTask, Promising, over_lock};
 use rl_history::{Naming, put_value, put_word};
 use rl_machine::Machine;
@@ -153,7 +153,10 @@ impl CoreTask for StateTask<'_> {
 
     ghost gives = { λ r place kind result. IfOk result (λ text. text.items ≡ state_with kind.defined place r.ops r.schedule.now r.step) };
 
-    fn over<C: Resting + Promising>(self, place: &Place) -> Result<Vec<u8>, OutOfMemory> {
+    fn over<C: Resting + Promising + ShardGuiding>(
+        self,
+        place: &Place,
+    ) -> Result<Vec<u8>, OutOfMemory> {
         state_with::<C>(self.alloc, place, self.ops, self.schedule, self.step)
     }
 }

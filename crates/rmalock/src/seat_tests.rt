@@ -12,7 +12,7 @@ ghost use Rattle.rl_shard.specs.Shards.{IsOf, IsShardOf, AreOf, AreClosed, rank_
 use crate::schedules::one_shard;
 use crate::signs::{answer_sign, answers_alone};
 use crate::trials::{look_same, read_both, trial};
-use rl_asks::{Resting, ShardCore};
+use rl_asks::{Resting, ShardCore, ShardGuiding};
 use rl_cores::{
     AlockCore, CombineCore, CoreTask, DmcsCore, McsCore, Promising, RwCore, SeqCore, SpinCore,
     over_lock, settings_suit,
@@ -202,7 +202,10 @@ impl CoreTask for SeatsTask<'_> {
 
     ghost gives = { λ b place kind told. Unit {0} };
 
-    fn over<C: Resting + Promising>(self, place: &Place) -> Result<String, OutOfMemory> {
+    fn over<C: Resting + Promising + ShardGuiding>(
+        self,
+        place: &Place,
+    ) -> Result<String, OutOfMemory> {
         seats_told::<C>(self.alloc, place, self.calls, self.turns)
     }
 }

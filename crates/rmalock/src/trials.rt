@@ -11,7 +11,7 @@ ghost use Rattle.rl_replay.specs.Reading.{SuitsLock};
 
 use crate::callers::told_by;
 use crate::signs::{answers_alone, told};
-use rl_asks::{Resting, ShardCore};
+use rl_asks::{Resting, ShardCore, ShardGuiding};
 use rl_cores::{CoreTask, Promising, over_lock};
 use rl_machine::Machine;
 use rl_model::Entry;
@@ -138,7 +138,10 @@ impl CoreTask for TrialTask<'_> {
 
     ghost gives = { λ t place kind told. Unit {0} };
 
-    fn over<C: Resting + Promising>(self, place: &Place) -> Result<(Outcome, String), OutOfMemory> {
+    fn over<C: Resting + Promising + ShardGuiding>(
+        self,
+        place: &Place,
+    ) -> Result<(Outcome, String), OutOfMemory> {
         let trial = run::<C>(self.alloc, place, self.ops, self.ranks)?;
         let by_callers = told_by::<C>(self.alloc, place, self.again, self.ranks)?;
         Ok((trial, by_callers))

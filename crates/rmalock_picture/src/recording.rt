@@ -12,7 +12,7 @@ ghost use Rattle.rl_replay.specs.Reading.{SuitsLock};
 
 use crate::deeds::{Deed, Remark, deed_of};
 use crate::lanes::{Cell, Lane, Moment};
-use rl_asks::{Resting, ShardCore};
+use rl_asks::{Resting, ShardCore, ShardGuiding};
 use rl_cores::{CoreTask, Promising, over_lock};
 use rl_history::Naming;
 use rl_machine::Machine;
@@ -245,7 +245,10 @@ impl CoreTask for RecordTask<'_> {
 
     ghost gives = { λ r place kind result. IfOk result (λ lanes. vec_len lanes ≡ length place.paths) };
 
-    fn over<C: Resting + Promising>(self, place: &Place) -> Result<Vec<Lane>, OutOfMemory> {
+    fn over<C: Resting + Promising + ShardGuiding>(
+        self,
+        place: &Place,
+    ) -> Result<Vec<Lane>, OutOfMemory> {
         record_with::<C>(self.alloc, place, self.ops, self.schedule, self.window)
     }
 }
