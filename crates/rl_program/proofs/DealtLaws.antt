@@ -14,7 +14,8 @@ use Rattle.rl_ops.specs.declared.calls_line.CallsVersion.TheVariants.{Two}
 use Rattle.rl_ops.proofs.OpsLaws.{spelled-fits}
 use Rattle.rl_ops.proofs.RankLemmas.{by_rank-push, length-lists_from}
 use Rattle.rl_text.specs.Spelling.{text_of}
-use Rattle.rl_program.specs.Generate.{first_state, next_state, draw, made, put_drawn, add_drawn, cas_drawn, call_drawn, call_of_kind, drawn_calls, dealt, sized, made_ops}
+use Rattle.rl_chance.specs.Draws.{first_state, next_state, draw}
+use Rattle.rl_program.specs.Generate.{made, put_drawn, add_drawn, cas_drawn, call_drawn, call_of_kind, drawn_calls, dealt, sized, made_ops}
 use Rattle.rl_program.proofs.DrawLaws.{several-more, length-several, each-of-several}
 
 -- ---- one more

@@ -1,6 +1,7 @@
--- A placement and calls, made from a number: a generator of numbers, what is drawn from it in which order, and what is made of it.
+-- A placement and calls, made from a number: what is drawn from the generator in which order, and what is made of it.
 use Rattle.std.specs.Prelude.{ℕ, zero, suc, ◌+◌, ◌*◌, ◌/◌, ◌%◌, ◌^◌, List, [], ◌∷◌, length, map, ◌==◌, nat_lt, if◌then◌else◌}
 use Rattle.std.specs.List.{enumerate_from, range_with_len}
+use Rattle.rl_chance.specs.Draws.{first_state, draw}
 use Rattle.rl_model.specs.declared.call.Call.{Call}
 use Rattle.rl_model.specs.declared.call.Call.TheVariants.{Put, Get, Del, Add, Cas}
 use Rattle.rl_place.specs.declared.path.Path.{Path}
@@ -11,15 +12,7 @@ use Rattle.rl_place.specs.Places.{ThePlace}
 use Rattle.rl_ops.specs.declared.ops.Ops.{Ops}
 use Rattle.rl_ops.specs.ByRank.{by_rank}
 
--- ---- the generator
-
--- the state that it begins with
-abbrev pub first_state : ℕ → ℕ
-first_state number = number % 2 ^ 31
-
--- the state after a state
-abbrev pub next_state : ℕ → ℕ
-next_state state = (state * 1103515245 + 12345) % 2 ^ 31
+-- ---- draws
 
 -- something that is made by draws: from the state before them, the thing and the state after them
 abbrev pub Draws : Type 0 → Type 0
@@ -33,10 +26,6 @@ abbrev pub ◌>>=◌ : {A B : Type 0} → Draws A → (A → Draws B) → Draws 
 -- nothing more is drawn
 abbrev pub made : {X : Type 0} → X → Draws X
 made x state = (x, state)
-
--- a number below n: the state moves on, and its high bits give the number
-abbrev pub draw : ℕ → Draws ℕ
-draw n state = (next_state state / 65536 % n, next_state state)
 
 -- ---- calls
 

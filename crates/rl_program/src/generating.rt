@@ -5,18 +5,14 @@ ghost use Rattle.rl_place.specs.declared.limits.TheConstants.{MOST_RANKS};
 ghost use Rattle.rl_place.specs.Places.{IsProper};
 ghost use Rattle.rl_ops.specs.declared.ops.TheConstants.{MOST_CALLS};
 ghost use Rattle.rl_ops.specs.Ops.{OpsFit};
-ghost use Rattle.rl_program.specs.Generate.{first_state, draw, call_drawn, made_paths, made_place, made_ops};
+ghost use Rattle.rl_chance.specs.Draws.{draw};
+ghost use Rattle.rl_program.specs.Generate.{call_drawn, made_paths, made_place, made_ops};
 
+use rl_chance::Generator;
 use rl_model::{Call, Geom};
 use rl_ops::{ByRank, Ops};
 use rl_place::{Lock, Path, Place};
 use std::alloc::{AllocError as OutOfMemory, Global};
-
-/// A generator's states are below this.
-const STATES: u64 = 1 << 31;
-
-/// The bits of a state below this one aren't drawn.
-const LOWEST_DRAWN: u32 = 1 << 16;
 
 /// How many ranks sit on a node.
 const RANKS_ON_A_NODE: u32 = 4;
@@ -30,61 +26,34 @@ const KEYS: u32 = 100;
 /// Every value is below this.
 const VALUES: u32 = 1000;
 
-/// A generator of numbers. What is drawn comes from the high bits of its state.
-#[derive(Drop)]
-struct Generator {
-    state: u32,
+/// Draws an argument of a call.
+fn value_of(generator: &mut Generator) -> u64
+    ensures { (result, generator.new.state) ≡ draw 1000 generator.old.state }
+{
+    u64::from(generator.draw(VALUES))
 }
 
-impl Generator {
-    /// The generator that begins with a number.
-    fn new(number: u64) -> Generator
-        ensures { result.state ≡ first_state number }
-    {
-        Generator {
-            state: (number % STATES) as u32,
-        }
-    }
-
-    /// Draws a number below a limit.
-    fn draw(&mut self, limit: u32) -> u32
-        requires { 0 < limit }
-        ensures { (result, self.new.state) ≡ draw limit self.old.state }
-    {
-        let next = u64::from(self.state) * 1_103_515_245 + 12_345;
-        self.state = (next % STATES) as u32;
-        self.state / LOWEST_DRAWN % limit
-    }
-
-    /// Draws an argument of a call.
-    fn value(&mut self) -> u64
-        ensures { (result, self.new.state) ≡ draw 1000 self.old.state }
-    {
-        u64::from(self.draw(VALUES))
-    }
-
-    /// Draws a call: its kind, then its key, then its arguments.
-    fn call(&mut self) -> Call
-        ensures { (result, self.new.state) ≡ call_drawn self.old.state }
-    {
-        let kind = self.draw(8);
-        let key = u64::from(self.draw(KEYS));
-        match kind {
-            0..=2 => Call::Put {
-                key,
-                value: self.value(),
-            },
-            3 | 4 => Call::Get { key },
-            5 => Call::Del { key },
-            6 => Call::Add {
-                key,
-                by: self.value(),
-            },
-            _ => {
-                let old = self.value();
-                let new = self.value();
-                Call::Cas { key, old, new }
-            }
+/// Draws a call: its kind, then its key, then its arguments.
+fn call_of(generator: &mut Generator) -> Call
+    ensures { (result, generator.new.state) ≡ call_drawn generator.old.state }
+{
+    let kind = generator.draw(8);
+    let key = u64::from(generator.draw(KEYS));
+    match kind {
+        0..=2 => Call::Put {
+            key,
+            value: value_of(generator),
+        },
+        3 | 4 => Call::Get { key },
+        5 => Call::Del { key },
+        6 => Call::Add {
+            key,
+            by: value_of(generator),
+        },
+        _ => {
+            let old = value_of(generator);
+            let new = value_of(generator);
+            Call::Cas { key, old, new }
         }
     }
 }
@@ -142,7 +111,7 @@ fn ops_of(alloc: Global, number: u64, ranks: u32, calls: u32) -> Result<Ops, Out
     let mut sizes = ByRank::with_capacity(alloc, ranks, each)?;
     for index in 0..calls {
         let rank = index % ranks;
-        by_rank.push(rank, generator.call())?;
+        by_rank.push(rank, call_of(&mut generator))?;
         sizes.push(rank, 1)?;
     }
     Ok(Ops { by_rank, sizes })

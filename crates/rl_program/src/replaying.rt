@@ -16,7 +16,7 @@ ghost use Rattle.rl_replay.specs.Reading.{RisesWithFault, SuitsLock};
 ghost use Rattle.rl_program.specs.Answer.{MayRead, WasReplayed};
 
 use crate::reporting::report_of_machine;
-use rl_asks::Resting;
+use rl_asks::{Resting, ShardGuiding};
 use rl_check::report_laws;
 use rl_cores::{CoreTask, Promising, over_lock, ways_of_machine};
 use rl_history::{Report, report_text};
@@ -72,7 +72,10 @@ impl CoreTask for ReplayTask<'_> {
         × IfOk result (λ _. IsKept kind.defined kind.promised kind.ways place r.ops r.schedule.now)
         × IfOk result (λ report. IsLawfulReplay place r.ops report) };
 
-    fn over<C: Resting + Promising>(self, place: &Place) -> Result<Report, OutOfMemory> {
+    fn over<C: Resting + Promising + ShardGuiding>(
+        self,
+        place: &Place,
+    ) -> Result<Report, OutOfMemory> {
         report_with::<C>(self.alloc, place, self.ops, self.schedule)
     }
 }

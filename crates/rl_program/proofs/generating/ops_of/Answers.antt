@@ -23,9 +23,9 @@ loop-index-preserved c =
     let index = c.loop-index.index in
     let ranks = c.args.ranks in
     let told = dealt ranks (drawn_calls c.args.number index).0 in
-    let more = next-dealt c.args.number ranks index c.loop-index.generator.state c.call.new.self.state c.call.result so_far.state c.call.ensures in
+    let more = next-dealt c.args.number ranks index c.loop-index.generator.state c.call_of.new.generator.state c.call_of.result so_far.state c.call_of.ensures in
     record {
-      state = next-state c.args.number index c.loop-index.generator.state c.call.new.self.state c.call.result so_far.state c.call.ensures;
-      calls = next-lists ranks _ c.call.result told _ _ _ so_far.calls c.in_ok-push.ensures.ok more;
-      sizes = next-lists ranks _ 1 (sized told) _ _ _ so_far.sizes c.in_ok-push-2.ensures.ok (next-sized told _ _ c.call.result more);
+      state = next-state c.args.number index c.loop-index.generator.state c.call_of.new.generator.state c.call_of.result so_far.state c.call_of.ensures;
+      calls = next-lists ranks _ c.call_of.result told _ _ _ so_far.calls c.in_ok-push.ensures.ok more;
+      sizes = next-lists ranks _ 1 (sized told) _ _ _ so_far.sizes c.in_ok-push-2.ensures.ok (next-sized told _ _ c.call_of.result more);
     }
