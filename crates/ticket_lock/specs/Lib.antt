@@ -1,4 +1,6 @@
 -- to be believed
 pub mod Ticket
+pub mod TicketLeft
 -- proved; skip at first
 pub mod TicketLaws
+pub mod TicketEnding

@@ -89,11 +89,12 @@ pub record IsDue (served count x : ℕ) : Type 0 where
   pub before : number < served + count
   pub is : x ≡ number % 2 ^ 64
 
--- The tickets of the ranks are a line: they are due, and no two ranks have the same. As there are fewer ranks than 2^64, no two
--- numbers in it have the same ticket, so that it harms nobody when tickets begin at 0 again.
+-- The tickets of the ranks are a line: they are due, no two ranks have the same, and each number in it is some rank's. As there are
+-- fewer ranks than 2^64, no two numbers in it have the same ticket, so that it harms nobody when tickets begin at 0 again.
 pub record IsLine (served : ℕ) (ts : List (Option ℕ)) : Type 0 where
   pub due : (r x : ℕ) → slice_get ts r ≡ Some (Some x) → IsDue served (drawn ts) x
   pub apart : (i j x : ℕ) → slice_get ts i ≡ Some (Some x) → slice_get ts j ≡ Some (Some x) → i ≡ j
+  pub taken : (k : ℕ) → k < drawn ts → (r : ℕ) × (slice_get ts r ≡ Some (Some ((served + k) % 2 ^ 64)))
 
 -- a rank in this phase has the turn
 abbrev pub HasTurn : Phase → Type 0

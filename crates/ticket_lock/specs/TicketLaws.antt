@@ -4,8 +4,8 @@ use Rattle.std.proofs.Common.{lit≤, lit<, sym, ◌∙◌, ap, subst, ⊎_elim,
 use Rattle.std.proofs.lemmas.Option.{same_Some, slice_get_within, get_or_from_slice_get}
 use Rattle.std.proofs.lemmas.List.{length-replicate, length-map}
 use Rattle.std.proofs.lemmas.List.Sums.{count_by-le-length, sum_by-cons, sum_by-set}
-use Rattle.std.proofs.lemmas.Bool.{cond_both, eqb-true, eqb-false}
-use Rattle.rl_word.specs.Places.{get_set_cases, get_map, get_map_back, map_set, set_same_get}
+use Rattle.std.proofs.lemmas.Bool.{cases_lt, cond_both, eqb-true, eqb-false}
+use Rattle.rl_word.specs.Places.{get_set_cases, get_set_same, get_set_other, get_map, get_map_back, map_set, set_same_get}
 use Rattle.rl_word.specs.Acts.{written, told, word_of, Layout, IsLawful}
 use Rattle.rl_word.specs.declared.acts.Act.{Act}
 use Rattle.rl_word.specs.declared.acts.Act.TheVariants.{Load, Store, CardAdd}
@@ -44,11 +44,16 @@ draws s ts r x line none few is =
       apart = λ i j y hi hj. ⊎_elim
           (λ p. ⊎_elim (λ q. p.0 ∙ sym q.0) (λ q. absurd (fresh j (q.1 ∙ ap Some p.1))) (cases j y hj))
           (λ p. ⊎_elim (λ q. absurd (fresh i (p.1 ∙ ap Some q.1))) (λ q. line.apart i j y p.1 q.1) (cases j y hj)) (cases i y hi);
+      taken = λ k low. ⊎_elim
+          (λ old. let t = line.taken k old in (t.0, get_set_other ts r t.0 (Some x) (λ e. let both = sym t.1 ∙ ap (slice_get ts) e ∙ none in cc) ∙ t.1))
+          (λ new. let last : s + k ≡ s + drawn ts = omega (arith, more) in
+          (r, get_set_same ts r None (Some x) none ∙ ap (λ y. Some (Some y)) (is ∙ ap (λ y. y % 2 ^ 64) (sym last))))
+          (cases_lt k (drawn ts));
     }
 
 -- the rank whose ticket is served gives it up, and the next one is served
-releases : (s : ℕ) (ts : List (Option ℕ)) (r : ℕ) → IsLine s ts → slice_get ts r ≡ Some (Some (s % 2 ^ 64)) → IsLine (s + 1) (slice_set ts r None)
-releases s ts r line mine =
+releases : (s : ℕ) (ts : List (Option ℕ)) (r : ℕ) → IsLine s ts → slice_get ts r ≡ Some (Some (s % 2 ^ 64)) → length ts < 2 ^ 64 → IsLine (s + 1) (slice_set ts r None)
+releases s ts r line mine few =
     let less = drawn-set ts r (Some (s % 2 ^ 64)) None mine in
     let old : (i x : ℕ) → slice_get (slice_set ts r None) i ≡ Some (Some x) → (i ≢ r) × (slice_get ts i ≡ Some (Some x)) =
     λ i x h. ⊎_elim (λ q. cc) (λ q. q) (get_set_cases ts r i None (Some x) h) in
@@ -57,6 +62,13 @@ releases s ts r line mine =
           let later : d.number ≢ s = λ e. q.0 (line.apart i r (s % 2 ^ 64) (q.1 ∙ ap (λ y. Some (Some y)) (d.is ∙ ap (λ y. y % 2 ^ 64) e)) mine) in
           record { number = d.number; since = omega (arith, d.since, later); before = omega (arith, d.before); is = d.is };
       apart = λ i j x hi hj. line.apart i j x (old i x hi).1 (old j x hj).1;
+      taken = λ k low.
+          let t = line.taken (k + 1) (omega (arith, less)) in
+          let same : (s + (k + 1)) % 2 ^ 64 ≡ (s + 1 + k) % 2 ^ 64 = ap (λ y. y % 2 ^ 64) (omega arith) in
+          let later : t.0 ≢ r = λ e.
+          let one : (s + (k + 1)) % 2 ^ 64 ≡ s % 2 ^ 64 = same_Some _ _ (same_Some _ _ (sym t.1 ∙ ap (slice_get ts) e ∙ mine)) in
+          omega (arith, one, less, few, count_by-le-length (λ o. is_some o) ts) in
+          (t.0, get_set_other ts r t.0 None later ∙ t.1 ∙ ap (λ y. Some (Some y)) same);
     }
 
 -- what holds of each act: three phases plan one
@@ -73,7 +85,7 @@ by_holder P inside (Inside x) h = inside x
 by_holder P inside _ h = absurd h
 
 -- what a load of the served ticket tells: it is the rank's own, or it isn't
-by_look : (P : Told TicketView → Type 0) (r x got : ℕ) → (got ≡ x → P (told_as r (Inside x) (EnterW r ∷ []) false)) → ((got ≡ x → ⊥) → P (told_as r (Waiting x) [] true)) →
+pub by_look : (P : Told TicketView → Type 0) (r x got : ℕ) → (got ≡ x → P (told_as r (Inside x) (EnterW r ∷ []) false)) → ((got ≡ x → ⊥) → P (told_as r (Waiting x) [] true)) →
     P (ticket_learn r (Waiting x) got)
 by_look P r x got own other = cond_both (got == x) _ _ P (λ e. own (eqb-true got x e)) (λ e. other (eqb-false got x e))
 
@@ -147,7 +159,7 @@ act_keeps n ws views modes r k p a g has plans = subst (After n views modes r k 
           let less = drawn-set (tickets views) r (Some (g.served % 2 ^ 64)) None mine in
           let next : (g.served + drawn (tickets views)) % 2 ^ 64 ≡ (g.served + 1 + drawn (slice_set (tickets views) r None)) % 2 ^ 64 = ap (λ y. y % 2 ^ 64) (omega (arith, less)) in
           let served : (x + 1) % 2 ^ 64 ≡ (g.served + 1) % 2 ^ 64 = omega (arith, turn) in
-          moves g r has Out (g.served + 1) g.all_modes (cc) (releases g.served (tickets views) r g.line mine)
+          moves g r has Out (g.served + 1) g.all_modes (cc) (releases g.served (tickets views) r g.line mine (omega (arith, length-map views (λ v. ticket_of v.phase), g.all_views, g.few)))
           absurd (λ i u ne h t. absurd (ne (g.line.apart i r (g.served % 2 ^ 64) (held g i h ∙ ap Some (g.turns i u h t)) mine)))
 
 -- at first nobody has a ticket
@@ -167,7 +179,7 @@ begins_at n few =
       named = λ r v h. ap (λ z. z.rank) (first r v h) ∙ omega arith;
       served = 0;
       two_words = ap (λ c. words_at 0 c) (sym (none_at_first 0 n));
-      line = record { due = λ r x h. absurd (none r x h); apart = λ i j x hi hj. absurd (none i x hi) };
+      line = record { due = λ r x h. absurd (none r x h); apart = λ i j x hi hj. absurd (none i x hi); taken = λ k low. absurd (omega (arith, none_at_first 0 n)) };
       turns = λ r v h. subst (λ z. HasTurn z.phase → ticket_of z.phase ≡ Some 0) (sym (first r v h)) absurd;
     }
 

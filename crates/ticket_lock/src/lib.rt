@@ -6,12 +6,14 @@
 //!   rank is *inside*. To *release* the lock it stores the ticket after its own.
 //!
 //! Promise: [`Ticket`] meets all laws of a lock (`Algo`), so it excludes: at most one rank is inside. Readers are writers to it.
-//! It has no settings. Tickets begin at 0 again after 2^64 of them, and that harms nobody, as there are fewer ranks.
+//! It has no settings. Tickets begin at 0 again after 2^64 of them, and that harms nobody, as there are fewer ranks. It has no dead
+//! end (`Ending`), and says who goes on (`Guiding`).
 //! Not said here: that a rank ever gets the lock, and that ranks get it in the order of their tickets.
 //!
 //! It is the ticket lock of textbooks, through the network card of the words' home. `docs/YOUR-OWN-LOCK.md` walks through it.
 #![tactic(auto)]
 
+mod ending;
 mod ticket;
 mod view;
 
