@@ -1,0 +1,6 @@
+pub mod Outcomes
+pub mod Leading
+pub mod Stages
+pub mod Stopping
+pub mod Lines
+pub mod Texts

@@ -1,0 +1,42 @@
+//! The machine after some turns, made anew: so a step that was looked at is as if it weren't made.
+
+ghost use Rattle.std.specs.Prelude.{◌≡◌, ◌≤◌, length, IfOk};
+ghost use Rattle.std.specs.List.{AllByRecursion};
+ghost use Rattle.rl_place.specs.Shapes.{shape_of, knobs_of};
+ghost use Rattle.rl_ops.specs.declared.schedule.TheConstants.{MOST_STEPS};
+ghost use Rattle.rl_ops.specs.Schedule.{TurnFits};
+ghost use Rattle.rl_machine.specs.Running.{running};
+ghost use Rattle.rl_machine.specs.Run.{run_of, ranks_of, steps_in};
+ghost use Rattle.rl_drawing.specs.Drawing.{machine_of};
+ghost use Rattle.rl_drawing.specs.Leads.{SceneFits};
+
+use crate::looking::Scene;
+use rl_asks::Resting;
+use rl_machine::Machine;
+use rl_ops::Turn;
+use rl_rests::replay;
+use rl_shown::copied;
+use std::alloc::AllocError as OutOfMemory;
+
+/// The machine after these turns from its beginning on. Refused only for want of memory.
+pub fn machine_after<C: Resting>(
+    scene: Scene<'_>,
+    turns: &[Turn],
+) -> Result<Machine<C>, OutOfMemory>
+    requires scene { SceneFits C.batches scene.place.now scene.naming.now scene.ops.now }
+    requires knobs { C.suits_knobs (shape_of scene.place.now) (knobs_of scene.place.now.lock) }
+    requires there { AllByRecursion (TurnFits (length scene.place.now.paths)) turns.now }
+    requires few { steps_in turns.now ≤ MOST_STEPS }
+    ensures { IfOk result (λ m. running C.shard_table m ≡ run_of (machine_of C.defined scene.entry.place.now scene.entry.ops.now) (ranks_of turns.now)) }
+{
+    let Scene {
+        alloc,
+        place,
+        ops,
+        ..
+    } = scene;
+    let shape = place.shape(alloc)?;
+    let ops = copied(alloc, ops)?;
+    let homes = place.homes.as_slice();
+    replay::<C>(alloc, &shape, place.knobs(), place.geom, homes, ops, turns)
+}

@@ -1,0 +1,10 @@
+pub mod Outcomes
+pub mod RankLaws
+pub mod RankReading
+pub mod RankLists
+pub mod PlainWords
+pub mod SightLaws
+pub mod CourseLaws
+pub mod LineLaws
+pub mod SketchLaws
+pub mod PrintLaws

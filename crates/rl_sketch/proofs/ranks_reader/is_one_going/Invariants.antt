@@ -1,0 +1,6 @@
+use Rattle.std.proofs.Common.{◌≡◌, []}
+use Rattle.rl_sketch.specs.Sketch.{going}
+use Rattle.rl_sketch.proofs.ranks_reader.is_one_going.Given as goal
+
+abbrev pub invariant-loop-rank : goal.invariant-loop-rank
+invariant-loop-rank l = going l.rank l.stopped ≡ []

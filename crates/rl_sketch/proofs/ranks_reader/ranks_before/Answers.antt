@@ -1,0 +1,47 @@
+use Rattle.std.proofs.Common.{◌++◌, [], ◌∷◌, refl, sym, ap, ◌∙◌}
+use Rattle.std.proofs.lemmas.Result.{err_from_is_err_and}
+use Rattle.rl_text.specs.Rows.{row_of}
+use Rattle.rl_text.specs.LineWords.{stepped}
+use Rattle.rl_sketch.specs.SketchReading.{may_of}
+use Rattle.rl_sketch.proofs.RankReading.{no_first, before-first, before-more, before-done, bad_rank, next_rank, few-named}
+use Rattle.rl_sketch.proofs.ranks_reader.ranks_before.Goals as goal
+
+pub returns-in_err-first-clause-value : goal.returns-in_err-first-clause-value
+returns-in_err-first-clause-value c =
+    let p = err_from_is_err_and c.from_residual.result c.from_residual.ensures.1 in
+    rw (p.1, p.2) (no_first (may_of c.args.may) (row_of c.args.line.now) _ (rw c.requires at (sym c.in_err-first.ensures.value)))
+
+pub ranks-init : goal.ranks-init
+ranks-init c =
+    let place = c.in_ok-first.ensures.steps ∙ ap stepped c.requires in
+    let items = c.in_ok-push.ensures.items ∙ ap (λ l. l ++ c.in_ok-first.first ∷ []) c.new-taken.ensures.items in
+    let reading = before-first (may_of c.args.may) (row_of c.args.line.now) _ c.in_ok-first.first place (rw c.requires at (sym c.in_ok-first.ensures.value)) in
+    record {
+      row = reading.same_row;
+      next = rw items reading.next;
+      few = rw items (few-named _ _ reading.named);
+      reading = rw items reading;
+    }
+
+pub returns-in_err-rank-clause-value : goal.returns-in_err-rank-clause-value
+returns-in_err-rank-clause-value c =
+    let p = err_from_is_err_and c.from_residual-in_err-rank.result c.from_residual-in_err-rank.ensures.1 in
+    let so_far = c.ranks.invariant.reading in
+    let more = before-more _ _ _ _ _ _ _ so_far c.next_number.ensures c.is_rank_before.ensures c.ranks-test.true in
+    rw (p.1, p.2) (bad_rank _ _ _ _ _ _ _ _ so_far more (rw c.as_slice.ensures.value at (sym c.in_err-rank.ensures.value)))
+
+pub ranks-preserved : goal.ranks-preserved
+ranks-preserved c =
+    let so_far = c.ranks.invariant.reading in
+    let more = before-more _ _ _ _ _ _ _ so_far c.next_number.ensures c.is_rank_before.ensures c.ranks-test.true in
+    let reading = next_rank _ _ _ _ _ _ _ _ _ so_far more (rw c.as_slice.ensures.value at (sym c.in_ok-rank.ensures.value)) c.in_ok-rank.ensures.steps in
+    let items = c.in_ok-push-2.ensures.items in
+    record {
+      row = reading.same_row;
+      next = rw items reading.next;
+      few = rw items (few-named _ _ reading.named);
+      reading = rw items reading;
+    }
+
+pub returns-clause-value : goal.returns-clause-value
+returns-clause-value c = rw c.from_vec.ensures (before-done _ _ _ _ _ _ _ c.ranks.invariant.reading c.next_number.ensures c.is_rank_before.ensures c.ranks-test.false)
