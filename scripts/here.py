@@ -30,7 +30,7 @@ def built(name="rmalock"):
 
 def program(name="rmalock"):
     """The path of a program, which is built first where it has to be: proved, or where RMALOCK_UNPROVED is 1 without its proofs. The
-    environment may name another one, as RMALOCK, RMALOCK_PICTURE, RMALOCK_STEPS or RMALOCK_STATE."""
+    environment may name another one, as RMALOCK, RMALOCK_PICTURE, RMALOCK_STEPS, RMALOCK_STATE or RMALOCK_FINISH."""
     other = os.environ.get(name.upper())
     if other:
         return os.path.abspath(other)
