@@ -20,7 +20,12 @@ export const STORIES = {
     labels: {},
     causes: {},
     at: [[10, "queue remote", "5"], [30, "queue local", "0 > 1 > 2 > 3 > 4"], [33, "queue local", "1 > 2 > 3 > 4"],
-      [38, "queue local", "1 > 2 > 3 > 4 > 0"], [58, "standing 3", "writer"], [75, "standing 5", "writer"]],
+      [38, "queue local", "1 > 2 > 3 > 4 > 0"], [53, "standing 3", "writer"], [72, "standing 5", "writer"]],
+  },
+  stopped: {
+    labels: {},
+    causes: { 17: 16 },
+    at: [[8, "card 0", "rank 2"], [20, "card 0", "rank 2"], [17, "queue local", "1"]],
   },
   mcs: {
     labels: {},
