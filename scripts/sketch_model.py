@@ -10,6 +10,8 @@ import subprocess
 MOST_STEPS = 2_000_000
 # A rank that is stepped alone shows what it ever shows within so many steps, in the small cases that are tried.
 LONG = 120
+# Ranks that go in turn hinder each other: who shows it shows it within so many steps of each.
+LONG_IN_TURN = 400
 
 
 class Never(Exception):
@@ -116,7 +118,7 @@ class Drawing:
             if not shown:
                 waiting.append(rank)
             laps += 1
-            if laps > LONG * self.replays.ranks:
+            if laps > LONG_IN_TURN * self.replays.ranks:
                 raise Never
 
     def at_random(self, ranks, seed, count):
