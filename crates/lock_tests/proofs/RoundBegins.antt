@@ -1,14 +1,14 @@
 -- A rank of the tests' core that begins a round.
 use Rattle.std.specs.Prelude.{◌≡◌, ℕ, Option, Some, None}
 use Rattle.std.proofs.Common.{sym, subst, ⊎_elim, arith}
-use Rattle.rl_word.specs.Places.{get_set_cases}
+use Rattle.rl_word.specs.laws.Places.{get_set_cases}
 use Rattle.rl_word.specs.declared.acts.Atom.{Atom}
 use Rattle.rl_word.specs.declared.acts.Atom.TheVariants.{Take}
 use Rattle.rl_window.specs.declared.window.Window.{Window}
 use Rattle.rl_window.specs.declared.window.WinSeat.{WinSeat}
 use Rattle.rl_window.specs.Rule.{Keeps}
 use Rattle.rl_window.specs.Seats.{IsSeatOf, IsKept, with_view}
-use Rattle.rl_window.specs.SeatLemmas.{reviewed, changed}
+use Rattle.rl_window.specs.laws.SeatLemmas.{reviewed, changed}
 use Rattle.lock_tests.specs.Rounds.{CanGoOn, GoOn, rounds_rule}
 
 begins_round : (r : ℕ) → Keeps GoOn r None (Some (Take 0))

@@ -2,13 +2,13 @@
 use Rattle.std.specs.Prelude.{◌≡◌, ◌≢◌, ℕ, zero, suc, ◌+◌, ◌%◌, ◌^◌, ◌<◌, ◌==◌, Bool, true, false, List, [], ◌∷◌, length, if◌then◌else◌, slice_get, slice_set, slice_index, Option, Some, None, refl}
 use Rattle.std.proofs.Common.{subst, sym, ap, ◌∙◌, ⊎_elim, arith, length-set}
 use Rattle.std.proofs.lemmas.Bool.{eqb-true}
-use Rattle.rl_word.specs.Places.{get_set_cases}
+use Rattle.rl_word.specs.laws.Places.{get_set_cases}
 use Rattle.rl_word.specs.declared.acts.Atom.{Atom}
 use Rattle.rl_word.specs.declared.acts.Atom.TheVariants.{Load, Store, LocalCas, Take, CardLoad, CardStore, Leave}
 use Rattle.rl_step.specs.declared.events.Stepped.TheVariants.{Moved, Lost, Finished}
 use Rattle.rl_step.specs.Do.{TheWindow, do_atom, do_got, do_words, do_cards, CanDo}
 use Rattle.rl_step.specs.Core.{Turned, CoreTable, CoreLaws, home_at}
-use Rattle.rl_window.specs.AtomLengths.{as_many_words, as_many_cards}
+use Rattle.rl_window.specs.laws.AtomLengths.{as_many_words, as_many_cards}
 
 abbrev pub moved_to : Option Atom → Turned (Option Atom)
 moved_to next = record { view = next; events = []; stepped = Moved }

@@ -3,7 +3,7 @@
 ghost use Rattle.std.specs.Prelude.{◌≡◌, length, [], None, Some};
 ghost use Rattle.rl_word.specs.declared.acts.Atom.TheVariants.{Load};
 ghost use Rattle.rl_step.specs.declared.events.Stepped.TheVariants.{Moved};
-ghost use Rattle.lock_tests.specs.Loader.{can_load, load_keeps, goes_on};
+ghost use Rattle.lock_tests.specs.laws.Loader.{can_load, load_keeps, goes_on};
 
 use arrayvec::ArrayVec;
 use rl_step::{Core, Event, Flat, Plan, Stepped, Steps, Words, advance, advance_flat};

@@ -10,16 +10,16 @@ use Rattle.rl_queue.specs.declared.view.Phase.{Phase}
 use Rattle.rl_queue.specs.declared.view.Phase.TheVariants.{Settle}
 use Rattle.rl_queue.specs.Queue.{TheNames, plan_at, turn_at, PlanFits, GotFits}
 use Rattle.rl_queue.specs.QueueFits.{plan_fits, learn_fits}
-use Rattle.rl_queue.specs.QueueTurns.{turn_all}
+use Rattle.rl_queue.specs.laws.QueueTurns.{turn_all}
 use Rattle.rl_queue.specs.RankWords.{every_second}
-use Rattle.rl_queue.specs.RankWordLaws.{length-every_second}
+use Rattle.rl_queue.specs.laws.RankWordLaws.{length-every_second}
 use Rattle.rl_alock.specs.declared.cohort.Cohort.{Cohort}
 use Rattle.rl_alock.specs.declared.view.Entry.{Entry}
 use Rattle.rl_alock.specs.declared.view.AlockView.{AlockView}
 use Rattle.rl_alock.specs.Alock.{Cohorts, ranks_of, budget_in, cohort_of, names_of, queue_in, alock_plan, alock_learn, told_turn}
 use Rattle.rl_alock.specs.AlockGood.{InCohort, phases_of, AlockGood}
-use Rattle.rl_alock.specs.AlockViews.{phase_get, mine_is}
-use Rattle.rl_alock.specs.AlockLaws.{rank_there}
+use Rattle.rl_alock.specs.laws.AlockViews.{phase_get, mine_is}
+use Rattle.rl_alock.specs.laws.AlockLaws.{rank_there}
 
 -- away from the entry a rank's act is its queue's, and so is what it learns
 pub plan_away : (N : TheNames) (c : Cohort) (m : ℕ) (p : Phase) (st : Entry) → p ≢ Settle → alock_plan N c m p st ≡ plan_at N m p

@@ -10,12 +10,12 @@ use Rattle.rl_step.specs.Lock.{LockState, LockLaws, Told, acted, Acts}
 use Rattle.rl_step.specs.Queues.{tenures}
 use Rattle.rl_queue.specs.declared.view.Phase.{Phase}
 use Rattle.rl_queue.specs.declared.view.Phase.TheVariants.{Idle, Clear, Settle, Granted, Look, Above}
-use Rattle.rl_queue.specs.Choices.{other_test}
+use Rattle.rl_queue.specs.laws.Choices.{other_test}
 use Rattle.rl_queue.specs.Queue.{leave_at}
 use Rattle.rl_queue.specs.LaneLaws.{IsFirst}
 use Rattle.rl_queue.specs.QueueMoves.{one_first}
 use Rattle.rl_queue.specs.Standings.{standing_of}
-use Rattle.rl_queue.specs.StandingLaws.{out_idle, no_reader}
+use Rattle.rl_queue.specs.laws.StandingLaws.{out_idle, no_reader}
 use Rattle.rl_queue.specs.RankWords.{Seated}
 use Rattle.rl_alock.specs.declared.view.Entry.{Entry}
 use Rattle.rl_alock.specs.declared.view.Entry.TheVariants.{Announce, Tail, Victim}
@@ -23,14 +23,14 @@ use Rattle.rl_alock.specs.declared.view.AlockView.{AlockView}
 use Rattle.rl_alock.specs.declared.cohort.Cohort.{Cohort}
 use Rattle.rl_alock.specs.Alock.{Cohorts, BoundsOvertaking, cohort_of, cohort_no, tail_no, budget_in, names_of, queue_in, alock_plan, at_entry, settles_now, alock_table, other, is_in}
 use Rattle.rl_alock.specs.AlockGood.{InCohort, phase_at, entry_at, phases_of, Announced, status_at, AlockGood}
-use Rattle.rl_alock.specs.CohortLaws.{other_differs, other_cohort}
-use Rattle.rl_alock.specs.AlockViews.{phase_get, entry_get, mine_is}
-use Rattle.rl_alock.specs.AlockKeeps.{none_listed, announced_listed, both_lines, by_test, load_same}
-use Rattle.rl_alock.specs.AlockLaws.{alock_laws}
+use Rattle.rl_alock.specs.laws.CohortLaws.{other_differs, other_cohort}
+use Rattle.rl_alock.specs.laws.AlockViews.{phase_get, entry_get, mine_is}
+use Rattle.rl_alock.specs.laws.AlockKeeps.{none_listed, announced_listed, both_lines, by_test, load_same}
+use Rattle.rl_alock.specs.laws.AlockLaws.{alock_laws}
 use Rattle.rl_alock.specs.AlockPots.{pot}
 use Rattle.rl_alock.specs.AlockOvertakes.{Overtaken, pot_in, pot_by, goes_on, plus_zero, queue_overtakes, still_overtakes, settle_overtakes, announce_overtakes}
 use Rattle.rl_step.specs.Overtaking.{window_of}
-use Rattle.rl_step.specs.OvertakingLaws.{is_overtaken}
+use Rattle.rl_step.specs.laws.OvertakingLaws.{is_overtaken}
 
 -- a state is good, and neither cohort has been overtaken too often, or has come to where it would be
 pub record AlockBounded (K : Cohorts) (s : LockState AlockView) : Type 0 where

@@ -4,7 +4,7 @@ use Rattle.std.specs.Prelude.{◌≡◌, ◌≢◌, ◌⊎◌, ℕ, zero, suc, �
 use Rattle.std.proofs.Common.{sym, ◌∙◌, ap, subst, inl, inr, ⊎_elim, arith, get_or-set_same, get_or-set_other}
 use Rattle.std.proofs.lemmas.List.{append-nil}
 use Rattle.std.proofs.lemmas.Option.{same_Some}
-use Rattle.rl_word.specs.Places.{same_or_not}
+use Rattle.rl_word.specs.laws.Places.{same_or_not}
 use Rattle.rl_word.specs.Acts.{word_of, written, told}
 use Rattle.rl_word.specs.declared.acts.Act.{Act}
 use Rattle.rl_step.specs.declared.events.Event.{Event}
@@ -13,7 +13,7 @@ use Rattle.rl_step.specs.Lock.{LockState}
 use Rattle.rl_step.specs.Queues.{tenures}
 use Rattle.rl_queue.specs.declared.view.Phase.{Phase}
 use Rattle.rl_queue.specs.declared.view.Phase.TheVariants.{Idle, Clear, Reset, Swing, Link, Wait, Settle, Granted, Look, Close, Await, Hand}
-use Rattle.rl_queue.specs.Choices.{same_test, other_test}
+use Rattle.rl_queue.specs.laws.Choices.{same_test, other_test}
 use Rattle.rl_queue.specs.Queue.{TheNames, Turn, status_word, full_budget, plan_at, turn_at}
 use Rattle.rl_queue.specs.Lane.{lane_of, Busy, Own}
 use Rattle.rl_queue.specs.LaneLaws.{IsFirst}
@@ -27,15 +27,15 @@ use Rattle.rl_alock.specs.declared.view.AlockView.{AlockView}
 use Rattle.rl_alock.specs.declared.cohort.Cohort.{Cohort}
 use Rattle.rl_alock.specs.Alock.{Cohorts, cohort_of, ranks_of, cohort_no, budget_in, names_of, queue_in, at_entry, entry_of, settles_now, other, is_in}
 use Rattle.rl_alock.specs.AlockGood.{InCohort, phase_at, entry_at, phases_of, Announced, status_at, AlockGood}
-use Rattle.rl_alock.specs.CohortLaws.{other_cohort, same_cohort, two_same, same_no, in_own, in_other}
-use Rattle.rl_alock.specs.AlockViews.{phase_get, phase_set_same, phase_set_other, entry_get, entry_set_same, entry_set_other, mine_is, moves_mine}
-use Rattle.rl_alock.specs.AlockWords.{named_in, victim_apart, cohorts_apart}
-use Rattle.rl_alock.specs.AlockTurns.{entry_all}
-use Rattle.rl_queue.specs.QueueTurns.{turn_all}
-use Rattle.rl_queue.specs.PhaseLaws.{first_busy}
+use Rattle.rl_alock.specs.laws.CohortLaws.{other_cohort, same_cohort, two_same, same_no, in_own, in_other}
+use Rattle.rl_alock.specs.laws.AlockViews.{phase_get, phase_set_same, phase_set_other, entry_get, entry_set_same, entry_set_other, mine_is, moves_mine}
+use Rattle.rl_alock.specs.laws.AlockWords.{named_in, victim_apart, cohorts_apart}
+use Rattle.rl_alock.specs.laws.AlockTurns.{entry_all}
+use Rattle.rl_queue.specs.laws.QueueTurns.{turn_all}
+use Rattle.rl_queue.specs.laws.PhaseLaws.{first_busy}
 use Rattle.rl_alock.specs.AlockPots.{pot, pot_victim, pot_first, head_pot, enters, act_pots, pot_of_head, head_is}
 use Rattle.rl_step.specs.Overtaking.{opened, one_more, window_after, window_of, Low, OvertakenFrom}
-use Rattle.rl_step.specs.OvertakingLaws.{window-append, overtaken-append}
+use Rattle.rl_step.specs.laws.OvertakingLaws.{window-append, overtaken-append}
 
 -- how many of cohort o the rank m may still let in
 abbrev pub pot_in : Cohorts → Cohort → List ℕ → List AlockView → ℕ → ℕ

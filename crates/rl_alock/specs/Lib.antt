@@ -2,20 +2,9 @@
 pub mod Alock
 pub mod AlockLeft
 pub mod AlockUrgency
--- proved; skip at first
-pub mod CohortLaws
 pub mod AlockGood
-pub mod AlockWords
-pub mod AlockViews
-pub mod AlockEntry
-pub mod AlockTurns
-pub mod AlockActs
-pub mod AlockKeeps
-pub mod AlockFits
-pub mod AlockLaws
+-- both definitions and lemmas: to be cut
 pub mod AlockPots
 pub mod AlockOvertakes
 pub mod AlockBounded
-pub mod AlockEnding
-pub mod AlockGuiding
-pub mod SameViews
+pub mod laws

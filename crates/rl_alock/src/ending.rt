@@ -3,7 +3,7 @@
 ghost use Rattle.std.specs.Prelude.{◌*◌, ◌+◌};
 ghost use Rattle.rl_alock.specs.Alock.{cohorts_of, ranks_of};
 ghost use Rattle.rl_alock.specs.AlockLeft.{alock_left};
-ghost use Rattle.rl_alock.specs.AlockEnding.{bounded_ends};
+ghost use Rattle.rl_alock.specs.laws.AlockEnding.{bounded_ends};
 
 use crate::alock::Alock;
 use rl_ending::Ending;

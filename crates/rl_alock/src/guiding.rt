@@ -3,7 +3,7 @@
 ghost use Rattle.std.specs.Prelude.{◌≡◌, ◌+◌, ◌^◌, ◌≤◌, length, slice_index};
 ghost use Rattle.rl_alock.specs.Alock.{cohorts_of, tail_no, victim_no, other};
 ghost use Rattle.rl_alock.specs.AlockUrgency.{head_urgent, alock_urgent};
-ghost use Rattle.rl_alock.specs.AlockGuiding.{alock_guides};
+ghost use Rattle.rl_alock.specs.laws.AlockGuiding.{alock_guides};
 
 use crate::alock::{Alock, VICTIM};
 use crate::cohort::Cohort;

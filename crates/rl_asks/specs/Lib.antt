@@ -15,10 +15,6 @@ pub mod ShardLaws
 pub mod GoodStates
 pub mod ShardEnding
 pub mod ShardGuiding
--- proved; skip at first
+-- both definitions and lemmas: to be cut
 pub mod AskLaws
-pub mod RankLaws
-pub mod OpsBridge
-pub mod JournalLaws
-pub mod Filling
-pub mod TouchLaws
+pub mod laws

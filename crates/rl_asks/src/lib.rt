@@ -14,7 +14,7 @@
 //!
 //! Promise, for every core that keeps the laws of one: how its states come under its rule and stay there, and what is known of them then
 //! ([`core_laws`]), of any state that it calls good, however that state was come to. And a rank stays good where it begins, where it opens
-//! its next block, and where any desk of its own turns, by whichever rank's atom (`specs/RankLaws`).
+//! its next block, and where any desk of its own turns, by whichever rank's atom (`specs/laws/RankLaws`).
 //! Not said here: how a lock is had, and how the work of a block is done.
 #![tactic(auto)]
 

@@ -3,7 +3,7 @@ use Rattle.std.proofs.Common.{◌≡◌, ℕ, zero, suc, ◌+◌, ◌<◌, ◌�
 use Rattle.std.specs.Prelude.{slice_get}
 use Rattle.std.proofs.lemmas.Option.{same_Some, slice_get_within}
 use Rattle.std.proofs.lemmas.Bool.Decides.{nat_tests}
-use Rattle.rl_word.specs.Places.{some_at}
+use Rattle.rl_word.specs.laws.Places.{some_at}
 use Rattle.rl_model.specs.declared.entry.Entry.{Entry}
 use Rattle.rl_journal.specs.Blocks.{is_last}
 use Rattle.rl_journal.specs.Legal.{updates}

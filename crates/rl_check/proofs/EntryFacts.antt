@@ -12,7 +12,7 @@ use Rattle.rl_model.specs.Call.{is_update}
 use Rattle.rl_model.specs.Table.{sum_below}
 use Rattle.rl_model.proofs.Counts.{count-cons, count-append, sum_of_counts}
 use Rattle.rl_journal.specs.Legal.{joined}
-use Rattle.rl_journal.specs.Lists.{get_cases, get_left}
+use Rattle.rl_journal.specs.laws.Lists.{get_cases, get_left}
 use Rattle.rl_journal.specs.Ranks.{count_in}
 use Rattle.rl_ops.specs.Asked.{asked_after, asked_of, batch_of}
 use Rattle.rl_ops.specs.Blocks.{AreOneBlock, sizes_of}

@@ -2,12 +2,12 @@
 use Rattle.std.proofs.Common.{◌≡◌, ◌⊎◌, ℕ, zero, suc, ◌+◌, ◌<◌, Bool, List, length, Some, refl, sym, ap, subst, ◌∙◌, inl, inr, ⊎_elim, arith}
 use Rattle.std.specs.Prelude.{slice_get}
 use Rattle.std.proofs.lemmas.Option.{same_Some, slice_get_within}
-use Rattle.rl_word.specs.Places.{some_at}
+use Rattle.rl_word.specs.laws.Places.{some_at}
 use Rattle.rl_model.specs.declared.call.Call.{Call}
 use Rattle.rl_model.specs.declared.entry.Entry.{Entry}
 use Rattle.rl_model.specs.declared.geom.Geom.{Geom}
 use Rattle.rl_journal.specs.Legal.{joined}
-use Rattle.rl_journal.specs.Lists.{all_at}
+use Rattle.rl_journal.specs.laws.Lists.{all_at}
 use Rattle.rl_journal.specs.Ranks.{Follows, IsInOrder, IsEntryOf, IsRankInOrder}
 use Rattle.rl_ops.specs.Asked.{asked_of}
 use Rattle.rl_history.specs.declared.report.Done.{Done}

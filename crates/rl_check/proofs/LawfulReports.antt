@@ -6,12 +6,12 @@ use Rattle.std.specs.FinMap as finite
 use Rattle.std.proofs.lemmas.List.{length-map}
 use Rattle.std.proofs.lemmas.Bool.Decides.{nat_tests}
 use Rattle.std.proofs.lemmas.Option.{same_Some, slice_get_within, get_or_from_slice_get}
-use Rattle.rl_word.specs.Places.{some_at}
+use Rattle.rl_word.specs.laws.Places.{some_at}
 use Rattle.rl_model.specs.declared.call.Call.{Call}
 use Rattle.rl_model.specs.declared.entry.Entry.{Entry}
 use Rattle.rl_model.specs.Asked.{Asked}
 use Rattle.rl_journal.specs.Legal.{updates, is_of, table_after}
-use Rattle.rl_journal.specs.Lists.{all_at}
+use Rattle.rl_journal.specs.laws.Lists.{all_at}
 use Rattle.rl_journal.specs.Ranks.{IsEntryOf, IsRankInOrder}
 use Rattle.rl_place.specs.Places.{ThePlace}
 use Rattle.rl_ops.specs.declared.ops.Ops.{Ops}

@@ -11,9 +11,9 @@ use Rattle.rl_model.specs.Call.{shard_of}
 use Rattle.rl_journal.specs.Blocks.{is_last}
 use Rattle.rl_journal.specs.Legal.{updates, is_of}
 use Rattle.rl_journal.specs.History.{Precedes, Each, IsSorted, AreOwn, IsReplayedByOneThread, TellsUpdatesBefore}
-use Rattle.rl_journal.specs.HistoryLaws.{replayed}
-use Rattle.rl_journal.specs.HistoryPlaces.{places_told}
-use Rattle.rl_journal.specs.HistorySorted.{history_sorted}
+use Rattle.rl_journal.specs.laws.HistoryLaws.{replayed}
+use Rattle.rl_journal.specs.laws.HistoryPlaces.{places_told}
+use Rattle.rl_journal.specs.laws.HistorySorted.{history_sorted}
 use Rattle.rl_journal.specs.Ranks.{IsInOrder}
 use Rattle.rl_place.specs.Places.{ThePlace}
 use Rattle.rl_history.specs.Reports.{TheShard}

@@ -8,16 +8,16 @@ use Rattle.std.proofs.lemmas.List.{take-append-drop, take_at}
 use Rattle.std.proofs.lemmas.List.Elements.{filter-append}
 use Rattle.std.proofs.lemmas.List.Sums.{length-filter}
 use Rattle.std.proofs.lemmas.Option.{same_Some, slice_get_within}
-use Rattle.rl_word.specs.Places.{some_at}
+use Rattle.rl_word.specs.laws.Places.{some_at}
 use Rattle.rl_model.proofs.Counts.{count-cons, count-append}
 use Rattle.rl_model.specs.declared.entry.Entry.{Entry}
 use Rattle.rl_model.specs.Table.{apply}
 use Rattle.rl_journal.specs.Legal as legal
 use Rattle.rl_journal.specs.Legal.{updates, is_of, table_after, map_at, IsLegalRead, IsLegal}
-use Rattle.rl_journal.specs.LegalLaws.{each_part}
+use Rattle.rl_journal.specs.laws.LegalLaws.{each_part}
 use Rattle.rl_journal.specs.History.{looked_at, reads_at, history_from, history, Precedes, Each, IsSorted}
-use Rattle.rl_journal.specs.HistorySorted.{history_sorted}
-use Rattle.rl_journal.specs.Lists.{get_cases, get_left}
+use Rattle.rl_journal.specs.laws.HistorySorted.{history_sorted}
+use Rattle.rl_journal.specs.laws.Lists.{get_cases, get_left}
 use Rattle.rl_journal.specs.Ranks.{IsInOrder}
 use Rattle.rl_place.specs.Places.{ThePlace}
 use Rattle.rl_history.specs.Naming.{naming_of}

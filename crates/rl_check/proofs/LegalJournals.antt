@@ -7,14 +7,14 @@ use Rattle.std.proofs.lemmas.Bool.Decides.{nat_tests}
 use Rattle.std.proofs.lemmas.List.{drop-drop, drop_all, take-append-drop, length-map}
 use Rattle.std.proofs.lemmas.List.Elements.{filter-append}
 use Rattle.std.proofs.lemmas.Option.{same_Some, slice_get_within}
-use Rattle.rl_word.specs.Places.{some_at}
+use Rattle.rl_word.specs.laws.Places.{some_at}
 use Rattle.rl_model.specs.declared.call.Call.{Call}
 use Rattle.rl_model.specs.declared.entry.Entry.{Entry}
 use Rattle.rl_model.specs.Table.{Table, apply}
 use Rattle.rl_journal.specs.Blocks.{apply_block, apply_batch, calls_of, replies_of, half_after, is_last, size_of, IsPart, AreParts, IsBlock}
-use Rattle.rl_journal.specs.BlockLaws.{block_done}
+use Rattle.rl_journal.specs.laws.BlockLaws.{block_done}
 use Rattle.rl_journal.specs.Legal.{updates, table_after, joined, IsLegalBlock, AreLegalFrom, IsLegalJournal}
-use Rattle.rl_journal.specs.Lists.{filter_all}
+use Rattle.rl_journal.specs.laws.Lists.{filter_all}
 use Rattle.rl_place.specs.Places.{ThePlace}
 use Rattle.rl_history.specs.Naming.{naming_of}
 use Rattle.rl_history.specs.Reports.{TheShard, PartFits, ShardFits}

@@ -6,15 +6,15 @@ use Rattle.std.specs.FinMap as finite
 use Rattle.std.proofs.lemmas.Bool.Decides.{nat_tests}
 use Rattle.std.proofs.lemmas.List.{length-map}
 use Rattle.std.proofs.lemmas.Option.{slice_get_within, get_or_from_slice_get}
-use Rattle.rl_word.specs.Places.{get_map_back, some_at}
+use Rattle.rl_word.specs.laws.Places.{get_map_back, some_at}
 use Rattle.rl_model.specs.declared.call.Call.{Call}
 use Rattle.rl_model.specs.declared.entry.Entry.{Entry}
 use Rattle.rl_step.specs.declared.events.Event.{Event}
-use Rattle.rl_step.specs.ExclusionLaws.{is_exclusive}
+use Rattle.rl_step.specs.laws.ExclusionLaws.{is_exclusive}
 use Rattle.rl_step.specs.Queues.{QueueOf}
-use Rattle.rl_step.specs.QueueLemmas.{is_within}
+use Rattle.rl_step.specs.laws.QueueLemmas.{is_within}
 use Rattle.rl_journal.specs.Legal.{is_of, joined, table_after}
-use Rattle.rl_journal.specs.LegalLaws.{each_part}
+use Rattle.rl_journal.specs.laws.LegalLaws.{each_part}
 use Rattle.rl_journal.specs.Ranks.{IsInOrder, IsEntryOf, IsRankInOrder}
 use Rattle.rl_place.specs.Places.{ThePlace, IsProper}
 use Rattle.rl_ops.specs.declared.ops.Ops.{Ops}

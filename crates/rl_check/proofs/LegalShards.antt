@@ -4,7 +4,7 @@ use Rattle.std.specs.Prelude.{slice_get}
 use Rattle.std.specs.List.{count_by}
 use Rattle.std.proofs.lemmas.Option.{same_Some, slice_get_within}
 use Rattle.std.proofs.Math.Seq.{take-add}
-use Rattle.rl_word.specs.Places.{some_at}
+use Rattle.rl_word.specs.laws.Places.{some_at}
 use Rattle.rl_model.proofs.Counts.{count-cons, count-append}
 use Rattle.rl_model.specs.declared.entry.Entry.{Entry}
 use Rattle.rl_journal.specs.Blocks.{is_last}

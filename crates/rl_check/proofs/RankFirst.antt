@@ -10,7 +10,7 @@ use Rattle.std.proofs.lemmas.Option.{same_Some, slice_get-get_or, slice_get_past
 use Rattle.rl_model.specs.declared.call.Call.{Call}
 use Rattle.rl_model.specs.declared.entry.Entry.{Entry}
 use Rattle.rl_journal.specs.Legal.{is_of}
-use Rattle.rl_journal.specs.Lists.{get_cases}
+use Rattle.rl_journal.specs.laws.Lists.{get_cases}
 use Rattle.rl_ops.specs.declared.ops.Ops.{Ops}
 use Rattle.std.specs.Prelude.{nat_le}
 use Rattle.std.proofs.lemmas.Bool.Decides.{nat_tests}

@@ -4,7 +4,7 @@ use Rattle.std.specs.Prelude.{slice_get, slice_set, ◌↔◌}
 use Rattle.std.specs.List.{count_by}
 use Rattle.std.proofs.lemmas.List.{at_drop_more, at_drop_all}
 use Rattle.std.specs.Prelude.{nat_lt}
-use Rattle.rl_word.specs.Places.{get_set_cases}
+use Rattle.rl_word.specs.laws.Places.{get_set_cases}
 use Rattle.rl_history.specs.declared.report.Done.{Done}
 use Rattle.std.proofs.lemmas.Option.{same_Some, slice_get_within, slice_get-get_or}
 use Rattle.std.proofs.lemmas.Bool.Decides.{nat_tests}

@@ -4,16 +4,16 @@ use Rattle.std.specs.Prelude.{slice_get}
 use Rattle.std.specs.FinMap as finite
 use Rattle.std.proofs.lemmas.List.{take_at}
 use Rattle.std.proofs.lemmas.Option.{same_Some, slice_get_within}
-use Rattle.rl_word.specs.Places.{some_at}
+use Rattle.rl_word.specs.laws.Places.{some_at}
 use Rattle.rl_model.specs.declared.entry.Entry.{Entry}
 use Rattle.rl_model.specs.declared.call.Call.{Call}
 use Rattle.rl_model.specs.declared.geom.Geom.{Geom}
 use Rattle.rl_model.specs.Table.{Table, apply}
 use Rattle.rl_journal.specs.Blocks.{apply_block, apply_batch, calls_of, replies_of, half_after, is_last, size_of, IsPart, IsBlock}
-use Rattle.rl_journal.specs.BlockLaws.{part_at, size_pos, block_half, block_done}
+use Rattle.rl_journal.specs.laws.BlockLaws.{part_at, size_pos, block_half, block_done}
 use Rattle.rl_journal.specs.Legal.{updates, table_after, joined, IsLegalBlock}
 use Rattle.rl_journal.specs.History.{IsReplayed}
-use Rattle.rl_journal.specs.Lists.{get_cases, get_left, filter_all}
+use Rattle.rl_journal.specs.laws.Lists.{get_cases, get_left, filter_all}
 use Rattle.rl_history.specs.Lawful.{journal_in}
 use Rattle.rl_check.specs.Entries.{before, table_before, IsFirstOfBlock, MayFollow, IsInBatch, IsAnswered, HasReply}
 use Rattle.rl_check.specs.OneThread.{is_begun}

@@ -5,10 +5,10 @@ use Rattle.std.specs.List.{count_by}
 use Rattle.std.proofs.lemmas.Option.{same_Some, slice_get_within, slice_get-get_or}
 use Rattle.std.proofs.lemmas.List.{take_all}
 use Rattle.std.proofs.lemmas.Bool.Decides.{nat_tests}
-use Rattle.rl_word.specs.Places.{get_set_cases}
+use Rattle.rl_word.specs.laws.Places.{get_set_cases}
 use Rattle.rl_model.specs.declared.entry.Entry.{Entry}
 use Rattle.rl_model.proofs.Counts.{count-append, count-cons}
-use Rattle.rl_journal.specs.Lists.{get_left}
+use Rattle.rl_journal.specs.laws.Lists.{get_left}
 use Rattle.rl_check.specs.declared.slots.Slot.{Slot}
 use Rattle.rl_check.specs.declared.slots.Slot.TheVariants.{Empty, One, More}
 use Rattle.rl_check.specs.Ranks.{is_numbered}

@@ -6,7 +6,7 @@ use Rattle.std.proofs.lemmas.Option.{same_Some, slice_get_within}
 use Rattle.std.proofs.lemmas.List.{length-map}
 use Rattle.std.proofs.lemmas.List.Elements.{filter-append}
 use Rattle.std.proofs.Math.Seq.{take-add}
-use Rattle.rl_word.specs.Places.{get_map_back, some_at}
+use Rattle.rl_word.specs.laws.Places.{get_map_back, some_at}
 use Rattle.rl_model.specs.declared.call.Call.{Call}
 use Rattle.rl_model.specs.declared.call.Call.TheVariants.{Put, Get, Del, Add, Cas, Hold}
 use Rattle.rl_model.specs.declared.entry.Entry.{Entry}
@@ -15,9 +15,9 @@ use Rattle.rl_model.specs.declared.geom.Geom.{Geom}
 use Rattle.rl_model.specs.Call.{is_update}
 use Rattle.rl_model.specs.Table.{Table, apply, after_get}
 use Rattle.rl_journal.specs.Blocks.{stops, any_stops, only_first, undone, in_turn, apply_block, apply_batch, calls_of, half_after, is_last}
-use Rattle.rl_journal.specs.BlockLaws.{half_append}
+use Rattle.rl_journal.specs.laws.BlockLaws.{half_append}
 use Rattle.rl_journal.specs.Legal.{updates}
-use Rattle.rl_journal.specs.Lists.{get_cases, get_more_cases, filter_all}
+use Rattle.rl_journal.specs.laws.Lists.{get_cases, get_more_cases, filter_all}
 use Rattle.rl_history.specs.Lawful.{journal_in}
 use Rattle.rl_check.specs.Entries.{before, table_before, IsWholeBatch, IsAnswered}
 use Rattle.rl_check.specs.OneThread.{is_begun, BatchesFit, Tells, IsToldTo}

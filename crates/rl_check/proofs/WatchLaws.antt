@@ -5,13 +5,13 @@ use Rattle.std.specs.Option.{is_some}
 use Rattle.std.proofs.lemmas.Option.{same_Some, slice_get_within, slice_get-get_or}
 use Rattle.std.proofs.lemmas.List.{get_or-set_same, get_or-set_other, append-nil, length-replicate}
 use Rattle.std.proofs.lemmas.Bool.Decides.{nat_tests}
-use Rattle.rl_word.specs.Places.{some_at}
+use Rattle.rl_word.specs.laws.Places.{some_at}
 use Rattle.rl_step.specs.declared.events.Event.{Event}
 use Rattle.rl_step.specs.declared.events.Event.TheVariants.{Join, Announce, Pass, Settle, EnterW, EnterR, LeaveW, LeaveR}
 use Rattle.rl_step.specs.Exclusion.{writers_of, readers_of, writers_after, readers_after, nobody, Alone, TouchFits, ExclusiveFrom}
-use Rattle.rl_step.specs.ExclusionLaws.{exclusive_append, exclusive_from, is_exclusive, writers_append, readers_append}
+use Rattle.rl_step.specs.laws.ExclusionLaws.{exclusive_append, exclusive_from, is_exclusive, writers_append, readers_append}
 use Rattle.rl_step.specs.Queues.{QueueOf, WithinFrom, PassFits, room_of, room_after, IsWithin}
-use Rattle.rl_step.specs.QueueLemmas.{room-append, within-append, is_within, within_from}
+use Rattle.rl_step.specs.laws.QueueLemmas.{room-append, within-append, is_within, within_from}
 use Rattle.std.specs.Bool.{MatchBool}
 use Rattle.rl_check.specs.Shards.{KeepsRules}
 use Rattle.std.proofs.lemmas.List.{map-append}

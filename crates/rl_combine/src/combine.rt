@@ -240,7 +240,7 @@ impl Work for CombineWork {
     ghost use Rattle.rl_combine.specs.Combine as model;
     ghost use Rattle.rl_combine.specs.CombineGood.{CombineGood};
     ghost use Rattle.rl_combine.specs.Posts as posts;
-    ghost use Rattle.rl_combine.specs.WayLaws.{combine_works};
+    ghost use Rattle.rl_combine.specs.laws.WayLaws.{combine_works};
 
     type Side = CombineSide;
 

@@ -1,7 +1,7 @@
 //! Flat combining has no dead end, over a lock that has none: whoever has the lock does every posted call.
 
 ghost use Rattle.rl_combine.specs.CombineLeft.{combine_left, combine_most};
-ghost use Rattle.rl_combine.specs.CombineEnding.{combine_ends};
+ghost use Rattle.rl_combine.specs.laws.CombineEnding.{combine_ends};
 ghost use Rattle.rl_combine.specs.Posts.{node_in};
 
 use crate::combine::CombineWork;

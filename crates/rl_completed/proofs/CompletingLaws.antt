@@ -22,7 +22,7 @@ use Rattle.rl_ops.specs.ScheduleReading.{schedule_at, IsReadAsSchedule}
 use Rattle.rl_machine.specs.Running.{Running}
 use Rattle.rl_machine.specs.Run.{run_of, stepped, turn_ranks, ranks_of, steps_in}
 use Rattle.rl_machine.specs.MachineEnding.{AllDone}
-use Rattle.rl_machine.specs.ReplayLaws.{stepped_one, run_append, ranks_there}
+use Rattle.rl_machine.specs.laws.ReplayLaws.{stepped_one, run_append, ranks_there}
 use Rattle.rl_machine.specs.Start.{start_of}
 use Rattle.rl_cores.specs.Kinds.{Defined}
 use Rattle.rl_replay.specs.declared.complaint.Which.TheVariants as which

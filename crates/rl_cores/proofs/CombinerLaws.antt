@@ -3,7 +3,7 @@ use Rattle.std.proofs.Common.{◌≡◌, ◌≢◌, ℕ, ◌+◌, ◌*◌, ◌<�
 use Rattle.std.proofs.lemmas.Bool.Decides.{nat_tests}
 use Rattle.std.proofs.lemmas.List.{length-map}
 use Rattle.std.proofs.lemmas.Option.{same_Some, slice_get_within}
-use Rattle.rl_word.specs.Places.{get_map, get_map_back}
+use Rattle.rl_word.specs.laws.Places.{get_map, get_map_back}
 use Rattle.rl_word.specs.Acts.{Layout}
 use Rattle.rl_word.specs.declared.acts.Atom.{Atom}
 use Rattle.rl_word.specs.declared.acts.Atom.TheVariants as atom
@@ -22,7 +22,7 @@ use Rattle.rl_volume.specs.Words.{volume_words}
 use Rattle.rl_volume.specs.declared.write.Write.{Write}
 use Rattle.rl_work.specs.declared.stage.Stage.{Stage as BlockStage}
 use Rattle.rl_work.specs.declared.stage.Stage.TheVariants as block
-use Rattle.rl_work.specs.AtomLaws.{few_loads}
+use Rattle.rl_work.specs.laws.AtomLaws.{few_loads}
 use Rattle.rl_work.specs.Site.{count_word, volume_base, lock_base}
 use Rattle.rl_work.specs.Ways.{IsSide}
 use Rattle.rl_work.specs.Work.{TheWork, WorkTurned, stage_atom as block_atom, stage_after as block_after, with_seen, write_atom, left_of, at_rest}
@@ -34,23 +34,23 @@ use Rattle.rl_combine.specs.Posts.{CombineSite, ThePost, ranks_of, post_of, post
 use Rattle.rl_combine.specs.Combine.{TheCombineSide, Opened, opened_of, combine_table, early, is_open, stage_atom, stage_after, read_next, sweep_on, to_collect, to_stage, with_nothing, with_posted, with_copied, with_word}
 use Rattle.rl_combine.specs.CombineGood.{RankSide, CombineGood, OwnAt, SweepAt, Progress, waits, handled, counted, answered, IsPosted, IsCounted, IsLeft, IsToEnd, IsAnswering, IsReading, reading, front_of}
 use Rattle.rl_combine.specs.Sweep.{IsLate, IsLateAt, FlagSays, MayWrite, FlagMoves, passes, raises, lowers, marks}
-use Rattle.rl_combine.specs.PostLaws.{front_get}
+use Rattle.rl_combine.specs.laws.PostLaws.{front_get}
 use Rattle.rl_combine.specs.SideLaws.{found, posted_at}
-use Rattle.rl_combine.specs.SeatLaws.{counted_as}
-use Rattle.rl_combine.specs.LookLaws.{handed_at, no_more_entries}
-use Rattle.rl_combine.specs.MoveLaws.{Combines, combiner_of, seat_of, side_of}
-use Rattle.rl_combine.specs.OwnLaws.{found_flag}
-use Rattle.rl_combine.specs.TranscriptLaws.{HasNone, HasOne, shown}
-use Rattle.rl_combine.specs.FlagLaws.{holds_on, found_keeps, found_open, flag_says, flag_moves}
+use Rattle.rl_combine.specs.laws.SeatLaws.{counted_as}
+use Rattle.rl_combine.specs.laws.LookLaws.{handed_at, no_more_entries}
+use Rattle.rl_combine.specs.laws.MoveLaws.{Combines, combiner_of, seat_of, side_of}
+use Rattle.rl_combine.specs.laws.OwnLaws.{found_flag}
+use Rattle.rl_combine.specs.laws.TranscriptLaws.{HasNone, HasOne, shown}
+use Rattle.rl_combine.specs.laws.FlagLaws.{holds_on, found_keeps, found_open, flag_says, flag_moves}
 use Rattle.rl_whole.specs.declared.whole.WholeView.{WholeView}
 use Rattle.rl_whole.specs.Running.{LockAt, Goods, BothLaws}
-use Rattle.rl_whole.specs.ShiftLaws.{IsLow}
+use Rattle.rl_whole.specs.laws.ShiftLaws.{IsLow}
 use Rattle.rl_whole.specs.Split.{side_atom}
 use Rattle.rl_whole.specs.Whole.{shifted, work_side, next_of, after_of, work_turned, counts, is_at_work, leaves}
-use Rattle.rl_whole.specs.WholeLaws.{lock_low, works_at, next_either}
-use Rattle.rl_whole.specs.Bridge.{same_work}
+use Rattle.rl_whole.specs.laws.WholeLaws.{lock_low, works_at, next_either}
+use Rattle.rl_whole.specs.laws.Bridge.{same_work}
 use Rattle.rl_whole.specs.WholeShards.{stand, standing_while, whole_shard, WholeGood}
-use Rattle.rl_whole.specs.AtWork.{IsOfLock, IsOfWork, side_at, resting, after_none, each_atom}
+use Rattle.rl_whole.specs.laws.AtWork.{IsOfLock, IsOfWork, side_at, resting, after_none, each_atom}
 use Rattle.rl_cores.proofs.SweepLaws.{GoesOnFound}
 use Rattle.rl_cores.specs.Combining.{answers, rank_side, EndsVisit, ReadsFor, KeepsCombining}
 use Rattle.rl_cores.proofs.DecidedLaws.{read_at}

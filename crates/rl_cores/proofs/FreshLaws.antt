@@ -2,7 +2,7 @@
 use Rattle.std.proofs.Common.{◌≡◌, ◌<◌, ◌≤◌, ℕ, zero, suc, ◌+◌, List, [], ◌∷◌, ◌++◌, length, map, slice_get, slice_index, Some, refl, sym, ap, ◌∙◌, subst, arith, length-append}
 use Rattle.std.proofs.lemmas.List.{length-map}
 use Rattle.std.proofs.lemmas.Option.{same_Some}
-use Rattle.rl_word.specs.Places.{get_map, get_map_back}
+use Rattle.rl_word.specs.laws.Places.{get_map, get_map_back}
 use Rattle.rl_word.specs.Acts.{Layout}
 use Rattle.rl_model.specs.declared.geom.Geom.{Geom}
 use Rattle.rl_asks.specs.Desks.{entries_of}
@@ -13,7 +13,7 @@ use Rattle.rl_shard.specs.declared.seat.Seat.{Seat}
 use Rattle.rl_shard.specs.declared.counting.CountedView.{CountedView}
 use Rattle.rl_shard.specs.Counting.{first_counted}
 use Rattle.rl_shard.specs.Shards.{IsShardOf, IsOf, AreOf, AreClosed, table_at, counted_at, view_at, rank_at}
-use Rattle.rl_asks.specs.Filling.{first_at}
+use Rattle.rl_asks.specs.laws.Filling.{first_at}
 use Rattle.rl_shard.proofs.OpeningLaws.{fresh}
 use Rattle.rl_cores.specs.Fresh.{IsFresh, AreTwo, AreFreshTwo}
 

@@ -1,7 +1,7 @@
 -- Under the rule of blocks that are done under their lock, over any lock, what holders have read still stands.
 use Rattle.std.proofs.Common.{◌≡◌, ◌<◌, ℕ, ◌+◌, Bool, true, false, List, [], ◌∷◌, ◌++◌, drop, length, map, slice_get, slice_index, take, Option, Some, None, refl, sym, ap, ◌∙◌, subst, ⊎_elim, arith, length-append}
 use Rattle.std.proofs.lemmas.Option.{same_Some}
-use Rattle.rl_word.specs.Places.{get_map}
+use Rattle.rl_word.specs.laws.Places.{get_map}
 use Rattle.rl_word.specs.Acts.{Layout}
 use Rattle.rl_word.specs.declared.acts.Atom.{Atom}
 use Rattle.rl_word.specs.declared.acts.Atom.TheVariants as atom
@@ -23,7 +23,7 @@ use Rattle.rl_journal.specs.Blocks.{in_turn}
 use Rattle.rl_journal.specs.Legal.{table_after}
 use Rattle.rl_work.specs.declared.stage.Stage.{Stage}
 use Rattle.rl_work.specs.declared.stage.Stage.TheVariants.{Rest, Begin, Read, Journal, Volume}
-use Rattle.rl_work.specs.AtomLaws.{few_loads}
+use Rattle.rl_work.specs.laws.AtomLaws.{few_loads}
 use Rattle.rl_work.specs.Locked.{locked_table, locked_good, locked_turn}
 use Rattle.rl_work.specs.Site.{Site, count_word, volume_base, lock_base, volume_of}
 use Rattle.rl_work.specs.Ways.{IsApart}
@@ -33,9 +33,9 @@ use Rattle.rl_asks.specs.ShardTables.{ShardTable}
 use Rattle.rl_whole.specs.declared.whole.WholeView.{WholeView}
 use Rattle.rl_whole.specs.Running.{LockAt, Goods, BothLaws}
 use Rattle.rl_whole.specs.Whole.{shifted, work_side, next_of, after_of, work_turned}
-use Rattle.rl_whole.specs.WholeLaws.{apart, next_either}
+use Rattle.rl_whole.specs.laws.WholeLaws.{apart, next_either}
 use Rattle.rl_whole.specs.WholeShards.{stand, standing_while, whole_shard, WholeGood}
-use Rattle.rl_whole.specs.AtWork.{resting, after_none}
+use Rattle.rl_whole.specs.laws.AtWork.{resting, after_none}
 use Rattle.rl_cores.specs.Holding.{Reads, ReadsAlone, KeepsReads}
 use Rattle.rl_cores.proofs.DecidedLaws.{reads_on}
 

@@ -1,7 +1,7 @@
 -- Under the rule of optimistic readers over any lock gets hold nothing, and are answered as the version says.
 use Rattle.std.proofs.Common.{◌≡◌, ◌≢◌, ℕ, ◌%◌, ◌==◌, Bool, true, false, ◌&&◌, List, [], ◌∷◌, ◌++◌, map, slice_get, slice_index, Option, Some, None, refl, sym, ap, ◌∙◌, subst, ⊎_elim, arith}
 use Rattle.std.proofs.lemmas.Option.{same_Some}
-use Rattle.rl_word.specs.Places.{get_map, get_map_back}
+use Rattle.rl_word.specs.laws.Places.{get_map, get_map_back}
 use Rattle.rl_word.specs.Acts.{Layout}
 use Rattle.rl_word.specs.declared.acts.Atom.{Atom}
 use Rattle.rl_word.specs.declared.acts.Atom.TheVariants.{Load}
@@ -33,16 +33,16 @@ use Rattle.rl_seq.specs.Site.{SeqSite, version_word, version_in, front}
 use Rattle.rl_seq.specs.SeqWork.{TheSeqWork, seq_table, seq_after, seq_stage_after, seq_stage_atom, touch_at, is_open_at, owes_at, is_over, looked_by, read_by, checked_by}
 use Rattle.rl_seq.specs.SeqGood.{SeqRank, SeqGood, IsGetting, is_between, as_locked, locked_at}
 use Rattle.rl_seq.specs.Rule.{is_getting, found_count}
-use Rattle.rl_seq.specs.CheckLaws.{get_alone}
-use Rattle.rl_seq.specs.OutcomeLaws.{IsReadOff, reads_off}
-use Rattle.rl_seq.specs.FitLaws.{fit_at, locked_there}
-use Rattle.rl_seq.specs.VersionLaws.{odd_between, writers_odd, never_lowers, no_lower, stands_still, gets_load, reads_few, waits_at, loses_at}
+use Rattle.rl_seq.specs.laws.CheckLaws.{get_alone}
+use Rattle.rl_seq.specs.laws.OutcomeLaws.{IsReadOff, reads_off}
+use Rattle.rl_seq.specs.laws.FitLaws.{fit_at, locked_there}
+use Rattle.rl_seq.specs.laws.VersionLaws.{odd_between, writers_odd, never_lowers, no_lower, stands_still, gets_load, reads_few, waits_at, loses_at}
 use Rattle.rl_whole.specs.declared.whole.WholeView.{WholeView}
 use Rattle.rl_whole.specs.Running.{LockAt, Goods, BothLaws}
 use Rattle.rl_whole.specs.Split.{card_in}
 use Rattle.rl_whole.specs.Whole.{work_side, followed, left_by, departure_by, touch_by}
 use Rattle.rl_whole.specs.WholeShards.{stand, standing_while, whole_shard, WholeGood}
-use Rattle.rl_whole.specs.AtWork.{IsOutside, IsOfLock, IsOfWork, outside, each_atom}
+use Rattle.rl_whole.specs.laws.AtWork.{IsOutside, IsOfLock, IsOfWork, outside, each_atom}
 use Rattle.rl_cores.specs.Optimistic.{Gets, GetsBy, got_by, KeepsOutside, AnswersGets, KeepsTries, KeepsVersion, KeepsGets}
 
 and_first : (a b : Bool) → (a && b) ≡ true → a ≡ true

@@ -2,7 +2,7 @@
 use Rattle.std.proofs.Common.{◌≡◌, ◌<◌, ℕ, List, [], ◌∷◌, length, map, take, Some}
 use Rattle.std.specs.List.{slice_get}
 use Rattle.rl_word.specs.Acts.{Layout}
-use Rattle.rl_word.specs.Places.{get_map}
+use Rattle.rl_word.specs.laws.Places.{get_map}
 use Rattle.rl_model.specs.declared.call.Call.{Call}
 use Rattle.rl_step.specs.Do.{TheWindow}
 use Rattle.rl_step.specs.Lock.{LockState}
@@ -11,7 +11,7 @@ use Rattle.rl_work.specs.declared.stage.Stage.TheVariants.{Read}
 use Rattle.rl_work.specs.Site.{Site, lock_base}
 use Rattle.rl_work.specs.Work.{TheWork}
 use Rattle.rl_work.specs.Locked.{locked_good}
-use Rattle.rl_work.specs.AtomLaws.{few_loads}
+use Rattle.rl_work.specs.laws.AtomLaws.{few_loads}
 use Rattle.rl_whole.specs.declared.whole.WholeView.{WholeView}
 use Rattle.rl_whole.specs.Running.{LockAt}
 use Rattle.rl_whole.specs.Whole.{Good, work_side}

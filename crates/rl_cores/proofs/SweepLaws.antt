@@ -1,6 +1,6 @@
 -- What a sweep has found it keeps through all steps of a machine, until it stores 2 there; and so it doesn't leave before.
 use Rattle.std.proofs.Common.{◌≡◌, ◌≢◌, ◌⊎◌, ℕ, Bool, true, false, List, [], ◌∷◌, ◌++◌, length, nat_lt, slice_get, slice_index, Option, Some, None, refl, sym, ap, ◌∙◌, subst, inl, inr, ⊎_elim, arith}
-use Rattle.rl_word.specs.Places.{get_set_same, get_set_other, same_or_not, one_at}
+use Rattle.rl_word.specs.laws.Places.{get_set_same, get_set_other, same_or_not, one_at}
 use Rattle.rl_word.specs.declared.acts.Atom.{Atom}
 use Rattle.rl_word.specs.declared.acts.Atom.TheVariants.{Store}
 use Rattle.rl_model.specs.declared.call.Call.{Call}
@@ -18,8 +18,8 @@ use Rattle.rl_combine.specs.SideLaws.{found}
 use Rattle.rl_machine.specs.Running.{ShardRun, Running}
 use Rattle.rl_machine.specs.ShardSteps.{events_of, open_at, open_on, opened_at, opened_on, makes, made_at, atom_on}
 use Rattle.rl_machine.specs.Run.{changed, changed_if, on_shard, calls_by, place_of, has_open_call, opens, opened_if, block_opened, next_block, atom_made, stepped, run_of, AreThere}
-use Rattle.rl_machine.specs.StateSteps.{stepped_shape}
-use Rattle.rl_machine.specs.RestLaws.{open_shuts}
+use Rattle.rl_machine.specs.laws.StateSteps.{stepped_shape}
+use Rattle.rl_machine.specs.laws.RestLaws.{open_shuts}
 use Rattle.rl_machine.specs.Ruled.{AreRuled}
 use Rattle.rl_asks.specs.Asks.{block_shard}
 use Rattle.rl_step.specs.Answers.{steps_made}

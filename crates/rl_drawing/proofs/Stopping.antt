@@ -10,7 +10,7 @@ use Rattle.rl_ops.specs.declared.schedule.Turn.TheVariants as turn
 use Rattle.rl_ops.specs.Schedule.{rank_of, StayStopped}
 use Rattle.rl_machine.specs.Running.{Running}
 use Rattle.rl_machine.specs.Run.{stepped, run_of, turn_ranks, ranks_of}
-use Rattle.rl_machine.specs.ReplayLaws.{run_append}
+use Rattle.rl_machine.specs.laws.ReplayLaws.{run_append}
 use Rattle.rl_shown.proofs.FrontLaws.{ranks_append}
 use Rattle.rl_sketch.specs.declared.sketch.Ranks.{Ranks}
 use Rattle.rl_sketch.specs.declared.sketch.Ranks.TheVariants.{All, These}

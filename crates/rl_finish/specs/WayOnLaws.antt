@@ -10,7 +10,7 @@ use Rattle.rl_ops.specs.Schedule.{TurnFits, rank_of, steps_of}
 use Rattle.rl_asks.specs.ShardGuiding.{UrgentOf}
 use Rattle.rl_machine.specs.Running.{Running}
 use Rattle.rl_machine.specs.Run.{stepped, run_of, turn_ranks, ranks_of, steps_in}
-use Rattle.rl_machine.specs.ReplayLaws.{run_append, replicate-end}
+use Rattle.rl_machine.specs.laws.ReplayLaws.{run_append, replicate-end}
 use Rattle.rl_machine.specs.GoesNext.{GoesNext}
 use Rattle.rl_finish.specs.WayOn.{IsWayOn, HasSteps, AreWhole}
 

@@ -11,7 +11,7 @@ use Rattle.rl_text.specs.Number.{number_of}
 use Rattle.rl_text.proofs.Decimals.{number_of-decimal}
 use Rattle.rl_text.proofs.TextLaws.{pieces-join, is_plain}
 use Rattle.rl_text.proofs.WordLaws.{decimal-no_word}
-use Rattle.rl_word.specs.Places.{get_map_back}
+use Rattle.rl_word.specs.laws.Places.{get_map_back}
 use Rattle.rl_place.specs.declared.path.Path.{Path}
 use Rattle.rl_place.specs.declared.lock.Lock.{Lock}
 use Rattle.rl_place.specs.declared.lock.Lock.TheVariants as lock

@@ -6,7 +6,7 @@ use Rattle.rl_word.specs.declared.locks.LockName.TheVariants as named
 use Rattle.rl_word.specs.declared.shapes.Knobs.{Knobs}
 use Rattle.rl_word.specs.Shapes.{TheShape}
 use Rattle.rl_step.specs.LockQueues.{queues_of, lock_under}
-use Rattle.rl_step.specs.QueueLemmas.{elements_long}
+use Rattle.rl_step.specs.laws.QueueLemmas.{elements_long}
 use Rattle.rl_place.specs.declared.lock.Lock.{Lock}
 use Rattle.rl_place.specs.declared.lock.Lock.TheVariants as lock
 use Rattle.rl_place.specs.LockWords.{name_of}

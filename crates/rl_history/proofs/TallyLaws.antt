@@ -8,7 +8,7 @@ use Rattle.rl_step.specs.declared.events.Event.{Event}
 use Rattle.rl_step.specs.declared.events.Event.TheVariants.{Join, Announce, Pass, Settle, Touch, EnterW, EnterR, LeaveW, LeaveR}
 use Rattle.rl_step.specs.declared.tallies.Tally.{Tally}
 use Rattle.rl_step.specs.Queues.{count, settles, passes, settled, passed, tally_of}
-use Rattle.rl_step.specs.QueueLemmas.{settled-append, passed-append}
+use Rattle.rl_step.specs.laws.QueueLemmas.{settled-append, passed-append}
 use Rattle.rl_history.specs.Tallies.{tallies_from, trace_of, counts_for}
 
 -- a tally by its numbers

@@ -5,6 +5,6 @@ pub mod Spelling
 pub mod Reading
 pub mod Tallies
 pub mod Lawful
--- proved; skip at first
-pub mod Merging
 pub mod Printing
+-- of the code's own calls
+pub mod Merging

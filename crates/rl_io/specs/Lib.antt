@@ -4,5 +4,4 @@ pub mod Whole
 pub mod Script
 pub mod Files
 pub mod Sinks
--- proved; skip at first
-pub mod SinkLaws
+pub mod laws

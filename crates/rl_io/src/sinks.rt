@@ -67,7 +67,7 @@ impl FixedSink {
 
 impl Sink for FixedSink {
     ghost use Rattle.rl_io.specs.Sinks.{told, HasRoom};
-    ghost use Rattle.rl_io.specs.SinkLaws.{told-HasRoom, HasRoom-fewer};
+    ghost use Rattle.rl_io.specs.laws.SinkLaws.{told-HasRoom, HasRoom-fewer};
 
     ghost written = { told };
 
@@ -150,7 +150,7 @@ impl MemSink {
 
 impl Sink for MemSink {
     ghost use Rattle.rl_io.specs.Sinks.{told, HasRoom};
-    ghost use Rattle.rl_io.specs.SinkLaws.{told-HasRoom, HasRoom-fewer};
+    ghost use Rattle.rl_io.specs.laws.SinkLaws.{told-HasRoom, HasRoom-fewer};
 
     ghost written = { λ s. told s.kept };
 

@@ -19,37 +19,9 @@ pub mod MachineEnding
 pub mod GoesNext
 pub mod State
 -- what is true of a machine at every moment
-pub mod RunActs
 pub mod MachineGood
 pub mod Ruled
--- proved; skip at first
-pub mod EventOrderLaws
-pub mod MachineLaws
-pub mod TransitionLaws
-pub mod BlockEnds
-pub mod ChangeLaws
-pub mod SoundLaws
-pub mod RuledLaws
-pub mod StepLaws
-pub mod StartLaws
-pub mod CoreLaws
-pub mod StepCauses
-pub mod StepEnds
-pub mod MachineSteps
-pub mod StateLaws
-pub mod StateSteps
-pub mod Stands
-pub mod OpenSteps
-pub mod ShardsMore
-pub mod RecordLaws
-pub mod JournalAt
-pub mod ReplayLaws
-pub mod RestLaws
-pub mod IdleLaws
-pub mod TurnRests
+-- both definitions and lemmas: to be cut
 pub mod RoundSteps
-pub mod MachineSums
-pub mod MachineGoes
-pub mod NoDeadEnd
 pub mod Choosing
-pub mod WhoGoes
+pub mod laws

@@ -4,7 +4,7 @@ use Rattle.std.proofs.Common.{sym, ◌∙◌, ap, subst, arith}
 use Rattle.std.proofs.lemmas.List.{append-nil, length-map, set-set}
 use Rattle.std.proofs.lemmas.Option.{slice_get_within}
 use Rattle.rl_word.specs.declared.acts.Atom.{Atom}
-use Rattle.rl_word.specs.Places.{get_set_same, one_at, set_same_get}
+use Rattle.rl_word.specs.laws.Places.{get_set_same, one_at, set_same_get}
 use Rattle.rl_step.specs.declared.events.Stepped.TheVariants.{Finished}
 use Rattle.rl_step.specs.declared.tallies.Steps.{Steps}
 use Rattle.rl_step.specs.Answers.{counted, steps_made}
@@ -20,12 +20,12 @@ use Rattle.rl_machine.specs.Running.{ShardRun, Running, shard_run, running}
 use Rattle.rl_machine.specs.ShardSteps.{numbered, makes, made_at, atom_on, answer_to, answer_at, answer_on, open_at, open_on}
 use Rattle.rl_machine.specs.Run.{changed, changed_if, on_shard, calls_by, place_of, has_open_call, opens, opened_if, atom_answer, atom_made, stepped}
 use Rattle.rl_machine.specs.MachineGood.{IsMachine}
-use Rattle.rl_machine.specs.MachineSteps.{machine_with}
+use Rattle.rl_machine.specs.laws.MachineSteps.{machine_with}
 use Rattle.rl_machine.specs.Rest.{with_steps}
-use Rattle.rl_machine.specs.RestLaws.{open_shuts}
+use Rattle.rl_machine.specs.laws.RestLaws.{open_shuts}
 use Rattle.rl_machine.specs.Rested.{IsInRound}
 use Rattle.rl_machine.specs.State.{shard_view, machine_view}
-use Rattle.rl_machine.specs.StateLaws.{is_there, shard_set}
+use Rattle.rl_machine.specs.laws.StateLaws.{is_there, shard_set}
 
 module _ {V : Type 0} where
   -- the shard once rank k has this view, and the machine then, with these counts

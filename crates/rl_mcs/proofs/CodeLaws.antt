@@ -9,10 +9,10 @@ use Rattle.rl_tree.specs.Elements.{tree_of}
 use Rattle.rl_tree.specs.Fits.{IsPlaced, MayPlan, TreeMayLearn}
 use Rattle.rl_tree.specs.TreeShape.{IsWellShaped}
 use Rattle.rl_tree.specs.TreeFacts.{JoinsAtMost, TreeFacts}
-use Rattle.rl_tree.specs.TreeLaws.{tree_facts}
+use Rattle.rl_tree.specs.laws.TreeLaws.{tree_facts}
 use Rattle.rl_mcs.specs.Mcs.{past_hook, mcs_learn, mcs_table, McsGood}
-use Rattle.rl_mcs.specs.McsLearns.{after}
-use Rattle.rl_mcs.specs.McsLaws.{view_of, planned, turn_of}
+use Rattle.rl_mcs.specs.laws.McsLearns.{after}
+use Rattle.rl_mcs.specs.laws.McsLaws.{view_of, planned, turn_of}
 
 few_joins : (es : List Event) → JoinsAtMost es → length es ≤ 3
 few_joins es h = ⊎_elim (λ e. let k : length es ≡ 0 = ap length e in omega arith) (λ e. let k : length es ≡ 1 = ap length e.2 in omega arith) h

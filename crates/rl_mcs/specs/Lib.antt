@@ -2,9 +2,4 @@
 pub mod Mcs
 pub mod McsLeft
 pub mod McsUrgency
--- proved; skip at first
-pub mod McsLearns
-pub mod McsLaws
-pub mod McsFar
-pub mod McsEnding
-pub mod McsGuiding
+pub mod laws

@@ -3,9 +3,9 @@
 ghost use Rattle.std.specs.Prelude.{◌*◌, ◌+◌};
 ghost use Rattle.rl_tree.specs.Elements.{ranks_in};
 ghost use Rattle.rl_tree.specs.TreeShape.{levels_of};
-ghost use Rattle.rl_tree.specs.TreeLaid.{laid_shaped};
+ghost use Rattle.rl_tree.specs.laws.TreeLaid.{laid_shaped};
 ghost use Rattle.rl_mcs.specs.McsLeft.{mcs_left};
-ghost use Rattle.rl_mcs.specs.McsEnding.{mcs_ends};
+ghost use Rattle.rl_mcs.specs.laws.McsEnding.{mcs_ends};
 
 use crate::mcs::Mcs;
 use rl_ending::Ending;

@@ -1,9 +1,9 @@
 //! RMA-MCS says who goes on.
 
 ghost use Rattle.rl_tree.specs.TreeShape.{levels_of};
-ghost use Rattle.rl_tree.specs.TreeLaid.{laid_shaped};
+ghost use Rattle.rl_tree.specs.laws.TreeLaid.{laid_shaped};
 ghost use Rattle.rl_mcs.specs.McsUrgency.{mcs_urgent};
-ghost use Rattle.rl_mcs.specs.McsGuiding.{mcs_guides};
+ghost use Rattle.rl_mcs.specs.laws.McsGuiding.{mcs_guides};
 
 use crate::mcs::Mcs;
 use rl_ending::Guiding;

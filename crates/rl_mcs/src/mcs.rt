@@ -4,14 +4,14 @@ ghost use Rattle.std.specs.Prelude.{◌≡◌, ◌≤◌, None, refl, length, tr
 ghost use Rattle.rl_word.specs.declared.locks.LockName.TheVariants as TheName;
 ghost use Rattle.rl_word.specs.Shapes.{layout_of};
 ghost use Rattle.rl_step.specs.Lock.{no_more};
-ghost use Rattle.rl_tree.specs.SameViews.{same_tree};
+ghost use Rattle.rl_tree.specs.laws.SameViews.{same_tree};
 ghost use Rattle.rl_tree.specs.Tree.{at_hook};
 ghost use Rattle.rl_tree.specs.Elements.{tree_of};
 ghost use Rattle.rl_tree.specs.Fits.{IsPlaced};
 ghost use Rattle.rl_tree.specs.TreeShape.{IsBudgeted, levels_of};
-ghost use Rattle.rl_tree.specs.TreeLaid.{laid_shaped};
+ghost use Rattle.rl_tree.specs.laws.TreeLaid.{laid_shaped};
 ghost use Rattle.rl_mcs.specs.Mcs.{mcs_tree, past_hook as past_the_hook, mcs_table, McsGood};
-ghost use Rattle.rl_mcs.specs.McsLaws.{mcs_laws};
+ghost use Rattle.rl_mcs.specs.laws.McsLaws.{mcs_laws};
 
 use arrayvec::ArrayVec;
 use rl_step::{Algo, Event, Standing};

@@ -12,4 +12,4 @@ pub mod ScheduleReading
 pub mod NextTurn
 pub mod NextLine
 pub mod Room
-pub mod RoomLaws
+pub mod laws

@@ -8,7 +8,7 @@ use Rattle.std.proofs.lemmas.List.Quantifiers.{position-Some}
 use Rattle.std.proofs.lemmas.List.Sums.{fails_before_first}
 use Rattle.std.proofs.lemmas.Option.{same_Some, slice_get_within, get_or_from_slice_get, slice_get-get_or}
 use Rattle.rl_word.specs.declared.shapes.Element.{Element}
-use Rattle.rl_word.specs.Places.{get_map, get_map_back, some_at}
+use Rattle.rl_word.specs.laws.Places.{get_map, get_map_back, some_at}
 use Rattle.rl_word.specs.Shapes.{TheShape, IsParent, IsUnder, IsLeaf, IsNodeUnder, IsProper as IsProperShape}
 use Rattle.rl_place.specs.declared.limits.TheConstants.{MOST_BUDGET, MOST_RANKS}
 use Rattle.rl_place.specs.declared.path.Path.{Path}

@@ -7,5 +7,3 @@ pub mod Spelling
 pub mod Reading
 pub mod Shapes
 pub mod ShapeText
-
--- proved; skip at first: nothing

@@ -3,14 +3,14 @@ use Rattle.std.proofs.Common.{◌≡◌, ℕ, zero, suc, ◌+◌, ◌<◌, ◌�
 use Rattle.std.proofs.lemmas.List.{take_all, length-map}
 use Rattle.std.proofs.lemmas.List.Sums.{length-filter, count_by-le-length}
 use Rattle.std.proofs.lemmas.Option.{get_or_from_slice_get}
-use Rattle.rl_word.specs.Places.{get_map, some_at}
+use Rattle.rl_word.specs.laws.Places.{get_map, some_at}
 use Rattle.rl_model.specs.declared.call.Call.{Call}
 use Rattle.rl_model.specs.declared.entry.Entry.{Entry}
 use Rattle.rl_model.specs.declared.geom.Geom.{Geom}
 use Rattle.rl_model.proofs.Counts.{count-cons}
 use Rattle.rl_journal.specs.Legal.{IsLegal}
 use Rattle.rl_journal.specs.Ranks.{count_in}
-use Rattle.rl_journal.specs.HistoryCounts.{same_entries}
+use Rattle.rl_journal.specs.laws.HistoryCounts.{same_entries}
 use Rattle.rl_step.specs.declared.events.Event.{Event}
 use Rattle.rl_step.specs.declared.events.Event.TheVariants.{Join, Announce, Pass, Settle, Touch, EnterW, EnterR, LeaveW, LeaveR}
 use Rattle.rl_step.specs.declared.tallies.Steps.{Steps}
@@ -22,7 +22,7 @@ use Rattle.rl_machine.specs.ShardSteps.{desk_at, kept_on}
 use Rattle.rl_asks.specs.RankGood.{entries_in}
 use Rattle.rl_machine.specs.Run.{on_shard, kept_by, trace_of}
 use Rattle.rl_machine.specs.Records.{journal_at, transcripts_at}
-use Rattle.rl_machine.specs.RecordLaws.{kept_long}
+use Rattle.rl_machine.specs.laws.RecordLaws.{kept_long}
 use Rattle.rl_asks.specs.AskLaws.{few_calls}
 use Rattle.rl_machine.specs.Promises.{journal_on, transcripts_on, history_on, IsSound}
 use Rattle.rl_program.specs.declared.counts.ShardCounts.{ShardCounts}

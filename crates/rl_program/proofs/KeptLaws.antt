@@ -22,7 +22,7 @@ use Rattle.rl_asks.specs.ShardTables.{ShardTable}
 use Rattle.rl_machine.specs.Running.{Running}
 use Rattle.rl_asks.specs.Asks.{asked_of}
 use Rattle.rl_machine.specs.Start.{start_of}
-use Rattle.rl_machine.specs.StartLaws.{shards_length}
+use Rattle.rl_machine.specs.laws.StartLaws.{shards_length}
 use Rattle.rl_machine.specs.Run.{calls_by, run_of, ranks_of, done_of, kept_by}
 use Rattle.rl_machine.specs.RunTransitions.{EachSays}
 use Rattle.rl_machine.specs.Promises.{journal_on, transcripts_on, history_on, IsSound, KeepsQueues, EachKeepsQueues}

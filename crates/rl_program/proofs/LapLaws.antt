@@ -1,7 +1,7 @@
 -- Laps: who has work, and what no turn changes.
 use Rattle.std.proofs.Common.{◌≡◌, ℕ, zero, suc, ◌+◌, ◌-◌, ◌<◌, ◌≤◌, min, length, Bool, true, false, ◌||◌, ◌⊎◌, inl, inr, refl, sym, ap, ◌∙◌, add-one, arith}
 use Rattle.std.proofs.lemmas.Bool.{lt-ltb, le-ltb}
-use Rattle.rl_word.specs.Places.{same_or_not}
+use Rattle.rl_word.specs.laws.Places.{same_or_not}
 use Rattle.rl_machine.specs.Running.{Running}
 use Rattle.rl_program.specs.Laps.{has_work, any_has_work, may_step, stepped_if, turns, goes_on, next_lap, laps}
 use Rattle.rl_program.proofs.RunLaws.{IsAlike, alike_then, stepped_alike}

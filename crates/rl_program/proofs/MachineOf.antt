@@ -3,7 +3,7 @@ use Rattle.std.proofs.Common.{◌≡◌, ℕ, ◌+◌, ◌≤◌, List, [], ◌�
 use Rattle.std.specs.Prelude.{slice_get, sum_by}
 use Rattle.std.proofs.lemmas.List.{length-replicate}
 use Rattle.std.proofs.lemmas.Option.{same_Some, slice_get_within}
-use Rattle.rl_word.specs.Places.{get_map, get_map_back, some_at}
+use Rattle.rl_word.specs.laws.Places.{get_map, get_map_back, some_at}
 use Rattle.rl_word.specs.Shapes.{TheShape}
 use Rattle.rl_word.specs.declared.locks.LockName.{LockName}
 use Rattle.rl_word.specs.declared.shapes.Knobs.{Knobs}
@@ -23,8 +23,8 @@ use Rattle.rl_history.proofs.QueueLaws.{under_queues}
 use Rattle.rl_machine.specs.Running.{ShardRun, Running}
 use Rattle.rl_machine.specs.Run.{stepped, run_of, ranks_of, turn_ranks, steps_in}
 use Rattle.rl_machine.specs.Start.{site_of, start_of}
-use Rattle.rl_machine.specs.StartLaws.{shard_first}
-use Rattle.rl_machine.specs.ReplayLaws.{stepped_one}
+use Rattle.rl_machine.specs.laws.StartLaws.{shard_first}
+use Rattle.rl_machine.specs.laws.ReplayLaws.{stepped_one}
 use Rattle.rl_program.specs.Replay.{AreCohortsOf, IsMachineOf}
 use Rattle.rl_program.proofs.CohortLaws.{cohorts_by}
 use Rattle.rl_program.proofs.KeptLaws.{each_shard}

@@ -5,7 +5,7 @@ use Rattle.std.specs.List.{AllByRecursion, list_any, range_with_len}
 use Rattle.std.proofs.lemmas.Bool.{eqb-false, ne_eqb}
 use Rattle.std.proofs.lemmas.List.FromFn.{map-range_with_len_more, length-map-range_with_len}
 use Rattle.std.proofs.lemmas.List.Sums.{fold-append}
-use Rattle.rl_word.specs.Places.{same_or_not}
+use Rattle.rl_word.specs.laws.Places.{same_or_not}
 use Rattle.rl_place.specs.declared.path.Path.{Path}
 use Rattle.rl_place.specs.Paths.{IsPath, path_of}
 use Rattle.rl_place.specs.Numbering.{same_path, seen_after, node_paths}

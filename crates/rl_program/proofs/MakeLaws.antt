@@ -2,7 +2,7 @@
 use Rattle.std.proofs.Common.{◌≡◌, ◌≤◌, ℕ, ◌+◌, ◌/◌, List, [], ◌∷◌, length, map, slice_get, Some, ap, sym, subst, ◌∙◌}
 use Rattle.std.proofs.lemmas.List.{length-map}
 use Rattle.std.proofs.lemmas.List.FromFn.{length-map-range_with_len}
-use Rattle.rl_word.specs.Places.{get_map, get_map_back}
+use Rattle.rl_word.specs.laws.Places.{get_map, get_map_back}
 use Rattle.rl_word.specs.Shapes.{TheShape}
 use Rattle.rl_word.specs.declared.shapes.Knobs.{Knobs}
 use Rattle.rl_model.specs.declared.call.Call.{Call}
@@ -17,8 +17,8 @@ use Rattle.rl_text.specs.Spelling.{text_of}
 use Rattle.rl_work.specs.Site.{Site}
 use Rattle.rl_machine.specs.Running.{ShardRun, Running}
 use Rattle.rl_machine.specs.Start.{site_of, start_of}
-use Rattle.rl_asks.specs.Filling.{first_length}
-use Rattle.rl_machine.specs.StartLaws.{shard_first, shards_length}
+use Rattle.rl_asks.specs.laws.Filling.{first_length}
+use Rattle.rl_machine.specs.laws.StartLaws.{shard_first, shards_length}
 use Rattle.rl_cores.specs.Kinds.{Defined, alock}
 use Rattle.rl_program.specs.Replay.{start_with, queue_count, report_in}
 use Rattle.rl_program.specs.Generate.{made_place, made_ops}

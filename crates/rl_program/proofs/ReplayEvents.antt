@@ -5,10 +5,10 @@ use Rattle.rl_step.specs.declared.events.Event.{Event}
 use Rattle.rl_step.specs.declared.events.Event.TheVariants.{Join, Announce, Pass, Settle, Touch, EnterW, EnterR, LeaveW, LeaveR}
 use Rattle.rl_step.specs.declared.tallies.Tally.{Tally}
 use Rattle.rl_step.specs.Exclusion.{IsExclusive, ExclusiveFrom, writers_after, readers_after, nobody}
-use Rattle.rl_step.specs.ExclusionLaws.{is_exclusive, exclusive_from}
+use Rattle.rl_step.specs.laws.ExclusionLaws.{is_exclusive, exclusive_from}
 use Rattle.rl_step.specs.Lock.{Names, AllNamed}
 use Rattle.rl_step.specs.Queues.{QueueOf, settles, passes, settled, passed, tally_of, room_after, WithinFrom}
-use Rattle.rl_step.specs.QueueLemmas.{is_within, within_from}
+use Rattle.rl_step.specs.laws.QueueLemmas.{is_within, within_from}
 use Rattle.rl_step.specs.QueuePromises.{KeepBudgets}
 use Rattle.rl_ops.specs.declared.schedule.TheConstants.{MOST_STEPS}
 use Rattle.rl_place.specs.Places.{ThePlace, IsProper}

@@ -3,7 +3,7 @@ use Rattle.std.proofs.Common.{◌≡◌, ℕ, zero, suc, ◌+◌, ◌<◌, ◌�
 use Rattle.std.specs.Prelude.{All, slice_get}
 use Rattle.std.proofs.lemmas.List.{length-map}
 use Rattle.std.proofs.lemmas.Option.{same_Some, slice_get_within, slice_get-get_or, get_or_from_slice_get}
-use Rattle.rl_word.specs.Places.{get_map, get_map_back, some_at}
+use Rattle.rl_word.specs.laws.Places.{get_map, get_map_back, some_at}
 use Rattle.rl_model.specs.declared.call.Call.{Call}
 use Rattle.rl_model.specs.declared.entry.Entry.{Entry}
 use Rattle.rl_step.specs.declared.events.Event.{Event}
@@ -12,7 +12,7 @@ use Rattle.rl_step.specs.Lock.{AllNamed}
 use Rattle.rl_step.specs.QueuePromises.{KeepBudgets}
 use Rattle.rl_journal.specs.Legal.{IsLegal}
 use Rattle.rl_journal.specs.History.{history}
-use Rattle.rl_journal.specs.Lists.{all_at}
+use Rattle.rl_journal.specs.laws.Lists.{all_at}
 use Rattle.rl_journal.specs.Ranks.{IsOwn, IsInOrder, IsRankInOrder}
 use Rattle.rl_place.specs.Places.{ThePlace, IsProper}
 use Rattle.rl_ops.specs.declared.ops.Ops.{Ops}
@@ -30,16 +30,16 @@ use Rattle.rl_history.specs.Tallies.{tallies_from, trace_of}
 use Rattle.rl_history.specs.Lawful.{journal_in, transcript_in, transcripts_in, queues_at}
 use Rattle.rl_machine.specs.Running.{ShardRun, Running}
 use Rattle.rl_machine.specs.ShardSteps.{events_of, desk_at, kept_on}
-use Rattle.rl_machine.specs.RecordLaws.{kept_long}
+use Rattle.rl_machine.specs.laws.RecordLaws.{kept_long}
 use Rattle.rl_machine.specs.Run.{calls_by, done_of, kept_by}
 use Rattle.rl_machine.specs.Promises.{journal_on, transcripts_on, history_on, IsShardSound, IsSound}
 use Rattle.rl_check.specs.LawfulReplays.{IsReplayedShard, IsLawfulReplay, done_by}
 use Rattle.rl_check.specs.Legal.{IsLegalReport, LegalIsLawfulReplay}
 use Rattle.rl_run.specs.Told.{ToldShard, told_of}
-use Rattle.rl_run.specs.ToldLaws.{all_by_place}
-use Rattle.rl_run.specs.RowLaws.{same_maps}
-use Rattle.rl_run.specs.EndLaws.{own_all}
-use Rattle.rl_run.specs.EntriesFit.{HasTranscripts, HasDone, some_calls, same_journal, same_transcripts, rank_of_it, few_here, few_updates, entry_fits}
+use Rattle.rl_run.specs.laws.ToldLaws.{all_by_place}
+use Rattle.rl_run.specs.laws.RowLaws.{same_maps}
+use Rattle.rl_run.specs.laws.EndLaws.{own_all}
+use Rattle.rl_run.specs.laws.EntriesFit.{HasTranscripts, HasDone, some_calls, same_journal, same_transcripts, rank_of_it, few_here, few_updates, entry_fits}
 use Rattle.rl_program.specs.Replay.{queue_count, part_of, dones_from, report_in, NumbersFit, IsMachineOf}
 use Rattle.rl_program.proofs.ReplayEvents.{untouched, BeginsFrom, rules_still, tallies_still, tallies_long, events_fit}
 

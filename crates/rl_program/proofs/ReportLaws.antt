@@ -2,7 +2,7 @@
 use Rattle.std.proofs.Common.{◌≡◌, ℕ, zero, suc, ◌+◌, ◌<◌, ◌≤◌, List, [], ◌∷◌, ◌++◌, length, drop, get_or, map, take, slice_get, Some, Vec, Global, refl, ap, sym, ◌∙◌, arith, add-one}
 use Rattle.std.proofs.lemmas.List.{length-map, map-append, take_more}
 use Rattle.std.proofs.lemmas.Option.{same_Some, slice_get-get_or, slice_get_within, get_or_from_slice_get}
-use Rattle.rl_word.specs.Places.{get_map, get_map_back, some_at}
+use Rattle.rl_word.specs.laws.Places.{get_map, get_map_back, some_at}
 use Rattle.rl_model.specs.declared.call.Call.{Call}
 use Rattle.rl_model.specs.declared.entry.Entry.{Entry}
 use Rattle.rl_asks.specs.RankGood.{entries_in}
@@ -10,7 +10,7 @@ use Rattle.rl_machine.specs.Running.{ShardRun, Running}
 use Rattle.rl_machine.specs.ShardSteps.{kept_on}
 use Rattle.rl_machine.specs.Run.{done_of, on_shard}
 use Rattle.rl_machine.specs.Records.{transcripts_at}
-use Rattle.rl_machine.specs.RecordLaws.{kept_long, counted_more, counted_within}
+use Rattle.rl_machine.specs.laws.RecordLaws.{kept_long, counted_more, counted_within}
 use Rattle.rl_machine.specs.Promises.{transcripts_on, IsSound}
 use Rattle.rl_program.specs.Counting.{lists_in}
 use Rattle.rl_program.specs.Replay.{dones_from}

@@ -1,7 +1,7 @@
 -- What no run changes: the tables of the shards, how many views each has, the size of the table, and what the ranks ask for.
 use Rattle.std.proofs.Common.{◌≡◌, ◌≤◌, ℕ, ◌+◌, get_or, slice_index, List, [], ◌∷◌, length, length-set, map, sum_by, Result, Ok, Err, IfOk, slice_get, slice_set, Bool, true, false, Option, Some, None, refl, ap, sym, ◌∙◌}
 use Rattle.std.proofs.lemmas.List.Sums.{sum_by-cons}
-use Rattle.rl_word.specs.Places.{map_set, set_same_get, get_map}
+use Rattle.rl_word.specs.laws.Places.{map_set, set_same_get, get_map}
 use Rattle.rl_word.specs.declared.acts.Atom.{Atom}
 use Rattle.rl_model.specs.declared.call.Call.{Call}
 use Rattle.rl_ops.specs.declared.schedule.Turn.{Turn}

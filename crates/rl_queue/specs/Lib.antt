@@ -1,5 +1,4 @@
 -- to be believed, in reading order
-pub mod Choices
 pub mod Queue
 pub mod Lane
 pub mod QueueLaws
@@ -11,31 +10,13 @@ pub mod Dmcs
 pub mod DmcsLeft
 pub mod Urgency
 pub mod DmcsUrgency
--- proved; skip at first
-pub mod LineLaws
+-- both definitions and lemmas: to be cut
 pub mod LaneLaws
-pub mod LaneMoves
-pub mod PhaseLaws
 pub mod QueueActs
 pub mod QueueMoves
 pub mod QueueFits
 pub mod QueueFrame
 pub mod QueueHeads
-pub mod QueueServed
 pub mod QueueCredit
-pub mod QueueTurns
 pub mod TraceLaws
-pub mod RankWordLaws
-pub mod RankViewLaws
-pub mod StandingLaws
-pub mod DmcsWords
-pub mod DmcsPhases
-pub mod DmcsTurns
-pub mod DmcsActs
-pub mod DmcsLaws
-pub mod Stuck
-pub mod TurnsFall
-pub mod LineGoes
-pub mod DmcsEnding
-pub mod UrgencyLaws
-pub mod DmcsGuiding
+pub mod laws

@@ -2,19 +2,19 @@
 use Rattle.std.specs.Prelude.{◌≡◌, ◌≢◌, ℕ, zero, suc, ◌+◌, ◌-◌, ◌<◌, ◌≤◌, Bool, true, false, List, [], ◌∷◌, ◌++◌, length, slice_index, slice_set, Option, Some, None, refl}
 use Rattle.std.proofs.Common.{sym, ◌∙◌, ap, subst, inl, ⊎_elim, arith}
 use Rattle.std.proofs.Math.Dec.{eqb-suc-zero}
-use Rattle.rl_word.specs.Places.{same_or_not}
+use Rattle.rl_word.specs.laws.Places.{same_or_not}
 use Rattle.rl_step.specs.declared.events.Event.{Event}
 use Rattle.rl_step.specs.declared.events.Event.TheVariants as event
 use Rattle.rl_step.specs.Queues.{count}
 use Rattle.rl_queue.specs.declared.view.Phase.{Phase}
 use Rattle.rl_queue.specs.declared.view.Phase.TheVariants.{Idle, Clear, Reset, Swing, Link, Wait, Settle, Granted, Look, Close, Await, Hand, Above}
-use Rattle.rl_queue.specs.Choices.{other_test}
+use Rattle.rl_queue.specs.laws.Choices.{other_test}
 use Rattle.rl_queue.specs.Queue.{TheNames, next_word, status_word, full_budget, code_of, code_left, turn_at, moves_to, moves_with, joined_at, look_at, hand_turn}
 use Rattle.rl_queue.specs.Lane.{Awaits, Lane, lane_of, Has, last_of, Listed, Busy, IsCode, Leads, Line, Own, Guessed, told_left, QueueInvariant, is_pass, served, credit, holds, rest_if, waits_in, credit_in, held_in, QueueTrace, SuitsAlone, IsAlone, LineStep}
-use Rattle.rl_queue.specs.LineLaws.{has_last_of}
+use Rattle.rl_queue.specs.laws.LineLaws.{has_last_of}
 use Rattle.rl_queue.specs.TraceLaws.{trace_quiet, trace_join}
 use Rattle.rl_queue.specs.LaneLaws.{IsFirst, in_line, is_first, swing_first, swing_next}
-use Rattle.rl_queue.specs.LaneMoves.{link_guess, link_moves, close_moves}
+use Rattle.rl_queue.specs.laws.LaneMoves.{link_guess, link_moves, close_moves}
 use Rattle.rl_queue.specs.QueueLaws.{IsNaming, Moves, says_first, first_says, QueueGood, tail_write, next_write, status_write, alone_moves, awaited_moves, awaited_stays, still_keeps, outside_keeps, first_keeps}
 
 -- one more at the end of a line waits

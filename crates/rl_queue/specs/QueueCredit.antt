@@ -8,14 +8,14 @@ use Rattle.rl_step.specs.declared.events.Event.TheVariants as event
 use Rattle.rl_step.specs.Queues.{passed}
 use Rattle.rl_queue.specs.declared.view.Phase.{Phase}
 use Rattle.rl_queue.specs.declared.view.Phase.TheVariants.{Idle, Swing, Link, Wait, Settle, Granted, Look, Close, Await, Hand, Above}
-use Rattle.rl_queue.specs.Choices.{choose, same_test}
+use Rattle.rl_queue.specs.laws.Choices.{choose, same_test}
 use Rattle.rl_queue.specs.Queue.{TheNames, status_word, code_of, code_left, Turn, moves_to, moves_with, waits_at, joined_at, look_at, hand_turn, plan_at, turn_at}
 use Rattle.rl_queue.specs.Lane.{lane_of, credit, LineStep}
 use Rattle.rl_queue.specs.QueueLaws.{IsNaming, QueueGood}
 use Rattle.rl_queue.specs.QueueActs.{code_more, pass_more}
 use Rattle.rl_queue.specs.QueueMoves.{ActMoves}
 use Rattle.rl_queue.specs.QueueHeads.{Head, head, head_in, HeadStep, head_act}
-use Rattle.rl_queue.specs.QueueServed.{wait_found}
+use Rattle.rl_queue.specs.laws.QueueServed.{wait_found}
 
 -- how many passes the head of a queue may still make or hand on
 abbrev pub head_credit : Option Head → ℕ

@@ -11,12 +11,12 @@ use Rattle.rl_queue.specs.declared.view.Phase.{Phase}
 use Rattle.rl_queue.specs.declared.view.Phase.TheVariants.{Idle, Swing, Link, Wait, Settle, Granted, Look, Close, Await, Hand, Above}
 use Rattle.rl_queue.specs.declared.view.Stage.{Stage}
 use Rattle.rl_queue.specs.declared.view.Stage.TheVariants as stage
-use Rattle.rl_queue.specs.Choices.{choose}
+use Rattle.rl_queue.specs.laws.Choices.{choose}
 use Rattle.rl_queue.specs.Queue.{stage_at, full_budget, TheNames, next_word, status_word, plan_at, turn_at, moves_to, moves_with, waits_at, code_left, joined_at, hand_turn, PlanFits, PhaseFits, GotFits}
 use Rattle.rl_queue.specs.Lane.{Own, told_left, lane_of, Has, last_of, Listed, IsCode, QueueInvariant, SuitsAlone, IsAlone}
-use Rattle.rl_queue.specs.LineLaws.{has_last_of, chain_next}
+use Rattle.rl_queue.specs.laws.LineLaws.{has_last_of, chain_next}
 use Rattle.rl_queue.specs.LaneLaws.{IsFirst, in_line, is_first}
-use Rattle.rl_queue.specs.LaneMoves.{link_guess}
+use Rattle.rl_queue.specs.laws.LaneMoves.{link_guess}
 use Rattle.rl_queue.specs.QueueLaws.{swap_word, QueueGood}
 use Rattle.rl_queue.specs.QueueActs.{tail_last, first_code, pass_more}
 use Rattle.rl_queue.specs.QueueMoves.{hand_succ, swap_finds}

@@ -8,12 +8,12 @@ use Rattle.rl_step.specs.declared.events.Event.{Event}
 use Rattle.rl_step.specs.declared.events.Event.TheVariants as event
 use Rattle.rl_queue.specs.declared.view.Phase.{Phase}
 use Rattle.rl_queue.specs.declared.view.Phase.TheVariants.{Idle, Clear, Reset, Swing, Link, Wait, Settle, Granted, Look, Close, Await, Hand}
-use Rattle.rl_queue.specs.Choices.{choose}
+use Rattle.rl_queue.specs.laws.Choices.{choose}
 use Rattle.rl_queue.specs.Queue.{TheNames, next_word, status_word, code_left, plan_at, turn_at, moves_to, moves_with, waits_at, joined_at, hand_turn}
 use Rattle.rl_queue.specs.Lane.{lane_of, Busy}
 use Rattle.rl_queue.specs.TraceLaws.{Apart}
 use Rattle.rl_queue.specs.LaneLaws.{in_line}
-use Rattle.rl_queue.specs.LaneMoves.{link_guess}
+use Rattle.rl_queue.specs.laws.LaneMoves.{link_guess}
 use Rattle.rl_queue.specs.QueueLaws.{swap_word, QueueGood, still_keeps}
 use Rattle.rl_queue.specs.QueueActs.{no_event, pass_more}
 use Rattle.rl_queue.specs.QueueMoves.{hand_succ, beside_keeps}

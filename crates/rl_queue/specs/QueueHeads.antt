@@ -4,7 +4,7 @@ use Rattle.std.proofs.Common.{sym, ◌∙◌, ap, subst, inl, ⊎_elim, arith}
 use Rattle.std.proofs.lemmas.List.{set-get_or}
 use Rattle.std.proofs.lemmas.Option.{same_Some}
 use Rattle.std.proofs.Math.Dec.{eqb-suc-zero}
-use Rattle.rl_word.specs.Places.{same_or_not}
+use Rattle.rl_word.specs.laws.Places.{same_or_not}
 use Rattle.rl_word.specs.Acts.{word_of, written, told}
 use Rattle.rl_word.specs.declared.acts.Act.{Act}
 use Rattle.rl_step.specs.declared.events.Event.{Event}
@@ -14,7 +14,7 @@ use Rattle.rl_queue.specs.declared.view.Phase.TheVariants.{Idle, Clear, Reset, S
 use Rattle.rl_queue.specs.Queue.{TheNames, next_word, status_word, code_of, code_left, plan_at, turn_at, moves_to, moves_with, joined_at, look_at}
 use Rattle.rl_queue.specs.Lane.{Lane, lane_of, Has, Listed, Busy, Leads, Line, is_pass, served, LineStep}
 use Rattle.rl_queue.specs.LaneLaws.{IsFirst, in_line, is_first}
-use Rattle.rl_queue.specs.LaneMoves.{link_guess, hand_moves}
+use Rattle.rl_queue.specs.laws.LaneMoves.{link_guess, hand_moves}
 use Rattle.rl_queue.specs.QueueLaws.{IsNaming, Moves, QueueGood, tail_write, next_write, status_write}
 use Rattle.rl_queue.specs.QueueActs.{own_in, wait_turn, await_turn}
 use Rattle.rl_queue.specs.QueueMoves.{hand_succ, at_swap, is_code, hand_idle}

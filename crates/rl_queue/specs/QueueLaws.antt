@@ -1,7 +1,7 @@
 -- The same over any words: when names give words of their own to each member, and what stays where one member moves.
 use Rattle.std.specs.Prelude.{◌≡◌, ◌≢◌, ℕ, ◌+◌, ◌<◌, List, [], ◌∷◌, length, slice_index, slice_set, Option, refl}
 use Rattle.std.proofs.Common.{◌∙◌, sym, subst, inl, ⊎_elim, get_or-set_same, get_or-set_other}
-use Rattle.rl_word.specs.Places.{same_or_not}
+use Rattle.rl_word.specs.laws.Places.{same_or_not}
 use Rattle.rl_word.specs.Acts.{word_of}
 use Rattle.rl_word.specs.declared.classes.Class.{Class}
 use Rattle.rl_word.specs.declared.classes.Class.TheVariants as class

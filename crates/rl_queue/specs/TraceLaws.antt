@@ -5,8 +5,8 @@ use Rattle.std.proofs.lemmas.List.{append-nil}
 use Rattle.rl_step.specs.declared.events.Event.{Event}
 use Rattle.rl_step.specs.declared.events.Event.TheVariants.{Join, Announce, Pass, Settle, Touch, EnterW, EnterR, LeaveW, LeaveR}
 use Rattle.rl_step.specs.Queues.{joins, gives, joined, given, settles, passes, settled, passed, room_after, PassFits, WithinFrom, room_of, count, alone_if}
-use Rattle.rl_step.specs.QueueLemmas.{joined-append, given-append, settled-append, passed-append, room-append, within-append}
-use Rattle.rl_queue.specs.Choices.{same_test, other_test}
+use Rattle.rl_step.specs.laws.QueueLemmas.{joined-append, given-append, settled-append, passed-append, room-append, within-append}
+use Rattle.rl_queue.specs.laws.Choices.{same_test, other_test}
 use Rattle.rl_queue.specs.Queue.{full_budget}
 use Rattle.rl_queue.specs.Lane.{QueueTrace}
 

@@ -6,7 +6,7 @@ ghost use Rattle.rl_word.specs.declared.locks.LockName.TheVariants as TheName;
 ghost use Rattle.rl_step.specs.Lock.{no_more};
 ghost use Rattle.rl_queue.specs.Dmcs.{dmcs_table, dmcs_names, DmcsGood};
 ghost use Rattle.rl_queue.specs.RankWords.{Seated};
-ghost use Rattle.rl_queue.specs.DmcsLaws.{dmcs_laws};
+ghost use Rattle.rl_queue.specs.laws.DmcsLaws.{dmcs_laws};
 
 use crate::queue::{
     QueueNames, queue_idle, queue_join, queue_learn, queue_leave, queue_plan, queue_settled,

@@ -2,7 +2,7 @@
 
 ghost use Rattle.std.specs.Prelude.{◌*◌, ◌+◌, length};
 ghost use Rattle.rl_queue.specs.DmcsLeft.{dmcs_left};
-ghost use Rattle.rl_queue.specs.DmcsEnding.{dmcs_ends};
+ghost use Rattle.rl_queue.specs.laws.DmcsEnding.{dmcs_ends};
 
 use crate::dmcs::Dmcs;
 use rl_ending::Ending;

@@ -2,7 +2,7 @@
 
 ghost use Rattle.std.specs.Prelude.{length};
 ghost use Rattle.rl_queue.specs.DmcsUrgency.{dmcs_urgent};
-ghost use Rattle.rl_queue.specs.DmcsGuiding.{dmcs_guides};
+ghost use Rattle.rl_queue.specs.laws.DmcsGuiding.{dmcs_guides};
 
 use crate::dmcs::Dmcs;
 use crate::queue::queue_urgency;

@@ -5,7 +5,7 @@ use Rattle.std.proofs.lemmas.List.{length-map}
 use Rattle.std.proofs.lemmas.Option.{slice_get_within, get_or_from_slice_get}
 use Rattle.rl_word.specs.Acts.{Layout}
 use Rattle.rl_word.specs.Shapes.{TheShape}
-use Rattle.rl_word.specs.Places.{get_map_back, some_at}
+use Rattle.rl_word.specs.laws.Places.{get_map_back, some_at}
 use Rattle.rl_word.specs.declared.shapes.Knobs.{Knobs}
 use Rattle.rl_asks.specs.ShardTables.{ShardTable, site_with}
 use Rattle.rl_asks.specs.ShardLaws.{GoodOf}
@@ -24,9 +24,9 @@ use Rattle.rl_shard.specs.Ends.{IsEnd, transcripts_of, rooms_at}
 use Rattle.rl_shard.specs.Shards.{core_at, table_at, desk_at}
 use Rattle.rl_run.specs.declared.caller.Caller.{Caller}
 use Rattle.rl_run.specs.Made.{IsLeftBy, IsRunBy}
-use Rattle.rl_run.specs.RowLaws.{ends_long}
+use Rattle.rl_run.specs.laws.RowLaws.{ends_long}
 use Rattle.rl_run.specs.Runs.{HaveBegun, HasRun, made_of, told}
-use Rattle.rl_run.specs.RunLaws.{wanted_long}
+use Rattle.rl_run.specs.laws.RunLaws.{wanted_long}
 use Rattle.rl_run.specs.Told.{all_done, part_of}
 use Rattle.rl_run.proofs.WholeRun.{sizes_long}
 

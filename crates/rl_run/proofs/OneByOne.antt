@@ -3,7 +3,7 @@ use Rattle.std.proofs.Common.{◌≡◌, ℕ, List, [], ◌∷◌, ◌++◌, len
 use Rattle.std.proofs.lemmas.List.{length-map}
 use Rattle.std.proofs.lemmas.List.Elements.{All-head, All-tail}
 use Rattle.rl_run.specs.Rows.{IsGrid, IsColumn, heads, tails, AreEnded}
-use Rattle.rl_run.specs.RowLaws.{EndsSoFar, first_column, other_columns, goes_next, goes_end, heads_long, rows_some, no_rows}
+use Rattle.rl_run.specs.laws.RowLaws.{EndsSoFar, first_column, other_columns, goes_next, goes_end, heads_long, rows_some, no_rows}
 
 module _ {W T E X : Type 0} (f : X → List T) (P : W → ℕ → T → Type 0) (Root : ℕ → W → Type 0) (Q : W → List T → E → Type 0) (ws rest : List W) (w : W) (rows : List X) where
   pub column_seats : (column : List T) → ws ≡ w ∷ rest → IsGrid P ws (map f rows) → column ≡ heads (map f rows) → IsColumn P w column

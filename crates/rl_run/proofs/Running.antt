@@ -3,11 +3,11 @@ use Rattle.std.proofs.Common.{◌≡◌, ℕ, ◌<◌, List, map, length, slice_
 use Rattle.std.specs.Prelude.{Result, Ok, Err, IfOk}
 use Rattle.std.proofs.lemmas.List.{length-map}
 use Rattle.std.proofs.lemmas.Option.{same_Some, get_or_from_slice_get, slice_get-get_or}
-use Rattle.rl_word.specs.Places.{get_map, get_map_back}
+use Rattle.rl_word.specs.laws.Places.{get_map, get_map_back}
 use Rattle.rl_word.specs.Acts.{Layout}
 use Rattle.rl_model.specs.declared.call.Call.{Call}
 use Rattle.rl_model.specs.declared.geom.Geom.{Geom}
-use Rattle.rl_journal.specs.Lists.{all_at}
+use Rattle.rl_journal.specs.laws.Lists.{all_at}
 use Rattle.rl_journal.specs.Ranks.{IsRankInOrder}
 use Rattle.rl_asks.specs.ShardTables.{ShardTable}
 use Rattle.rl_asks.specs.ShardLaws.{GoodOf}
@@ -20,7 +20,7 @@ use Rattle.rl_shard.specs.Shards.{entries_at}
 use Rattle.rl_shard.specs.Ends.{IsEnd, transcripts_of}
 use Rattle.rl_run.specs.declared.caller.Caller.{Caller}
 use Rattle.rl_run.specs.Rows.{IsRow, IsGrid, AreEnded, heads, tails}
-use Rattle.rl_run.specs.RowLaws.{ended_at}
+use Rattle.rl_run.specs.laws.RowLaws.{ended_at}
 use Rattle.rl_run.specs.Callers.{IsCaller, IsAtEnd, entries_on, seats_of, who}
 use Rattle.rl_run.specs.Runs.{IsShutSeat, AreCallers, HasRun, told_by}
 

@@ -6,7 +6,7 @@ use Rattle.std.proofs.lemmas.List.{length-map, map-append, take_more}
 use Rattle.std.proofs.lemmas.List.Elements.{All-cons, All-nil, All-tail}
 use Rattle.rl_word.specs.Acts.{Layout}
 use Rattle.rl_word.specs.Shapes.{TheShape}
-use Rattle.rl_word.specs.Places.{get_map, some_at}
+use Rattle.rl_word.specs.laws.Places.{get_map, some_at}
 use Rattle.rl_word.specs.declared.locks.LockName.{LockName}
 use Rattle.rl_word.specs.declared.shapes.Knobs.{Knobs}
 use Rattle.rl_model.specs.declared.call.Call.{Call}
@@ -23,7 +23,7 @@ use Rattle.rl_journal.specs.Blocks.{is_tenure}
 use Rattle.rl_work.specs.Site.{Site}
 use Rattle.std.specs.Prelude.{Bool, false, slice_index}
 use Rattle.rl_ops.specs.Ops.{OpsFit, EachOfBlocks, total_calls}
-use Rattle.rl_asks.specs.OpsBridge.{each_blocks}
+use Rattle.rl_asks.specs.laws.OpsBridge.{each_blocks}
 use Rattle.rl_asks.specs.AskLaws.{few_calls}
 use Rattle.rl_history.specs.declared.report.Done.{Done}
 use Rattle.rl_history.specs.Reports.{TheShard}
@@ -35,9 +35,9 @@ use Rattle.rl_shard.specs.Shards.{IsShardOf}
 use Rattle.rl_run.specs.declared.caller.Caller.{Caller}
 use Rattle.rl_run.specs.Told.{ToldNumbersFit, AreClosedShards, all_done, part_of}
 use Rattle.rl_run.specs.Runs.{AreNew, AreCallers, HaveBegun, HasRun, CallerMayWork, made_of, wanted, told}
-use Rattle.rl_run.specs.RunLaws.{are_callers, wanted_long}
-use Rattle.rl_run.specs.EndLaws.{closed_shards}
-use Rattle.rl_run.specs.ReportLaws.{updates_few, lawful}
+use Rattle.rl_run.specs.laws.RunLaws.{are_callers, wanted_long}
+use Rattle.rl_run.specs.laws.EndLaws.{closed_shards}
+use Rattle.rl_run.specs.laws.ReportLaws.{updates_few, lawful}
 
 -- as many lists of sizes as of calls
 pub sizes_long : (shards : ℕ) (lists : List (List Call)) (sizes : List (List ℕ)) → EachOfBlocks shards lists sizes → length sizes ≡ length lists

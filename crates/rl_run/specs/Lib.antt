@@ -5,12 +5,4 @@ pub mod Callers
 pub mod Told
 pub mod Made
 pub mod Runs
--- proved; skip at first
-pub mod RowLaws
-pub mod CallingLaws
-pub mod CallerLaws
-pub mod RunLaws
-pub mod EndLaws
-pub mod ToldLaws
-pub mod EntriesFit
-pub mod ReportLaws
+pub mod laws

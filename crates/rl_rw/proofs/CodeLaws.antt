@@ -2,15 +2,15 @@
 -- is told, and how many words there are.
 use Rattle.std.proofs.Common.{◌≡◌, ◌<◌, ◌≤◌, ◌∙◌, sym, subst, ◌+◌, ◌-◌, ◌*◌, ◌/◌, ◌^◌, ◌==◌, ◌&&◌, nat_lt, if◌then◌else◌, arith, ℕ, true, false, length, slice_get, Some}
 use Rattle.rl_step.specs.Lock.{LockState, Told, MayStep, MayLearn as StepLearns}
-use Rattle.rl_queue.specs.Choices.{choose}
-use Rattle.rl_queue.specs.RankWordLaws.{length-every_second}
+use Rattle.rl_queue.specs.laws.Choices.{choose}
+use Rattle.rl_queue.specs.laws.RankWordLaws.{length-every_second}
 use Rattle.rl_tree.specs.declared.view.TreeView.{TreeView}
 use Rattle.rl_tree.specs.Tree.{tree_learn, tree_resume, at_hook, with_entry, has_above}
 use Rattle.rl_tree.specs.Elements.{ranks_in, tree_of}
 use Rattle.rl_tree.specs.Fits.{MayPlan, TreeMayLearn}
 use Rattle.rl_tree.specs.TreeShape.{IsWellShaped}
 use Rattle.rl_tree.specs.TreeFacts.{PlansAct, TreeFacts}
-use Rattle.rl_tree.specs.TreeLaws.{tree_facts}
+use Rattle.rl_tree.specs.laws.TreeLaws.{tree_facts}
 use Rattle.rl_counter.specs.declared.view.Doing.{Doing}
 use Rattle.rl_counter.specs.declared.view.Doing.TheVariants.{Nothing, Arrive, Refused, SeeTail, Swap, Round, RoundTail, Inside, Put, Count, Compare, TakeOut, TakeOff}
 use Rattle.rl_counter.specs.Counter.{to, busy, counter_turn, counter_at, NamesCounters}
@@ -19,10 +19,10 @@ use Rattle.rl_rw.specs.declared.view.RwView.{RwView}
 use Rattle.rl_rw.specs.Rw.{Shared, groups, of_tree, counters_of, plan_of, rw_table}
 use Rattle.rl_rw.specs.Fits.{MayLeaveHook, Ends}
 use Rattle.rl_rw.specs.RwGood.{Place, trees, RwGood}
-use Rattle.rl_rw.specs.RwRows.{marks_hook, out_away}
-use Rattle.rl_rw.specs.RwWords.{IsSound, group_there, group_first, groups_low}
-use Rattle.rl_rw.specs.RwKeeps.{is_there, viewed}
-use Rattle.rl_rw.specs.RwLaws.{sound_of}
+use Rattle.rl_rw.specs.laws.RwRows.{marks_hook, out_away}
+use Rattle.rl_rw.specs.laws.RwWords.{IsSound, group_there, group_first, groups_low}
+use Rattle.rl_rw.specs.laws.RwKeeps.{is_there, viewed}
+use Rattle.rl_rw.specs.laws.RwLaws.{sound_of}
 
 -- the counter at which a rank is, is there
 place_at : (n g : ℕ) (p : Doing) (t : TreeView) → g < n → Place n p t → counter_at g p < n

@@ -3,7 +3,7 @@
 ghost use Rattle.rl_tree.specs.TreeShape.{levels_of};
 ghost use Rattle.rl_rw.specs.Rw.{shared_of};
 ghost use Rattle.rl_rw.specs.RwLeft.{rw_left, rw_most};
-ghost use Rattle.rl_rw.specs.RwEnding.{ends_of};
+ghost use Rattle.rl_rw.specs.laws.RwEnding.{ends_of};
 
 use crate::rw::Rw;
 use rl_ending::Ending;

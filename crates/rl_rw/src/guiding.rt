@@ -5,7 +5,7 @@ ghost use Rattle.rl_word.specs.declared.acts.Act.{Act as TheAct};
 ghost use Rattle.rl_queue.specs.Urgency.{loaded, urgent_at};
 ghost use Rattle.rl_rw.specs.Rw.{shared_of};
 ghost use Rattle.rl_rw.specs.RwUrgency.{where_some, turn_of as turn_in, rw_urgent};
-ghost use Rattle.rl_rw.specs.RwEnding.{guides_of};
+ghost use Rattle.rl_rw.specs.laws.RwEnding.{guides_of};
 
 use crate::rw::Rw;
 use crate::view::RwView;

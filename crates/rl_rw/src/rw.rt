@@ -9,8 +9,8 @@ ghost use Rattle.rl_tree.specs.TreeShape.{levels_of};
 ghost use Rattle.rl_rw.specs.Rw.{shared_of, shared_in, SuitsRw, counters_of, from_tree, after_hook, from_counter, rw_table, BoundsBatches, KeepsBatches};
 ghost use Rattle.rl_rw.specs.Fits.{MayLeaveHook, Ends};
 ghost use Rattle.rl_rw.specs.RwGood.{RwGood};
-ghost use Rattle.rl_rw.specs.SameViews.{same_rw};
-ghost use Rattle.rl_rw.specs.RwLaws.{laws_of};
+ghost use Rattle.rl_rw.specs.laws.SameViews.{same_rw};
+ghost use Rattle.rl_rw.specs.laws.RwLaws.{laws_of};
 
 use crate::view::RwView;
 use arrayvec::ArrayVec;

@@ -2,7 +2,7 @@
 
 ghost use Rattle.rl_seq.specs.Place.{at_of};
 ghost use Rattle.rl_seq.specs.SeqLeft.{seq_left, seq_most};
-ghost use Rattle.rl_seq.specs.SeqEnding.{seq_ends};
+ghost use Rattle.rl_seq.specs.laws.SeqEnding.{seq_ends};
 
 use crate::way::SeqWork;
 use rl_work::WorkEnding;

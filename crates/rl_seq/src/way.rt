@@ -8,7 +8,7 @@ ghost use Rattle.rl_seq.specs.Place.{at_of};
 ghost use Rattle.rl_seq.specs.SeqWork as model;
 ghost use Rattle.rl_seq.specs.SeqCode.{CanNameAt, CanTurnAt};
 ghost use Rattle.rl_seq.specs.SeqGood.{SeqGood};
-ghost use Rattle.rl_seq.specs.SeqLaws.{seq_laws};
+ghost use Rattle.rl_seq.specs.laws.SeqLaws.{seq_laws};
 
 use crate::side::SeqSide;
 use crate::stage::SeqStage;

@@ -6,7 +6,7 @@ use Rattle.std.proofs.lemmas.List.Elements.{All-head, All-tail, All-nil, All-con
 use Rattle.std.proofs.lemmas.List.Sums.{get_or-le-sum_by}
 use Rattle.std.proofs.lemmas.Option.{slice_get_within, get_or_from_slice_get}
 use Rattle.std.specs.Prelude.{suc}
-use Rattle.rl_word.specs.Places.{get_map_back}
+use Rattle.rl_word.specs.laws.Places.{get_map_back}
 use Rattle.rl_word.specs.Acts.{Layout}
 use Rattle.rl_word.specs.declared.acts.Atom.{Atom}
 use Rattle.rl_model.specs.Table.{sum_below}
@@ -20,7 +20,7 @@ use Rattle.rl_step.specs.Queues.{QueueOf, settled, passed, tenures}
 use Rattle.rl_journal.specs.Blocks.{is_tenure}
 use Rattle.rl_journal.specs.Legal.{IsLegal}
 use Rattle.rl_journal.specs.History.{history, IsSorted}
-use Rattle.rl_journal.specs.HistoryCounts.{same_entries}
+use Rattle.rl_journal.specs.laws.HistoryCounts.{same_entries}
 use Rattle.rl_journal.specs.Ranks.{IsOwn}
 use Rattle.rl_work.specs.WorkGood.{IsOwnTranscript}
 use Rattle.rl_asks.specs.Desks.{entries_of}
@@ -32,7 +32,7 @@ use Rattle.rl_shard.specs.Tallies.{full, tally_at}
 use Rattle.rl_shard.specs.Queues.{is_had_by, settled_if, tenures_of, AreTallied}
 use Rattle.rl_shard.specs.Reached.{IsLeftBehind}
 use Rattle.rl_shard.specs.Counting.{whole_of, rooms_of, settled_by, passed_by, AnyFull, ComeTo, CountGood}
-use Rattle.rl_shard.specs.CountingLaws as counting
+use Rattle.rl_shard.specs.laws.CountingLaws as counting
 use Rattle.rl_shard.specs.Closing.{entries_in, pairs_left}
 use Rattle.rl_shard.proofs.Tenures.{only_if, sum_same, rank_tenures, element_tenures, had_all}
 

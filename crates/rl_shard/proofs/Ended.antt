@@ -2,12 +2,12 @@
 use Rattle.std.proofs.Common.{◌≡◌, ◌<◌, ℕ, List, [], ◌∷◌, length, map, sum_by, slice_get, Some, sym, refl, ap, ◌∙◌, subst, arith}
 use Rattle.std.specs.FinMap as finite
 use Rattle.std.proofs.lemmas.List.Sums.{sum_by-cons}
-use Rattle.rl_word.specs.Places.{get_map, get_map_back, some_at}
+use Rattle.rl_word.specs.laws.Places.{get_map, get_map_back, some_at}
 use Rattle.rl_word.specs.Acts.{Layout}
 use Rattle.rl_step.specs.Do.{TheWindow}
 use Rattle.rl_journal.specs.Legal.{IsLegal, table_after}
 use Rattle.rl_journal.specs.History.{history, IsSorted}
-use Rattle.rl_journal.specs.HistoryLaws.{replayed}
+use Rattle.rl_journal.specs.laws.HistoryLaws.{replayed}
 use Rattle.rl_asks.specs.ShardTables.{ShardTable, journal_at}
 use Rattle.rl_asks.specs.ShardLaws.{GoodOf, CauseOf, FurtherOf, LawsOf}
 use Rattle.rl_shard.specs.declared.shard.Shard.{Shard}

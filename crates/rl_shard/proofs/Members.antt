@@ -9,7 +9,7 @@ use Rattle.rl_word.specs.declared.shapes.Element.{Element}
 use Rattle.rl_word.specs.declared.shapes.Knobs.{Knobs}
 use Rattle.rl_word.specs.Shapes.{TheShape}
 use Rattle.rl_step.specs.Queues.{QueueOf}
-use Rattle.rl_step.specs.QueueLemmas.{elements_long}
+use Rattle.rl_step.specs.laws.QueueLemmas.{elements_long}
 use Rattle.rl_step.specs.LockQueues.{queues_of, all_ranks, cohort_queue, cohort_queues, same, sits_at, parent_of, is_node, leaf_of, is_at, is_in, element_queue, element_queues}
 use Rattle.rl_shard.specs.Queues.{AreMembersThere}
 

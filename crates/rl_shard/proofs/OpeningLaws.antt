@@ -2,7 +2,7 @@
 use Rattle.std.proofs.Common.{◌≡◌, ◌<◌, ◌≤◌, ◌^◌, ℕ, zero, suc, ◌+◌, ◌++◌, List, [], ◌∷◌, false, length, map, replicate, take, sum, sum_by, slice_get, slice_index, Option, Some, sym, refl, ap, ◌∙◌, subst, inr, arith, length-append}
 use Rattle.std.proofs.lemmas.List.{length-map, length-replicate, map-append}
 use Rattle.std.proofs.lemmas.List.Sums.{sum_by-cons}
-use Rattle.rl_word.specs.Places.{get_map_back}
+use Rattle.rl_word.specs.laws.Places.{get_map_back}
 use Rattle.rl_word.specs.Acts.{Layout}
 use Rattle.rl_word.specs.declared.acts.Atom.{Atom}
 use Rattle.rl_word.specs.Shapes.{TheShape, layout_of}
@@ -19,7 +19,7 @@ use Rattle.rl_step.specs.Lock.{Deed}
 use Rattle.rl_step.specs.Do.{TheWindow}
 use Rattle.rl_work.specs.Site.{Site, lock_base}
 use Rattle.rl_work.specs.WorkGood.{opening_words}
-use Rattle.rl_work.specs.OpeningLaws.{opening_size}
+use Rattle.rl_work.specs.laws.OpeningLaws.{opening_size}
 use Rattle.rl_asks.specs.ShardTables.{ShardTable, site_with, opening_held, first_views}
 use Rattle.rl_asks.specs.ShardLaws.{GoodOf, CauseOf, FurtherOf, LawsOf, ShardCoreLaws, IsLaidAtSite, IsNewDesk}
 use Rattle.rl_shard.specs.declared.counting.CountedView.{CountedView}
@@ -28,7 +28,7 @@ use Rattle.rl_shard.specs.Queues.{AreMembersThere}
 use Rattle.rl_shard.specs.Reached.{IsReached}
 use Rattle.rl_shard.specs.Counting.{whole_of, rooms_of, settled_by, passed_by, first_counted, CountGood}
 use Rattle.rl_shard.specs.Starts.{IsStart}
-use Rattle.rl_asks.specs.Filling.{views_next, first_at, first_length}
+use Rattle.rl_asks.specs.laws.Filling.{views_next, first_at, first_length}
 
 -- a view with a tally of nothing for each queue
 abbrev pub fresh : {V : Type 0} → ℕ → V → CountedView V

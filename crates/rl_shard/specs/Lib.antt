@@ -11,7 +11,4 @@ pub mod Ends
 -- of the code's own calls
 pub mod Starts
 pub mod Closing
--- proved; skip at first
-pub mod TallyLaws
-pub mod CountingLaws
-pub mod SeatLaws
+pub mod laws

@@ -3,7 +3,7 @@
 ghost use Rattle.std.specs.Prelude.{◌≡◌, ◌≤◌, [], false, length};
 ghost use Rattle.rl_step.specs.Core.{MayBe};
 ghost use Rattle.rl_shard.specs.Counting.{counted_table, counting_rule};
-ghost use Rattle.rl_shard.specs.CountingLaws.{counting_laws};
+ghost use Rattle.rl_shard.specs.laws.CountingLaws.{counting_laws};
 
 use crate::tallies::Tallies;
 use arrayvec::ArrayVec;

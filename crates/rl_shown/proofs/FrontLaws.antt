@@ -7,7 +7,7 @@ use Rattle.rl_ops.specs.declared.schedule.Turn.{Turn}
 use Rattle.rl_ops.specs.declared.schedule.Turn.TheVariants as turn
 use Rattle.rl_ops.specs.Schedule.{TurnFits, rank_of, steps_of}
 use Rattle.rl_machine.specs.Run.{turn_ranks, ranks_of, steps_in}
-use Rattle.rl_machine.specs.ReplayLaws.{ranks-more, steps-more}
+use Rattle.rl_machine.specs.laws.ReplayLaws.{ranks-more, steps-more}
 
 pub ranks_append : (ts us : List Turn) → ranks_of (ts ++ us) ≡ ranks_of ts ++ ranks_of us
 ranks_append [] us = refl

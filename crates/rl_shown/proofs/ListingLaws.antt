@@ -18,7 +18,7 @@ use Rattle.rl_history.specs.Printing.{spaced}
 use Rattle.rl_history.proofs.Lines.{join-spaced}
 use Rattle.rl_machine.specs.Running.{Running}
 use Rattle.rl_machine.specs.Run.{stepped, run_of, turn_ranks, ranks_of, steps_in}
-use Rattle.rl_machine.specs.ReplayLaws.{run_append, replicate-end, ranks-more}
+use Rattle.rl_machine.specs.laws.ReplayLaws.{run_append, replicate-end, ranks-more}
 use Rattle.rl_machine.specs.Start.{start_of}
 use Rattle.rl_cores.specs.Kinds.{Defined}
 use Rattle.rl_viewer.specs.declared.asking.Window.{Window}

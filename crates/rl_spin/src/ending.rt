@@ -2,7 +2,7 @@
 
 ghost use Rattle.std.specs.Prelude.{length};
 ghost use Rattle.rl_spin.specs.SpinLeft.{spin_left};
-ghost use Rattle.rl_spin.specs.SpinEnding.{spin_ends};
+ghost use Rattle.rl_spin.specs.laws.SpinEnding.{spin_ends};
 
 use crate::spin::Spin;
 use rl_ending::Ending;

@@ -2,7 +2,7 @@
 
 ghost use Rattle.std.specs.Prelude.{length};
 ghost use Rattle.rl_spin.specs.SpinUrgency.{spin_urgent};
-ghost use Rattle.rl_spin.specs.SpinGuiding.{spin_guides};
+ghost use Rattle.rl_spin.specs.laws.SpinGuiding.{spin_guides};
 
 use crate::spin::Spin;
 use crate::view::{Phase, SpinView};

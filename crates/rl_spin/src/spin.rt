@@ -5,7 +5,7 @@ ghost use Rattle.std.specs.Prelude.{◌≡◌, ◌<◌, length, refl};
 ghost use Rattle.rl_word.specs.declared.locks.LockName.TheVariants as TheName;
 ghost use Rattle.rl_step.specs.Lock.{no_more};
 ghost use Rattle.rl_spin.specs.Spin.{spin_table, SpinGood};
-ghost use Rattle.rl_spin.specs.SpinLaws.{spin_laws};
+ghost use Rattle.rl_spin.specs.laws.SpinLaws.{spin_laws};
 
 use crate::view::{Phase, SpinView};
 use arrayvec::ArrayVec;

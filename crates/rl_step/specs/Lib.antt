@@ -11,10 +11,6 @@ pub mod Transitions
 pub mod Batches
 pub mod Core
 pub mod Flat
--- proved; skip at first
-pub mod ExclusionLaws
-pub mod QueueLemmas
-pub mod LockLemmas
-pub mod OvertakingLaws
+-- both definitions and lemmas: to be cut
 pub mod BatchLaws
-pub mod CoreLemmas
+pub mod laws

@@ -2,7 +2,7 @@
 
 ghost use Rattle.std.specs.Prelude.{◌≡◌, ◌≢◌, ◌<◌, length, slice_get, slice_set, Some, None, [], refl};
 ghost use Rattle.std.proofs.Common.{sym};
-ghost use Rattle.rl_word.specs.Places.{one_at, some_at, set_same_get};
+ghost use Rattle.rl_word.specs.laws.Places.{one_at, some_at, set_same_get};
 ghost use Rattle.rl_step.specs.Core.{card_word_of, Answers};
 ghost use Rattle.rl_step.specs.Do.{do_atom, do_got};
 

@@ -8,5 +8,3 @@ pub mod LineWords
 pub mod Short
 pub mod Spelling
 pub mod Printing
-
--- proved; skip at first: nothing

@@ -1,7 +1,7 @@
 -- What the code of the tree needs of its lists: the words of a queue stand at its number, and one settlement more is told.
 use Rattle.std.proofs.Common.{◌≡◌, ◌∙◌, sym, ap, ⊎_elim, arith, ℕ, zero, suc, ◌+◌, ◌-◌, ◌<◌, ◌==◌, ◌||◌, List, [], ◌∷◌, ◌++◌, length, slice_index_or, refl, append_assoc}
 use Rattle.std.specs.List.{list_any}
-use Rattle.rl_word.specs.Places.{same_or_not}
+use Rattle.rl_word.specs.laws.Places.{same_or_not}
 use Rattle.rl_step.specs.declared.events.Event.{Event}
 use Rattle.rl_step.specs.declared.events.Event.TheVariants as event
 use Rattle.rl_step.specs.LockQueues.{stands}

@@ -5,30 +5,6 @@ pub mod Fits
 pub mod TreeGood
 pub mod TreeShape
 pub mod TreeFacts
--- proved; skip at first
-pub mod TreePaths
-pub mod TreeWords
-pub mod TreeClimb
-pub mod TreeKeeps
-pub mod TreeActs
-pub mod TreeParts
-pub mod TreeStays
-pub mod TreeOnward
-pub mod TreeCalls
-pub mod TreeHook
-pub mod TreeProper
-pub mod TreeSize
-pub mod TreeLaid
-pub mod TreeEvents
-pub mod TreeLawful
+-- both definitions and lemmas: to be cut
 pub mod TreeStandings
-pub mod TreeHolders
-pub mod TreeSteps
-pub mod TreeMoves
-pub mod TreeRest
-pub mod TreeFits
-pub mod TreeLaws
-pub mod SameViews
-pub mod RankGoes
-pub mod Gates
-pub mod TreeGoes
+pub mod laws

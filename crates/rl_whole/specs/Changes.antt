@@ -2,14 +2,14 @@
 use Rattle.std.specs.Prelude.{◌≡◌, ◌≢◌, ◌⊎◌, ℕ, ◌==◌, Bool, true, false, List, [], ◌∷◌, if◌then◌else◌, slice_get, slice_set, Option, Some, None, refl}
 use Rattle.std.proofs.Common.{sym, ◌∙◌, ap, subst, inl, inr, ⊎_elim, eq-eqb}
 use Rattle.std.proofs.lemmas.Bool.{ne_eqb, true≢false}
-use Rattle.rl_word.specs.Places.{get_set_cases, get_set_same, get_set_other, same_or_not, one_at, set_same_get}
+use Rattle.rl_word.specs.laws.Places.{get_set_cases, get_set_same, get_set_other, same_or_not, one_at, set_same_get}
 use Rattle.rl_step.specs.declared.events.Event.{Event}
 use Rattle.rl_step.specs.declared.events.Event.TheVariants.{Touch, EnterW, EnterR, LeaveW, LeaveR}
 use Rattle.rl_step.specs.declared.events.Standing.{Standing}
 use Rattle.rl_step.specs.declared.events.Standing.TheVariants.{Out, Asking, Writer, Reader, Leaving}
 use Rattle.rl_step.specs.Lock.{Shift, Rests, holds_only}
 use Rattle.rl_step.specs.Exclusion.{Alone, ExclusiveFrom, TouchFits, writers_after, readers_after, writers_of, readers_of}
-use Rattle.rl_step.specs.ExclusionLaws.{quiet_writers, quiet_readers, quiet_exclusive, one_holds}
+use Rattle.rl_step.specs.laws.ExclusionLaws.{quiet_writers, quiet_readers, quiet_exclusive, one_holds}
 use Rattle.rl_work.specs.declared.follow.Follow.{Follow}
 use Rattle.rl_work.specs.declared.follow.Follow.TheVariants.{On, Ask, Over}
 use Rattle.rl_work.specs.Ways.{AsksOut, TouchesAs, standing_after}

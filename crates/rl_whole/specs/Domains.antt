@@ -9,7 +9,7 @@ use Rattle.rl_word.specs.declared.acts.Atom.{Atom}
 use Rattle.rl_word.specs.declared.acts.Atom.TheVariants as atom
 use Rattle.rl_step.specs.declared.events.Event.{Event}
 use Rattle.rl_step.specs.Lock.{LockTable, LockState, LockLaws, Deed}
-use Rattle.rl_word.specs.Places.{get_map}
+use Rattle.rl_word.specs.laws.Places.{get_map}
 use Rattle.rl_whole.specs.declared.card_state.CardState.{CardState}
 use Rattle.rl_whole.specs.declared.card_state.CardState.TheVariants.{Free, InCard, Loaded, ToLeave}
 use Rattle.rl_whole.specs.declared.side.Side.{Side}
@@ -19,7 +19,7 @@ use Rattle.rl_whole.specs.Running.{LockAt, Goods, BothLaws}
 use Rattle.rl_asks.specs.Domains.{IsCardAtom, IsLocalAtom, IsLocalAct}
 use Rattle.rl_whole.specs.declared.whole.WholeView.{WholeView}
 use Rattle.rl_whole.specs.Whole.{shifted, next_of, side_of, work_side, Good}
-use Rattle.rl_whole.specs.WholeLaws.{next_either, works_at}
+use Rattle.rl_whole.specs.laws.WholeLaws.{next_either, works_at}
 use Rattle.rl_whole.specs.Split.{SplitState, LockGood, UsesCards, lock_of, view_of, side_atom, card_atom, card_in, first_at, home_of}
 use Rattle.rl_work.specs.Ways.{WorkTable, IsWorkAtom}
 

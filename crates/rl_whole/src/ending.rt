@@ -2,7 +2,7 @@
 
 ghost use Rattle.rl_whole.specs.Running.{lock_at, tables, goods, good_at};
 ghost use Rattle.rl_whole.specs.WholeLeft.{whole_left, whole_most};
-ghost use Rattle.rl_whole.specs.WholeEnding.{whole_ends};
+ghost use Rattle.rl_whole.specs.laws.WholeEnding.{whole_ends};
 
 use crate::whole::Whole;
 use rl_asks::ShardEnding;

@@ -3,7 +3,7 @@
 ghost use Rattle.std.specs.Prelude.{◌≡◌};
 ghost use Rattle.rl_whole.specs.Running.{lock_at, tables, goods, good_at};
 ghost use Rattle.rl_whole.specs.WholeGuiding.{out_urgency, whole_urgent};
-ghost use Rattle.rl_whole.specs.WholeGuides.{whole_guides};
+ghost use Rattle.rl_whole.specs.laws.WholeGuides.{whole_guides};
 
 use crate::card_state::CardState;
 use crate::whole::{Whole, WholeView};

@@ -9,7 +9,7 @@
 //!   words of the work's own.
 //!
 //! Promise, for every lock and every way of working that keep the laws of one: it is a shard's core (`ShardCore` of `rl_asks`), which
-//! says all that machines, shards, seats and callers need of it (`specs/WholeShards`, proved in `specs/WholeWall`), and it sees where a
+//! says all that machines, shards, seats and callers need of it (`specs/WholeShards`, proved in `specs/laws/WholeWall`), and it sees where a
 //! rank waits (`Resting`). Beneath it: a card names who is in it, a word loaded in a card stands still, the lock never sees a card, and
 //! neither lock nor work sees the other's words. Over a lock and a way of working that have no dead end it has none (`ShardEnding`): a
 //! card's holder has an atom that nobody can keep from it. Where the lock says who goes on the shard does too (`ShardGuiding`,

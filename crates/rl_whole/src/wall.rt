@@ -6,10 +6,10 @@ ghost use Rattle.rl_journal.specs.Blocks.{is_tenure};
 ghost use Rattle.rl_work.specs.Site.{lock_base};
 ghost use Rattle.rl_whole.specs.Causes.{Cause};
 ghost use Rattle.rl_whole.specs.Running.{lock_at, tables, goods, good_at, lock_with, kinds};
-ghost use Rattle.rl_whole.specs.DeskLaws.{keeps_all};
+ghost use Rattle.rl_whole.specs.laws.DeskLaws.{keeps_all};
 ghost use Rattle.rl_whole.specs.SeenLoads.{with_lock};
 ghost use Rattle.rl_whole.specs.WholeShards.{standing_while, whole_shard, WholeGood};
-ghost use Rattle.rl_whole.specs.WholeWall.{whole_shard_laws, laid_with};
+ghost use Rattle.rl_whole.specs.laws.WholeWall.{whole_shard_laws, laid_with};
 
 use crate::idle::waits;
 use crate::round::seen_round;

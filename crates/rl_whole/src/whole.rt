@@ -12,7 +12,7 @@ ghost use Rattle.rl_whole.specs.Running.{lock_at, tables, goods, good_at, lock_w
 ghost use Rattle.rl_whole.specs.Split.{asked_act, card_of, card_word, word_home};
 ghost use Rattle.rl_work.specs.Site.{site_of};
 ghost use Rattle.rl_whole.specs.Whole.{whole_table, planned_in, next_of, is_at_work, is_open, rule_of, touch_by, departure_by, followed};
-ghost use Rattle.rl_whole.specs.WholeLaws.{whole_laws};
+ghost use Rattle.rl_whole.specs.laws.WholeLaws.{whole_laws};
 
 use crate::card_state::CardState;
 use crate::effect::Effect;

@@ -1,7 +1,7 @@
 -- The root seat takes in the seats, in their order, and at the end it has all views.
 use Rattle.std.proofs.Common.{◌≡◌, ℕ, ◌+◌, ◌<◌, ◌≢◌, List, [], ◌∷◌, ◌++◌, length, set, take, Option, Some, sym, ap, ◌∙◌, subst, ⊎_elim, arith, length-set, length-take-le, take_all, take_at, ◌-◌, length-drop}
 use Rattle.std.proofs.lemmas.List.{take_more_set, drop-set-lt}
-use Rattle.rl_word.specs.Places.{get_set_other}
+use Rattle.rl_word.specs.laws.Places.{get_set_other}
 use mathlib.Core.Option.{some}
 use lib.ListN.{get_elem?}
 use Rattle.atomic_table.specs.Table.{Me, Joins, Seen, Final}

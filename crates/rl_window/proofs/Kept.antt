@@ -7,7 +7,7 @@ use lib.ListN.{get_elem?}
 use prog.Atomic.{either}
 use Rattle.atomic_table.specs.Table.{State, Me, keeps, stepped, Allows}
 use Rattle.atomic_table.proofs.Lists.{at_set}
-use Rattle.rl_word.specs.Places.{get_set_same, get_set_other}
+use Rattle.rl_word.specs.laws.Places.{get_set_same, get_set_other}
 use Rattle.rl_word.specs.declared.acts.Atom.{Atom}
 use Rattle.rl_word.specs.declared.acts.Atom.TheVariants.{Load, Store, LocalCas, Take, CardLoad, CardStore, Leave}
 use Rattle.rl_step.specs.Do.{TheWindow, do_got, do_atom, CanDo}
@@ -18,7 +18,7 @@ use Rattle.rl_window.specs.declared.knows.Knows.{Knows}
 use Rattle.rl_window.specs.declared.knows.Knows.TheVariants.{Root, Rank, Spent}
 use Rattle.rl_window.specs.Rule.{sized, MayBeAt, Keeps, Fits, IsRuled}
 use Rattle.rl_window.specs.Plays.{after_step, Moves, MovesWhereTold, IsRankAt, last_of, steps_of}
-use Rattle.rl_window.specs.AtomLengths.{as_many_words, as_many_cards}
+use Rattle.rl_window.specs.laws.AtomLengths.{as_many_words, as_many_cards}
 use Rattle.rl_window.proofs.Effects.{IsAtom, loads, card_loads, stores, card_stores, exchanges, takes, leaves}
 
 module _ {C V : Type 0} where

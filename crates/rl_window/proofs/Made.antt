@@ -14,7 +14,7 @@ use Rattle.rl_window.specs.declared.window.WinSeat.{WinSeat}
 use Rattle.rl_window.specs.Rule.{sized, MayBeAt, MayGetAt}
 use Rattle.rl_window.specs.Plays.{Moves, IsRankAt, rank_knows, last_of, steps_of}
 use Rattle.rl_window.specs.Seats.{IsSeatOf}
-use Rattle.rl_window.specs.SeatLemmas.{plain_may_get}
+use Rattle.rl_window.specs.laws.SeatLemmas.{plain_may_get}
 
 module _ {C V : Type 0} (rule : C → TheWindow → List V → Type 0) (table : C → CoreTable V) where
   -- what a step tells, where the seat is a rank's

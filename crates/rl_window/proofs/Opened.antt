@@ -5,7 +5,7 @@ use mathlib.Core.List.{append-nil}
 use lib.ListN.{get_elem?}
 use Rattle.atomic_table.specs.Table.{Me, opening}
 use Rattle.atomic_table.specs.declared.shared.Seat.{Seat}
-use Rattle.rl_word.specs.Places.{get_map}
+use Rattle.rl_word.specs.laws.Places.{get_map}
 use Rattle.rl_step.specs.Do.{TheWindow}
 use Rattle.rl_window.specs.declared.knows.Setup.{Setup}
 use Rattle.rl_window.specs.declared.knows.Knows.{Knows}
@@ -14,7 +14,7 @@ use Rattle.rl_window.specs.declared.window.Window.{Window}
 use Rattle.rl_window.specs.declared.window.WinSeat.{WinSeat}
 use Rattle.rl_window.specs.Rule.{apart, Fits, IsRuled, opening_root}
 use Rattle.rl_window.specs.Plays.{rank_knows, last_of, steps_of}
-use Rattle.rl_window.specs.SeatLemmas.{kept_still}
+use Rattle.rl_window.specs.laws.SeatLemmas.{kept_still}
 use Rattle.rl_window.specs.Seats.{IsOpening, IsAll, AreNew, AreKept, view_of, last_view}
 
 module _ {C V : Type 0} (rule : C → TheWindow → List V → Type 0) where

@@ -38,7 +38,7 @@ impl<C: Core> Window<C> {
 }
 
 impl<'a, C: Core> Port<C> for TablePort<'a, C> {
-    ghost use Rattle.rl_window.specs.SeatLemmas.{port_known};
+    ghost use Rattle.rl_window.specs.laws.SeatLemmas.{port_known};
 
     ghost fits = { λ p c. IsFit C.rule p.window.now p.seat.now c };
 

@@ -13,17 +13,6 @@ pub mod WorkEnding
 pub mod LockedLeft
 -- for ways of working that read without a lock
 pub mod Unlocked
--- proved; skip at first
-pub mod OpeningLaws
-pub mod VolumeLaws
-pub mod TurnLaws
-pub mod RoomLaws
-pub mod SideLaws
-pub mod WorkLaws
-pub mod AtomLaws
-pub mod RuleLaws
+-- both definitions and lemmas: to be cut
 pub mod EndLaws
-pub mod LockedLaws
-pub mod UnseenLaws
-pub mod LockedSteps
-pub mod LockedEnding
+pub mod laws

@@ -3,7 +3,7 @@
 ghost use Rattle.std.specs.Prelude.{ℕ, List};
 ghost use Rattle.rl_work.specs.WorkEnding.{WorkEnds};
 ghost use Rattle.rl_work.specs.LockedLeft.{locked_left, locked_most};
-ghost use Rattle.rl_work.specs.LockedEnding.{locked_ends};
+ghost use Rattle.rl_work.specs.laws.LockedEnding.{locked_ends};
 
 use crate::locked::LockedWork;
 use crate::way::Work;

@@ -2,7 +2,7 @@
 
 ghost use Rattle.std.specs.Prelude.{◌≡◌, true, IfOk, refl};
 ghost use Rattle.rl_work.specs.Locked.{locked_table, locked_good, mode_of};
-ghost use Rattle.rl_work.specs.LockedLaws.{locked_laws};
+ghost use Rattle.rl_work.specs.laws.LockedLaws.{locked_laws};
 
 use crate::follow::{Follow, WorkStep};
 use crate::site::Site;

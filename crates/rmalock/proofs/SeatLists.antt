@@ -5,12 +5,12 @@ use Rattle.std.proofs.lemmas.List.Folds.{sum_by-replicate}
 use Rattle.std.proofs.lemmas.Option.{slice_get-get_or, slice_get_within, get_or_from_slice_get}
 use Rattle.rl_word.specs.Acts.{Layout}
 use Rattle.rl_word.specs.Shapes.{TheShape, IsProper}
-use Rattle.rl_word.specs.Places.{get_set_cases, some_at}
+use Rattle.rl_word.specs.laws.Places.{get_set_cases, some_at}
 use Rattle.rl_place.specs.Places.{ThePlace}
 use Rattle.rl_place.specs.Shapes.{shape_of}
 use Rattle.rl_asks.specs.ShardTables.{ShardTable, first_views}
 use Rattle.rl_asks.specs.ShardLaws.{GoodOf}
-use Rattle.rl_asks.specs.Filling.{first_length}
+use Rattle.rl_asks.specs.laws.Filling.{first_length}
 use Rattle.rl_shard.specs.declared.shard.Shard.{Shard}
 use Rattle.rl_shard.specs.declared.seat.Seat.{Seat}
 use Rattle.rl_shard.specs.Counting.{first_counted}

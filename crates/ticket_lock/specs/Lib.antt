@@ -1,6 +1,4 @@
 -- to be believed
 pub mod Ticket
 pub mod TicketLeft
--- proved; skip at first
-pub mod TicketLaws
-pub mod TicketEnding
+pub mod laws

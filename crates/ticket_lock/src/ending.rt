@@ -1,7 +1,7 @@
 //! The ticket lock has no dead end, and says who goes on.
 
 ghost use Rattle.std.specs.Prelude.{length};
-ghost use Rattle.ticket_lock.specs.TicketEnding.{ticket_ends, ticket_guides};
+ghost use Rattle.ticket_lock.specs.laws.TicketEnding.{ticket_ends, ticket_guides};
 ghost use Rattle.ticket_lock.specs.TicketLeft.{ticket_left, ticket_urgent};
 
 use crate::ticket::Ticket;

@@ -5,7 +5,7 @@ ghost use Rattle.std.specs.Prelude.{◌≡◌, ◌<◌, ◌^◌, length, refl};
 ghost use Rattle.rl_word.specs.declared.locks.LockName.TheVariants as TheName;
 ghost use Rattle.rl_step.specs.Lock.{no_more};
 ghost use Rattle.ticket_lock.specs.Ticket.{ticket_table, TicketGood};
-ghost use Rattle.ticket_lock.specs.TicketLaws.{ticket_laws};
+ghost use Rattle.ticket_lock.specs.laws.TicketLaws.{ticket_laws};
 
 use crate::view::{Phase, TicketView};
 use arrayvec::ArrayVec;

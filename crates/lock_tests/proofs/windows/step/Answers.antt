@@ -1,6 +1,6 @@
 use Rattle.std.proofs.Common.{rules, ◌∙◌}
 use Rattle.lock_tests.specs.Rounds.{rounds_rule}
-use Rattle.rl_window.specs.SeatLemmas.{fit_seat}
+use Rattle.rl_window.specs.laws.SeatLemmas.{fit_seat}
 use Rattle.lock_tests.proofs.windows.step.Goals as goal
 
 pub returns-clause-seat : goal.returns-clause-seat

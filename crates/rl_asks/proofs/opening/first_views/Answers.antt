@@ -2,7 +2,7 @@
 use Rattle.std.proofs.Common.{◌≡◌, ◌+◌, ◌∷◌, [], ◌++◌, suc, length, slice_index, take, ap, sym, ◌∙◌, arith}
 use Rattle.std.proofs.Math.Seq.{take-length}
 use Rattle.rl_asks.specs.ShardTables.{first_views}
-use Rattle.rl_asks.specs.Filling.{views_next}
+use Rattle.rl_asks.specs.laws.Filling.{views_next}
 use Rattle.rl_asks.proofs.opening.first_views.Goals as goal
 
 pub loop-rank-preserved : goal.loop-rank-preserved

@@ -2,7 +2,7 @@
 use Rattle.std.proofs.Common.{◌≡◌, ◌+◌, ◌<◌, slice_index, slice_set, replicate, ap, sym, ◌∙◌, arith, rules}
 use Rattle.rl_work.specs.Site.{journal_base, lock_base}
 use Rattle.rl_work.specs.WorkGood.{opening_words}
-use Rattle.rl_asks.specs.Filling.{opened_none, opened_next, opened_all}
+use Rattle.rl_asks.specs.laws.Filling.{opened_none, opened_next, opened_all}
 use Rattle.rl_asks.proofs.opening.first_words.Goals as goal
 
 pub loop-word-init : goal.loop-word-init

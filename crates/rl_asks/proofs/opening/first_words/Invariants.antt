@@ -1,6 +1,6 @@
 -- The words so far are in their places, and all after them is 0.
 use Rattle.std.proofs.Common.{◌≡◌}
-use Rattle.rl_asks.specs.Filling.{opened_to}
+use Rattle.rl_asks.specs.laws.Filling.{opened_to}
 use Rattle.rl_asks.proofs.opening.first_words.Given as goal
 
 abbrev pub invariant-loop-word : goal.invariant-loop-word

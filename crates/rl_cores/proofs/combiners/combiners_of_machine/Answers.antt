@@ -4,7 +4,7 @@ use Rattle.rl_combine.specs.Posts.{node_in}
 use Rattle.rl_machine.specs.Running.{cores_of}
 use Rattle.rl_whole.specs.Whole.{counts}
 use Rattle.rl_whole.specs.WholeShards.{whole_shard}
-use Rattle.rl_combine.specs.WayLaws.{combine_works}
+use Rattle.rl_combine.specs.laws.WayLaws.{combine_works}
 use Rattle.rl_cores.specs.Combining.{KeepsCombining}
 use Rattle.rl_cores.proofs.CombinerLaws.{L, keeps_combining, goes_on_found, left_at, in_call}
 use Rattle.rl_cores.proofs.SweepLaws.{stores_first}

@@ -1,7 +1,7 @@
 -- The rule of the window has the rule of the core.
 use Rattle.std.proofs.Common.{map}
 use Rattle.rl_combine.specs.Posts.{node_in}
-use Rattle.rl_combine.specs.WayLaws.{combine_works}
+use Rattle.rl_combine.specs.laws.WayLaws.{combine_works}
 use Rattle.rl_shard.specs.Counting.{whole_of}
 use Rattle.rl_shard.specs.Shards.{core_at}
 use Rattle.rl_cores.proofs.CombinerLaws.{keeps_combining}

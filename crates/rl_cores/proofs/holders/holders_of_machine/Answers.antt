@@ -1,6 +1,6 @@
 -- Each shard of the machine meets the rule of its core.
 use Rattle.std.proofs.Common.{sym, subst}
-use Rattle.rl_work.specs.LockedLaws.{locked_laws}
+use Rattle.rl_work.specs.laws.LockedLaws.{locked_laws}
 use Rattle.rl_work.specs.Site.{Site}
 use Rattle.rl_cores.specs.Holding.{KeepsReads}
 use Rattle.rl_cores.proofs.HolderLaws.{keeps_reads}

@@ -1,8 +1,8 @@
 -- A seat's view is one that some state under the rule has, and the work's part of that state's rule says it.
 use Rattle.std.proofs.Common.{map, subst, Some, ◌≡◌}
 use Rattle.std.specs.List.{slice_get}
-use Rattle.rl_word.specs.Places.{get_map}
-use Rattle.rl_window.specs.SeatLemmas.{seat_may_be}
+use Rattle.rl_word.specs.laws.Places.{get_map}
+use Rattle.rl_window.specs.laws.SeatLemmas.{seat_may_be}
 use Rattle.rl_shard.specs.Counting.{whole_of}
 use Rattle.rl_shard.specs.Shards.{counted_at, view_at, rank_at}
 use Rattle.rl_cores.proofs.SeatLoads.{locked_few}

@@ -1,7 +1,7 @@
 -- Each shard of the machine meets the rule of its core.
 use Rattle.std.proofs.Common.{sym, subst}
 use Rattle.rl_seq.specs.Place.{at_of}
-use Rattle.rl_seq.specs.SeqLaws.{seq_laws}
+use Rattle.rl_seq.specs.laws.SeqLaws.{seq_laws}
 use Rattle.rl_cores.specs.Optimistic.{KeepsGets}
 use Rattle.rl_cores.proofs.ReaderLaws.{keeps_gets}
 use Rattle.rl_cores.proofs.readers.readers_of_machine.Goals as goal

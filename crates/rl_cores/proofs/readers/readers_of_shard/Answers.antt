@@ -1,7 +1,7 @@
 -- The rule of the window has the rule of the core.
 use Rattle.std.proofs.Common.{map}
 use Rattle.rl_seq.specs.Place.{at_of}
-use Rattle.rl_seq.specs.SeqLaws.{seq_laws}
+use Rattle.rl_seq.specs.laws.SeqLaws.{seq_laws}
 use Rattle.rl_shard.specs.Counting.{whole_of}
 use Rattle.rl_shard.specs.Shards.{core_at}
 use Rattle.rl_cores.proofs.ReaderLaws.{keeps_gets}

@@ -1,6 +1,6 @@
 -- Each law of counters, by its proof.
-use Rattle.rl_counter.specs.CounterFrame.{readers_keep}
-use Rattle.rl_counter.specs.CounterLaws.{begins, never_too_small, nobody_inside, lets_in_unmarked, writers_keep, tasks_keep, others_keep, begins_at_marks, comes_in_by_arriving, waits_on_loads, tells_what_it_finds}
+use Rattle.rl_counter.specs.laws.CounterFrame.{readers_keep}
+use Rattle.rl_counter.specs.laws.CounterLaws.{begins, never_too_small, nobody_inside, lets_in_unmarked, writers_keep, tasks_keep, others_keep, begins_at_marks, comes_in_by_arriving, waits_on_loads, tells_what_it_finds}
 use Rattle.rl_counter.proofs.laws.counter_laws.Goals as goal
 
 pub returns-clause-begins : goal.returns-clause-begins

@@ -1,6 +1,6 @@
 -- The last turn has one step more, or one of its own.
 use Rattle.std.proofs.Common.{◌-◌, Some, refl, vec_len, arith, ap, sym, ◌∙◌}
-use Rattle.rl_word.specs.Places.{set_same_get}
+use Rattle.rl_word.specs.laws.Places.{set_same_get}
 use Rattle.rl_ops.specs.declared.schedule.Turn.TheVariants.{Steps}
 use Rattle.rl_ops.specs.Schedule.{rank_of}
 use Rattle.rl_finish.specs.WayOnLaws.{grown, few_in, last_there, pushed_behind, ends_apart}

@@ -4,7 +4,7 @@ use Rattle.rl_model.specs.declared.call.Call.{Call}
 use Rattle.rl_model.specs.declared.entry.Entry.{Entry}
 use Rattle.rl_model.specs.declared.entry.Reply.{Reply}
 use Rattle.rl_journal.specs.Journal.{entry_of}
-use Rattle.rl_journal.specs.ReadBack.{read_back}
+use Rattle.rl_journal.specs.laws.ReadBack.{read_back}
 use Rattle.rl_journal.proofs.journal.journal_entry.Goals as goal
 
 -- entries of the same call and reply

@@ -1,5 +1,5 @@
 -- Each law of a block, by its proof.
-use Rattle.rl_journal.specs.BatchLaws.{undone_where, stopped_stays, unstopped_turns}
+use Rattle.rl_journal.specs.laws.BatchLaws.{undone_where, stopped_stays, unstopped_turns}
 use Rattle.rl_journal.proofs.laws.block_laws.Goals as goal
 
 pub returns-clause-undone : goal.returns-clause-undone

@@ -1,9 +1,9 @@
 -- Each law of a history, by its proof.
-use Rattle.rl_journal.specs.HistoryLaws.{replayed}
-use Rattle.rl_journal.specs.HistoryPlaces.{places_told}
-use Rattle.rl_journal.specs.HistoryCounts.{same_entries}
-use Rattle.rl_journal.specs.HistorySorted.{history_sorted}
-use Rattle.rl_journal.specs.HistoryParts.{updates_are, rank_is}
+use Rattle.rl_journal.specs.laws.HistoryLaws.{replayed}
+use Rattle.rl_journal.specs.laws.HistoryPlaces.{places_told}
+use Rattle.rl_journal.specs.laws.HistoryCounts.{same_entries}
+use Rattle.rl_journal.specs.laws.HistorySorted.{history_sorted}
+use Rattle.rl_journal.specs.laws.HistoryParts.{updates_are, rank_is}
 use Rattle.rl_journal.proofs.laws.history_laws.Goals as goal
 
 pub returns-clause-replayed : goal.returns-clause-replayed

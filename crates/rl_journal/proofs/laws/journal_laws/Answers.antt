@@ -1,5 +1,5 @@
 -- Words that spell a legal journal are read back as it.
-use Rattle.rl_journal.specs.ReadBack.{journaled, journal_read}
+use Rattle.rl_journal.specs.laws.ReadBack.{journaled, journal_read}
 use Rattle.rl_journal.proofs.laws.journal_laws.Goals as goal
 
 pub returns : goal.returns

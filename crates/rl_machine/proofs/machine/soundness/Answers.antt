@@ -1,10 +1,10 @@
 -- The invariant says it, now and after every run.
 use Rattle.std.proofs.Common.{length, sym, subst}
 use Rattle.rl_machine.specs.Promises.{IsSound}
-use Rattle.rl_machine.specs.SoundLaws.{is_sound}
+use Rattle.rl_machine.specs.laws.SoundLaws.{is_sound}
 use Rattle.rl_machine.specs.Run.{run_of, AreThere}
-use Rattle.rl_machine.specs.RunActs.{run_acts}
-use Rattle.rl_machine.specs.MachineLaws.{run_good}
+use Rattle.rl_machine.specs.laws.RunActs.{run_acts}
+use Rattle.rl_machine.specs.laws.MachineLaws.{run_good}
 use Rattle.rl_machine.specs.Running.{running, cores_of}
 use Rattle.rl_machine.specs.State.{machine_view}
 use Rattle.rl_machine.proofs.machine.soundness.Goals as goal

@@ -3,8 +3,8 @@ use Rattle.std.proofs.Common.{◌≡◌, ◌+◌, ◌*◌, ◌≤◌, length, sl
 use Rattle.rl_model.specs.Geom.{GeomFits}
 use Rattle.rl_step.specs.Do.{TheWindow}
 use Rattle.rl_work.specs.Site.{journal_base, lock_base}
-use Rattle.rl_asks.specs.JournalLaws.{place_low}
-use Rattle.rl_machine.specs.JournalAt.{short, all_words, fits, geom_fits}
+use Rattle.rl_asks.specs.laws.JournalLaws.{place_low}
+use Rattle.rl_machine.specs.laws.JournalAt.{short, all_words, fits, geom_fits}
 use Rattle.rl_machine.proofs.records.journal_word.Goals as goal
 use Rattle.rl_machine.proofs.records.journal_word.Goals.{After-journal_base}
 use Rattle.rl_machine.proofs.records.journal_word.Given.{Over}

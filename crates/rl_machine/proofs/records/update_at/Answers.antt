@@ -2,8 +2,8 @@
 use Rattle.std.proofs.Common.{◌≡◌, ◌+◌, ◌*◌, ◌/◌, ◌<◌, ◌^◌, [], ◌∷◌, slice_index, Some, ap, sym, ◌∙◌, subst, arith}
 use Rattle.rl_journal.specs.Journal.{entry_of, six_from}
 use Rattle.rl_work.specs.Site.{journal_base}
-use Rattle.rl_asks.specs.JournalLaws.{update_is, part_fits}
-use Rattle.rl_machine.specs.JournalAt.{short, legal}
+use Rattle.rl_asks.specs.laws.JournalLaws.{update_is, part_fits}
+use Rattle.rl_machine.specs.laws.JournalAt.{short, legal}
 use Rattle.rl_machine.proofs.records.update_at.Goals as goal
 
 pub journal_entry-requires : goal.journal_entry-requires

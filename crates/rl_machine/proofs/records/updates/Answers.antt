@@ -1,11 +1,11 @@
 -- The count is the length of the journal.
 use Rattle.std.proofs.Common.{◌≡◌, ◌∙◌, ap, length, slice_index, arith}
 use Rattle.rl_step.specs.Do.{TheWindow}
-use Rattle.rl_asks.specs.JournalLaws.{count_is, few_updates}
+use Rattle.rl_asks.specs.laws.JournalLaws.{count_is, few_updates}
 use Rattle.rl_machine.specs.Promises.{journal_on}
 use Rattle.rl_machine.specs.Running.{shard_run}
 use Rattle.rl_machine.specs.State.{shard_view}
-use Rattle.rl_machine.specs.JournalAt.{short, fits}
+use Rattle.rl_machine.specs.laws.JournalAt.{short, fits}
 use Rattle.rl_machine.proofs.records.updates.Goals as goal
 use Rattle.rl_machine.proofs.records.updates.Goals.{After-value}
 use Rattle.rl_machine.proofs.records.updates.Given.{Over}

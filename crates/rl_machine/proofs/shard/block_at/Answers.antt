@@ -1,6 +1,6 @@
 -- The block is opened, and then the atom is made.
 use Rattle.std.proofs.Common.{ap, sym, subst, ◌∙◌}
-use Rattle.rl_word.specs.Places.{some_at}
+use Rattle.rl_word.specs.laws.Places.{some_at}
 use Rattle.rl_machine.specs.Running.{shard_run}
 use Rattle.rl_machine.specs.ShardSteps.{events_of, opened_at, atom_on, answer_on}
 use Rattle.rl_machine.specs.State.{shard_view}

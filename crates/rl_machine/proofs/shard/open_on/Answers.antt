@@ -1,6 +1,6 @@
 -- The rank's view with the block open stands in place of the one before.
 use Rattle.std.proofs.Common.{ap, sym, ◌∙◌}
-use Rattle.rl_word.specs.Places.{some_at}
+use Rattle.rl_word.specs.laws.Places.{some_at}
 use Rattle.rl_machine.specs.Running.{shard_run}
 use Rattle.rl_machine.specs.ShardSteps.{opened_at}
 use Rattle.rl_machine.specs.State.{shard_view}

@@ -3,7 +3,7 @@ use Rattle.std.proofs.Common.{◌≤◌, length, ap, sym, ◌∙◌, subst, arit
 use Rattle.std.specs.List.{sum}
 use Rattle.rl_model.specs.Geom.{GeomFits}
 use Rattle.rl_asks.specs.ShardTables.{site_with}
-use Rattle.rl_machine.specs.StartLaws.{few_words}
+use Rattle.rl_machine.specs.laws.StartLaws.{few_words}
 use Rattle.rl_machine.proofs.start.first_shard.Goals as goal
 
 pub opening-requires-clause-fits : goal.opening-requires-clause-fits

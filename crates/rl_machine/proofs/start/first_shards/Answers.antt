@@ -5,14 +5,14 @@ use Rattle.std.proofs.lemmas.Option.{slice_get-get_or}
 use Rattle.rl_word.specs.Shapes.{layout_of}
 use Rattle.rl_step.specs.Batches.{HandsOn}
 use Rattle.rl_ops.specs.Room.{calls_on, updates_on, AreRooms}
-use Rattle.rl_ops.specs.RoomLaws.{first_room}
+use Rattle.rl_ops.specs.laws.RoomLaws.{first_room}
 use Rattle.rl_machine.specs.Cores.{EachCore}
-use Rattle.rl_machine.specs.CoreLaws.{core_more, home_there}
-use Rattle.rl_machine.specs.ShardsMore.{shards_more, cores_more, length_cores, length_more}
+use Rattle.rl_machine.specs.laws.CoreLaws.{core_more, home_there}
+use Rattle.rl_machine.specs.laws.ShardsMore.{shards_more, cores_more, length_cores, length_more}
 use Rattle.rl_work.specs.Site.{Site}
 use Rattle.rl_asks.specs.ShardTables.{site_with}
 use Rattle.std.proofs.Math.Seq.{take-length}
-use Rattle.rl_asks.specs.OpsBridge.{few_updates}
+use Rattle.rl_asks.specs.laws.OpsBridge.{few_updates}
 use Rattle.rl_machine.specs.Running.{shard_run, shard_cores}
 use Rattle.rl_machine.specs.Start.{first_shard, first_shards, site_of}
 use Rattle.rl_machine.specs.State.{shard_view}

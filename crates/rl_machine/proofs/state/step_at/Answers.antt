@@ -6,8 +6,8 @@ use Rattle.rl_machine.specs.Running.{running, shard_run}
 use Rattle.rl_machine.specs.Run.{place_of}
 use Rattle.rl_machine.specs.ShardSteps.{atom_on}
 use Rattle.rl_machine.specs.State.{shard_view, machine_view}
-use Rattle.rl_machine.specs.MachineSteps.{machine_with, atom_is}
-use Rattle.rl_machine.specs.StateLaws.{IsThere, is_there, shard_set, kept_set, core_set}
+use Rattle.rl_machine.specs.laws.MachineSteps.{machine_with, atom_is}
+use Rattle.rl_machine.specs.laws.StateLaws.{IsThere, is_there, shard_set, kept_set, core_set}
 use Rattle.rl_machine.proofs.state.step_at.Goals as goal
 use Rattle.rl_machine.proofs.state.step_at.Goals.{After-index_mut}
 use Rattle.rl_machine.proofs.state.step_at.Given.{Over}

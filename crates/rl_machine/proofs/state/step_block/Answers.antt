@@ -6,9 +6,9 @@ use Rattle.std.proofs.lemmas.Result.{err_from_is_err_and}
 use Rattle.rl_machine.specs.Running.{running, shard_run}
 use Rattle.rl_machine.specs.ShardSteps.{opened_on, atom_on}
 use Rattle.rl_machine.specs.State.{shard_view, machine_view}
-use Rattle.rl_machine.specs.MachineSteps.{machine_with}
-use Rattle.rl_machine.specs.StateLaws.{shard_set, kept_set, core_set}
-use Rattle.rl_machine.specs.OpenSteps.{IsBlockThere, block_there, CanOpen, can_open, place_there}
+use Rattle.rl_machine.specs.laws.MachineSteps.{machine_with}
+use Rattle.rl_machine.specs.laws.StateLaws.{shard_set, kept_set, core_set}
+use Rattle.rl_machine.specs.laws.OpenSteps.{IsBlockThere, block_there, CanOpen, can_open, place_there}
 use Rattle.rl_machine.proofs.state.step_block.Goals as goal
 use Rattle.rl_machine.proofs.state.step_block.Goals.{After-index-first, After-block_shard-place, After-index_mut-shard}
 use Rattle.rl_machine.proofs.state.step_block.Given.{Over}

@@ -6,7 +6,7 @@ use Rattle.rl_text.specs.Spelling.{text_of}
 use Rattle.rl_ops.specs.declared.schedule.Turn.{Turn}
 use Rattle.rl_ops.specs.declared.schedule.Turn.TheVariants.{Steps}
 use Rattle.rl_machine.specs.Run.{steps_in}
-use Rattle.rl_machine.specs.ReplayLaws.{steps-more, steps-within}
+use Rattle.rl_machine.specs.laws.ReplayLaws.{steps-more, steps-within}
 use Rattle.rl_shown.proofs.ListingLaws.{steps_are}
 use Rattle.rl_page.specs.PageData.{stop_lines}
 use Rattle.rl_page.proofs.StopLaws.{text_more}

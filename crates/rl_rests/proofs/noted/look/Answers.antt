@@ -1,6 +1,6 @@
 -- What is noted of the rank is true, and so is what was noted of the others.
 use Rattle.rl_machine.specs.Running.{running}
-use Rattle.rl_rests.specs.RestedLaws.{all_set}
+use Rattle.rl_rests.specs.laws.RestedLaws.{all_set}
 use Rattle.rl_rests.proofs.noted.look.Goals as goal
 
 pub returns-clause-rested : goal.returns-clause-rested

@@ -1,7 +1,7 @@
 -- It rests so whoever is in the card.
 use Rattle.std.proofs.Common.{subst}
 use Rattle.rl_machine.specs.Rested.{RestsAt}
-use Rattle.rl_rests.specs.RestedLaws.{held_by_another}
+use Rattle.rl_rests.specs.laws.RestedLaws.{held_by_another}
 use Rattle.rl_rests.proofs.noted.noted.Goals as goal
 
 pub returns-in-Busy : goal.returns-in-Busy

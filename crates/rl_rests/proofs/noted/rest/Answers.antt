@@ -3,7 +3,7 @@ use Rattle.std.proofs.Common.{subst}
 use Rattle.rl_step.specs.declared.events.Stepped.TheVariants.{Finished}
 use Rattle.rl_machine.specs.Running.{running}
 use Rattle.rl_rests.specs.Rested.{Rested}
-use Rattle.rl_rests.specs.RestedLaws.{over_rests, counted_run, keeps_with}
+use Rattle.rl_rests.specs.laws.RestedLaws.{over_rests, counted_run, keeps_with}
 use Rattle.rl_rests.proofs.noted.rest.Goals as goal
 
 pub rest_waiting-requires-clause-rested : goal.rest_waiting-requires-clause-rested

@@ -3,7 +3,7 @@ use Rattle.std.proofs.Common.{◌≡◌, ◌==◌, ◌-◌, ◌<◌, ℕ, false,
 use Rattle.rl_step.specs.declared.events.Stepped.TheVariants.{Busy}
 use Rattle.rl_step.specs.Do.{TheWindow}
 use Rattle.rl_machine.specs.Running.{running}
-use Rattle.rl_rests.specs.RestedLaws.{window_at, still_rests, counted_run, keeps_with, not_free, shards_there}
+use Rattle.rl_rests.specs.laws.RestedLaws.{window_at, still_rests, counted_run, keeps_with, not_free, shards_there}
 use Rattle.rl_rests.proofs.noted.rest_held_off.Goals as goal
 use Rattle.rl_rests.proofs.noted.rest_held_off.Goals.{After-words}
 use Rattle.rl_rests.proofs.noted.rest_held_off.Given.{Over}

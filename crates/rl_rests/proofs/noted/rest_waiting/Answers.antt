@@ -3,7 +3,7 @@ use Rattle.std.proofs.Common.{◌≡◌, ◌<◌, length, slice_index, sym, ◌�
 use Rattle.rl_step.specs.declared.events.Stepped.TheVariants.{Waiting}
 use Rattle.rl_step.specs.Do.{TheWindow}
 use Rattle.rl_machine.specs.Running.{running}
-use Rattle.rl_rests.specs.RestedLaws.{window_at, still_rests, counted_run, keeps_with, shards_there}
+use Rattle.rl_rests.specs.laws.RestedLaws.{window_at, still_rests, counted_run, keeps_with, shards_there}
 use Rattle.rl_rests.proofs.noted.rest_waiting.Goals as goal
 use Rattle.rl_rests.proofs.noted.rest_waiting.Goals.{After-words}
 use Rattle.rl_rests.proofs.noted.rest_waiting.Given.{Over}

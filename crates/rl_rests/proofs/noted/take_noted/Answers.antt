@@ -2,7 +2,7 @@
 use Rattle.std.proofs.Common.{◌≡◌, ◌<◌, Bool, true, false, length, slice_set, ap, sym, refl, subst, arith}
 use Rattle.rl_machine.specs.Running.{running}
 use Rattle.rl_rests.specs.Rested.{Rested, AllRested}
-use Rattle.rl_rests.specs.RestedLaws.{all_noted, all_set, noted_at}
+use Rattle.rl_rests.specs.laws.RestedLaws.{all_noted, all_set, noted_at}
 use Rattle.rl_rests.proofs.noted.take_noted.Goals as goal
 
 pub rest_held_off-requires-clause-rested : goal.rest_held_off-requires-clause-rested

@@ -3,7 +3,7 @@ use Rattle.std.proofs.Common.{◌≡◌, ap, sym, ◌∙◌}
 use Rattle.rl_asks.specs.Rounds.{leg_answer}
 use Rattle.rl_machine.specs.Rest.{counted_more, with_steps}
 use Rattle.rl_machine.specs.Running.{running}
-use Rattle.rl_rests.specs.RoundLaws.{counted_rounds, rounds_run}
+use Rattle.rl_rests.specs.laws.RoundLaws.{counted_rounds, rounds_run}
 use Rattle.rl_rests.proofs.rounds.count_rounds.Goals as goal
 use Rattle.rl_rests.proofs.rounds.count_rounds.Goals.{After-count_more-2}
 use Rattle.rl_rests.proofs.rounds.count_rounds.Given.{Over}

@@ -1,13 +1,13 @@
 -- The rounds, and one step more where their number is odd.
 use Rattle.std.proofs.Common.{◌≡◌, ◌+◌, ◌/◌, ◌<◌, length, replicate, ap, sym, ◌∙◌, subst, arith}
 use Rattle.rl_step.specs.Answers.{steps_made}
-use Rattle.rl_machine.specs.ReplayLaws.{turn_counts}
+use Rattle.rl_machine.specs.laws.ReplayLaws.{turn_counts}
 use Rattle.rl_machine.specs.Rested.{IsInRound, GoesRound}
 use Rattle.rl_machine.specs.Running.{running}
 use Rattle.rl_machine.specs.Run.{stepped, run_of}
 use Rattle.rl_rests.specs.Rested.{Rested}
-use Rattle.rl_rests.specs.RoundLaws.{round_with, goes_with}
-use Rattle.rl_rests.specs.RunLaws.{run_end}
+use Rattle.rl_rests.specs.laws.RoundLaws.{round_with, goes_with}
+use Rattle.rl_rests.specs.laws.RunLaws.{run_end}
 use Rattle.rl_rests.proofs.rounds.go_round.Goals as goal
 
 pub shows_round-requires : goal.shows_round-requires

@@ -2,7 +2,7 @@
 use Rattle.std.proofs.Common.{◌≡◌, ◌<◌, length, sym, subst}
 use Rattle.rl_machine.specs.Rested.{ShowsRound}
 use Rattle.rl_machine.specs.Running.{running}
-use Rattle.rl_rests.specs.RestedLaws.{window_at, shards_there}
+use Rattle.rl_rests.specs.laws.RestedLaws.{window_at, shards_there}
 use Rattle.rl_rests.proofs.rounds.shows_round.Goals as goal
 use Rattle.rl_rests.proofs.rounds.shows_round.Goals.{After-words}
 use Rattle.rl_rests.proofs.rounds.shows_round.Given.{Over}

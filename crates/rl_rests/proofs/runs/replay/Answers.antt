@@ -10,7 +10,7 @@ use Rattle.rl_machine.specs.RunTransitions.{EachSays}
 use Rattle.rl_machine.specs.Start.{start_of}
 use Rattle.std.proofs.Math.Seq.{take-length}
 use Rattle.rl_machine.specs.Promises.{EachKeepsQueues}
-use Rattle.rl_machine.specs.ReplayLaws.{run_append, ranks-more, steps-more, steps-within, ranks_there}
+use Rattle.rl_machine.specs.laws.ReplayLaws.{run_append, ranks-more, steps-more, steps-within, ranks_there}
 use Rattle.rl_rests.proofs.runs.replay.Goals as goal
 
 pub loop-turn-init : goal.loop-turn-init

@@ -2,7 +2,7 @@
 use Rattle.std.proofs.Common.{sym, subst}
 use Rattle.rl_machine.specs.Running.{running}
 use Rattle.rl_rests.specs.Rested.{AllRested}
-use Rattle.rl_rests.specs.RestedLaws.{all_set, all_stepped}
+use Rattle.rl_rests.specs.laws.RestedLaws.{all_set, all_stepped}
 use Rattle.rl_rests.proofs.runs.step_in_full.Goals as goal
 use Rattle.rl_rests.proofs.runs.step_in_full.Goals.{In_ok-end}
 use Rattle.rl_rests.proofs.runs.step_in_full.Given.{Over}

@@ -2,7 +2,7 @@
 use Rattle.std.proofs.Common.{◌≡◌, ◌<◌, ◌+◌, length, ap, sym, ◌∙◌, arith, replicate}
 use Rattle.rl_machine.specs.Run.{run_of}
 use Rattle.rl_machine.specs.Running.{running}
-use Rattle.rl_rests.specs.RunLaws.{made_after, calls_after, there_after, next, whole}
+use Rattle.rl_rests.specs.laws.RunLaws.{made_after, calls_after, there_after, next, whole}
 use Rattle.rl_rests.proofs.runs.take_steps.Goals as goal
 use Rattle.rl_rests.proofs.runs.take_steps.Goals.{In_ok-step_in_full, Then-take_noted-2}
 use Rattle.rl_rests.proofs.runs.take_steps.Given.{Over}

@@ -1,5 +1,5 @@
 use Rattle.std.proofs.Common.{rules, vec_items, vec_len, map, subst}
-use Rattle.rl_run.specs.RowLaws.{first_is, rows_some}
+use Rattle.rl_run.specs.laws.RowLaws.{first_is, rows_some}
 use Rattle.rl_run.specs.Rows.{IsGrid}
 use Rattle.rl_shard.specs.Shards.{IsShardOf}
 use Rattle.rl_shard.specs.Ends.{IsEnd}

@@ -1,6 +1,6 @@
 use Rattle.std.proofs.Common.{All, map, vec_items, vec_len, vec_capacity, ◌+◌, ◌≤◌}
 use Rattle.rl_run.specs.Rows.{IsGrid}
-use Rattle.rl_run.specs.RowLaws.{EndsSoFar}
+use Rattle.rl_run.specs.laws.RowLaws.{EndsSoFar}
 use Rattle.rl_shard.specs.Shards.{IsShardOf}
 use Rattle.rl_shard.specs.Ends.{IsEnd}
 use Rattle.rl_run.specs.Runs.{IsShutSeat}

@@ -1,6 +1,6 @@
 use Rattle.std.proofs.Common.{rules, vec_items}
 use Rattle.rl_run.specs.Callers.{seats_of}
-use Rattle.rl_run.specs.RowLaws.{first_is, next_lists}
+use Rattle.rl_run.specs.laws.RowLaws.{first_is, next_lists}
 use Rattle.rl_run.proofs.closing.rows_of.Goals as goal
 
 pub loop-callers-preserved : goal.loop-callers-preserved

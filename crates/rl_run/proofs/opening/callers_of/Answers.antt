@@ -3,9 +3,9 @@ use Rattle.std.proofs.Common.{rules, ◌≡◌, ◌++◌, length, map, vec_items
 use Rattle.std.proofs.lemmas.List.Elements.{All-push}
 use Rattle.std.proofs.lemmas.List.{append-nil, length-map}
 use Rattle.rl_run.specs.Callers.{IsReady}
-use Rattle.rl_run.specs.RowLaws.{first_is}
+use Rattle.rl_run.specs.laws.RowLaws.{first_is}
 use Rattle.rl_run.specs.Runs.{CallerMayWork, made_of}
-use Rattle.rl_run.specs.RunLaws.{next_wanted, nothing_wanted, made_is}
+use Rattle.rl_run.specs.laws.RunLaws.{next_wanted, nothing_wanted, made_is}
 use Rattle.rl_run.proofs.opening.callers_of.Goals as goal
 
 pub loop-geom-preserved : goal.loop-geom-preserved

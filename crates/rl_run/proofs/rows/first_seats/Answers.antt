@@ -1,5 +1,5 @@
 use Rattle.std.proofs.Common.{rules, vec_items}
-use Rattle.rl_run.specs.RowLaws.{first_is, next_heads, next_tails, next_some}
+use Rattle.rl_run.specs.laws.RowLaws.{first_is, next_heads, next_tails, next_some}
 use Rattle.rl_run.proofs.rows.first_seats.Goals as goal
 
 pub remove-requires : goal.remove-requires

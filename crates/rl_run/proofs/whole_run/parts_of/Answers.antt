@@ -1,5 +1,5 @@
 use Rattle.std.proofs.Common.{rules}
-use Rattle.rl_run.specs.RowLaws.{first_is}
+use Rattle.rl_run.specs.laws.RowLaws.{first_is}
 use Rattle.rl_run.proofs.WholeRun.{next_part, none_left}
 use Rattle.rl_run.proofs.whole_run.parts_of.Goals as goal
 

@@ -3,7 +3,7 @@ use denote.Exit.{unseen}
 use denote.Param.Send.{Quiet-if}
 use mir.Syntax.{of_param}
 use Rattle.rl_run.specs.Callers.{IsCaller, IsAtEnd, who}
-use Rattle.rl_run.specs.RowLaws.{same_map}
+use Rattle.rl_run.specs.laws.RowLaws.{same_map}
 use Rattle.rl_run.proofs.working.work_all.Goals as goal
 
 pub for_each_mut-requires-clause-accepts : goal.for_each_mut-requires-clause-accepts

@@ -1,5 +1,5 @@
 -- Few ranks make few groups.
-use Rattle.rl_rw.specs.RwWords.{groups_low}
+use Rattle.rl_rw.specs.laws.RwWords.{groups_low}
 use Rattle.rl_rw.proofs.rw.groups_of.Goals as goal
 
 pub returns-clause-few : goal.returns-clause-few

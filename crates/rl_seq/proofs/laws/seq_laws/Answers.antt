@@ -1,6 +1,6 @@
 -- Each law, by its proof.
-use Rattle.rl_seq.specs.SeqLaws.{seq_laws}
-use Rattle.rl_seq.specs.VersionLaws.{odd_between, writers_odd, never_lowers, no_lower, stands_still, gets_load, reads_few, waits_at, loses_at}
+use Rattle.rl_seq.specs.laws.SeqLaws.{seq_laws}
+use Rattle.rl_seq.specs.laws.VersionLaws.{odd_between, writers_odd, never_lowers, no_lower, stands_still, gets_load, reads_few, waits_at, loses_at}
 use Rattle.rl_seq.proofs.laws.seq_laws.Goals as goal
 
 pub returns-clause-way : goal.returns-clause-way

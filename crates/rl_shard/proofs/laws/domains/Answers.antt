@@ -2,7 +2,7 @@
 use Rattle.std.proofs.Common.{map}
 use Rattle.rl_shard.specs.Counting.{whole_of}
 use Rattle.rl_shard.specs.Shards.{core_at, view_at, rank_at}
-use Rattle.rl_shard.specs.SeatLaws.{seen, seen_seated}
+use Rattle.rl_shard.specs.laws.SeatLaws.{seen, seen_seated}
 use Rattle.rl_shard.proofs.laws.domains.Goals as goal
 
 pub returns-clause-cards : goal.returns-clause-cards

@@ -1,12 +1,12 @@
 -- What a rank's next atom is guarded by, by the core's laws.
 use Rattle.std.proofs.Common.{map}
-use Rattle.rl_word.specs.Places.{get_map}
+use Rattle.rl_word.specs.laws.Places.{get_map}
 use Rattle.rl_shard.specs.Counting.{whole_of}
-use Rattle.rl_shard.specs.CountingLaws as counting
+use Rattle.rl_shard.specs.laws.CountingLaws as counting
 use Rattle.rl_shard.specs.Guards.{guarded_names}
 use Rattle.rl_shard.specs.Shards.{core_at, view_at, rank_at}
-use Rattle.rl_shard.specs.SeatLaws.{seen, seen_seated}
-use Rattle.rl_asks.specs.TouchLaws.{alone_there}
+use Rattle.rl_shard.specs.laws.SeatLaws.{seen, seen_seated}
+use Rattle.rl_asks.specs.laws.TouchLaws.{alone_there}
 use Rattle.rl_shard.proofs.laws.guards.Goals as goal
 
 pub returns-clause-ranks : goal.returns-clause-ranks

@@ -1,6 +1,6 @@
 -- The seat is the window's, as its port says.
 use Rattle.std.proofs.Common.{rules, ◌∙◌}
-use Rattle.rl_window.specs.SeatLemmas.{fit_seat}
+use Rattle.rl_window.specs.laws.SeatLemmas.{fit_seat}
 use Rattle.rl_shard.proofs.stepping.step.Goals as goal
 
 pub returns-clause-seat : goal.returns-clause-seat

@@ -6,10 +6,10 @@ use Rattle.std.proofs.Math.Seq.{take-length}
 use Rattle.rl_place.specs.Places.{ThePlace}
 use Rattle.rl_place.specs.Shapes.{shape_of, knobs_of}
 use Rattle.rl_ops.specs.Room.{updates_on, AreRooms}
-use Rattle.rl_ops.specs.RoomLaws.{first_room}
+use Rattle.rl_ops.specs.laws.RoomLaws.{first_room}
 use Rattle.rl_work.specs.Site.{Site}
 use Rattle.rl_asks.specs.ShardTables.{site_with}
-use Rattle.rl_asks.specs.OpsBridge.{few_updates}
+use Rattle.rl_asks.specs.laws.OpsBridge.{few_updates}
 use Rattle.rl_machine.specs.Running.{ShardRun}
 use Rattle.rl_machine.specs.Start.{first_shards, site_of}
 use Rattle.rl_shown.proofs.CoresLaws.{tables_more, cores_more}

@@ -12,7 +12,7 @@ use Rattle.rl_ops.specs.Schedule.{steps_of}
 use Rattle.rl_history.specs.Naming.{naming_of}
 use Rattle.rl_machine.specs.Running.{running}
 use Rattle.rl_machine.specs.Run.{steps_in, ranks_of, turn_ranks}
-use Rattle.rl_machine.specs.ReplayLaws.{steps-more, steps-within}
+use Rattle.rl_machine.specs.laws.ReplayLaws.{steps-more, steps-within}
 use Rattle.rl_machine.specs.Start.{start_of}
 use Rattle.rl_replay.proofs.SuitLaws.{sizes_suit}
 use Rattle.rl_shown.specs.Listing.{head_lines, step_lines}

@@ -1,7 +1,7 @@
 use Rattle.std.proofs.Common.{◌≡◌, subst, sym, ◌<◌, length, rules, slice_get, Some}
 use Rattle.rl_word.specs.declared.acts.Atom.{Atom}
 use Rattle.rl_step.specs.Core.{MadeFlat}
-use Rattle.rl_step.specs.CoreLemmas.{made_flat}
+use Rattle.rl_step.specs.laws.CoreLemmas.{made_flat}
 use Rattle.rl_step.proofs.flat.advance_flat.Goals as goal
 use Rattle.rl_step.proofs.flat.advance_flat.Goals.{After-advance}
 use Rattle.rl_step.proofs.flat.advance_flat.Given.{Over}

@@ -1,5 +1,5 @@
 -- A made atom is never answered Finished, by the core's law.
-use Rattle.rl_step.specs.CoreLemmas.{performs_answers}
+use Rattle.rl_step.specs.laws.CoreLemmas.{performs_answers}
 use Rattle.rl_step.proofs.port.advance.Goals as goal
 
 pub returns-in-Some-clause-goes_on : goal.returns-in-Some-clause-goes_on

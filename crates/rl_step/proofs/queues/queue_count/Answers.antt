@@ -3,7 +3,7 @@ use Rattle.std.proofs.Common.{◌≡◌, length, None, Some, ap, sym, ◌∙◌,
 use Rattle.rl_word.specs.Shapes.{TheShape}
 use Rattle.rl_word.specs.declared.locks.LockName.{LockName}
 use Rattle.rl_step.specs.LockQueues.{queues_of}
-use Rattle.rl_step.specs.QueueLemmas.{elements_long}
+use Rattle.rl_step.specs.laws.QueueLemmas.{elements_long}
 use Rattle.rl_step.proofs.queues.queue_count.Goals as goal
 
 pub returns-in-Mcs : goal.returns-in-Mcs

@@ -1,8 +1,8 @@
 -- The laws hold of each shape.
 use Rattle.rl_tree.specs.TreeShape.{levels_of}
-use Rattle.rl_tree.specs.TreeLaws.{tree_facts}
+use Rattle.rl_tree.specs.laws.TreeLaws.{tree_facts}
 use Rattle.rl_tree.proofs.laws.tree_laws.Goals as goal
-use Rattle.rl_tree.specs.TreeLaid.{proper_laid, laid_shaped}
+use Rattle.rl_tree.specs.laws.TreeLaid.{proper_laid, laid_shaped}
 
 pub returns-clause-shapes : goal.returns-clause-shapes
 returns-clause-shapes c K proper homed budgeted modest = laid_shaped K (levels_of K.shape) (proper_laid K proper homed budgeted modest)

@@ -1,7 +1,7 @@
 -- One more number stands at the end.
 use Rattle.std.proofs.Common.{◌∙◌, ◌≡◌, ◌+◌, ◌*◌, ◌++◌, ◌∷◌, [], suc, ap, sym, arith}
 use Rattle.rl_queue.specs.RankWords.{every_second}
-use Rattle.rl_queue.specs.RankWordLaws.{every_second_more}
+use Rattle.rl_queue.specs.laws.RankWordLaws.{every_second_more}
 use Rattle.rl_tree.proofs.tree.element_words.Goals as goal
 
 pub loop-element-preserved : goal.loop-element-preserved

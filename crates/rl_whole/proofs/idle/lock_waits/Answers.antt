@@ -3,8 +3,8 @@ use Rattle.std.proofs.Common.{◌+◌, ◌<◌, ◌^◌, length, slice_index, re
 use Rattle.rl_step.specs.Lock.{MayLearn}
 use Rattle.rl_asks.specs.Idle.{IsIdle}
 use Rattle.rl_whole.specs.Running.{lock_at, good_at, tables, goods}
-use Rattle.rl_whole.specs.IdleLaws.{load_there, load_fits, load_open, load_learns, load_idle}
-use Rattle.rl_whole.specs.RoundLaws.{none_there}
+use Rattle.rl_whole.specs.laws.IdleLaws.{load_there, load_fits, load_open, load_learns, load_idle}
+use Rattle.rl_whole.specs.laws.RoundLaws.{none_there}
 use Rattle.rl_whole.specs.Whole.{next_of}
 use Rattle.rl_whole.specs.WholeShards.{shard_at}
 use Rattle.rl_whole.proofs.idle.lock_waits.Goals as goal

@@ -1,6 +1,6 @@
 -- What the lock's plan asks follows from the rule.
 use Rattle.rl_whole.specs.Running.{lock_at, good_at, tables, goods}
-use Rattle.rl_whole.specs.WholeOwes.{may_step}
+use Rattle.rl_whole.specs.laws.WholeOwes.{may_step}
 use Rattle.rl_whole.proofs.idle.waits.Goals as goal
 
 pub plan-requires : goal.plan-requires

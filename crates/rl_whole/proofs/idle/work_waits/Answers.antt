@@ -5,7 +5,7 @@ use Rattle.rl_step.specs.Core.{atom_in}
 use Rattle.rl_asks.specs.Idle.{IsIdle}
 use Rattle.rl_work.specs.Ways.{MayTurn}
 use Rattle.rl_whole.specs.Running.{lock_at, good_at, tables, goods}
-use Rattle.rl_whole.specs.IdleLaws.{own_there, own_turns, own_open, own_idle}
+use Rattle.rl_whole.specs.laws.IdleLaws.{own_there, own_turns, own_open, own_idle}
 use Rattle.rl_whole.specs.Whole.{next_of}
 use Rattle.rl_whole.specs.WholeShards.{shard_at}
 use Rattle.rl_whole.proofs.idle.work_waits.Goals as goal

@@ -3,9 +3,9 @@ use Rattle.std.proofs.Common.{rules, ◌≡◌, ◌+◌, ◌<◌, ◌^◌, lengt
 use Rattle.rl_word.specs.declared.acts.Act.TheVariants as act
 use Rattle.rl_step.specs.Lock.{MayStep, MayLearn}
 use Rattle.rl_whole.specs.Running.{lock_at, good_at, tables, goods}
-use Rattle.rl_whole.specs.WholeOwes.{may_step}
-use Rattle.rl_whole.specs.IdleLaws.{load_there, load_fits, load_learns}
-use Rattle.rl_whole.specs.RoundLaws.{none_there}
+use Rattle.rl_whole.specs.laws.WholeOwes.{may_step}
+use Rattle.rl_whole.specs.laws.IdleLaws.{load_there, load_fits, load_learns}
+use Rattle.rl_whole.specs.laws.RoundLaws.{none_there}
 use Rattle.rl_whole.proofs.round.seen_leg.Goals as goal
 use Rattle.rl_whole.proofs.round.seen_leg.Goals.{In-Load}
 use Rattle.rl_whole.proofs.round.seen_leg.Given.{Over}

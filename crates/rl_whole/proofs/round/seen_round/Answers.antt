@@ -1,7 +1,7 @@
 -- The second load is made from the view after the first; and two loads that lead back are a round.
 use Rattle.std.proofs.Common.{sym, ◌∙◌}
 use Rattle.rl_whole.specs.Running.{lock_at, good_at, tables, goods}
-use Rattle.rl_whole.specs.RoundLaws.{at_next, round_seen}
+use Rattle.rl_whole.specs.laws.RoundLaws.{at_next, round_seen}
 use Rattle.rl_whole.proofs.round.seen_round.Goals as goal
 
 pub seen_leg-requires-2 : goal.seen_leg-requires-2

@@ -2,8 +2,8 @@
 use Rattle.std.specs.Prelude.{◌≡◌, Option, Some, None, IsSome, refl}
 use Rattle.rl_word.specs.declared.acts.Atom.{Atom}
 use Rattle.rl_work.specs.Work.{work_atom}
-use Rattle.rl_work.specs.AtomLaws.{opening_good, open_keeps, shift_keeps, atom_keeps, atom_can, can_name, can_turn, few_loads, holder_works}
-use Rattle.rl_work.specs.RuleLaws.{always_legal, always_sorted}
+use Rattle.rl_work.specs.laws.AtomLaws.{opening_good, open_keeps, shift_keeps, atom_keeps, atom_can, can_name, can_turn, few_loads, holder_works}
+use Rattle.rl_work.specs.laws.RuleLaws.{always_legal, always_sorted}
 use Rattle.rl_work.proofs.laws.work_laws.Goals as goal
 
 pub returns-clause-opening : goal.returns-clause-opening

@@ -2,7 +2,7 @@ use Rattle.std.proofs.Common.{◌∙◌, ◌<◌, ◌≤◌, ◌-◌, ap, sym, a
 use Rattle.rl_model.specs.declared.geom.Geom.{Geom}
 use Rattle.rl_volume.specs.Words.{volume_words}
 use Rattle.rl_volume.specs.Volume.{start_words}
-use Rattle.rl_work.specs.OpeningLaws.{opening_in_volume, opening_behind}
+use Rattle.rl_work.specs.laws.OpeningLaws.{opening_in_volume, opening_behind}
 use Rattle.rl_work.proofs.site.opening_word.Goals as goal
 
 pub returns-then-word-volume_words : goal.returns-then-word-volume_words

@@ -1,7 +1,7 @@
 -- One seat more.
 use Rattle.std.proofs.Common.{◌≡◌, ◌≢◌, false, ◌<◌, length, slice_get, Some, ap, sym, subst, ◌∙◌, ⊎_elim, arith, rules}
 use Rattle.std.proofs.lemmas.Option.{slice_get-get_or, slice_get_within}
-use Rattle.rl_word.specs.Places.{same_or_not, one_at}
+use Rattle.rl_word.specs.laws.Places.{same_or_not, one_at}
 use Rattle.rl_shard.specs.Shards.{IsClosed}
 use Rattle.rmalock.proofs.seat_tests.all_closed.Goals as goal
 

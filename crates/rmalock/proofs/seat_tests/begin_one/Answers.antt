@@ -1,7 +1,7 @@
 -- The rank's seat is the shard's and can begin its call; the others stay.
 use Rattle.std.proofs.Common.{◌≡◌, ◌<◌, ◌≤◌, Bool, true, false, length, slice_get, Some, ap, sym, ◌∙◌, arith, rules}
 use Rattle.std.proofs.lemmas.Option.{slice_get-get_or}
-use Rattle.rl_word.specs.Places.{get_set_other}
+use Rattle.rl_word.specs.laws.Places.{get_set_other}
 use Rattle.rl_model.specs.Call.{is_update}
 use Rattle.rl_work.specs.WorkGood.{places_needed}
 use Rattle.rl_cores.specs.Fresh.{fresh_opens}

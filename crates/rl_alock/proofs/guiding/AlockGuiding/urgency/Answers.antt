@@ -5,7 +5,7 @@ use Rattle.rl_queue.specs.declared.view.Phase.{Phase}
 use Rattle.rl_queue.specs.declared.view.Phase.TheVariants.{Settle}
 use Rattle.rl_queue.specs.Queue.{PlanFits, plan_at}
 use Rattle.rl_queue.specs.Urgency.{loaded, urgent_at}
-use Rattle.rl_queue.specs.UrgencyLaws.{loaded_in, aims, load_there, load_fits}
+use Rattle.rl_queue.specs.laws.UrgencyLaws.{loaded_in, aims, load_there, load_fits}
 use Rattle.rl_alock.specs.declared.view.Entry.{Entry}
 use Rattle.rl_alock.specs.Alock.{Cohorts, cohorts_of, cohort_of, names_of, ranks_of, alock_table, BoundsOvertaking}
 use Rattle.rl_alock.specs.AlockBounded.{AlockBounded, bounded_laws}

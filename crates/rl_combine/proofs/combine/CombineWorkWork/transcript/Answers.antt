@@ -1,7 +1,7 @@
 -- The place of an answer that stands in a post fits.
 use Rattle.std.proofs.Common.{◌≡◌, ◌<◌, ◌^◌, ap, sym, subst, ◌∙◌, slice_index}
 use Rattle.rl_combine.specs.Posts.{node_in, post_of}
-use Rattle.rl_combine.specs.FlagLaws.{answer_small}
+use Rattle.rl_combine.specs.laws.FlagLaws.{answer_small}
 use Rattle.rl_combine.proofs.combine.CombineWorkWork.transcript.Goals as goal
 
 pub answered-requires-clause-small : goal.answered-requires-clause-small

@@ -1,5 +1,5 @@
 use Rattle.rl_combine.specs.Posts.{node_in}
-use Rattle.rl_combine.specs.WayLaws.{combine_works}
+use Rattle.rl_combine.specs.laws.WayLaws.{combine_works}
 use Rattle.rl_cores.proofs.CombinerLaws.{keeps_combining}
 use Rattle.rl_cores.proofs.combiners.WholeCombineWorkPromising.way_laws.Goals as goal
 

@@ -1,4 +1,4 @@
-use Rattle.rl_work.specs.LockedLaws.{locked_laws}
+use Rattle.rl_work.specs.laws.LockedLaws.{locked_laws}
 use Rattle.rl_work.specs.Site.{Site}
 use Rattle.rl_cores.proofs.HolderLaws.{keeps_reads}
 use Rattle.rl_cores.proofs.holders.WholeLockedWorkPromising.way_laws.Goals as goal

@@ -1,5 +1,5 @@
 use Rattle.rl_seq.specs.Place.{at_of}
-use Rattle.rl_seq.specs.SeqLaws.{seq_laws}
+use Rattle.rl_seq.specs.laws.SeqLaws.{seq_laws}
 use Rattle.rl_cores.proofs.ReaderLaws.{keeps_gets}
 use Rattle.rl_cores.proofs.readers.WholeSeqWorkPromising.way_laws.Goals as goal
 

@@ -1,7 +1,7 @@
 -- What is true of a machine stays so with more steps counted.
 use Rattle.std.proofs.Common.{◌≤◌, ap, ◌∙◌, arith}
 use Rattle.rl_step.specs.Answers.{steps_made}
-use Rattle.rl_machine.specs.RestLaws.{machine_with_steps, counts_more}
+use Rattle.rl_machine.specs.laws.RestLaws.{machine_with_steps, counts_more}
 use Rattle.rl_machine.specs.State.{machine_view}
 use Rattle.rl_machine.proofs.machine.Machine.count_more.Goals as goal
 

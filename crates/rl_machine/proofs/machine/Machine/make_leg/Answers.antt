@@ -3,7 +3,7 @@ use Rattle.std.proofs.Common.{◌<◌, length, sym, subst}
 use Rattle.rl_machine.specs.Rested.{GoesRound}
 use Rattle.rl_machine.specs.Running.{running}
 use Rattle.rl_machine.specs.State.{machine_view}
-use Rattle.rl_machine.specs.StateSteps.{step_keeps}
+use Rattle.rl_machine.specs.laws.StateSteps.{step_keeps}
 use Rattle.rl_machine.proofs.machine.Machine.make_leg.Goals as goal
 
 pub make_leg-requires-clause-shows : goal.make_leg-requires-clause-shows

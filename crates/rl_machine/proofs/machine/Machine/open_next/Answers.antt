@@ -1,7 +1,7 @@
 -- A block that is opened keeps all that is true of a machine, and the rank's next step.
 use Rattle.std.proofs.Common.{◌<◌, length, sym, subst}
 use Rattle.rl_machine.specs.State.{machine_view}
-use Rattle.rl_machine.specs.StateSteps.{open_keeps, opened_told, opened_calls_told, opened_steps_told, same_step_told, same_answer_told}
+use Rattle.rl_machine.specs.laws.StateSteps.{open_keeps, opened_told, opened_calls_told, opened_steps_told, same_step_told, same_answer_told}
 use Rattle.rl_machine.proofs.machine.Machine.open_next.Goals as goal
 
 pub invariant_of-self : goal.invariant_of-self

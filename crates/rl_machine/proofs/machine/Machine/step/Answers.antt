@@ -2,7 +2,7 @@
 use Rattle.std.proofs.Common.{◌<◌, length, sym, subst}
 use Rattle.rl_machine.specs.Running.{running}
 use Rattle.rl_machine.specs.State.{machine_view}
-use Rattle.rl_machine.specs.StateSteps.{step_keeps, cause_told, tells_told, finished_told, busy_told, held_told, over_told, counted_told, calls_told}
+use Rattle.rl_machine.specs.laws.StateSteps.{step_keeps, cause_told, tells_told, finished_told, busy_told, held_told, over_told, counted_told, calls_told}
 use Rattle.rl_machine.proofs.machine.Machine.step.Goals as goal
 
 pub invariant_of-self-2 : goal.invariant_of-self-2

@@ -3,8 +3,8 @@ use Rattle.std.proofs.Common.{◌<◌, length, sym, subst}
 use Rattle.rl_machine.specs.Rested.{Tells}
 use Rattle.rl_machine.specs.Running.{running}
 use Rattle.rl_machine.specs.State.{machine_view}
-use Rattle.rl_machine.specs.StateSteps.{step_keeps}
-use Rattle.rl_machine.specs.StepEnds.{end_tells}
+use Rattle.rl_machine.specs.laws.StateSteps.{step_keeps}
+use Rattle.rl_machine.specs.laws.StepEnds.{end_tells}
 use Rattle.rl_machine.proofs.machine.Machine.step_told.Goals as goal
 
 pub invariant_of-self-2 : goal.invariant_of-self-2

@@ -5,7 +5,7 @@ use Rattle.rl_machine.specs.Promises.{transcripts_on}
 use Rattle.rl_machine.specs.Run.{on_shard}
 use Rattle.rl_machine.specs.Running.{running}
 use Rattle.rl_machine.specs.State.{running_shard}
-use Rattle.rl_machine.specs.RecordLaws.{kept_among}
+use Rattle.rl_machine.specs.laws.RecordLaws.{kept_among}
 use Rattle.rl_machine.proofs.machine.Machine.transcript_of.Goals as goal
 
 pub returns-clause-among : goal.returns-clause-among

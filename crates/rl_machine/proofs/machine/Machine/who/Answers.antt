@@ -5,7 +5,7 @@ use Rattle.rl_machine.specs.MachineEnding.{AllDone, machine_left}
 use Rattle.rl_machine.specs.Run.{stepped}
 use Rattle.rl_machine.specs.Running.{running, cores_of}
 use Rattle.rl_machine.specs.State.{machine_view}
-use Rattle.rl_machine.specs.WhoGoes.{Leading, leads, is_over}
+use Rattle.rl_machine.specs.laws.WhoGoes.{Leading, leads, is_over}
 use Rattle.rl_machine.proofs.machine.Machine.who.Goals as goal
 use Rattle.rl_machine.proofs.machine.Machine.who.Goals.{After-who}
 use Rattle.rl_machine.proofs.machine.Machine.who.Given.{Over}

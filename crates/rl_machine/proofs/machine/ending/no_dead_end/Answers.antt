@@ -4,7 +4,7 @@ use Rattle.rl_machine.specs.Run.{run_of, AreThere}
 use Rattle.rl_machine.specs.Running.{running, cores_of}
 use Rattle.rl_machine.specs.State.{machine_view}
 use Rattle.rl_machine.specs.MachineEnding.{CanFinish, CanFinishIn, machine_left}
-use Rattle.rl_machine.specs.NoDeadEnd.{can_finish, can_finish_in, still_can}
+use Rattle.rl_machine.specs.laws.NoDeadEnd.{can_finish, can_finish_in, still_can}
 use Rattle.rl_machine.proofs.machine.ending.no_dead_end.Goals as goal
 
 pub returns-clause-now : goal.returns-clause-now

@@ -3,7 +3,7 @@ use Rattle.std.proofs.Common.{inl, inr}
 use Rattle.std.proofs.lemmas.Option.{IfSome_then}
 use Rattle.rl_machine.specs.State.{machine_view, running_shard}
 use Rattle.rl_machine.specs.Running.{running, cores_of}
-use Rattle.rl_machine.specs.WhoGoes.{some_chosen, none_left}
+use Rattle.rl_machine.specs.laws.WhoGoes.{some_chosen, none_left}
 use Rattle.rl_machine.proofs.machine.guiding.who.Goals as goal
 
 pub returns-in-Some-clause-next : goal.returns-in-Some-clause-next

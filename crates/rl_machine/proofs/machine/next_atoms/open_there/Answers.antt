@@ -4,9 +4,9 @@ use Rattle.std.proofs.lemmas.List.{get_or_read}
 use Rattle.std.proofs.lemmas.Option.{slice_get-get_or}
 use Rattle.rl_machine.specs.Running.{running, shard_run}
 use Rattle.rl_machine.specs.State.{shard_view, machine_view}
-use Rattle.rl_machine.specs.MachineSteps.{machine_with}
-use Rattle.rl_machine.specs.StateLaws.{shard_set, core_set}
-use Rattle.rl_machine.specs.OpenSteps.{IsBlockThere, block_there, CanOpen, can_open, open_is, place_there}
+use Rattle.rl_machine.specs.laws.MachineSteps.{machine_with}
+use Rattle.rl_machine.specs.laws.StateLaws.{shard_set, core_set}
+use Rattle.rl_machine.specs.laws.OpenSteps.{IsBlockThere, block_there, CanOpen, can_open, open_is, place_there}
 use Rattle.rl_machine.proofs.machine.next_atoms.open_there.Goals as goal
 use Rattle.rl_machine.proofs.machine.next_atoms.open_there.Goals.{After-index-first, After-block_shard-place, After-index_mut-shard}
 use Rattle.rl_machine.proofs.machine.next_atoms.open_there.Given.{Over}

@@ -3,7 +3,7 @@ use Rattle.std.proofs.Common.{◌≡◌, slice_get, Some, ap, sym, ◌∙◌}
 use Rattle.std.proofs.lemmas.Option.{slice_get-get_or}
 use Rattle.rl_work.specs.Site.{lock_base}
 use Rattle.rl_machine.specs.Run.{on_shard}
-use Rattle.rl_machine.specs.StateLaws.{is_there, few_places}
+use Rattle.rl_machine.specs.laws.StateLaws.{is_there, few_places}
 use Rattle.rl_machine.proofs.state.MachineState.behind_journal.Goals as goal
 use Rattle.rl_machine.proofs.state.MachineState.behind_journal.Goals.{After-index}
 use Rattle.rl_machine.proofs.state.MachineState.behind_journal.Given.{Over}

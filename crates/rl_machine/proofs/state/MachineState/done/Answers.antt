@@ -4,8 +4,8 @@ use Rattle.std.proofs.lemmas.Option.{slice_get-get_or}
 use Rattle.rl_machine.specs.ShardSteps.{desk_at}
 use Rattle.rl_asks.specs.Desks.{entries_of}
 use Rattle.rl_asks.specs.RankGood.{entries_in}
-use Rattle.rl_machine.specs.StateLaws.{IsThere, is_there}
-use Rattle.rl_machine.specs.RecordLaws.{kept_in, one_shard_more, on_all_shards}
+use Rattle.rl_machine.specs.laws.StateLaws.{IsThere, is_there}
+use Rattle.rl_machine.specs.laws.RecordLaws.{kept_in, one_shard_more, on_all_shards}
 use Rattle.rl_machine.proofs.state.MachineState.done.Goals as goal
 use Rattle.rl_machine.proofs.state.MachineState.done.Goals.{After-shard-item, After-entries}
 use Rattle.rl_machine.proofs.state.MachineState.done.Given.{Over}

@@ -2,7 +2,7 @@
 use Rattle.std.proofs.Common.{length, ap, List, Vec, Global, arith}
 use Rattle.std.proofs.lemmas.List.{length-map}
 use Rattle.rl_model.specs.declared.call.Call.{Call}
-use Rattle.rl_machine.specs.WhoGoes.{ranks_fit}
+use Rattle.rl_machine.specs.laws.WhoGoes.{ranks_fit}
 use Rattle.rl_machine.proofs.state.MachineState.ranks.Goals as goal
 
 pub overflow_cast-result : goal.overflow_cast-result

@@ -1,8 +1,8 @@
 -- What is true of a machine's shards is true of each.
 use Rattle.std.proofs.Common.{Some, ap, sym, ◌∙◌}
 use Rattle.std.proofs.lemmas.Option.{slice_get-get_or}
-use Rattle.rl_machine.specs.JournalAt.{few_ranks}
-use Rattle.rl_machine.specs.StateLaws.{IsThere, is_there}
+use Rattle.rl_machine.specs.laws.JournalAt.{few_ranks}
+use Rattle.rl_machine.specs.laws.StateLaws.{IsThere, is_there}
 use Rattle.rl_machine.proofs.state.MachineState.shard.Goals as goal
 use Rattle.rl_machine.proofs.state.MachineState.shard.Goals.{After-index}
 use Rattle.rl_machine.proofs.state.MachineState.shard.Given.{Over}

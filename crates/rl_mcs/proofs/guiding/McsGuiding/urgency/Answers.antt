@@ -5,11 +5,11 @@ use Rattle.rl_step.specs.Lock.{no_more}
 use Rattle.rl_tree.specs.Elements.{of_tree, tree_of}
 use Rattle.rl_tree.specs.Tree.{tree_plan}
 use Rattle.rl_tree.specs.TreeShape.{levels_of}
-use Rattle.rl_tree.specs.TreeLaid.{laid_shaped}
+use Rattle.rl_tree.specs.laws.TreeLaid.{laid_shaped}
 use Rattle.rl_queue.specs.Urgency.{loaded}
-use Rattle.rl_queue.specs.UrgencyLaws.{loaded_in, aims, load_there, load_fits}
+use Rattle.rl_queue.specs.laws.UrgencyLaws.{loaded_in, aims, load_there, load_fits}
 use Rattle.rl_mcs.specs.Mcs.{mcs_table, McsGood}
-use Rattle.rl_mcs.specs.McsLaws.{mcs_laws}
+use Rattle.rl_mcs.specs.laws.McsLaws.{mcs_laws}
 use Rattle.rl_mcs.specs.McsUrgency.{urgent_by}
 use Rattle.rl_mcs.proofs.guiding.McsGuiding.urgency.Goals as goal
 

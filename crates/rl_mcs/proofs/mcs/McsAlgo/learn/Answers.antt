@@ -4,7 +4,7 @@ use Rattle.rl_tree.specs.Tree.{at_hook, with_entry}
 use Rattle.rl_tree.specs.Elements.{tree_of}
 use Rattle.rl_tree.specs.Fits.{IsPlaced}
 use Rattle.rl_tree.specs.TreeShape.{levels_of}
-use Rattle.rl_tree.specs.TreeLaid.{laid_shaped}
+use Rattle.rl_tree.specs.laws.TreeLaid.{laid_shaped}
 use Rattle.rl_step.specs.Lock.{Told}
 use Rattle.rl_tree.specs.declared.view.TreeView.{TreeView}
 use Rattle.rl_mcs.proofs.CodeLaws.{past, plans_it, learns_it, placed_after, few_after, few_told}

@@ -1,6 +1,6 @@
 -- A view of a good state may plan.
 use Rattle.rl_tree.specs.TreeShape.{levels_of}
-use Rattle.rl_tree.specs.TreeLaid.{laid_shaped}
+use Rattle.rl_tree.specs.laws.TreeLaid.{laid_shaped}
 use Rattle.rl_mcs.proofs.CodeLaws.{plans}
 use Rattle.rl_mcs.proofs.mcs.McsAlgo.plan.Goals as goal
 

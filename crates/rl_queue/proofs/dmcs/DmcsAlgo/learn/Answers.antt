@@ -1,7 +1,7 @@
 -- What a good state gives fits the act, by what is true of the queue.
 use Rattle.std.proofs.Common.{sym, subst, length}
 use Rattle.rl_queue.specs.Queue.{PlanFits, GotFits}
-use Rattle.rl_queue.specs.DmcsLaws.{fits_at, got_fits_at}
+use Rattle.rl_queue.specs.laws.DmcsLaws.{fits_at, got_fits_at}
 use Rattle.rl_queue.proofs.dmcs.DmcsAlgo.learn.Goals as goal
 
 pub queue_learn-turn-requires-clause-named : goal.queue_learn-turn-requires-clause-named

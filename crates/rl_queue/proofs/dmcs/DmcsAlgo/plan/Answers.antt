@@ -1,7 +1,7 @@
 -- The members that a view names are there, by what is true of the queue.
 use Rattle.std.proofs.Common.{sym, subst, length}
 use Rattle.rl_queue.specs.Queue.{PlanFits}
-use Rattle.rl_queue.specs.DmcsLaws.{fits_at}
+use Rattle.rl_queue.specs.laws.DmcsLaws.{fits_at}
 use Rattle.rl_queue.proofs.dmcs.DmcsAlgo.plan.Goals as goal
 
 pub queue_plan-requires : goal.queue_plan-requires

@@ -4,9 +4,9 @@ use Rattle.rl_word.specs.Acts.{Layout}
 use Rattle.rl_step.specs.Lock.{no_more}
 use Rattle.rl_queue.specs.Queue.{plan_at}
 use Rattle.rl_queue.specs.Dmcs.{dmcs_names, dmcs_table, DmcsGood}
-use Rattle.rl_queue.specs.DmcsLaws.{dmcs_laws}
+use Rattle.rl_queue.specs.laws.DmcsLaws.{dmcs_laws}
 use Rattle.rl_queue.specs.Urgency.{loaded, urgent_at}
-use Rattle.rl_queue.specs.UrgencyLaws.{loaded_in, aims, load_there, load_fits}
+use Rattle.rl_queue.specs.laws.UrgencyLaws.{loaded_in, aims, load_there, load_fits}
 use Rattle.rl_queue.proofs.guiding.DmcsGuiding.urgency.Goals as goal
 
 pub queue_urgency-requires-clause-there : goal.queue_urgency-requires-clause-there

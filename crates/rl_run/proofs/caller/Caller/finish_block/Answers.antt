@@ -4,7 +4,7 @@ use Rattle.std.proofs.lemmas.Option.{slice_get-get_or}
 use Rattle.std.specs.Option.{IsSome}
 use Rattle.rl_shard.specs.Shards.{IsClosed}
 use Rattle.rl_run.specs.Callers.{IsCaller, AllClosed, who}
-use Rattle.rl_run.specs.CallerLaws.{at_there, at_seat, first_with, seat_with, steps_with, closed_with}
+use Rattle.rl_run.specs.laws.CallerLaws.{at_there, at_seat, first_with, seat_with, steps_with, closed_with}
 use Rattle.rl_run.proofs.caller.Caller.finish_block.Goals as goal
 use Rattle.rl_run.proofs.caller.Caller.finish_block.Goals.{After-index-shards-at, in-None, in-Some+in-Finished}
 use Rattle.rl_run.proofs.caller.Caller.finish_block.Given.{Over}

@@ -1,6 +1,6 @@
 use Rattle.std.proofs.Common.{◌≡◌, slice_get, Some, ap, sym, ◌∙◌}
 use Rattle.std.proofs.lemmas.Option.{slice_get-get_or}
-use Rattle.rl_run.specs.CallerLaws.{at_there, at_seat, seat_is, all_closed}
+use Rattle.rl_run.specs.laws.CallerLaws.{at_there, at_seat, seat_is, all_closed}
 use Rattle.rl_run.proofs.caller.Caller.is_open.Goals as goal
 use Rattle.rl_run.proofs.caller.Caller.is_open.Goals.{After-index-shards-at}
 use Rattle.rl_run.proofs.caller.Caller.is_open.Given.{Over}

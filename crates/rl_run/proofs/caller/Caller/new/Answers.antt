@@ -1,4 +1,4 @@
-use Rattle.rl_run.specs.CallerLaws.{made_ready}
+use Rattle.rl_run.specs.laws.CallerLaws.{made_ready}
 use Rattle.rl_run.proofs.caller.Caller.new.Goals as goal
 
 pub returns-clause-caller : goal.returns-clause-caller

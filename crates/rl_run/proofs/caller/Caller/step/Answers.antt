@@ -1,6 +1,6 @@
 use Rattle.std.proofs.Common.{length, ap, sym, subst, ◌∙◌, ⊎_elim, arith}
 use Rattle.rl_run.specs.Callers.{AllClosed, Opens, HasNone}
-use Rattle.rl_run.specs.CallerLaws.{ended}
+use Rattle.rl_run.specs.laws.CallerLaws.{ended}
 use Rattle.rl_run.proofs.caller.Caller.step.Goals as goal
 
 pub returns-clause-finished : goal.returns-clause-finished

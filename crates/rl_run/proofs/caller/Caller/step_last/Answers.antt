@@ -1,6 +1,6 @@
 use Rattle.std.proofs.Common.{◌≡◌, slice_get, Some, refl, ap, sym, ◌∙◌}
 use Rattle.std.proofs.lemmas.Option.{slice_get-get_or}
-use Rattle.rl_run.specs.CallerLaws.{at_there, at_seat, seat_is, all_closed, steps_on, still_closed}
+use Rattle.rl_run.specs.laws.CallerLaws.{at_there, at_seat, seat_is, all_closed, steps_on, still_closed}
 use Rattle.rl_run.proofs.caller.Caller.step_last.Goals as goal
 use Rattle.rl_run.proofs.caller.Caller.step_last.Goals.{After-index-shards-at}
 use Rattle.rl_run.proofs.caller.Caller.step_last.Given.{Over}

@@ -2,7 +2,7 @@
 use Rattle.std.proofs.Common.{sym, subst, ap, ◌∙◌}
 use Rattle.std.specs.Option.{IsSome}
 use Rattle.rl_run.specs.Callers.{IsCaller, IsAtEnd, who}
-use Rattle.rl_run.specs.CallerLaws.{ended}
+use Rattle.rl_run.specs.laws.CallerLaws.{ended}
 use Rattle.rl_run.proofs.caller.Caller.work.Goals as goal
 use Rattle.rl_run.proofs.caller.Caller.work.Goals.{in-None, in-Some+then-not-open_due}
 

@@ -3,12 +3,12 @@ use Rattle.std.proofs.Common.{ℕ, ◌+◌, ◌*◌, List, ap, sym, ◌∙◌, d
 use Rattle.rl_word.specs.Shapes.{layout_of}
 use Rattle.rl_tree.specs.TreeShape.{levels_of}
 use Rattle.rl_queue.specs.Urgency.{loaded, urgent_at}
-use Rattle.rl_queue.specs.UrgencyLaws.{loaded_in, aims, load_there, load_fits}
+use Rattle.rl_queue.specs.laws.UrgencyLaws.{loaded_in, aims, load_there, load_fits}
 use Rattle.rl_counter.specs.Counter.{busy}
 use Rattle.rl_counter.specs.declared.view.Doing.TheVariants.{Nothing}
 use Rattle.rl_rw.specs.Rw.{shared_of, groups, of_tree, plan_of, rw_table, KeepsBatches}
 use Rattle.rl_rw.specs.RwGood.{RwGood}
-use Rattle.rl_rw.specs.RwLaws.{laws_of}
+use Rattle.rl_rw.specs.laws.RwLaws.{laws_of}
 use Rattle.rl_rw.specs.RwUrgency.{where_some, turn_of, tree_urgency, urgency_at}
 use Rattle.rl_rw.proofs.guiding.RwGuiding.urgency.Goals as goal
 

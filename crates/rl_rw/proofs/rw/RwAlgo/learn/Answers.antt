@@ -4,7 +4,7 @@ use Rattle.rl_step.specs.Lock.{Told}
 use Rattle.rl_tree.specs.declared.view.TreeView.{TreeView}
 use Rattle.rl_tree.specs.Tree.{at_hook, with_entry}
 use Rattle.rl_tree.specs.TreeShape.{levels_of}
-use Rattle.rl_tree.specs.TreeLaid.{laid_shaped}
+use Rattle.rl_tree.specs.laws.TreeLaid.{laid_shaped}
 use Rattle.rl_counter.specs.Counter.{NamesCounters, counter_turn}
 use Rattle.rl_rw.specs.Rw.{shared_of, from_tree, rw_learn}
 use Rattle.rl_rw.specs.Fits.{Ends}

@@ -1,7 +1,7 @@
 -- The lock that was made has the counters that were asked for.
 use Rattle.std.proofs.Common.{ap}
 use Rattle.rl_rw.specs.Rw.{shared_of, shared_in}
-use Rattle.rl_rw.specs.RwLaws.{hands_on}
+use Rattle.rl_rw.specs.laws.RwLaws.{hands_on}
 use Rattle.rl_rw.proofs.rw.RwAlgo.make.Goals as goal
 
 pub returns-clause-promised : goal.returns-clause-promised

@@ -1,7 +1,7 @@
 -- A view of a good state may plan, in the tree and at the counters.
 use Rattle.std.proofs.Common.{sym, subst}
 use Rattle.rl_tree.specs.TreeShape.{levels_of}
-use Rattle.rl_tree.specs.TreeLaid.{laid_shaped}
+use Rattle.rl_tree.specs.laws.TreeLaid.{laid_shaped}
 use Rattle.rl_counter.specs.Counter.{NamesCounters}
 use Rattle.rl_rw.specs.Rw.{shared_of}
 use Rattle.rl_rw.proofs.CodeLaws.{names_step, plans_step}

@@ -3,9 +3,9 @@ use Rattle.std.proofs.Common.{◌≤◌, ◌<◌, ◌∙◌, ap, sym, subst, ℕ
 use Rattle.std.proofs.lemmas.List.{get_or_default}
 use Rattle.rl_word.specs.declared.classes.Class.TheVariants.{Card}
 use Rattle.rl_tree.specs.TreeShape.{levels_of}
-use Rattle.rl_tree.specs.TreeLaid.{laid_shaped}
+use Rattle.rl_tree.specs.laws.TreeLaid.{laid_shaped}
 use Rattle.rl_rw.specs.Rw.{shared_of, of_tree}
-use Rattle.rl_rw.specs.RwFits.{spot_behind}
+use Rattle.rl_rw.specs.laws.RwFits.{spot_behind}
 use Rattle.rl_rw.proofs.CodeLaws.{first_there}
 use Rattle.rl_rw.proofs.rw.RwAlgo.spot.Goals as goal
 

@@ -1,5 +1,5 @@
 -- Some good state has the side and gives what was found, so the numbers fit.
-use Rattle.rl_seq.specs.CodeLaws.{may_turn}
+use Rattle.rl_seq.specs.laws.CodeLaws.{may_turn}
 use Rattle.rl_seq.specs.Place.{at_of}
 use Rattle.rl_seq.proofs.way.SeqWorkWork.after.Goals as goal
 

@@ -1,5 +1,5 @@
 -- Some good state has the side, so its numbers fit.
-use Rattle.rl_seq.specs.CodeLaws.{may_name}
+use Rattle.rl_seq.specs.laws.CodeLaws.{may_name}
 use Rattle.rl_seq.specs.Place.{at_of}
 use Rattle.rl_seq.proofs.way.SeqWorkWork.next.Goals as goal
 

@@ -1,5 +1,5 @@
 -- The rule says of the view what the core's own rule says of the core's.
-use Rattle.rl_shard.specs.CountingLaws.{whole_may_be}
+use Rattle.rl_shard.specs.laws.CountingLaws.{whole_may_be}
 use Rattle.rl_shard.proofs.counting.Counting.is_open.Goals as goal
 
 pub is_open-requires : goal.is_open-requires

@@ -1,5 +1,5 @@
 -- The rule says of the view what the core's own rule says of the core's.
-use Rattle.rl_shard.specs.CountingLaws.{whole_may_be}
+use Rattle.rl_shard.specs.laws.CountingLaws.{whole_may_be}
 use Rattle.rl_shard.proofs.counting.Counting.open_block.Goals as goal
 
 pub open_block-requires-clause-possible : goal.open_block-requires-clause-possible

@@ -1,7 +1,7 @@
 -- What the atom leaves, by the shard's table, with what happened counted.
 use Rattle.std.proofs.Common.{◌∙◌, ap, sym}
 use Rattle.rl_step.specs.Core.{Turned, turned_with}
-use Rattle.rl_shard.specs.CountingLaws.{whole_may_get}
+use Rattle.rl_shard.specs.laws.CountingLaws.{whole_may_get}
 use Rattle.rl_shard.specs.Tallies.{all_noted}
 use Rattle.rl_shard.proofs.counting.CountingCore.after.Goals as goal
 

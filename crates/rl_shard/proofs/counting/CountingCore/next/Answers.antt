@@ -1,6 +1,6 @@
 -- The core's next atom, by the shard's table.
 use Rattle.std.proofs.Common.{◌∙◌, ap, sym}
-use Rattle.rl_shard.specs.CountingLaws.{whole_may_be}
+use Rattle.rl_shard.specs.laws.CountingLaws.{whole_may_be}
 use Rattle.rl_shard.proofs.counting.CountingCore.next.Goals as goal
 
 pub next-requires : goal.next-requires

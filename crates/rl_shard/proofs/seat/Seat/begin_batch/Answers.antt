@@ -1,9 +1,9 @@
 -- The seat's view is one that the rule allows, and the opened block keeps it so.
 use Rattle.std.proofs.Common.{rules}
 use Rattle.rl_window.specs.Seats.{with_view}
-use Rattle.rl_window.specs.SeatLemmas.{port_known, reviewed}
+use Rattle.rl_window.specs.laws.SeatLemmas.{port_known, reviewed}
 use Rattle.rl_shard.specs.Counting.{counting_rule}
-use Rattle.rl_shard.specs.SeatLaws.{begun, seat_opens}
+use Rattle.rl_shard.specs.laws.SeatLaws.{begun, seat_opens}
 use Rattle.rl_shard.proofs.seat.Seat.begin_batch.Goals as goal
 
 pub open_block-requires-clause-possible : goal.open_block-requires-clause-possible

@@ -1,5 +1,5 @@
 -- The seat's view is one that the rule allows.
-use Rattle.rl_window.specs.SeatLemmas.{port_known}
+use Rattle.rl_window.specs.laws.SeatLemmas.{port_known}
 use Rattle.rl_shard.specs.Counting.{counting_rule}
 use Rattle.rl_shard.proofs.seat.Seat.is_open.Goals as goal
 

@@ -1,7 +1,7 @@
 -- What the atom does, why it is answered so, and how the desk turns.
 use Rattle.std.proofs.Common.{ap, subst, sym}
 use Rattle.rl_shard.specs.Shards.{core_at, counted_at, desk_at, rank_at, next_at}
-use Rattle.rl_shard.specs.SeatLaws.{stays, performs_turns, performs_cause, alone, no_cause, by_cases, seat_rests, seat_shut}
+use Rattle.rl_shard.specs.laws.SeatLaws.{stays, performs_turns, performs_cause, alone, no_cause, by_cases, seat_rests, seat_shut}
 use Rattle.rl_shard.specs.Steps.{CauseAt, TurnsAt}
 use Rattle.rl_shard.proofs.seat.Seat.step_with.Goals as goal
 use Rattle.rl_shard.proofs.seat.Seat.step_with.Goals.{After-step-stepped}

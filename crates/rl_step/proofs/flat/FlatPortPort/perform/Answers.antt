@@ -1,8 +1,8 @@
 -- Each goal follows from the core's laws, at the view that the port has.
 use Rattle.std.proofs.Common.{◌≡◌, ◌<◌, slice_get, slice_set, Some, refl, subst, sym, ◌∙◌, ap, length-set}
-use Rattle.rl_word.specs.Places.{one_at, get_set_same}
+use Rattle.rl_word.specs.laws.Places.{one_at, get_set_same}
 use Rattle.rl_step.specs.Core.{home_at, home_for}
-use Rattle.rl_step.specs.CoreLemmas.{card_word_there, lent_view, rule_after, performs_made}
+use Rattle.rl_step.specs.laws.CoreLemmas.{card_word_there, lent_view, rule_after, performs_made}
 use Rattle.rl_step.specs.Do.{CanDo}
 use Rattle.rl_step.proofs.flat.FlatPortPort.perform.Goals as goal
 use Rattle.rl_step.proofs.flat.FlatPortPort.perform.Goals.{in-Some, in-None}

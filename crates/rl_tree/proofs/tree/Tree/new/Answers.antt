@@ -3,7 +3,7 @@ use Rattle.std.proofs.Common.{◌∙◌, ◌*◌, ◌≤◌, length, ap, sym, su
 use Rattle.rl_tree.specs.Elements.{all_names}
 use Rattle.rl_tree.specs.TreeShape.{IsTreeLaid, levels_of}
 use Rattle.rl_tree.proofs.tree.Tree.new.Goals as goal
-use Rattle.rl_tree.specs.TreeLaid.{proper_laid}
+use Rattle.rl_tree.specs.laws.TreeLaid.{proper_laid}
 
 pub names_for_all-requires-clause-elements : goal.names_for_all-requires-clause-elements
 names_for_all-requires-clause-elements c =

@@ -1,6 +1,6 @@
 -- Some good state of the lock has the rank's view.
 use Rattle.rl_whole.specs.Running.{lock_at, good_at, tables, goods}
-use Rattle.rl_whole.specs.WholeOwes.{may_step}
+use Rattle.rl_whole.specs.laws.WholeOwes.{may_step}
 use Rattle.rl_whole.proofs.guiding.WholeShardGuiding.urgency.Goals as goal
 
 pub urgency-requires-clause-may : goal.urgency-requires-clause-may

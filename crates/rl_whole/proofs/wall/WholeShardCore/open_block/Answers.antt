@@ -1,6 +1,6 @@
 -- Where no block is open there is no next atom.
 use Rattle.rl_whole.specs.Running.{lock_at, good_at, tables, goods}
-use Rattle.rl_whole.specs.OpenLaws.{shut_is_none}
+use Rattle.rl_whole.specs.laws.OpenLaws.{shut_is_none}
 use Rattle.rl_whole.proofs.wall.WholeShardCore.open_block.Goals as goal
 
 pub ask_for-requires-clause-closed : goal.ask_for-requires-clause-closed

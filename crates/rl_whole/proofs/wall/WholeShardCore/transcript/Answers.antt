@@ -1,6 +1,6 @@
 -- A good state with these words has the rank's side of the work.
 use Rattle.rl_whole.specs.Running.{lock_at, good_at, tables, goods}
-use Rattle.rl_whole.specs.WholeOwes.{may_see}
+use Rattle.rl_whole.specs.laws.WholeOwes.{may_see}
 use Rattle.rl_whole.proofs.wall.WholeShardCore.transcript.Goals as goal
 
 pub transcript-requires-clause-seen : goal.transcript-requires-clause-seen

@@ -1,6 +1,6 @@
 -- Where no call is open the rank is out, so that it may ask.
 use Rattle.rl_whole.specs.Running.{lock_at, good_at, tables, goods}
-use Rattle.rl_whole.specs.OpenLaws.{closed_is_out}
+use Rattle.rl_whole.specs.laws.OpenLaws.{closed_is_out}
 use Rattle.rl_whole.proofs.whole.Whole.ask_for.Goals as goal
 
 pub ask-view-requires : goal.ask-view-requires

@@ -1,6 +1,6 @@
 -- A view that may be plans an act that may be made, by the lock's laws.
 use Rattle.rl_whole.specs.Running.{lock_at, good_at, tables, goods}
-use Rattle.rl_whole.specs.WholeOwes.{may_step}
+use Rattle.rl_whole.specs.laws.WholeOwes.{may_step}
 use Rattle.rl_whole.proofs.whole.Whole.asked_act.Goals as goal
 
 pub plan-requires : goal.plan-requires

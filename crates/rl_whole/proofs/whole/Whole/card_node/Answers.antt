@@ -2,7 +2,7 @@
 use Rattle.std.proofs.Common.{ap, sym, ◌∙◌}
 use Rattle.rl_whole.specs.Running.{lock_at, good_at, tables, goods}
 use Rattle.rl_whole.specs.Split.{plan_word}
-use Rattle.rl_whole.specs.WholeOwes.{may_step, plan_word_there}
+use Rattle.rl_whole.specs.laws.WholeOwes.{may_step, plan_word_there}
 use Rattle.rl_whole.proofs.whole.Whole.card_node.Goals as goal
 
 pub plan-plan-requires : goal.plan-plan-requires

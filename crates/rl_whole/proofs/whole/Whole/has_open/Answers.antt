@@ -2,7 +2,7 @@
 use Rattle.std.proofs.Common.{◌≡◌, Bool, true, false, ◌||◌, ap, ◌∙◌, sym}
 use Rattle.rl_whole.specs.Running.{lock_at, good_at, tables, goods}
 use Rattle.rl_whole.specs.Whole.{is_at_work}
-use Rattle.rl_whole.specs.OpenLaws.{shut_is_none, none_is_shut}
+use Rattle.rl_whole.specs.laws.OpenLaws.{shut_is_none, none_is_shut}
 use Rattle.rl_whole.proofs.whole.Whole.has_open.Goals as goal
 
 or_first : (b r w : Bool) → b ≡ r → b ≡ true → b ≡ (r || w)

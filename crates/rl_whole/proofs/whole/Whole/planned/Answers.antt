@@ -1,9 +1,9 @@
 -- The word whose home is asked for is the planned act's, and is there by the lock's laws.
 use Rattle.std.proofs.Common.{ap, sym, ◌∙◌}
 use Rattle.rl_whole.specs.Running.{lock_at, good_at, tables, goods}
-use Rattle.rl_whole.specs.HomeLaws.{act_word}
+use Rattle.rl_whole.specs.laws.HomeLaws.{act_word}
 use Rattle.rl_whole.specs.Split.{card_word}
-use Rattle.rl_whole.specs.WholeOwes.{plan_word_there}
+use Rattle.rl_whole.specs.laws.WholeOwes.{plan_word_there}
 use Rattle.rl_whole.proofs.whole.Whole.planned.Goals as goal
 
 pub plan_home-home-requires : goal.plan_home-home-requires

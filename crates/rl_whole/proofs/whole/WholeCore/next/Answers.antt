@@ -1,9 +1,9 @@
 -- What the calls of the lock ask follows from the rule, by the lock's laws.
 use Rattle.std.proofs.Common.{ap, sym, ◌∙◌}
 use Rattle.rl_whole.specs.Running.{lock_at, good_at, tables, goods}
-use Rattle.rl_whole.specs.HomeLaws.{act_atom}
+use Rattle.rl_whole.specs.laws.HomeLaws.{act_atom}
 use Rattle.rl_whole.specs.Split.{atom_at}
-use Rattle.rl_whole.specs.WholeOwes.{shifts, may_work}
+use Rattle.rl_whole.specs.laws.WholeOwes.{shifts, may_work}
 use Rattle.rl_whole.proofs.whole.WholeCore.next.Goals as goal
 
 pub shift-requires : goal.shift-requires

@@ -1,4 +1,4 @@
-use Rattle.rl_window.specs.SeatLemmas.{kept_still}
+use Rattle.rl_window.specs.laws.SeatLemmas.{kept_still}
 use Rattle.rl_window.proofs.table_port.TablePortPort.perform.Goals as goal
 
 pub returns-clause-fits : goal.returns-clause-fits

@@ -1,5 +1,5 @@
 use Rattle.std.proofs.Common.{ap}
-use Rattle.rl_window.specs.SeatLemmas.{seat_may_be}
+use Rattle.rl_window.specs.laws.SeatLemmas.{seat_may_be}
 use Rattle.rl_window.proofs.Made.{made_seat, made_performs}
 use Rattle.rl_window.proofs.window.Window.perform.Goals as goal
 

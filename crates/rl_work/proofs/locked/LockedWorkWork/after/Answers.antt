@@ -1,5 +1,5 @@
 -- Some good state has the side and gives what was found, so the numbers fit.
-use Rattle.rl_work.specs.LockedLaws.{may_turn}
+use Rattle.rl_work.specs.laws.LockedLaws.{may_turn}
 use Rattle.rl_work.proofs.locked.LockedWorkWork.after.Goals as goal
 
 pub turn-over-requires-clause-can : goal.turn-over-requires-clause-can

@@ -1,5 +1,5 @@
 -- Some good state has the side, so its numbers fit.
-use Rattle.rl_work.specs.LockedLaws.{may_name}
+use Rattle.rl_work.specs.laws.LockedLaws.{may_name}
 use Rattle.rl_work.proofs.locked.LockedWorkWork.next.Goals as goal
 
 pub next-requires-clause-can : goal.next-requires-clause-can

@@ -1,7 +1,7 @@
 use Rattle.std.proofs.Common.{◌≡◌, ◌∙◌, ap, arith, length, List, slice_index}
 use Rattle.rl_model.specs.declared.entry.Entry.{Entry}
 use Rattle.rl_journal.specs.Journal.{spelled}
-use Rattle.rl_journal.specs.ReadBack.{spelled_or}
+use Rattle.rl_journal.specs.laws.ReadBack.{spelled_or}
 use Rattle.rl_work.proofs.work.LockedSide.journal_at.Goals as goal
 
 pub returns : goal.returns

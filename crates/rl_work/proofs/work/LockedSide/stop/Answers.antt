@@ -3,7 +3,7 @@ use Rattle.std.proofs.lemmas.List.{length-drop}
 use Rattle.rl_model.specs.declared.entry.Reply.{Reply}
 use Rattle.rl_volume.specs.declared.write.Write.{Write}
 use Rattle.rl_journal.specs.Blocks.{undone}
-use Rattle.rl_work.specs.TurnLaws.{undone_filled}
+use Rattle.rl_work.specs.laws.TurnLaws.{undone_filled}
 use Rattle.rl_work.specs.Work.{TheWork}
 use Rattle.rl_work.proofs.work.LockedSide.stop.Goals as goal
 

@@ -1,0 +1,12 @@
+pub mod CohortLaws
+pub mod AlockWords
+pub mod AlockViews
+pub mod AlockEntry
+pub mod AlockTurns
+pub mod AlockActs
+pub mod AlockKeeps
+pub mod AlockFits
+pub mod AlockLaws
+pub mod AlockEnding
+pub mod AlockGuiding
+pub mod SameViews

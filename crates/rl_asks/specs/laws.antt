@@ -1,0 +1,5 @@
+pub mod RankLaws
+pub mod OpsBridge
+pub mod JournalLaws
+pub mod Filling
+pub mod TouchLaws

@@ -1,0 +1,17 @@
+pub mod PostLaws
+pub mod MoveLaws
+pub mod OwnLaws
+pub mod SeatLaws
+pub mod CombineLaws
+pub mod AfterLaws
+pub mod TranscriptLaws
+pub mod StandLaws
+pub mod PlainLaws
+pub mod LookLaws
+pub mod ChangeLaws
+pub mod LateLaws
+pub mod FlagLaws
+pub mod WayLaws
+pub mod NumberLaws
+pub mod CombineSteps
+pub mod CombineEnding

@@ -1,0 +1,5 @@
+pub mod CounterMoves
+pub mod CounterKeeps
+pub mod CounterMarks
+pub mod CounterFrame
+pub mod CounterLaws

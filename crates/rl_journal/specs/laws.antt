@@ -1,0 +1,12 @@
+pub mod Lists
+pub mod BlockLaws
+pub mod BatchLaws
+pub mod LegalLaws
+pub mod RankLaws
+pub mod HistoryLaws
+pub mod HistoryPlaces
+pub mod HistoryCounts
+pub mod HistorySorted
+pub mod HistoryParts
+pub mod JournalLaws
+pub mod ReadBack

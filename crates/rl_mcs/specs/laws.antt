@@ -1,0 +1,5 @@
+pub mod McsLearns
+pub mod McsLaws
+pub mod McsFar
+pub mod McsEnding
+pub mod McsGuiding

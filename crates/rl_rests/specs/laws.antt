@@ -1,0 +1,3 @@
+pub mod RestedLaws
+pub mod RoundLaws
+pub mod RunLaws

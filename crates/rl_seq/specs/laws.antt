@@ -1,0 +1,14 @@
+pub mod RestLaws
+pub mod FrontLaws
+pub mod OutcomeLaws
+pub mod FitLaws
+pub mod KeepLaws
+pub mod CheckLaws
+pub mod WriterLaws
+pub mod MakeLaws
+pub mod StateLaws
+pub mod StepLaws
+pub mod SeqLaws
+pub mod CodeLaws
+pub mod VersionLaws
+pub mod SeqEnding

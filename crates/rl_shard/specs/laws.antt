@@ -1,0 +1,3 @@
+pub mod TallyLaws
+pub mod CountingLaws
+pub mod SeatLaws

@@ -1,0 +1,3 @@
+pub mod SpinLaws
+pub mod SpinEnding
+pub mod SpinGuiding

@@ -1,0 +1,5 @@
+pub mod ExclusionLaws
+pub mod QueueLemmas
+pub mod LockLemmas
+pub mod OvertakingLaws
+pub mod CoreLemmas

@@ -1,0 +1,2 @@
+pub mod AtomLengths
+pub mod SeatLemmas

@@ -1,0 +1,12 @@
+pub mod OpeningLaws
+pub mod VolumeLaws
+pub mod TurnLaws
+pub mod RoomLaws
+pub mod SideLaws
+pub mod WorkLaws
+pub mod AtomLaws
+pub mod RuleLaws
+pub mod LockedLaws
+pub mod UnseenLaws
+pub mod LockedSteps
+pub mod LockedEnding

@@ -1,0 +1,2 @@
+pub mod TicketLaws
+pub mod TicketEnding
