@@ -1,1 +1,3 @@
 pub mod Loader
+pub mod Rounds
+pub mod Tower

@@ -2,7 +2,8 @@
 
 ghost use Rattle.std.specs.Prelude.{◌≡◌, ℕ, ◌+◌, List, length, Option, None, Some, IfOk, vec_len};
 ghost use Rattle.rl_window.specs.Seats.{IsSeatOf, IsKept, IsAll, AreKept, seat_rank};
-ghost use Rattle.lock_tests.specs.Rounds.{rounds_table, rounds_rule, after_found, rounds_laws};
+ghost use Rattle.lock_tests.specs.Rounds.{rounds_table, rounds_rule, after_found};
+ghost use Rattle.lock_tests.specs.laws.Rounds.{rounds_laws};
 
 use arrayvec::ArrayVec;
 use rl_step::{Core, Event, Plan, Stepped, advance};

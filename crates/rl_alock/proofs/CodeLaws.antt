@@ -9,7 +9,7 @@ use Rattle.rl_step.specs.Queues.{tenures}
 use Rattle.rl_queue.specs.declared.view.Phase.{Phase}
 use Rattle.rl_queue.specs.declared.view.Phase.TheVariants.{Settle}
 use Rattle.rl_queue.specs.Queue.{TheNames, plan_at, turn_at, PlanFits, GotFits}
-use Rattle.rl_queue.specs.QueueFits.{plan_fits, learn_fits}
+use Rattle.rl_queue.specs.laws.QueueFits.{plan_fits, learn_fits}
 use Rattle.rl_queue.specs.laws.QueueTurns.{turn_all}
 use Rattle.rl_queue.specs.RankWords.{every_second}
 use Rattle.rl_queue.specs.laws.RankWordLaws.{length-every_second}

@@ -10,3 +10,6 @@ pub mod AlockLaws
 pub mod AlockEnding
 pub mod AlockGuiding
 pub mod SameViews
+pub mod AlockBounded
+pub mod AlockOvertakes
+pub mod AlockPots

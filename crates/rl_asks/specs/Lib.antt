@@ -15,6 +15,5 @@ pub mod ShardLaws
 pub mod GoodStates
 pub mod ShardEnding
 pub mod ShardGuiding
--- both definitions and lemmas: to be cut
 pub mod AskLaws
 pub mod laws

@@ -3,3 +3,4 @@ pub mod OpsBridge
 pub mod JournalLaws
 pub mod Filling
 pub mod TouchLaws
+pub mod AskLaws

@@ -15,3 +15,4 @@ pub mod WayLaws
 pub mod NumberLaws
 pub mod CombineSteps
 pub mod CombineEnding
+pub mod SideLaws

@@ -35,7 +35,8 @@ use Rattle.rl_combine.specs.Combine.{TheCombineSide, Opened, opened_of, combine_
 use Rattle.rl_combine.specs.CombineGood.{RankSide, CombineGood, OwnAt, SweepAt, Progress, waits, handled, counted, answered, IsPosted, IsCounted, IsLeft, IsToEnd, IsAnswering, IsReading, reading, front_of}
 use Rattle.rl_combine.specs.Sweep.{IsLate, IsLateAt, FlagSays, MayWrite, FlagMoves, passes, raises, lowers, marks}
 use Rattle.rl_combine.specs.laws.PostLaws.{front_get}
-use Rattle.rl_combine.specs.SideLaws.{found, posted_at}
+use Rattle.rl_combine.specs.SideLaws.{found}
+use Rattle.rl_combine.specs.laws.SideLaws.{posted_at}
 use Rattle.rl_combine.specs.laws.SeatLaws.{counted_as}
 use Rattle.rl_combine.specs.laws.LookLaws.{handed_at, no_more_entries}
 use Rattle.rl_combine.specs.laws.MoveLaws.{Combines, combiner_of, seat_of, side_of}

@@ -9,3 +9,4 @@ pub mod SweepRuns
 pub mod SeatDomains
 -- for tests
 pub mod Fresh
+pub mod laws

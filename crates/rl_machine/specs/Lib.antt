@@ -21,7 +21,6 @@ pub mod State
 -- what is true of a machine at every moment
 pub mod MachineGood
 pub mod Ruled
--- both definitions and lemmas: to be cut
-pub mod RoundSteps
 pub mod Choosing
+pub mod RoundSteps
 pub mod laws

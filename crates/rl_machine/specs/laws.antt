@@ -27,3 +27,5 @@ pub mod MachineSums
 pub mod MachineGoes
 pub mod NoDeadEnd
 pub mod WhoGoes
+pub mod Choosing
+pub mod RoundSteps

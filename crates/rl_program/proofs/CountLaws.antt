@@ -23,7 +23,7 @@ use Rattle.rl_asks.specs.RankGood.{entries_in}
 use Rattle.rl_machine.specs.Run.{on_shard, kept_by, trace_of}
 use Rattle.rl_machine.specs.Records.{journal_at, transcripts_at}
 use Rattle.rl_machine.specs.laws.RecordLaws.{kept_long}
-use Rattle.rl_asks.specs.AskLaws.{few_calls}
+use Rattle.rl_asks.specs.laws.AskLaws.{few_calls}
 use Rattle.rl_machine.specs.Promises.{journal_on, transcripts_on, history_on, IsSound}
 use Rattle.rl_program.specs.declared.counts.ShardCounts.{ShardCounts}
 use Rattle.rl_program.specs.Replay.{part_of, dones_from, report_in}

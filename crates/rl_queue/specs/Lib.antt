@@ -10,13 +10,12 @@ pub mod Dmcs
 pub mod DmcsLeft
 pub mod Urgency
 pub mod DmcsUrgency
--- both definitions and lemmas: to be cut
 pub mod LaneLaws
 pub mod QueueActs
-pub mod QueueMoves
+pub mod QueueCredit
 pub mod QueueFits
 pub mod QueueFrame
 pub mod QueueHeads
-pub mod QueueCredit
+pub mod QueueMoves
 pub mod TraceLaws
 pub mod laws

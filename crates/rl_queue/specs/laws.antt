@@ -18,3 +18,12 @@ pub mod LineGoes
 pub mod DmcsEnding
 pub mod UrgencyLaws
 pub mod DmcsGuiding
+pub mod LaneLaws
+pub mod QueueActs
+pub mod QueueCredit
+pub mod QueueFits
+pub mod QueueFrame
+pub mod QueueHeads
+pub mod QueueLaws
+pub mod QueueMoves
+pub mod TraceLaws

@@ -72,7 +72,7 @@ fn code(budget: Option<u32>, left: u32) -> u64
 /// The view's member, the successor that it hands the queue to, and the member before it, `guess - 1`, that it links itself to
 /// have words in `names`, which has as many status words as next words. The queue is the one of Mellor-Crummey and Scott,
 /// with budgets as in cohort locks.
-#[tactic(auto, using(crate::specs::QueueFits::plans_where))]
+#[tactic(auto, using(crate::specs::laws::QueueFits::plans_where))]
 #[inline(always)]
 pub fn queue_plan(view: QueueView, names: &QueueNames) -> Option<Act>
     requires { PlanFits names.now view.member view.phase }

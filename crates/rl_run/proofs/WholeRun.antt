@@ -24,7 +24,7 @@ use Rattle.rl_work.specs.Site.{Site}
 use Rattle.std.specs.Prelude.{Bool, false, slice_index}
 use Rattle.rl_ops.specs.Ops.{OpsFit, EachOfBlocks, total_calls}
 use Rattle.rl_asks.specs.laws.OpsBridge.{each_blocks}
-use Rattle.rl_asks.specs.AskLaws.{few_calls}
+use Rattle.rl_asks.specs.laws.AskLaws.{few_calls}
 use Rattle.rl_history.specs.declared.report.Done.{Done}
 use Rattle.rl_history.specs.Reports.{TheShard}
 use Rattle.rl_history.specs.Lawful.{IsLawful}

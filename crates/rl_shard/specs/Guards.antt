@@ -1,16 +1,14 @@
--- Who comes to count, volume and journal, the words before the lock's, on a shard that threads share.
+-- of laws/Guards: NamesAs ComesAs AllComeAs ComesThere StoresThere OneStores
 use Rattle.std.specs.Prelude.{◌≡◌, ◌⊎◌, ◌≤◌, ◌<◌, ℕ, List, slice_get, Some}
-use Rattle.std.proofs.Common.{inl, inr, ⊎_elim}
 use Rattle.rl_word.specs.declared.acts.Atom.{Atom}
 use Rattle.rl_word.specs.declared.acts.Atom.TheVariants as atom
 use Rattle.rl_model.specs.declared.call.Call.{Call}
-use Rattle.rl_step.specs.declared.events.Event.{Event}
 use Rattle.rl_step.specs.declared.events.Standing.{Standing}
 use Rattle.rl_step.specs.declared.events.Standing.TheVariants.{Asking, Writer}
 use Rattle.rl_step.specs.Lock.{IsHolder}
 use Rattle.rl_work.specs.Site.{lock_base}
 use Rattle.rl_work.specs.Ways.{IsGetAlone}
-use Rattle.rl_asks.specs.Touches.{IsGuarded, NamesWord}
+use Rattle.rl_asks.specs.Touches.{NamesWord}
 use Rattle.rl_asks.specs.ShardTables.{ShardTable}
 use Rattle.rl_shard.specs.declared.counting.CountedView.{CountedView}
 use Rattle.rl_shard.specs.Counting.{standing_of}
@@ -45,13 +43,3 @@ module _ {V : Type 0} (T : ShardTable V) where
   -- while one rank's next atom stores there, no other rank's next atom comes there, but for that of a get alone
   abbrev pub OneStores : List (CountedView V) → Type 0
   OneStores vs = (i j : ℕ) (x y : CountedView V) → slice_get vs i ≡ Some x → slice_get vs j ≡ Some y → StoresThere x → ComesThere y → (i ≡ j) ⊎ IsGetAlone (T.own y.whole).calls
-
--- so does a rank whose atom is guarded
-pub guarded_names : (base r : ℕ) (at : Atom) (st : Standing) (calls : List Call) (es : List Event) → IsGuarded base r at st calls es → NamesAs base at st calls
-guarded_names base r (atom.Load w) st calls es g = λ under. ⊎_elim (λ q. inl q.0) (λ q. inr (q.0, q.1)) (g.0 under)
-guarded_names base r (atom.Store w n) st calls es g = λ under. (g.0 under).0
-guarded_names base r (atom.LocalCas w old new) st calls es g = g.0
-guarded_names base r (atom.Take n) st calls es g = tt
-guarded_names base r (atom.CardLoad w) st calls es g = g.0
-guarded_names base r (atom.CardStore w n) st calls es g = g.0
-guarded_names base r (atom.Leave n) st calls es g = tt

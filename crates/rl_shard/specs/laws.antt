@@ -1,3 +1,4 @@
 pub mod TallyLaws
 pub mod CountingLaws
 pub mod SeatLaws
+pub mod Guards

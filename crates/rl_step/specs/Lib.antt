@@ -11,6 +11,5 @@ pub mod Transitions
 pub mod Batches
 pub mod Core
 pub mod Flat
--- both definitions and lemmas: to be cut
 pub mod BatchLaws
 pub mod laws

@@ -3,3 +3,4 @@ pub mod QueueLemmas
 pub mod LockLemmas
 pub mod OvertakingLaws
 pub mod CoreLemmas
+pub mod BatchLaws

@@ -5,6 +5,5 @@ pub mod Fits
 pub mod TreeGood
 pub mod TreeShape
 pub mod TreeFacts
--- both definitions and lemmas: to be cut
 pub mod TreeStandings
 pub mod laws

@@ -23,3 +23,4 @@ pub mod SameViews
 pub mod RankGoes
 pub mod Gates
 pub mod TreeGoes
+pub mod TreeStandings

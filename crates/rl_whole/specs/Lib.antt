@@ -12,6 +12,5 @@ pub mod WholeGuiding
 -- what is good of a shard
 pub mod WholeShards
 pub mod SeenLoads
--- both definitions and lemmas: to be cut
 pub mod Changes
 pub mod laws

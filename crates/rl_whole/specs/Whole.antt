@@ -1,6 +1,5 @@
--- A rank's whole machine over any lock: the lock's atoms, and the work of a block while it holds; and the rule of its window.
+-- of laws/Whole: side_of shifted shifted_answer planned_in work_plan lock_or_work next_of is_at_work whole_turned left_by followed touch_by departure_by work_events work_turned effect_turned after_of home_of_word whole_table is_open made_deeds lock_words split_of work_side desk_by own_desk told_desk counts Good rule_of IsShiftable IsAnswerShiftable
 use Rattle.std.specs.Prelude.{◌≡◌, ℕ, ◌+◌, ◌-◌, ◌^◌, ◌<◌, List, [], ◌∷◌, ◌++◌, Bool, true, false, ◌||◌, length, map, take, drop, count_by, if◌then◌else◌, nat_lt, slice_get, Option, Some, None}
-use Rattle.std.proofs.Common.{ap}
 use Rattle.rl_word.specs.declared.classes.Mode.{Mode}
 use Rattle.rl_word.specs.declared.acts.Atom.{Atom}
 use Rattle.rl_word.specs.declared.acts.Atom.TheVariants as atom
@@ -175,10 +174,6 @@ split_of L h vs modes past = record { words = lock_words L h.words; cards = h.ca
 abbrev pub work_side : {V K : Type 0} → LockTable V → WholeView V K → WorkSide K
 work_side T x = record { standing = T.standing x.side.view; work = x.work }
 
--- how a view's work looks, by the words
-abbrev pub look_of : {V K : Type 0} → LockAt V K → List ℕ → WholeView V K → Look
-look_of L words x = look L.work words x.rank x.work
-
 -- a rank's desk, by how its work looks
 abbrev pub desk_by : Bool → Look → Desk
 desk_by b a = record { kept = record { items = a.items; room = a.room }; is_open = b; owes = a.owes; calls = a.calls; seq = a.seq }
@@ -233,7 +228,3 @@ IsAnswerShiftable base (Waiting w v) = base + w < 2 ^ 32
 IsAnswerShiftable base (Lost guess seen) = Unit {0}
 IsAnswerShiftable base (Busy node holder) = Unit {0}
 IsAnswerShiftable base Finished = Unit {0}
-
-pub after_effect : {V K : Type 0} (L : LockAt V K) (x : WholeView V K) (got : ℕ) (e : Effect) →
-    effect_at (plan_home L.table (L.table.plan x.side.view)) (L.table.plan x.side.view) x.side.card got ≡ e → after_of L x got ≡ effect_turned L x (L.work.after x.rank x.work got) e
-after_effect L x got e is = ap (effect_turned L x (L.work.after x.rank x.work got)) is

@@ -28,3 +28,6 @@ pub mod CardEnding
 pub mod LeftLaws
 pub mod WholeEnding
 pub mod WholeGuides
+pub mod Changes
+pub mod Domains
+pub mod Whole

@@ -13,6 +13,5 @@ pub mod WorkEnding
 pub mod LockedLeft
 -- for ways of working that read without a lock
 pub mod Unlocked
--- both definitions and lemmas: to be cut
 pub mod EndLaws
 pub mod laws

@@ -10,3 +10,4 @@ pub mod LockedLaws
 pub mod UnseenLaws
 pub mod LockedSteps
 pub mod LockedEnding
+pub mod EndLaws

@@ -23,7 +23,7 @@ use Rattle.rl_work.specs.Site.{lock_base}
 use Rattle.rl_work.specs.Work.{TheWork, WorkTurned, first_work, CanName, CanTurn, work_atom, work_after, with_block}
 use Rattle.rl_work.specs.WorkGood.{WorkSide, IsApart, IsOpen, standing_after, places_needed, opening_words, IsFirst}
 use Rattle.rl_work.specs.laws.AtomLaws.{opening_good, atom_can, atom_keeps, can_name, can_turn, shift_keeps, open_keeps, entry_calls, few_replies}
-use Rattle.rl_work.specs.EndLaws.{Ends, turn_ends}
+use Rattle.rl_work.specs.laws.EndLaws.{Ends, turn_ends}
 use Rattle.table_tests.specs.OneRank.{one_site, one_side, IsAlone}
 
 -- nobody is beside it

@@ -14,9 +14,9 @@ use Rattle.rl_queue.specs.declared.view.Phase.{Phase}
 use Rattle.rl_queue.specs.declared.view.Phase.TheVariants.{Idle, Clear, Reset, Swing, Link, Wait, Settle, Granted, Look, Close, Await, Hand, Above}
 use Rattle.rl_queue.specs.laws.Choices.{choose, same_test}
 use Rattle.rl_queue.specs.Lane.{Lane, lane_of, Line, Busy, Has}
-use Rattle.rl_queue.specs.LaneLaws.{listed_busy}
+use Rattle.rl_queue.specs.laws.LaneLaws.{listed_busy}
 use Rattle.rl_queue.specs.Queue.{TheNames, next_word, status_word, swap_act, turn_at, moves_to, moves_with, joined_at, leave_at}
-use Rattle.rl_queue.specs.QueueMoves.{at_swap}
+use Rattle.rl_queue.specs.laws.QueueMoves.{at_swap}
 use Rattle.rl_queue.specs.Standings.{standing_of}
 use Rattle.rl_queue.specs.laws.StandingLaws.{not_out_busy}
 use Rattle.rl_queue.specs.laws.Stuck.{Stuck, Goes, GetsOn, Falls}

@@ -8,7 +8,7 @@ use Rattle.rl_step.specs.Lock.{LockState, AllOut}
 use Rattle.rl_queue.specs.declared.view.Phase.{Phase}
 use Rattle.rl_queue.specs.declared.view.Phase.TheVariants.{Idle, Settle}
 use Rattle.rl_queue.specs.Lane.{Busy}
-use Rattle.rl_queue.specs.LaneLaws.{listed_busy}
+use Rattle.rl_queue.specs.laws.LaneLaws.{listed_busy}
 use Rattle.rl_queue.specs.Queue.{next_word, status_word, plan_at}
 use Rattle.rl_queue.specs.Standings.{standing_of}
 use Rattle.rl_queue.specs.laws.StandingLaws.{not_out_busy}

@@ -19,13 +19,15 @@ use Rattle.rl_queue.specs.declared.view.Phase.TheVariants.{Idle, Clear, Link, Se
 use Rattle.rl_queue.specs.laws.Choices.{choose}
 use Rattle.rl_queue.specs.Queue.{next_word, status_word, plan_at, turn_at}
 use Rattle.rl_queue.specs.Lane.{Awaits, SuitsAlone, Listed, Busy, Own, served}
-use Rattle.rl_queue.specs.LaneLaws.{IsFirst, in_line}
+use Rattle.rl_queue.specs.LaneLaws.{IsFirst}
+use Rattle.rl_queue.specs.laws.LaneLaws.{in_line}
 use Rattle.rl_queue.specs.laws.LaneMoves.{link_guess}
 use Rattle.rl_queue.specs.Lane.{lane_of}
-use Rattle.rl_queue.specs.QueueLaws.{QueueGood, still_keeps}
-use Rattle.rl_queue.specs.QueueMoves.{join_keeps, leave_keeps, beside_keeps, hand_succ, one_first, queue_fifo, queue_within, queue_counted}
+use Rattle.rl_queue.specs.QueueLaws.{QueueGood}
+use Rattle.rl_queue.specs.laws.QueueLaws.{still_keeps}
+use Rattle.rl_queue.specs.laws.QueueMoves.{join_keeps, leave_keeps, beside_keeps, hand_succ, one_first, queue_fifo, queue_within, queue_counted}
 use Rattle.rl_queue.specs.laws.RankWordLaws.{all_zero}
-use Rattle.rl_queue.specs.QueueFits.{alone_finds, alone_moves_on, waits_on}
+use Rattle.rl_queue.specs.laws.QueueFits.{alone_finds, alone_moves_on, waits_on}
 use Rattle.rl_queue.specs.Standings.{standing_of}
 use Rattle.rl_queue.specs.laws.StandingLaws.{holder_writes, writer_served, no_reader, writer_first, holder_first, leaving_at, out_idle, suits_at}
 use Rattle.rl_queue.specs.laws.Choices.{lt_test}

@@ -18,7 +18,8 @@ use Rattle.rl_ops.specs.Ops as ops
 use Rattle.rl_ops.specs.Ops.{total_calls, EachOfBlocks, OpsFit}
 use Rattle.rl_ops.specs.Room.{updates_on}
 use Rattle.rl_asks.specs.Asks.{sizes_in, IsBlockOf, AreBlocks}
-use Rattle.rl_asks.specs.AskLaws.{is_update_on, few_calls}
+use Rattle.rl_asks.specs.AskLaws.{is_update_on}
+use Rattle.rl_asks.specs.laws.AskLaws.{few_calls}
 
 module _ (geom : Geom) (fits : GeomFits geom) where
   -- the shard of a call is there

@@ -20,7 +20,8 @@ use Rattle.rl_work.specs.Transcript.{TheTranscript}
 use Rattle.rl_work.specs.WorkGood.{IsOpen}
 use Rattle.rl_work.specs.EndLaws.{Tells}
 use Rattle.rl_asks.specs.Asks.{is_on, AreBlocks, place_after, asked_of}
-use Rattle.rl_asks.specs.AskLaws.{NextBlock, take_more, stands_at, calls_there, asks_next, inside, rest_behind, all_on, none_on, room_for, updates_room, is_update_on}
+use Rattle.rl_asks.specs.AskLaws.{is_update_on}
+use Rattle.rl_asks.specs.laws.AskLaws.{NextBlock, take_more, stands_at, calls_there, asks_next, inside, rest_behind, all_on, none_on, room_for, updates_room}
 use Rattle.rl_asks.specs.Desks.{Desk, IsDesk, OpensBlock, KeepsBlock, EndsBlock, Turns, entries_of}
 use Rattle.rl_asks.specs.RankGood.{AsksNext, IsAtWork, IsOn, RankGood, IsFreshDesk, entries_in}
 

@@ -25,7 +25,7 @@ use Rattle.rl_combine.specs.Posts.{CombineSite, post_of}
 use Rattle.rl_combine.specs.Combine.{combine_table, opened_of, in_hand, early}
 use Rattle.rl_combine.specs.CombineGood.{RankSide, IsCounted, OwnAt, SweepAt, IsLeft, IsToEnd, IsHeld, CombineGood}
 use Rattle.rl_combine.specs.Sweep.{IsLateAt, IsLate}
-use Rattle.rl_combine.specs.SideLaws.{posted_at, flag_at, hand_writes}
+use Rattle.rl_combine.specs.laws.SideLaws.{posted_at, flag_at, hand_writes}
 use Rattle.rl_combine.specs.laws.MoveLaws.{seat_of}
 use Rattle.rl_combine.specs.laws.SeatLaws.{counted_as}
 use Rattle.rl_combine.specs.laws.LookLaws.{no_more_entries, handed_at}

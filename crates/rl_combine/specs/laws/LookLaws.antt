@@ -21,7 +21,7 @@ use Rattle.rl_combine.specs.declared.stage.Stage.TheVariants.{Rest}
 use Rattle.rl_combine.specs.Posts.{CombineSite, ThePost, post_of}
 use Rattle.rl_combine.specs.Combine.{TheCombineSide, Opened, opened_of, is_open, early, early_open, transcript, owes, combine_table}
 use Rattle.rl_combine.specs.CombineGood.{RankSide, front_of, IsInHand, OwnAt, CombineGood}
-use Rattle.rl_combine.specs.SideLaws.{posted_at, flag_at}
+use Rattle.rl_combine.specs.laws.SideLaws.{posted_at, flag_at}
 use Rattle.rl_combine.specs.laws.SeatLaws.{handled_as}
 use Rattle.rl_combine.specs.laws.MoveLaws.{Grows, SeatGoesOn, seat_of, side_of}
 use Rattle.rl_combine.specs.laws.TranscriptLaws.{HasNone, HasOne, transcript_is}

@@ -15,7 +15,7 @@ use Rattle.rl_combine.specs.declared.stage.Stage.TheVariants.{Rest, Post, Raise,
 use Rattle.rl_combine.specs.Posts.{CombineSite, ThePost, ranks_of, post_of}
 use Rattle.rl_combine.specs.Combine.{TheCombineSide, opened_of, in_hand, combine_table}
 use Rattle.rl_combine.specs.CombineGood.{RankSide, front_of, IsCombiner, IsPosted, OwnAt, SweepAt, IsHeld, CombineGood}
-use Rattle.rl_combine.specs.SideLaws.{posted_at, posted_on, hand_writes, sweep_any}
+use Rattle.rl_combine.specs.laws.SideLaws.{posted_at, posted_on, hand_writes, sweep_any}
 
 -- a rank at such a stage goes on with its sweep, or is about to begin it
 abbrev pub Combines : Stage → Type 0

@@ -22,7 +22,7 @@ use Rattle.rl_combine.specs.Combine.{TheCombineSide, opened_of, combine_table, s
 use Rattle.rl_combine.specs.CombineGood.{RankSide, front_of, IsPosted, OwnAt, SweepAt, CombineGood, reading, deciding}
 use Rattle.rl_combine.specs.Numbers.{HasPost, CanName, CanTurn}
 use Rattle.rl_combine.specs.laws.PostLaws.{front_get, call_word}
-use Rattle.rl_combine.specs.SideLaws.{posted_at}
+use Rattle.rl_combine.specs.laws.SideLaws.{posted_at}
 use Rattle.rl_combine.specs.laws.MoveLaws.{seat_of, is_rank}
 
 -- the number of a posted call, at its place

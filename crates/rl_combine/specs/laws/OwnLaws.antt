@@ -17,7 +17,8 @@ use Rattle.rl_combine.specs.Posts.{CombineSite, ThePost, ranks_of, post_word, po
 use Rattle.rl_combine.specs.Combine.{TheCombineSide, Opened, opened_of, in_hand, combine_table, stage_after, sweep_on, to_collect, to_stage, with_nothing, with_copied}
 use Rattle.rl_combine.specs.CombineGood.{RankSide, front_of, HasAsked, IsPosting, IsAnswered, Progress, waits, handled, counted, answered, IsPosted, IsCollecting, IsSweeping, IsCopying, IsAnswering, IsLeft, IsToEnd, OwnAt, SweepAt, CombineGood}
 use Rattle.rl_combine.specs.laws.PostLaws.{others_stay, call_word, answer_word, flag_stored, call_stored, front_get, front_behind, copies_on, stores_on}
-use Rattle.rl_combine.specs.SideLaws.{found, sweep_any, flag_at}
+use Rattle.rl_combine.specs.SideLaws.{found}
+use Rattle.rl_combine.specs.laws.SideLaws.{sweep_any, flag_at}
 use Rattle.rl_combine.specs.laws.MoveLaws.{Keeps, seat_of, side_of, is_rank, only_writer, own_moves}
 
 -- what the flag of a posted call says

@@ -9,7 +9,7 @@ use Rattle.rl_model.specs.declared.call.Call.{Call}
 use Rattle.rl_step.specs.declared.events.Stepped.{Stepped}
 use Rattle.rl_step.specs.Answers.{counted, steps_made}
 use Rattle.rl_step.specs.Lock.{Deed}
-use Rattle.rl_asks.specs.AskLaws.{inside}
+use Rattle.rl_asks.specs.laws.AskLaws.{inside}
 use Rattle.rl_asks.specs.ShardTables.{ShardTable}
 use Rattle.rl_asks.specs.ShardLaws.{GoodOf, CauseOf, FurtherOf, LawsOf, IsSeated, AllShut, ShardCoreLaws}
 use Rattle.rl_machine.specs.Running.{ShardRun, Running}

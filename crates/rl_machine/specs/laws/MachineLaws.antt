@@ -15,7 +15,8 @@ use Rattle.rl_step.specs.Do.{do_got}
 use Rattle.rl_step.specs.Lock.{Deed}
 use Rattle.rl_work.specs.WorkGood.{IsOpen}
 use Rattle.rl_asks.specs.Asks.{block_shard, place_after}
-use Rattle.rl_asks.specs.AskLaws.{NextBlock, next_of_blocks, size_is, block_is, block_at, stands_at, is_update_on}
+use Rattle.rl_asks.specs.AskLaws.{is_update_on}
+use Rattle.rl_asks.specs.laws.AskLaws.{NextBlock, next_of_blocks, size_is, block_is, block_at, stands_at}
 use Rattle.rl_asks.specs.Desks.{Desk, IsDesk, OpensBlock, Turns}
 use Rattle.rl_asks.specs.RankGood.{RankGood}
 use Rattle.rl_asks.specs.laws.RankLaws.{closed_all, all_done, block_fits, rank_opens, rank_turns}

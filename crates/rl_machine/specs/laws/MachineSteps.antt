@@ -15,7 +15,7 @@ use Rattle.rl_asks.specs.ShardTables.{ShardTable}
 use Rattle.rl_machine.specs.Running.{ShardRun, Running}
 use Rattle.rl_machine.specs.ShardSteps.{opened_on, atom_on, answer_on}
 use Rattle.rl_asks.specs.Asks.{block_shard, place_after}
-use Rattle.rl_asks.specs.AskLaws.{block_is, block_at, stands_at}
+use Rattle.rl_asks.specs.laws.AskLaws.{block_is, block_at, stands_at}
 use Rattle.rl_machine.specs.Run.{changed, changed_if, on_shard, calls_by, sizes_by, place_of, opens, opened_if, block_opened, atom_made, atom_answer, stepped, answer_of_step}
 use Rattle.rl_machine.specs.MachineGood.{MachineGood}
 use Rattle.rl_machine.specs.laws.MachineLaws.{OpensAt, opens_at}

@@ -6,7 +6,7 @@ use Rattle.std.proofs.lemmas.Option.{same_Some}
 use Rattle.rl_word.specs.Acts.{Layout}
 use Rattle.rl_word.specs.laws.Places.{some_at}
 use Rattle.rl_model.specs.declared.entry.Entry.{Entry}
-use Rattle.rl_asks.specs.AskLaws.{few_calls}
+use Rattle.rl_asks.specs.laws.AskLaws.{few_calls}
 use Rattle.rl_asks.specs.RankGood.{entries_in}
 use Rattle.rl_asks.specs.ShardTables.{ShardTable, kept_in as kept_from}
 use Rattle.rl_asks.specs.ShardLaws.{GoodOf, CauseOf, FurtherOf, LawsOf}

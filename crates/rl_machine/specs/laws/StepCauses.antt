@@ -13,7 +13,7 @@ use Rattle.rl_step.specs.Answers.{counted, steps_made}
 use Rattle.rl_step.specs.Lock.{Deed}
 use Rattle.rl_step.specs.Do.{TheWindow}
 use Rattle.rl_asks.specs.Asks.{block_shard}
-use Rattle.rl_asks.specs.AskLaws.{NextBlock, next_of_blocks, block_is, block_at}
+use Rattle.rl_asks.specs.laws.AskLaws.{NextBlock, next_of_blocks, block_is, block_at}
 use Rattle.rl_asks.specs.Desks.{Desk, entries_of}
 use Rattle.rl_asks.specs.RankGood.{RankGood, entries_in}
 use Rattle.rl_asks.specs.laws.RankLaws.{all_done}

@@ -10,7 +10,7 @@ use Rattle.rl_word.specs.declared.acts.Atom.{Atom}
 use Rattle.rl_step.specs.Lock.{Deed}
 use Rattle.rl_step.specs.Transitions.{Transition}
 use Rattle.rl_step.specs.Batches.{AreShown}
-use Rattle.rl_step.specs.BatchLaws.{shown_next}
+use Rattle.rl_step.specs.laws.BatchLaws.{shown_next}
 use Rattle.rl_asks.specs.ShardTables.{ShardTable}
 use Rattle.rl_asks.specs.ShardTables.{transition_by}
 use Rattle.rl_asks.specs.ShardLaws.{GoodOf, CauseOf, FurtherOf, LawsOf}

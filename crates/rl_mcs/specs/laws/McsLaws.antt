@@ -24,7 +24,7 @@ use Rattle.rl_tree.specs.TreeGood.{GoodAt, IsGrantedAt}
 use Rattle.rl_tree.specs.laws.TreeCalls.{granted_is}
 use Rattle.rl_tree.specs.TreeShape.{IsWellShaped}
 use Rattle.rl_tree.specs.laws.TreeEvents.{queue_is}
-use Rattle.rl_tree.specs.TreeStandings.{phase_leaves, holds_is, writer_holds, not_reader, suits_by, rests_at}
+use Rattle.rl_tree.specs.laws.TreeStandings.{phase_leaves, holds_is, writer_holds, not_reader, suits_by, rests_at}
 use Rattle.rl_tree.specs.TreeFacts.{HasView, PlansAct, learnt_in, TreeFacts}
 use Rattle.rl_tree.specs.laws.TreeLaws.{tree_facts}
 use Rattle.rl_mcs.specs.Mcs.{past_hook, mcs_learn, mcs_table, McsGood}

@@ -18,7 +18,7 @@ use Rattle.rl_tree.specs.Elements.{how_many, ranks_in, of_tree, tree_of, queues_
 use Rattle.rl_tree.specs.TreeGood.{GoodAt}
 use Rattle.rl_tree.specs.TreeShape.{IsWellShaped}
 use Rattle.rl_tree.specs.laws.TreeEvents.{Named, named_append, append_length}
-use Rattle.rl_tree.specs.TreeStandings.{hook_cases}
+use Rattle.rl_tree.specs.laws.TreeStandings.{hook_cases}
 use Rattle.rl_tree.specs.TreeFacts.{HasView, PlansAct, JoinsAtMost, all_events, learnt_in, resumed_in, opens, TreeFacts}
 use Rattle.rl_mcs.specs.Mcs.{past_hook}
 

@@ -21,8 +21,8 @@ use Rattle.rl_queue.specs.Queue.{next_word, status_word, at_phase, plan_at, turn
 use Rattle.rl_queue.specs.Lane.{Awaits, SuitsAlone, Listed, Busy, Own}
 use Rattle.rl_queue.specs.LaneLaws.{IsFirst}
 use Rattle.rl_queue.specs.QueueLaws.{QueueGood}
-use Rattle.rl_queue.specs.QueueMoves.{join_keeps, leave_keeps, beside_keeps, one_first, queue_fifo, queue_counted}
-use Rattle.rl_queue.specs.QueueFits.{plan_fits, learn_fits, alone_finds, alone_moves_on, waits_on}
+use Rattle.rl_queue.specs.laws.QueueMoves.{join_keeps, leave_keeps, beside_keeps, one_first, queue_fifo, queue_counted}
+use Rattle.rl_queue.specs.laws.QueueFits.{plan_fits, learn_fits, alone_finds, alone_moves_on, waits_on}
 use Rattle.rl_queue.specs.laws.Choices.{lt_test}
 use Rattle.rl_queue.specs.RankWords.{every_second, Seated}
 use Rattle.rl_queue.specs.laws.RankWordLaws.{length-every_second, all_zero}

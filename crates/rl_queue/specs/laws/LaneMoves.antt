@@ -6,7 +6,8 @@ use Rattle.rl_queue.specs.declared.view.Phase.{Phase}
 use Rattle.rl_queue.specs.declared.view.Phase.TheVariants.{Idle, Clear, Reset, Swing, Link, Wait, Hand, Above}
 use Rattle.rl_queue.specs.Lane.{Lane, Has, Distinct, last_of, Listed, Busy, IsCode, Leads, Follows, Chain, Line, Own, QueueInvariant}
 use Rattle.rl_queue.specs.laws.LineLaws.{last_first, chain_frame, chain_next, chain_link}
-use Rattle.rl_queue.specs.LaneLaws.{Stays, in_line, others_own, rebuild, is_first, IsFirst}
+use Rattle.rl_queue.specs.LaneLaws.{IsFirst}
+use Rattle.rl_queue.specs.laws.LaneLaws.{Stays, in_line, others_own, rebuild, is_first}
 
 -- the guess of a member at Link is the one before it
 pub chain_guess : (L : Lane) (p : ℕ) (l : List ℕ) (m g : ℕ) → Chain L p l → Has m l → L.phase m ≡ Link g → Has (g - 1) (p ∷ l) × (0 < g) × (L.next (g - 1) ≡ 0)

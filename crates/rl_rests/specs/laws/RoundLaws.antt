@@ -11,7 +11,7 @@ use Rattle.rl_machine.specs.Run.{run_of}
 use Rattle.rl_machine.specs.Rest.{counted_more, with_steps}
 use Rattle.rl_machine.specs.laws.RestLaws.{more_none, one_before}
 use Rattle.rl_machine.specs.Rested.{IsInRound, ShowsRound, GoesRound}
-use Rattle.rl_machine.specs.RoundSteps.{both_legs}
+use Rattle.rl_machine.specs.laws.RoundSteps.{both_legs}
 
 -- the answers of two loads are counted in either order
 answers_swap : (w v u t : ℕ) (p q : Bool) (n : ℕ) (s : Steps) → counted_more (load_answer w v p) n (counted (load_answer u t q) s) ≡ counted (load_answer u t q) (counted_more (load_answer w v p) n s)

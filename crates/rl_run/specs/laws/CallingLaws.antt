@@ -10,7 +10,7 @@ use Rattle.rl_journal.specs.Ranks.{IsRankInOrder}
 use Rattle.rl_work.specs.Site.{Site}
 use Rattle.rl_work.specs.WorkGood.{IsOpen}
 use Rattle.rl_asks.specs.Asks.{is_on, place_after, asked_of, block_from, block_shard}
-use Rattle.rl_asks.specs.AskLaws.{NextBlock, next_of_blocks, size_is, block_is, inside, block_at, stands_at, is_begun}
+use Rattle.rl_asks.specs.laws.AskLaws.{NextBlock, next_of_blocks, size_is, block_is, inside, block_at, stands_at, is_begun}
 use Rattle.rl_asks.specs.Desks.{Desk, IsDesk, OpensBlock, Turns, entries_of}
 use Rattle.rl_asks.specs.RankGood.{RankGood, entries_in}
 use Rattle.rl_asks.specs.laws.RankLaws.{rank_begins, closed_all, all_done, block_fits, rank_opens, rank_turns}

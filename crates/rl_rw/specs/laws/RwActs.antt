@@ -14,7 +14,7 @@ use Rattle.rl_tree.specs.Tree.{at_hook, tree_plan, entry_if}
 use Rattle.rl_tree.specs.Elements.{tree_of}
 use Rattle.rl_tree.specs.TreeFacts.{GateMoves, TreeFacts, learnt_in}
 use Rattle.rl_tree.specs.TreeGood.{GoodAt}
-use Rattle.rl_tree.specs.TreeStandings.{hook_cases}
+use Rattle.rl_tree.specs.laws.TreeStandings.{hook_cases}
 use Rattle.rl_counter.specs.declared.view.Doing.{Doing}
 use Rattle.rl_counter.specs.declared.view.Doing.TheVariants.{Nothing}
 use Rattle.rl_counter.specs.CounterGood.{GroupGood, IsMark, Mark, mark_by}

@@ -19,7 +19,7 @@ use Rattle.rl_tree.specs.laws.TreeCalls.{granted_is}
 use Rattle.rl_tree.specs.Tree.{at_hook, tree_standing, at_level, hook_by, standing_by}
 use Rattle.rl_tree.specs.TreeGood.{GoodAt}
 use Rattle.rl_tree.specs.TreeFacts.{TreeFacts}
-use Rattle.rl_tree.specs.TreeStandings.{holds_is, phase_leaves, not_reader, writer_holds}
+use Rattle.rl_tree.specs.laws.TreeStandings.{holds_is, phase_leaves, not_reader, writer_holds}
 use Rattle.rl_counter.specs.declared.view.Doing.{Doing}
 use Rattle.rl_counter.specs.declared.view.Doing.TheVariants.{Nothing, Arrive, Inside, Depart}
 use Rattle.rl_counter.specs.CounterGood.{GroupGood, inside_of, mark_by, Clear as ClearMark}

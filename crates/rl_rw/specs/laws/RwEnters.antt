@@ -8,7 +8,7 @@ use Rattle.rl_word.specs.declared.acts.Act.TheVariants.{CardAdd}
 use Rattle.rl_step.specs.declared.events.Event.{Event}
 use Rattle.rl_step.specs.declared.events.Event.TheVariants as event
 use Rattle.rl_step.specs.Lock.{Told}
-use Rattle.rl_step.specs.BatchLaws.{MayEnter}
+use Rattle.rl_step.specs.laws.BatchLaws.{MayEnter}
 use Rattle.rl_step.specs.Queues.{count}
 use Rattle.rl_step.specs.Transitions.{reader_entries}
 use Rattle.rl_queue.specs.declared.view.Phase.{Phase}

@@ -15,7 +15,7 @@ use Rattle.rl_tree.specs.Elements.{how_many, tree_of}
 use Rattle.rl_tree.specs.TreeFacts.{TreeFacts}
 use Rattle.rl_tree.specs.TreeShape.{IsWellShaped}
 use Rattle.rl_tree.specs.laws.TreeHolders.{level_there}
-use Rattle.rl_tree.specs.TreeStandings.{out_is}
+use Rattle.rl_tree.specs.laws.TreeStandings.{out_is}
 use Rattle.rl_counter.specs.declared.view.Doing.{Doing}
 use Rattle.rl_counter.specs.declared.view.Doing.TheVariants.{Arrive, Refused, SeeTail, Reset as ResetOff, Depart, Compare}
 use Rattle.rl_counter.specs.Counter.{arrive_word, busy, depart_word, off}

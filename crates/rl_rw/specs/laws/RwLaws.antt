@@ -16,7 +16,7 @@ use Rattle.rl_step.specs.declared.events.Standing.TheVariants as standing
 use Rattle.rl_step.specs.Lock.{LockState, found, IsLoad, PlansLoad, Told, FindsOld, LockLaws, Acts, opening, first_views}
 use Rattle.rl_step.specs.laws.LockLemmas.{length-first_views, first_views_at}
 use Rattle.rl_step.specs.Batches.{HandsOn}
-use Rattle.rl_step.specs.BatchLaws.{is_batched}
+use Rattle.rl_step.specs.laws.BatchLaws.{is_batched}
 use Rattle.rl_step.specs.Queues.{settled, passed, tenures}
 use Rattle.rl_queue.specs.laws.Choices.{choose}
 use Rattle.rl_tree.specs.declared.view.TreeView.{TreeView}

@@ -20,7 +20,7 @@ use Rattle.rl_tree.specs.Elements.{names_in, tree_of}
 use Rattle.rl_tree.specs.TreeFacts.{TreeFacts}
 use Rattle.rl_tree.specs.TreeShape.{IsWellShaped}
 use Rattle.rl_tree.specs.laws.TreeGoes.{tree_goes}
-use Rattle.rl_tree.specs.TreeStandings.{out_is}
+use Rattle.rl_tree.specs.laws.TreeStandings.{out_is}
 use Rattle.rl_tree.specs.laws.RankGoes.{GoesIn}
 use Rattle.rl_counter.specs.declared.view.Doing.{Doing}
 use Rattle.rl_counter.specs.declared.view.Doing.TheVariants.{Nothing, Arrive, Refused, SeeTail, Swap, Reset as ResetOff, Round, RoundTail, Inside, Depart, Put, Count, Compare, TakeOut, TakeOff}

@@ -11,7 +11,7 @@ use Rattle.rl_tree.specs.Tree.{tree_resume}
 use Rattle.rl_tree.specs.Elements.{tree_of}
 use Rattle.rl_tree.specs.TreeFacts.{TreeFacts}
 use Rattle.rl_tree.specs.TreeShape.{IsWellShaped}
-use Rattle.rl_tree.specs.TreeStandings.{above_is}
+use Rattle.rl_tree.specs.laws.TreeStandings.{above_is}
 use Rattle.rl_counter.specs.declared.view.Doing.{Doing}
 use Rattle.rl_counter.specs.declared.view.Doing.TheVariants.{Nothing, Put, Count, Compare, TakeOut, TakeOff}
 use Rattle.rl_counter.specs.Counter.{Turn, arrive_word, depart_word, counter_turn, off, to}

@@ -8,7 +8,7 @@ use Rattle.rl_step.specs.Core.{home_at}
 use Rattle.rl_step.specs.Do.{do_got}
 use Rattle.rl_volume.specs.Words.{volume_words}
 use Rattle.rl_work.specs.laws.AtomLaws.{atom_can, can_name, can_turn}
-use Rattle.rl_work.specs.EndLaws.{plain_atom}
+use Rattle.rl_work.specs.laws.EndLaws.{plain_atom}
 use Rattle.rl_work.specs.laws.RoomLaws.{journal_short}
 use Rattle.rl_work.specs.Site.{count_word, lock_base, places}
 use Rattle.rl_work.specs.Ways.{IsSide, MayWork, MayTurn}

@@ -13,7 +13,8 @@ use Rattle.rl_step.specs.Do.{CanDo, do_got, do_words}
 use Rattle.rl_work.specs.declared.stage.Stage.{Stage}
 use Rattle.rl_work.specs.declared.stage.Stage.TheVariants.{Rest, Begin, Read, Journal, Volume}
 use Rattle.rl_work.specs.laws.AtomLaws.{atom_keeps, atom_can}
-use Rattle.rl_work.specs.EndLaws.{IsPlain, plain_atom}
+use Rattle.rl_work.specs.EndLaws.{IsPlain}
+use Rattle.rl_work.specs.laws.EndLaws.{plain_atom}
 use Rattle.rl_work.specs.Locked.{first_reads}
 use Rattle.rl_work.specs.Site.{count_word, volume_base, lock_base}
 use Rattle.rl_work.specs.laws.LockedLaws.{front_names}

@@ -24,7 +24,8 @@ use Rattle.rl_journal.specs.Blocks.{batch_of, calls_of, is_tenure}
 use Rattle.rl_work.specs.declared.stage.Stage.{Stage}
 use Rattle.rl_work.specs.declared.stage.Stage.TheVariants.{Rest, Begin, Read, Journal, Volume}
 use Rattle.rl_work.specs.laws.AtomLaws.{few_replies, entry_calls, holder_asks}
-use Rattle.rl_work.specs.EndLaws.{Rises, tells_rise, Ends, EndsBy, turn_ends}
+use Rattle.rl_work.specs.EndLaws.{Rises}
+use Rattle.rl_work.specs.laws.EndLaws.{tells_rise, Ends, EndsBy, turn_ends}
 use Rattle.rl_work.specs.Locked.{first_reads}
 use Rattle.rl_work.specs.laws.LockedLaws.{locked_laws, work_tells}
 use Rattle.rl_work.specs.Site.{lock_base}

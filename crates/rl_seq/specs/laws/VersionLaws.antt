@@ -19,7 +19,7 @@ use Rattle.rl_step.specs.declared.events.Stepped.TheVariants.{Moved, Waiting, Lo
 use Rattle.rl_step.specs.Core.{home_at}
 use Rattle.rl_step.specs.Do.{do_words}
 use Rattle.rl_work.specs.laws.AtomLaws.{atom_can}
-use Rattle.rl_work.specs.EndLaws.{plain_atom}
+use Rattle.rl_work.specs.laws.EndLaws.{plain_atom}
 use Rattle.rl_work.specs.Locked.{first_reads}
 use Rattle.rl_work.specs.Site.{count_word, volume_base, lock_base, volume_of}
 use Rattle.rl_work.specs.Unlocked.{wanted, wanted_by, with_word}

@@ -9,7 +9,7 @@ use Rattle.rl_step.specs.LockQueues.{is_at}
 use Rattle.rl_queue.specs.laws.Choices.{same_test, lt_test}
 use Rattle.rl_queue.specs.Queue.{status_word, full_budget, PlanFits}
 use Rattle.rl_queue.specs.Lane.{told_left}
-use Rattle.rl_queue.specs.QueueFits.{plan_fits, learn_fits, holder_told}
+use Rattle.rl_queue.specs.laws.QueueFits.{plan_fits, learn_fits, holder_told}
 use Rattle.rl_queue.specs.RankWords.{every_second}
 use Rattle.rl_queue.specs.laws.RankWordLaws.{length-every_second}
 use Rattle.rl_tree.specs.declared.rooted.Rooted.{Rooted}

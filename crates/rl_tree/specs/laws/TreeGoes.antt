@@ -9,7 +9,7 @@ use Rattle.rl_step.specs.declared.events.Standing.TheVariants as standing
 use Rattle.rl_queue.specs.declared.view.Phase.{Phase}
 use Rattle.rl_queue.specs.declared.view.Phase.TheVariants.{Idle, Clear, Wait, Settle, Granted, Look, Hand, Above}
 use Rattle.rl_queue.specs.Lane.{Lane, lane_of, Busy, is_pass}
-use Rattle.rl_queue.specs.LaneLaws.{busy_or_idle}
+use Rattle.rl_queue.specs.laws.LaneLaws.{busy_or_idle}
 use Rattle.rl_queue.specs.Queue.{next_word, status_word}
 use Rattle.rl_queue.specs.laws.StandingLaws.{not_out_busy}
 use Rattle.rl_tree.specs.declared.view.TreeView.{TreeView}

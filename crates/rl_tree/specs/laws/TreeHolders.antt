@@ -15,11 +15,13 @@ use Rattle.rl_queue.specs.declared.view.Phase.{Phase}
 use Rattle.rl_queue.specs.declared.view.Phase.TheVariants.{Idle, Granted}
 use Rattle.rl_queue.specs.Queue.{status_word, plan_at}
 use Rattle.rl_queue.specs.Lane.{lane_of, Listed, Busy, IsAlone}
-use Rattle.rl_queue.specs.LaneLaws.{IsFirst, busy_or_idle}
+use Rattle.rl_queue.specs.LaneLaws.{IsFirst}
+use Rattle.rl_queue.specs.laws.LaneLaws.{busy_or_idle}
 use Rattle.rl_queue.specs.QueueLaws.{QueueGood}
-use Rattle.rl_queue.specs.QueueMoves.{one_first, queue_counted}
-use Rattle.rl_queue.specs.QueueFits.{alone_finds}
-use Rattle.rl_queue.specs.QueueHeads.{head_in, head_first}
+use Rattle.rl_queue.specs.laws.QueueMoves.{one_first, queue_counted}
+use Rattle.rl_queue.specs.laws.QueueFits.{alone_finds}
+use Rattle.rl_queue.specs.QueueHeads.{head_in}
+use Rattle.rl_queue.specs.laws.QueueHeads.{head_first}
 use Rattle.rl_tree.specs.declared.view.TreeView.{TreeView}
 use Rattle.rl_tree.specs.Tree.{hook_by, path, member_at, works_for, plan_by, tree_plan, at_hook, tree_standing}
 use Rattle.rl_tree.specs.declared.rooted.Rooted.{Rooted}
@@ -33,7 +35,7 @@ use Rattle.rl_tree.specs.laws.TreeOnward.{granted_opens}
 use Rattle.rl_tree.specs.laws.TreeCalls.{granted_is}
 use Rattle.rl_tree.specs.TreeShape.{IsWellShaped}
 use Rattle.rl_tree.specs.laws.TreeLawful.{MayMake, loads_status, lawful_in, alone_on}
-use Rattle.rl_tree.specs.TreeStandings.{granted_first, hook_cases, hook_first, out_is, holds_is}
+use Rattle.rl_tree.specs.laws.TreeStandings.{granted_first, hook_cases, hook_first, out_is, holds_is}
 
 -- where no member of a queue uses it, it has no head, and its tail is 0
 pub no_head : (K : Rooted) (q : ℕ) (ws : List ℕ) (ph : ℕ → Phase) (l : List ℕ) (t : List Event) (e : ℕ) → QueueGood (names_in K q) (InQueue K q) ws ph l t e → ((m : ℕ) → ph m ≡ Idle) → head_in (lane_of (names_in K q) ws ph) l ≡ None

@@ -8,9 +8,10 @@ use Rattle.rl_step.specs.Queues.{count}
 use Rattle.rl_queue.specs.declared.view.Phase.{Phase}
 use Rattle.rl_queue.specs.declared.view.Phase.TheVariants.{Settle, Above}
 use Rattle.rl_queue.specs.Queue.{resume_at}
-use Rattle.rl_queue.specs.QueueMoves.{resume_keeps}
+use Rattle.rl_queue.specs.laws.QueueMoves.{resume_keeps}
 use Rattle.rl_queue.specs.Lane.{lane_of}
-use Rattle.rl_queue.specs.QueueHeads.{head_in, head_first}
+use Rattle.rl_queue.specs.QueueHeads.{head_in}
+use Rattle.rl_queue.specs.laws.QueueHeads.{head_first}
 use Rattle.rl_tree.specs.declared.view.TreeView.{TreeView}
 use Rattle.rl_tree.specs.Tree.{has_above, path, works_for, behind_at, at_level, settles_below}
 use Rattle.rl_tree.specs.declared.rooted.Rooted.{Rooted}

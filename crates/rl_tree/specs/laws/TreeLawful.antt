@@ -15,10 +15,10 @@ use Rattle.rl_queue.specs.declared.view.Phase.{Phase}
 use Rattle.rl_queue.specs.declared.view.Phase.TheVariants.{Idle, Clear, Reset, Swing, Link, Wait, Settle, Granted, Look, Close, Await, Hand, Above}
 use Rattle.rl_queue.specs.Queue.{TheNames, next_word, status_word, plan_at}
 use Rattle.rl_queue.specs.Lane.{lane_of, Busy, IsAlone}
-use Rattle.rl_queue.specs.LaneLaws.{in_line}
+use Rattle.rl_queue.specs.laws.LaneLaws.{in_line}
 use Rattle.rl_queue.specs.laws.LaneMoves.{link_guess}
 use Rattle.rl_queue.specs.QueueLaws.{QueueGood}
-use Rattle.rl_queue.specs.QueueMoves.{hand_succ}
+use Rattle.rl_queue.specs.laws.QueueMoves.{hand_succ}
 use Rattle.rl_queue.specs.Standings.{standing_of}
 use Rattle.rl_tree.specs.declared.view.TreeView.{TreeView}
 use Rattle.rl_tree.specs.Tree.{TheTree, is_none, hook_by, path, member_at, walk, goes_up, gives_up, goes_down}

@@ -16,7 +16,8 @@ use Rattle.rl_queue.specs.declared.view.Phase.{Phase}
 use Rattle.rl_queue.specs.declared.view.Phase.TheVariants.{Clear, Settle, Granted, Look, Above}
 use Rattle.rl_queue.specs.Queue.{status_word, full_budget, plan_at, settled_at, leave_at, resume_at}
 use Rattle.rl_queue.specs.Lane.{lane_of, Busy, told_left}
-use Rattle.rl_queue.specs.QueueHeads.{head_in, head_first}
+use Rattle.rl_queue.specs.QueueHeads.{head_in}
+use Rattle.rl_queue.specs.laws.QueueHeads.{head_first}
 use Rattle.rl_queue.specs.Standings.{standing_of}
 use Rattle.rl_tree.specs.declared.view.TreeView.{TreeView}
 use Rattle.rl_tree.specs.Tree.{has_above, path, member_at, works_for, behind_at, names_at, at_level, settles_below, inside_from, at_hook, plan_by, learn_by, resume_by, standing_by, tree_standing}
@@ -32,7 +33,7 @@ use Rattle.rl_tree.specs.laws.TreeCalls.{query_keeps, ask_keeps, leave_tree, gra
 use Rattle.rl_tree.specs.laws.TreeHook.{hook_enters, hook_leaves}
 use Rattle.rl_tree.specs.TreeShape.{IsWellShaped}
 use Rattle.rl_tree.specs.laws.TreeEvents.{named_append, holds_append, append_length, settles_order, settles_length, settles_hold, settles_named}
-use Rattle.rl_tree.specs.TreeStandings.{above_is, hook_cases, out_is, holds_is, writer_holds}
+use Rattle.rl_tree.specs.laws.TreeStandings.{above_is, hook_cases, out_is, holds_is, writer_holds}
 use Rattle.rl_tree.specs.laws.TreeHolders.{rank_is, has_rank, rank_there, own_leaf, level_there, level_up, at_root, phase_here, at_rest}
 use Rattle.rl_tree.specs.laws.TreeSteps.{going, Steps, made, fits_plain, learns, resume_entry, resume_standing}
 use Rattle.rl_tree.specs.TreeFacts.{HasView, PlansAct, LearnFits, learnt_in, resumed_in, opens, AsksKeep, LeavesKeep, ActsKeep, ResumesKeep, LearnsFit, ResumesFit}

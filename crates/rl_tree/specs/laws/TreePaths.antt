@@ -7,7 +7,7 @@ use Rattle.rl_queue.specs.declared.view.Phase.{Phase}
 use Rattle.rl_queue.specs.Queue.{status_word}
 use Rattle.rl_queue.specs.LaneLaws.{IsFirst}
 use Rattle.rl_queue.specs.QueueLaws.{QueueGood, Moves}
-use Rattle.rl_queue.specs.QueueMoves.{one_first}
+use Rattle.rl_queue.specs.laws.QueueMoves.{one_first}
 use Rattle.rl_tree.specs.Tree.{path, member_at}
 use Rattle.rl_tree.specs.declared.rooted.Rooted.{Rooted}
 use Rattle.rl_tree.specs.Elements.{how_many, ranks_in, leaf_of, names_in, tree_of}

@@ -17,9 +17,10 @@ use Rattle.rl_queue.specs.declared.view.Phase.{Phase}
 use Rattle.rl_queue.specs.declared.view.Phase.TheVariants.{Idle, Clear, Reset, Swing, Link, Wait, Settle, Granted, Look, Close, Await, Hand, Above}
 use Rattle.rl_queue.specs.Queue.{TheNames, Turn, status_word, full_budget, code_of, code_left, plan_at, turn_at, moves_to, moves_with, waits_at, joined_at, hand_turn, resume_at}
 use Rattle.rl_queue.specs.Lane.{Busy, is_pass, lane_of}
-use Rattle.rl_queue.specs.QueueActs.{wait_turn, pass_more, code_more}
-use Rattle.rl_queue.specs.QueueMoves.{hand_succ}
-use Rattle.rl_queue.specs.QueueHeads.{Head, head_in, head_kept, HeadStep, unlisted}
+use Rattle.rl_queue.specs.laws.QueueActs.{wait_turn, pass_more, code_more}
+use Rattle.rl_queue.specs.laws.QueueMoves.{hand_succ}
+use Rattle.rl_queue.specs.QueueHeads.{Head, head_in}
+use Rattle.rl_queue.specs.laws.QueueHeads.{head_kept, HeadStep, unlisted}
 use Rattle.rl_queue.specs.Standings.{standing_of}
 use Rattle.rl_tree.specs.declared.view.TreeView.{TreeView}
 use Rattle.rl_tree.specs.Tree.{TheTree, has_above, is_none, path, member_at, works_for, behind_at, names_at, at_level, asks_status, leaves_behind, settles_below, inside_from, goes_up, gives_up, walk_turn, at_hook, tree_standing, entry_if}

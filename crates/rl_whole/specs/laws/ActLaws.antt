@@ -16,7 +16,7 @@ use Rattle.rl_step.specs.Do.{TheWindow, do_words, do_got}
 use Rattle.rl_step.specs.Core.{Turned}
 use Rattle.rl_step.specs.Transitions.{Transition, reader_entries}
 use Rattle.rl_step.specs.Batches.{AreActsOf}
-use Rattle.rl_step.specs.BatchLaws.{shows_act, shows_none}
+use Rattle.rl_step.specs.laws.BatchLaws.{shows_act, shows_none}
 use Rattle.rl_work.specs.declared.follow.Follow.{Follow}
 use Rattle.rl_work.specs.declared.follow.Follow.TheVariants.{On, Ask, Over}
 use Rattle.rl_work.specs.Ways.{Worked}

@@ -7,7 +7,7 @@ use Rattle.rl_step.specs.declared.events.Standing.{Standing}
 use Rattle.rl_step.specs.declared.events.Standing.TheVariants.{Out, Asking, Writer, Reader, Leaving}
 use Rattle.rl_step.specs.Lock.{holds_only}
 use Rattle.rl_asks.specs.EventRanks.{AreByRanks}
-use Rattle.rl_whole.specs.Changes.{Change}
+use Rattle.rl_whole.specs.laws.Changes.{Change}
 
 pub by_ranks_more : (n : ℕ) (t es : List Event) → AreByRanks n t → AreByRanks n es → AreByRanks n (t ++ es)
 by_ranks_more n [] es a b = b

@@ -25,7 +25,7 @@ use Rattle.rl_whole.specs.WholeShards.{stand, standing_while, stand_on}
 use Rattle.rl_whole.specs.Split.{SplitState, lock_of, view_of, effect_at, plan_home}
 use Rattle.rl_whole.specs.laws.LearnLaws.{learns_at}
 use Rattle.rl_whole.specs.laws.Bridge.{is_work, no_work}
-use Rattle.rl_whole.specs.Changes.{shift_cases}
+use Rattle.rl_whole.specs.laws.Changes.{shift_cases}
 use Rattle.rl_whole.specs.Whole.{side_of, shifted, work_side, split_of, touch_by, departure_by, work_events, next_of, after_of, effect_turned, whole_table, Good}
 use Rattle.rl_whole.specs.laws.WholeLaws.{next_either, after_work, work_at, works_at}
 use Rattle.rl_whole.specs.laws.WholeOwes.{got_is}

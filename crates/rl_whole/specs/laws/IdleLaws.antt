@@ -22,7 +22,8 @@ use Rattle.rl_whole.specs.declared.whole.WholeView.{WholeView}
 use Rattle.rl_whole.specs.Running.{LockAt, Goods, BothLaws}
 use Rattle.rl_whole.specs.laws.SplitActs.{begins_so}
 use Rattle.rl_whole.specs.Split.{home_of, card_atom, effect_at, answer_of, plan_home, skips}
-use Rattle.rl_whole.specs.Whole.{Good, lock_or_work, work_plan, shifted_answer, is_open, next_of, after_of, effect_turned, after_effect, touch_by, work_turned, whole_table}
+use Rattle.rl_whole.specs.Whole.{Good, lock_or_work, work_plan, shifted_answer, is_open, next_of, after_of, effect_turned, touch_by, work_turned, whole_table}
+use Rattle.rl_whole.specs.laws.Whole.{after_effect}
 use Rattle.rl_whole.specs.laws.WholeLaws.{whole_laws}
 use Rattle.rl_whole.specs.laws.WholeOwes.{may_learn, may_turn, plan_there}
 use Rattle.rl_whole.specs.laws.OpenLaws.{shut_is_none}

@@ -18,7 +18,8 @@ use Rattle.rl_whole.specs.declared.effect.Effect.TheVariants.{Learn}
 use Rattle.rl_whole.specs.declared.whole.WholeView.{WholeView}
 use Rattle.rl_whole.specs.Running.{LockAt, Goods, BothLaws}
 use Rattle.rl_whole.specs.Split.{answer_of}
-use Rattle.rl_whole.specs.Whole.{Good, shifted_answer, next_of, after_of, effect_turned, after_effect, whole_table}
+use Rattle.rl_whole.specs.Whole.{Good, shifted_answer, next_of, after_of, effect_turned, whole_table}
+use Rattle.rl_whole.specs.laws.Whole.{after_effect}
 use Rattle.rl_whole.specs.laws.WholeLaws.{whole_laws}
 use Rattle.rl_whole.specs.laws.IdleLaws.{load_next, load_means, load_open}
 use Rattle.rl_whole.specs.SeenLoads.{with_lock, IsAtLoad, IsSeenLoad}

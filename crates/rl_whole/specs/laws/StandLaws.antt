@@ -24,7 +24,7 @@ use Rattle.rl_whole.specs.WholeShards.{stand}
 use Rattle.rl_whole.specs.Whole.{side_of, work_side, split_of, followed, work_events, next_of, after_of, whole_table, effect_turned, Good}
 use Rattle.rl_whole.specs.laws.WholeLaws.{followed_stands}
 use Rattle.rl_whole.specs.laws.WholeOwes.{work_rests, work_made, work_asks, got_is}
-use Rattle.rl_whole.specs.Changes.{Change, shift_change, change_refl, work_change}
+use Rattle.rl_whole.specs.laws.Changes.{Change, shift_change, change_refl, work_change}
 
 module _ (V K : Type 0) (L : LockAt V K) (good : Goods V K) (further : List Event → List Deed → Type 0) (layout : Layout) (laws : BothLaws L good further layout) (home : ℕ) where
   -- what an atom does to its rank's standing

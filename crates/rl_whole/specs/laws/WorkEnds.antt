@@ -13,7 +13,8 @@ use Rattle.rl_whole.specs.Running.{LockAt, Goods, BothLaws}
 use Rattle.rl_whole.specs.declared.whole.WholeView.{WholeView}
 use Rattle.rl_whole.specs.Split.{side_atom}
 use Rattle.rl_whole.specs.laws.Bridge.{same_work}
-use Rattle.rl_whole.specs.Whole.{work_side, shifted, followed, look_of, next_of, after_of, Good}
+use Rattle.rl_whole.specs.Whole.{work_side, shifted, followed, next_of, after_of, Good}
+use Rattle.rl_whole.specs.laws.Whole.{look_of}
 use Rattle.rl_whole.specs.laws.WholeLaws.{next_either, works_at, lock_low, work_at, own_after, after_work, after_lock, followed_stands}
 
 -- looks that are one

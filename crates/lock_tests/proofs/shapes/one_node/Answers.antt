@@ -1,6 +1,7 @@
 -- The lists are those of two ranks on one node.
 use Rattle.std.proofs.Common.{◌≡◌, ◌∷◌, [], arith, rules}
-use Rattle.rl_word.specs.OneNode.{root_element, node_element, one_node_made}
+use Rattle.rl_word.specs.OneNode.{root_element, node_element}
+use Rattle.rl_word.specs.laws.OneNode.{one_node_made}
 use Rattle.lock_tests.proofs.shapes.one_node.Goals as goal
 
 pub returns-clause-proper : goal.returns-clause-proper

@@ -2,7 +2,7 @@
 use Rattle.std.proofs.Common.{sym, subst}
 use Rattle.rl_word.specs.Shapes.{IsProper}
 use Rattle.rl_tree.specs.TreeShape.{IsBudgeted}
-use Rattle.lock_tests.specs.Tower.{tower_proper, tower_budgeted, is_tower}
+use Rattle.lock_tests.specs.laws.Tower.{tower_proper, tower_budgeted, is_tower}
 use Rattle.lock_tests.proofs.trees.tower.Goals as goal
 
 pub new-requires-clause-proper : goal.new-requires-clause-proper

@@ -1,5 +1,5 @@
 -- A fresh seat can begin any call of the shard.
-use Rattle.rl_cores.specs.Fresh.{fresh_opens}
+use Rattle.rl_cores.specs.laws.Fresh.{fresh_opens}
 use Rattle.rl_cores.proofs.tests.begun.Goals as goal
 
 pub begin-requires-clause-open : goal.begin-requires-clause-open

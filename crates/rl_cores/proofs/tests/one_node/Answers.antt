@@ -1,6 +1,6 @@
 -- A shape of one node is proper.
 use Rattle.std.proofs.Common.{◌≡◌, replicate, arith, rules}
-use Rattle.rl_word.specs.OneNode.{one_node_made}
+use Rattle.rl_word.specs.laws.OneNode.{one_node_made}
 use Rattle.rl_cores.proofs.tests.one_node.Goals as goal
 
 pub returns-clause-proper : goal.returns-clause-proper

@@ -3,7 +3,7 @@ use Rattle.std.proofs.Common.{◌-◌, Some, refl, vec_len, arith, ap, sym, ◌�
 use Rattle.rl_word.specs.laws.Places.{set_same_get}
 use Rattle.rl_ops.specs.declared.schedule.Turn.TheVariants.{Steps}
 use Rattle.rl_ops.specs.Schedule.{rank_of}
-use Rattle.rl_finish.specs.WayOnLaws.{grown, few_in, last_there, pushed_behind, ends_apart}
+use Rattle.rl_finish.specs.laws.WayOnLaws.{grown, few_in, last_there, pushed_behind, ends_apart}
 use Rattle.rl_finish.proofs.finishing.add_step.Goals as goal
 use Rattle.rl_finish.proofs.finishing.add_step.Goals.{in-Some+in-Steps+else-last-rank, in-Some+in_default-turn, in_default}
 

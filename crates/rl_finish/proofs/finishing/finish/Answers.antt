@@ -5,7 +5,7 @@ use Rattle.rl_machine.specs.MachineEnding.{machine_left}
 use Rattle.rl_machine.specs.Run.{run_of, ranks_of, stepped}
 use Rattle.rl_machine.specs.Running.{running, cores_of}
 use Rattle.rl_finish.specs.WayOn.{IsWayOn}
-use Rattle.rl_finish.specs.WayOnLaws.{way_more, run_more, on_err}
+use Rattle.rl_finish.specs.laws.WayOnLaws.{way_more, run_more, on_err}
 use Rattle.rl_finish.proofs.finishing.finish.Goals as goal
 use Rattle.rl_finish.proofs.finishing.finish.Goals.{In_ok-step}
 use Rattle.rl_finish.proofs.finishing.finish.Given.{Over}

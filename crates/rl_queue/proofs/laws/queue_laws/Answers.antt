@@ -1,9 +1,9 @@
 -- Each law of a queue, by its proof.
-use Rattle.rl_queue.specs.QueueCredit.{act_spends}
-use Rattle.rl_queue.specs.QueueFits.{plan_fits, learn_fits, alone_finds, alone_moves_on, waits_on, holder_told}
-use Rattle.rl_queue.specs.QueueMoves.{act_keeps, join_keeps, settle_keeps, leave_keeps, leave_keeps_quietly, resume_keeps, one_first, queue_fifo, queue_within, queue_counted}
+use Rattle.rl_queue.specs.laws.QueueCredit.{act_spends}
+use Rattle.rl_queue.specs.laws.QueueFits.{plan_fits, learn_fits, alone_finds, alone_moves_on, waits_on, holder_told}
+use Rattle.rl_queue.specs.laws.QueueMoves.{act_keeps, join_keeps, settle_keeps, leave_keeps, leave_keeps_quietly, resume_keeps, one_first, queue_fifo, queue_within, queue_counted}
 use Rattle.rl_queue.specs.laws.QueueServed.{served_back, settle_unserved}
-use Rattle.rl_queue.specs.QueueFrame.{begins_good, beside_all_keep, elsewhere_keeps, other_queue_keeps}
+use Rattle.rl_queue.specs.laws.QueueFrame.{begins_good, beside_all_keep, elsewhere_keeps, other_queue_keeps}
 use Rattle.rl_queue.specs.QueueStatements.{In}
 use Rattle.rl_queue.proofs.laws.queue_laws.Goals as goal
 

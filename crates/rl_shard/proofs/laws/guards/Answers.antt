@@ -3,7 +3,7 @@ use Rattle.std.proofs.Common.{map}
 use Rattle.rl_word.specs.laws.Places.{get_map}
 use Rattle.rl_shard.specs.Counting.{whole_of}
 use Rattle.rl_shard.specs.laws.CountingLaws as counting
-use Rattle.rl_shard.specs.Guards.{guarded_names}
+use Rattle.rl_shard.specs.laws.Guards.{guarded_names}
 use Rattle.rl_shard.specs.Shards.{core_at, view_at, rank_at}
 use Rattle.rl_shard.specs.laws.SeatLaws.{seen, seen_seated}
 use Rattle.rl_asks.specs.laws.TouchLaws.{alone_there}

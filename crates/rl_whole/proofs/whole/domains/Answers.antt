@@ -1,5 +1,5 @@
 -- By the rule of cards, and by the laws of the lock.
-use Rattle.rl_whole.specs.Domains.{next_card_allowed, next_local_allowed}
+use Rattle.rl_whole.specs.laws.Domains.{next_card_allowed, next_local_allowed}
 use Rattle.rl_whole.specs.Running.{lock_at, good_at, tables, goods}
 use Rattle.rl_whole.proofs.whole.domains.Goals as goal
 

@@ -1,5 +1,5 @@
 -- The chosen one of the ranks so far.
-use Rattle.rl_machine.specs.Choosing.{AreBest}
+use Rattle.rl_machine.specs.laws.Choosing.{AreBest}
 use Rattle.rl_machine.proofs.machine.guiding.chosen_on.Given as goal
 
 abbrev pub invariant-loop-rank : goal.invariant-loop-rank

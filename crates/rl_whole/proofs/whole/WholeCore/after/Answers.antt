@@ -15,7 +15,8 @@ use Rattle.rl_whole.specs.laws.HomeLaws.{act_effect, act_holder, learnt_act}
 use Rattle.rl_whole.specs.Split.{plan_home, effect_at, answer_of, HolderFits}
 use Rattle.rl_whole.specs.laws.WholeOwes.{may_turn, work_asks, may_be, holder_fits, may_learn, answer_fits}
 use Rattle.rl_whole.specs.laws.AnswerLaws.{stays_answer}
-use Rattle.rl_whole.specs.Whole.{touch_by, departure_by, followed, work_turned, shifted_answer, after_of, effect_turned, after_effect, IsAnswerShiftable}
+use Rattle.rl_whole.specs.Whole.{touch_by, departure_by, followed, work_turned, shifted_answer, after_of, effect_turned, IsAnswerShiftable}
+use Rattle.rl_whole.specs.laws.Whole.{after_effect}
 use Rattle.rl_whole.proofs.whole.WholeCore.after.Goals as goal
 use Rattle.rl_whole.proofs.whole.WholeCore.after.Goals.{After-effect}
 use Rattle.rl_whole.proofs.whole.WholeCore.after.Given.{Over}
