@@ -47,3 +47,11 @@ pub data AreShown : List Deed → List Transition → Type 0 where
 -- what a lock says of all events and acts so far gives what was promised of these events, and of all atoms that show such acts
 abbrev pub HandsOn : (List Event → List Deed → Type 0) → (List Event → List Transition → Type 0) → Type 0
 HandsOn said promised = (t : List Event) (ds : List Deed) (ts : List Transition) → AreShown ds ts → said t ds → promised t ts
+
+-- ---- the bound, along the acts
+
+module _ (mine : ℕ → Bool) (w bound : ℕ) where
+  -- What is kept: so far it is so, and those who have entered since the word was lowered are no more than the word says.
+  pub record Batched (words : List ℕ) (deeds : List Deed) : Type 0 where
+    pub so_far : BatchedFrom mine w bound 0 deeds
+    pub counted : since mine w 0 deeds ≤ slice_index words w

@@ -11,5 +11,4 @@ pub mod Transitions
 pub mod Batches
 pub mod Core
 pub mod Flat
-pub mod BatchLaws
 pub mod laws

@@ -1,4 +1,4 @@
--- of laws/OneNode: root_element node_element one_node
+-- The smallest proper shapes, which tests use: all ranks on one node, under the root alone.
 use Rattle.std.specs.Prelude.{ℕ, [], ◌∷◌, replicate, Some, None}
 use Rattle.rl_word.specs.declared.shapes.Element.{Element}
 use Rattle.rl_word.specs.Shapes.{TheShape}

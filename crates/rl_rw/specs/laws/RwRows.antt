@@ -7,7 +7,7 @@ use Rattle.rl_word.specs.laws.Places.{get_set_cases, get_set_same, get_set_other
 use Rattle.rl_word.specs.declared.classes.Mode.{Mode}
 use Rattle.rl_step.specs.declared.events.Standing.TheVariants as standing
 use Rattle.rl_step.specs.Lock.{LockState}
-use Rattle.rl_step.specs.BatchLaws.{Batched}
+use Rattle.rl_step.specs.Batches.{Batched}
 use Rattle.rl_queue.specs.declared.view.Phase.{Phase}
 use Rattle.rl_queue.specs.declared.view.Phase.TheVariants.{Settle}
 use Rattle.rl_queue.specs.Queue.{plan_at}

@@ -9,7 +9,7 @@ use Rattle.rl_word.specs.Acts.{word_of, written, told}
 use Rattle.rl_step.specs.declared.events.Event.{Event}
 use Rattle.rl_step.specs.Lock.{Deed}
 use Rattle.rl_step.specs.laws.QueueLemmas.{eqb_means}
-use Rattle.rl_step.specs.BatchLaws.{Batched}
+use Rattle.rl_step.specs.Batches.{Batched}
 use Rattle.rl_step.specs.laws.BatchLaws.{MayEnter, act_batches}
 use Rattle.rl_queue.specs.laws.RankWordLaws.{every_second_at, length-every_second}
 use Rattle.rl_tree.specs.Elements.{ranks_in, how_many}

@@ -11,8 +11,7 @@ use Rattle.rl_step.specs.declared.events.Event.{Event}
 use Rattle.rl_step.specs.Lock.{Deed}
 use Rattle.rl_step.specs.Queues.{count}
 use Rattle.rl_step.specs.Transitions.{Transition, reader_entries, readers_entered, NeverLowered, IsBatchedAtMost}
-use Rattle.rl_step.specs.Batches.{readers_in, lowers, lowerings, since_after, since, BatchedFrom, AreActsOf, AreShown}
-use Rattle.rl_step.specs.BatchLaws.{Batched}
+use Rattle.rl_step.specs.Batches.{readers_in, lowers, lowerings, since_after, since, BatchedFrom, AreActsOf, AreShown, Batched}
 
 -- ---- acts and the atoms that show them
 
