@@ -4,8 +4,8 @@ use Rattle.rl_model.specs.declared.call.Call.{Call}
 use Rattle.rl_model.specs.declared.entry.Entry.{Entry}
 use Rattle.rl_journal.specs.Blocks.{batch_of, calls_of}
 use Rattle.rl_journal.specs.Ranks.{IsInOrder}
-use Rattle.rl_work.specs.Transcript.{TheTranscript}
-use Rattle.rl_work.specs.EndLaws.{Tells}
+use Rattle.rl_site.specs.Transcript.{TheTranscript}
+use Rattle.rl_site.specs.Opens.{Tells}
 
 -- a rank's desk at a shard
 pub record Desk : Type 0 where

@@ -10,7 +10,7 @@ use Rattle.rl_step.specs.declared.events.Stepped.{Stepped}
 use Rattle.rl_step.specs.Do.{TheWindow, do_atom, do_got}
 use Rattle.rl_step.specs.Exclusion.{writers, readers}
 use Rattle.rl_step.specs.Lock.{Deed}
-use Rattle.rl_work.specs.Site.{lock_base}
+use Rattle.rl_site.specs.Site.{lock_base}
 use Rattle.rl_asks.specs.Standings.{AloneIn}
 use Rattle.rl_asks.specs.ShardTables.{ShardTable, opening_held, first_views}
 use Rattle.rl_asks.specs.Touches.{IsGuarded}

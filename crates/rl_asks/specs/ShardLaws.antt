@@ -19,8 +19,8 @@ use Rattle.rl_step.specs.QueuePromises.{KeepQueues, CountTenures}
 use Rattle.rl_journal.specs.Legal.{IsLegal, table_after}
 use Rattle.rl_journal.specs.History.{history, IsSorted}
 use Rattle.rl_volume.specs.Volume.{IsVolume}
-use Rattle.rl_work.specs.Site.{Site, lock_base, places, volume_of}
-use Rattle.rl_work.specs.WorkGood.{IsOpen, IsOwnTranscript}
+use Rattle.rl_site.specs.Site.{Site, lock_base, places, volume_of}
+use Rattle.rl_site.specs.Opens.{IsOpen, IsOwnTranscript}
 use Rattle.rl_asks.specs.Answering.{AnswersTo}
 use Rattle.rl_asks.specs.Domains.{IsCardAtom, IsLocalAtom, UsesCards, UsesLocals}
 use Rattle.rl_asks.specs.EventRanks.{AreByRanks}

@@ -12,9 +12,8 @@ use Rattle.rl_step.specs.Do.{TheWindow, do_words, do_got}
 use Rattle.rl_step.specs.Lock.{Deed}
 use Rattle.rl_step.specs.Transitions.{Transition}
 use Rattle.rl_step.specs.Queues.{QueueOf}
-use Rattle.rl_work.specs.Site.{Site, lock_base}
-use Rattle.rl_work.specs.Rule.{journal_of}
-use Rattle.rl_work.specs.WorkGood.{opening_words}
+use Rattle.rl_site.specs.Site.{Site, lock_base, journal_of}
+use Rattle.rl_site.specs.Opens.{opening_words}
 use Rattle.rl_asks.specs.Desks.{Desk, entries_of}
 
 pub record ShardTable (V : Type 0) : Type 0 where

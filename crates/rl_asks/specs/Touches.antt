@@ -9,7 +9,7 @@ use Rattle.rl_step.specs.declared.events.Standing.{Standing}
 use Rattle.rl_step.specs.declared.events.Standing.TheVariants.{Asking, Writer}
 use Rattle.rl_step.specs.Lock.{IsHolder}
 use Rattle.rl_step.specs.Do.{do_words}
-use Rattle.rl_work.specs.Ways.{IsGetAlone}
+use Rattle.rl_site.specs.Opens.{IsGetAlone}
 
 -- the touches among these events
 abbrev pub touches_of : List Event → List Event

@@ -2,13 +2,13 @@
 
 ghost use Rattle.std.specs.Prelude.{◌≡◌, ◌+◌, ◌<◌, ◌≤◌, ◌^◌, ◌++◌, length, replicate, sum, IfOk};
 ghost use Rattle.rl_model.specs.Geom.{GeomFits};
-ghost use Rattle.rl_work.specs.Site.{Site, lock_base};
-ghost use Rattle.rl_work.specs.WorkGood.{opening_words};
+ghost use Rattle.rl_site.specs.Site.{Site, lock_base};
+ghost use Rattle.rl_site.specs.Opens.{opening_words};
 ghost use Rattle.rl_asks.specs.ShardTables.{first_views};
 
 use crate::shard_core::ShardCore;
 use rl_model::Geom;
-use rl_work::{ENTRY_WORDS, journal_base, opening_word};
+use rl_site::{ENTRY_WORDS, journal_base, opening_word};
 use std::alloc::{AllocError as OutOfMemory, Global};
 
 /// The number of the first word behind a journal with a place for each update that each rank may make.

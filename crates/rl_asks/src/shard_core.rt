@@ -16,15 +16,15 @@ ghost use Rattle.rl_step.specs.Lock.{Deed};
 ghost use Rattle.rl_step.specs.Transitions.{Transition as TheTransition};
 ghost use Rattle.rl_step.specs.Batches.{HandsOn};
 ghost use Rattle.rl_step.specs.LockQueues.{queues_of, readers_share, cohorts_of};
-ghost use Rattle.rl_work.specs.Site.{Site as TheSite, site_of};
+ghost use Rattle.rl_site.specs.Site.{Site as TheSite, site_of};
 ghost use Rattle.rl_asks.specs.Desks.{entries_of};
 ghost use Rattle.rl_asks.specs.ShardTables.{ShardTable, journal_at};
 ghost use Rattle.rl_asks.specs.ShardLaws.{ShardCoreLaws, IsLaidAtSite};
 
 use rl_model::{Call, Entry, Geom};
+use rl_site::Site;
 use rl_step::{Core, Standing, Words};
 use rl_word::{Knobs, LockName, Shape};
-use rl_work::Site;
 use std::alloc::{AllocError as OutOfMemory, Global};
 
 /// A rank's machine on one shard that does blocks: all that machines, shards, seats and callers need of it.

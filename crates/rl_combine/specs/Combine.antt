@@ -16,11 +16,11 @@ use Rattle.rl_volume.specs.Words.{volume_words}
 use Rattle.rl_volume.specs.Decision.{decision}
 use Rattle.rl_journal.specs.Journal.{spelling}
 use Rattle.rl_journal.specs.Legal.{is_of}
-use Rattle.rl_work.specs.Site.{count_word, volume_base, journal_base}
-use Rattle.rl_work.specs.Transcript.{TheTranscript}
+use Rattle.rl_site.specs.Site.{count_word, volume_base, journal_base, journal_by}
+use Rattle.rl_site.specs.Transcript.{TheTranscript}
 use Rattle.rl_work.specs.declared.follow.Follow.{Follow}
 use Rattle.rl_work.specs.declared.follow.Follow.TheVariants.{On, Ask, Over}
-use Rattle.rl_work.specs.Ways.{Worked, WorkTable, journal_by}
+use Rattle.rl_work.specs.Ways.{Worked, WorkTable}
 use Rattle.rl_work.specs.Work.{write_atom, more_entries}
 use Rattle.rl_step.specs.declared.events.Stepped.TheVariants.{Moved}
 use Rattle.rl_combine.specs.declared.stage.Stage.{Stage}

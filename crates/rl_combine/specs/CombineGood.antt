@@ -14,10 +14,11 @@ use Rattle.rl_volume.specs.Words.{volume_words}
 use Rattle.rl_volume.specs.Seen.{SeenWords}
 use Rattle.rl_work.specs.declared.stage.Stage.{Stage as BlockStage}
 use Rattle.rl_work.specs.declared.stage.Stage.TheVariants as block
-use Rattle.rl_work.specs.Site.{count_word, lock_base}
-use Rattle.rl_work.specs.Transcript.{TheTranscript}
+use Rattle.rl_site.specs.Site.{count_word, lock_base}
+use Rattle.rl_site.specs.Transcript.{TheTranscript}
 use Rattle.rl_work.specs.Work.{TheWork, more_entries, work_atom, work_after, at_rest}
-use Rattle.rl_work.specs.Ways.{WorkSide, IsOpen}
+use Rattle.rl_site.specs.Opens.{IsOpen}
+use Rattle.rl_work.specs.Ways.{WorkSide}
 use Rattle.rl_work.specs.WorkGood.{WorkSide as Seat, WorkGood, IsDone}
 use Rattle.rl_combine.specs.declared.stage.Stage.{Stage}
 use Rattle.rl_combine.specs.declared.stage.Stage.TheVariants.{Rest, Post, Raise, Look, Count, Sweep, Copy, Read, Journal, Volume, Answer, Mark, Collect, Lower}

@@ -1,7 +1,7 @@
 -- What the code needs to know of a side, to name its atom and to go on behind it: the numbers fit.
 use Rattle.std.specs.Prelude.{◌≡◌, ℕ, ◌+◌, ◌*◌, ◌^◌, ◌<◌, ◌≤◌, All, length, slice_index, None}
 use Rattle.rl_volume.specs.Seen.{value_of}
-use Rattle.rl_work.specs.Site.{journal_base}
+use Rattle.rl_site.specs.Site.{journal_base}
 use Rattle.rl_combine.specs.declared.stage.Stage.{Stage}
 use Rattle.rl_combine.specs.declared.stage.Stage.TheVariants.{Rest, Post, Raise, Look, Count, Sweep, Copy, Read, Journal, Volume, Answer, Mark, Collect, Lower}
 use Rattle.rl_combine.specs.Posts.{CombineSite, ranks_of}

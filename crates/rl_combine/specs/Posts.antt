@@ -6,7 +6,7 @@ use Rattle.rl_model.specs.declared.entry.Entry.{Entry}
 use Rattle.rl_model.specs.declared.entry.Reply.{Reply}
 use Rattle.rl_model.specs.declared.entry.Reply.TheVariants.{Val, Held}
 use Rattle.rl_journal.specs.Journal.{kind_of, key_of, code_of, first_of, second_of, value_in, call_of, reply_of}
-use Rattle.rl_work.specs.Site.{Site}
+use Rattle.rl_site.specs.Site.{Site}
 
 -- a site, and the number of its first word behind the lock's
 pub record CombineSite : Type 0 where

@@ -6,7 +6,7 @@ use Rattle.rl_model.specs.Call.{is_update}
 use Rattle.rl_step.specs.declared.events.Standing.TheVariants.{Writer}
 use Rattle.rl_step.specs.Do.{do_words}
 use Rattle.rl_journal.specs.Legal.{IsLegalRead}
-use Rattle.rl_work.specs.Ways.{journal_by}
+use Rattle.rl_site.specs.Site.{journal_by}
 use Rattle.rl_combine.specs.declared.stage.Stage.{Stage}
 use Rattle.rl_combine.specs.declared.stage.Stage.TheVariants.{Answer, Mark}
 use Rattle.rl_combine.specs.Posts.{CombineSite, post_of, flag_word, post_spelling, answered_entry}

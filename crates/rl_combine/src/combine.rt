@@ -4,7 +4,7 @@ ghost use Rattle.std.specs.Prelude.{◌≡◌, ◌<◌, ◌≤◌, ◌^◌, ◌+
 ghost use Rattle.rl_word.specs.declared.acts.Atom.TheVariants as atom;
 ghost use Rattle.rl_combine.specs.declared.stage.Stage.TheVariants as stage;
 ghost use Rattle.rl_journal.specs.Journal.{spelling};
-ghost use Rattle.rl_work.specs.Site.{journal_base};
+ghost use Rattle.rl_site.specs.Site.{journal_base};
 ghost use Rattle.rl_model.specs.Geom.{GeomFits};
 ghost use Rattle.rl_combine.specs.Combine as model;
 ghost use Rattle.rl_combine.specs.Numbers as fits;
@@ -18,12 +18,11 @@ use crate::side::CombineSide;
 use crate::stage::Stage;
 use rl_journal::journal_value;
 use rl_model::{Call, Entry, Geom};
+use rl_site::{COUNT_WORD, ENTRY_WORDS, Site, VOLUME_BASE, journal_base};
 use rl_step::{Stepped, Words};
 use rl_volume::next_read;
 use rl_word::{Atom, Mode, Shape};
-use rl_work::{
-    COUNT_WORD, ENTRY_WORDS, Site, VOLUME_BASE, Work, WorkStep, journal_base, write_atom,
-};
+use rl_work::{Work, WorkStep, write_atom};
 use std::alloc::{AllocError as OutOfMemory, Global};
 use std::marker::Model;
 

@@ -11,8 +11,8 @@ use crate::posts::{ANSWER_WORDS, DONE, answered_reply, posted_call};
 use crate::stage::Stage;
 use arrayvec::ArrayVec;
 use rl_model::{Call, Entry, Geom, Reply};
+use rl_site::Transcript;
 use rl_volume::{Seen, Write, decide};
-use rl_work::Transcript;
 use std::alloc::{AllocError as OutOfMemory, Global};
 use std::marker::Model;
 

@@ -5,8 +5,9 @@ ghost use Rattle.rl_combine.specs.declared.stage.Stage.TheVariants as stage;
 ghost use Rattle.rl_combine.specs.Combine as model;
 
 use crate::posts::{ANSWER_WORDS, CALL_WORDS};
+use rl_site::ENTRY_WORDS;
 use rl_word::Mode;
-use rl_work::{ENTRY_WORDS, Follow};
+use rl_work::Follow;
 
 /// Where a rank stands in its call. Each but the first says which atom is next.
 ///

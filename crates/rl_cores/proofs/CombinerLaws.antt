@@ -23,7 +23,7 @@ use Rattle.rl_volume.specs.declared.write.Write.{Write}
 use Rattle.rl_work.specs.declared.stage.Stage.{Stage as BlockStage}
 use Rattle.rl_work.specs.declared.stage.Stage.TheVariants as block
 use Rattle.rl_work.specs.laws.AtomLaws.{few_loads}
-use Rattle.rl_work.specs.Site.{count_word, volume_base, lock_base}
+use Rattle.rl_site.specs.Site.{count_word, volume_base, lock_base}
 use Rattle.rl_work.specs.Ways.{IsSide}
 use Rattle.rl_work.specs.Work.{TheWork, WorkTurned, stage_atom as block_atom, stage_after as block_after, with_seen, write_atom, left_of, at_rest}
 use Rattle.rl_work.specs.WorkGood.{WorkSide as Seat, FitsAt as BlockFits, IsReading as SeatReading}

@@ -25,7 +25,7 @@ use Rattle.rl_work.specs.declared.stage.Stage.{Stage}
 use Rattle.rl_work.specs.declared.stage.Stage.TheVariants.{Rest, Begin, Read, Journal, Volume}
 use Rattle.rl_work.specs.laws.AtomLaws.{few_loads}
 use Rattle.rl_work.specs.Locked.{locked_table, locked_good, locked_turn}
-use Rattle.rl_work.specs.Site.{Site, count_word, volume_base, lock_base, volume_of}
+use Rattle.rl_site.specs.Site.{Site, count_word, volume_base, lock_base, volume_of}
 use Rattle.rl_work.specs.Ways.{IsApart}
 use Rattle.rl_work.specs.Work.{TheWork, WorkTurned, with_seen, work_after, stage_atom, stage_after, write_atom, left_of, read_on}
 use Rattle.rl_work.specs.WorkGood.{WorkSide, WorkGood, FitsAt, IsReading, HasDecided, is_writing}

@@ -21,7 +21,7 @@ use Rattle.rl_work.specs.declared.follow.Follow.TheVariants.{On, Ask, Over}
 use Rattle.rl_work.specs.declared.stage.Stage.{Stage as BlockStage}
 use Rattle.rl_work.specs.declared.stage.Stage.TheVariants as block
 use Rattle.rl_work.specs.Locked.{first_reads}
-use Rattle.rl_work.specs.Site.{Site}
+use Rattle.rl_site.specs.Site.{Site}
 use Rattle.rl_work.specs.Unlocked.{wanted, wanted_by, with_word}
 use Rattle.rl_work.specs.Work.{TheWork, has_work, stores, seen_on}
 use Rattle.rl_work.specs.WorkGood.{WorkSide, FitsAt}

@@ -8,7 +8,7 @@ use Rattle.rl_step.specs.Do.{TheWindow}
 use Rattle.rl_step.specs.Lock.{LockState}
 use Rattle.rl_volume.specs.Walk.{most_reads}
 use Rattle.rl_work.specs.declared.stage.Stage.TheVariants.{Read}
-use Rattle.rl_work.specs.Site.{Site, lock_base}
+use Rattle.rl_site.specs.Site.{Site, lock_base}
 use Rattle.rl_work.specs.Work.{TheWork}
 use Rattle.rl_work.specs.Locked.{locked_good}
 use Rattle.rl_work.specs.laws.AtomLaws.{few_loads}

@@ -8,7 +8,7 @@ use Rattle.rl_model.specs.declared.entry.Entry.{Entry}
 use Rattle.rl_step.specs.declared.events.Event.{Event}
 use Rattle.rl_step.specs.Do.{TheWindow, do_got}
 use Rattle.rl_step.specs.Lock.{Deed}
-use Rattle.rl_work.specs.Transcript.{TheTranscript}
+use Rattle.rl_site.specs.Transcript.{TheTranscript}
 use Rattle.rl_asks.specs.ShardTables.{ShardTable}
 use Rattle.rl_asks.specs.ShardLaws.{GoodOf}
 use Rattle.rl_asks.specs.Standings.{leaves}

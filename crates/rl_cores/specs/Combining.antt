@@ -7,7 +7,7 @@ use Rattle.rl_step.specs.declared.events.Standing.TheVariants.{Writer}
 use Rattle.rl_step.specs.Do.{TheWindow, do_got}
 use Rattle.rl_volume.specs.Walk.{most_reads}
 use Rattle.rl_volume.specs.Words.{volume_words}
-use Rattle.rl_work.specs.Site.{count_word, volume_base}
+use Rattle.rl_site.specs.Site.{count_word, volume_base}
 use Rattle.rl_asks.specs.ShardTables.{ShardTable}
 use Rattle.rl_model.specs.Call.{is_update}
 use Rattle.rl_combine.specs.declared.stage.Stage.{Stage}

@@ -10,7 +10,7 @@ use Rattle.rl_volume.specs.Seen.{AgreesWith}
 use Rattle.rl_volume.specs.Walk.{most_reads}
 use Rattle.rl_volume.specs.Words.{volume_words}
 use Rattle.rl_work.specs.declared.stage.Stage.TheVariants.{Begin, Read}
-use Rattle.rl_work.specs.Site.{count_word, volume_base, lock_base, volume_of}
+use Rattle.rl_site.specs.Site.{count_word, volume_base, lock_base, volume_of}
 use Rattle.rl_work.specs.Work.{TheWork}
 use Rattle.rl_asks.specs.ShardTables.{ShardTable}
 use Rattle.rl_whole.specs.declared.whole.WholeView.{WholeView}

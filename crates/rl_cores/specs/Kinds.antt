@@ -16,7 +16,7 @@ use Rattle.rl_tree.specs.declared.view.TreeView.{TreeView}
 use Rattle.rl_mcs.specs.Mcs.{mcs_table, mcs_tree}
 use Rattle.rl_rw.specs.declared.view.RwView.{RwView}
 use Rattle.rl_rw.specs.Rw.{shared_in, rw_table, BoundsBatches}
-use Rattle.rl_work.specs.Site.{Site}
+use Rattle.rl_site.specs.Site.{Site}
 use Rattle.rl_work.specs.Work.{TheWork}
 use Rattle.rl_work.specs.Ways.{WorkTable}
 use Rattle.rl_work.specs.Locked.{locked_table}

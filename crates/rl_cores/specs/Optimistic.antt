@@ -8,7 +8,7 @@ use Rattle.rl_step.specs.declared.events.Stepped.TheVariants.{Waiting, Lost}
 use Rattle.rl_step.specs.Core.{Turned}
 use Rattle.rl_step.specs.Do.{TheWindow, do_atom, do_got}
 use Rattle.rl_volume.specs.Seen.{AgreesWith}
-use Rattle.rl_work.specs.Site.{count_word, lock_base, volume_of}
+use Rattle.rl_site.specs.Site.{count_word, lock_base, volume_of}
 use Rattle.rl_asks.specs.ShardTables.{ShardTable}
 use Rattle.rl_seq.specs.declared.stage.SeqStage.TheVariants as stage
 use Rattle.rl_seq.specs.SeqWork.{TheSeqWork}

@@ -3,7 +3,7 @@
 ghost use Rattle.std.specs.Prelude.{ℕ};
 ghost use Rattle.rl_word.specs.Shapes.{TheShape};
 ghost use Rattle.rl_word.specs.declared.shapes.Knobs.{Knobs as TheKnobs};
-ghost use Rattle.rl_work.specs.Site.{Site};
+ghost use Rattle.rl_site.specs.Site.{Site};
 ghost use Rattle.rl_machine.specs.Running.{running};
 ghost use Rattle.rl_cores.specs.OnShards.{EachShard, EachMoment, EachState};
 ghost use Rattle.rl_cores.specs.Combining.{KeepsCombining, PostsAtHome};

@@ -8,8 +8,8 @@ use crate::{CombineCore, SeqCore};
 use rl_asks::ShardCore;
 use rl_model::{Call, Entry, Reply};
 use rl_shard::Closed;
+use rl_site::journal_base;
 use rl_step::{Stepped, Tally};
-use rl_work::journal_base;
 use std::alloc::{AllocError as OutOfMemory, Global};
 use std::test::*;
 

@@ -4,7 +4,7 @@ ghost use Rattle.std.specs.Prelude.{◌≡◌, ◌+◌, ◌<◌, ◌≤◌, leng
 ghost use Rattle.rl_model.specs.Call.{shard_of, is_update};
 ghost use Rattle.rl_word.specs.OneNode.{one_node as one_node_shape};
 ghost use Rattle.rl_word.specs.Shapes.{IsProper};
-ghost use Rattle.rl_work.specs.WorkGood.{places_needed};
+ghost use Rattle.rl_site.specs.Opens.{places_needed};
 ghost use Rattle.rl_shard.specs.Shards.{IsOf, rank_at};
 ghost use Rattle.rl_cores.specs.Fresh.{IsFresh, AreTwo, AreFreshTwo};
 

@@ -2,7 +2,7 @@
 use Rattle.std.specs.Prelude.{ℕ, slice_get, Option, Some, None}
 use Rattle.rl_word.specs.declared.acts.Atom.{Atom}
 use Rattle.rl_step.specs.Do.{TheWindow, do_got}
-use Rattle.rl_work.specs.Site.{lock_base}
+use Rattle.rl_site.specs.Site.{lock_base}
 use Rattle.rl_machine.specs.declared.machine.next_atoms.NextAtom.{NextAtom}
 use Rattle.rl_machine.specs.Running.{ShardRun, Running}
 use Rattle.rl_machine.specs.Run.{on_shard, place_of}

@@ -7,7 +7,7 @@ use Rattle.rl_word.specs.declared.shapes.Knobs.{Knobs}
 use Rattle.rl_step.specs.Answers.{no_steps}
 use Rattle.rl_ops.specs.declared.ops.Ops.{Ops}
 use Rattle.rl_ops.specs.Room.{calls_on, updates_on}
-use Rattle.rl_work.specs.Site.{Site}
+use Rattle.rl_site.specs.Site.{Site}
 use Rattle.rl_machine.specs.Running.{ShardRun, Running}
 use Rattle.rl_asks.specs.ShardTables.{ShardTable, site_with, opening_held, first_views}
 

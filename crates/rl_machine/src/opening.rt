@@ -2,7 +2,7 @@
 
 ghost use Rattle.std.specs.Prelude.{◌≡◌, ◌+◌, ◌<◌, ◌≤◌, ◌^◌, length, sum, IfOk};
 ghost use Rattle.rl_model.specs.Geom.{GeomFits};
-ghost use Rattle.rl_work.specs.Site.{lock_base};
+ghost use Rattle.rl_site.specs.Site.{lock_base};
 ghost use Rattle.rl_machine.specs.Start.{first_shard};
 ghost use Rattle.rl_machine.specs.State.{running_shard};
 

@@ -1,7 +1,7 @@
 //! What a shard keeps of the calls that were done: its journal, and the ranks' transcripts.
 
 ghost use Rattle.std.specs.Prelude.{◌≡◌, ◌+◌, ◌*◌, ◌<◌, length, map, slice_get, slice_index, Some, IfOk};
-ghost use Rattle.rl_work.specs.Site.{journal_base};
+ghost use Rattle.rl_site.specs.Site.{journal_base};
 ghost use Rattle.rl_machine.specs.Promises.{journal_on, transcripts_on};
 ghost use Rattle.rl_machine.specs.ShardSteps.{kept_on};
 ghost use Rattle.rl_machine.specs.State.{running_shard, IsGood};
@@ -10,7 +10,7 @@ use crate::shard::ShardState;
 use rl_asks::ShardCore;
 use rl_journal::journal_entry;
 use rl_model::Entry;
-use rl_work::{COUNT_WORD, ENTRY_WORDS, journal_base};
+use rl_site::{COUNT_WORD, ENTRY_WORDS, journal_base};
 use std::alloc::{AllocError as OutOfMemory, Global};
 
 /// How many updates were done on the shard.

@@ -17,8 +17,8 @@ use crate::shard::ShardState;
 use rl_asks::ShardCore;
 use rl_model::Geom;
 use rl_ops::{Ops, Room};
+use rl_site::Site;
 use rl_word::{Knobs, Shape};
-use rl_work::Site;
 use std::alloc::{AllocError as OutOfMemory, Global};
 
 /// So many counts of 0 as there are ranks.

@@ -3,7 +3,7 @@ use Rattle.std.specs.Prelude.{◌≡◌, ℕ, ◌+◌, ◌-◌, ◌*◌, ◌<◌
 use Rattle.rl_word.specs.declared.locks.LockName.{LockName}
 use Rattle.rl_word.specs.declared.locks.LockName.TheVariants as lock
 use Rattle.rl_volume.specs.Words.{state_word, key_word, value_word, link_word, cell_key_word, cell_value_word}
-use Rattle.rl_work.specs.Site.{count_word, volume_base, journal_base}
+use Rattle.rl_site.specs.Site.{count_word, volume_base, journal_base}
 use Rattle.rl_place.specs.LockWords.{name_of}
 use Rattle.rl_place.specs.Places.{ThePlace}
 use Rattle.rl_history.specs.Naming.{TheNaming}

@@ -3,7 +3,7 @@ use Rattle.std.specs.Prelude.{ℕ, ◌+◌, ◌-◌, ◌*◌, ◌/◌, ◌%◌, 
 use Rattle.rl_model.specs.declared.geom.Geom.{Geom}
 use Rattle.rl_word.specs.declared.locks.LockName.{LockName}
 use Rattle.rl_word.specs.declared.locks.LockName.TheVariants as lock
-use Rattle.rl_work.specs.Site.{journal_base}
+use Rattle.rl_site.specs.Site.{journal_base}
 use Rattle.rl_names.specs.declared.word_map.WordMap.{WordMap}
 use Rattle.rl_names.specs.declared.word_name.WordName.{WordName}
 use Rattle.rl_names.specs.declared.word_name.WordName.TheVariants as word

@@ -10,8 +10,8 @@ use crate::word_name::WordName;
 use rl_history::Naming;
 use rl_model::Geom;
 use rl_place::Place;
+use rl_site::{COUNT_WORD, ENTRY_WORDS, VOLUME_BASE, journal_base};
 use rl_word::LockName;
-use rl_work::{COUNT_WORD, ENTRY_WORDS, VOLUME_BASE, journal_base};
 
 /// How many words a rank has to post a call.
 const POST_WORDS: u32 = 9;

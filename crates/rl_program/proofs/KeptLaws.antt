@@ -17,7 +17,7 @@ use Rattle.rl_ops.specs.declared.ops.Ops.{Ops}
 use Rattle.rl_ops.specs.declared.schedule.Schedule.{Schedule}
 use Rattle.rl_ops.specs.declared.schedule.Turn.{Turn}
 use Rattle.std.specs.FinMap as finite
-use Rattle.rl_work.specs.Site.{Site}
+use Rattle.rl_site.specs.Site.{Site}
 use Rattle.rl_asks.specs.ShardTables.{ShardTable}
 use Rattle.rl_machine.specs.Running.{Running}
 use Rattle.rl_asks.specs.Asks.{asked_of}

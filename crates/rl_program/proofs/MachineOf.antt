@@ -17,7 +17,7 @@ use Rattle.rl_ops.specs.declared.schedule.Schedule.{Schedule}
 use Rattle.rl_ops.specs.declared.schedule.Turn.{Turn}
 use Rattle.rl_ops.specs.declared.schedule.Turn.TheVariants as turn
 use Rattle.rl_ops.specs.Schedule.{ScheduleFits, steps_of}
-use Rattle.rl_work.specs.Site.{Site}
+use Rattle.rl_site.specs.Site.{Site}
 use Rattle.rl_asks.specs.ShardTables.{ShardTable}
 use Rattle.rl_history.proofs.QueueLaws.{under_queues}
 use Rattle.rl_machine.specs.Running.{ShardRun, Running}

@@ -14,7 +14,7 @@ use Rattle.rl_ops.specs.declared.ops.Ops.{Ops}
 use Rattle.rl_ops.specs.Ops.{total_calls, OpsFit}
 use Rattle.rl_ops.specs.Room.{calls_on}
 use Rattle.rl_text.specs.Spelling.{text_of}
-use Rattle.rl_work.specs.Site.{Site}
+use Rattle.rl_site.specs.Site.{Site}
 use Rattle.rl_machine.specs.Running.{ShardRun, Running}
 use Rattle.rl_machine.specs.Start.{site_of, start_of}
 use Rattle.rl_asks.specs.laws.Filling.{first_length}

@@ -14,7 +14,7 @@ use Rattle.rl_place.specs.Shapes.{shape_of, knobs_of}
 use Rattle.rl_ops.specs.declared.ops.Ops.{Ops}
 use Rattle.rl_ops.specs.Ops.{OpsFit}
 use Rattle.rl_ops.specs.Room.{updates_on}
-use Rattle.rl_work.specs.Site.{Site}
+use Rattle.rl_site.specs.Site.{Site}
 use Rattle.rl_history.specs.declared.report.Done.{Done}
 use Rattle.rl_history.specs.Reports.{TheShard}
 use Rattle.rl_shard.specs.declared.closed.Closed.{Closed}

@@ -20,7 +20,7 @@ use Rattle.rl_place.specs.Shapes.{shape_of, knobs_of}
 use Rattle.rl_ops.specs.declared.ops.Ops.{Ops}
 use Rattle.rl_ops.specs.Room.{updates_on}
 use Rattle.rl_journal.specs.Blocks.{is_tenure}
-use Rattle.rl_work.specs.Site.{Site}
+use Rattle.rl_site.specs.Site.{Site}
 use Rattle.std.specs.Prelude.{Bool, false, slice_index}
 use Rattle.rl_ops.specs.Ops.{OpsFit, EachOfBlocks, total_calls}
 use Rattle.rl_asks.specs.laws.OpsBridge.{each_blocks}

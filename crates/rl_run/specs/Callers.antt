@@ -10,7 +10,7 @@ use Rattle.rl_step.specs.declared.events.Stepped.{Stepped}
 use Rattle.rl_step.specs.declared.events.Stepped.TheVariants.{Finished}
 use Rattle.rl_asks.specs.ShardTables.{ShardTable}
 use Rattle.rl_asks.specs.ShardLaws.{GoodOf, CauseOf}
-use Rattle.rl_work.specs.Site.{Site}
+use Rattle.rl_site.specs.Site.{Site}
 use Rattle.rl_asks.specs.Asks.{asked_of, block_from, block_shard}
 use Rattle.rl_asks.specs.RankGood.{entries_in}
 use Rattle.rl_shard.specs.declared.shard.Shard.{Shard}

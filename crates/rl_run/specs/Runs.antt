@@ -15,7 +15,7 @@ use Rattle.rl_ops.specs.Room.{updates_on}
 use Rattle.rl_journal.specs.Ranks.{IsRankInOrder}
 use Rattle.rl_asks.specs.Asks.{is_on, asked_of}
 use Rattle.rl_asks.specs.RankGood.{entries_in}
-use Rattle.rl_work.specs.Site.{Site}
+use Rattle.rl_site.specs.Site.{Site}
 use Rattle.rl_shard.specs.declared.closed.Closed.{Closed}
 use Rattle.rl_shard.specs.declared.shard.Shard.{Shard}
 use Rattle.rl_shard.specs.declared.seat.Seat.{Seat}

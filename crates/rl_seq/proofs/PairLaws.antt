@@ -18,10 +18,10 @@ use Rattle.rl_step.specs.Do.{CanDo, do_got, do_words}
 use Rattle.rl_step.specs.Lock.{IsHolder, Rests, Shift}
 use Rattle.rl_work.specs.EndLaws.{IsPlain}
 use Rattle.rl_word.specs.declared.classes.Mode.TheVariants as mode
-use Rattle.rl_work.specs.Opens.{places_needed}
-use Rattle.rl_work.specs.laws.OpeningLaws.{opening_size}
-use Rattle.rl_work.specs.Site.{journal_base, lock_base}
-use Rattle.rl_work.specs.Ways.{IsApart, IsFirst, IsLaid, IsSide, IsOpen, IsWorkAtom, Works, MayTurn, Worked, standing_after, opened_standing, opening_words}
+use Rattle.rl_site.specs.Opens.{places_needed, IsOpen, opening_words}
+use Rattle.rl_site.specs.laws.OpeningLaws.{opening_size}
+use Rattle.rl_site.specs.Site.{journal_base, lock_base}
+use Rattle.rl_work.specs.Ways.{IsApart, IsFirst, IsLaid, IsSide, IsWorkAtom, Works, MayTurn, Worked, standing_after, opened_standing}
 use Rattle.rl_seq.specs.laws.SeqLaws.{seq_laws}
 use Rattle.rl_seq.specs.Site.{SeqSite, place_of}
 use Rattle.rl_seq.specs.SeqGood.{SeqRank, SeqGood}

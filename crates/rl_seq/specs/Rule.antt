@@ -6,7 +6,7 @@ use Rattle.rl_step.specs.declared.events.Standing.TheVariants.{Writer}
 use Rattle.rl_step.specs.declared.events.Stepped.TheVariants.{Waiting, Lost}
 use Rattle.rl_step.specs.Do.{do_words}
 use Rattle.rl_volume.specs.Seen.{AgreesWith}
-use Rattle.rl_work.specs.Site.{count_word, lock_base, volume_of}
+use Rattle.rl_site.specs.Site.{count_word, lock_base, volume_of}
 use Rattle.rl_work.specs.Ways.{WorkLaws, Works}
 use Rattle.rl_seq.specs.declared.stage.SeqStage.{SeqStage}
 use Rattle.rl_seq.specs.declared.stage.SeqStage.TheVariants as stage

@@ -11,7 +11,7 @@ use Rattle.rl_step.specs.Lock.{IsHolder}
 use Rattle.rl_volume.specs.Seen.{AgreesWith}
 use Rattle.rl_work.specs.declared.stage.Stage.TheVariants.{Rest, Journal}
 use Rattle.rl_work.specs.Locked.{first_reads}
-use Rattle.rl_work.specs.Site.{Site, count_word, volume_of}
+use Rattle.rl_site.specs.Site.{Site, count_word, volume_of}
 use Rattle.rl_work.specs.Work.{TheWork, at_stage as at_work_stage, has_work, stores}
 use Rattle.rl_work.specs.Ways.{WorkSide as SideOf}
 use Rattle.rl_work.specs.EndLaws.{Rises}

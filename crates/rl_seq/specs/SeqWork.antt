@@ -10,7 +10,7 @@ use Rattle.rl_model.specs.declared.entry.Entry.{Entry}
 use Rattle.rl_step.specs.declared.events.Stepped.TheVariants.{Moved, Waiting, Lost}
 use Rattle.rl_work.specs.declared.follow.Follow.TheVariants.{On, Over}
 use Rattle.rl_work.specs.Locked.{first_reads}
-use Rattle.rl_work.specs.Site.{count_word, volume_base}
+use Rattle.rl_site.specs.Site.{count_word, volume_base}
 use Rattle.rl_work.specs.Ways.{WorkTable, Worked}
 use Rattle.rl_work.specs.Work.{TheWork, WorkTurned, first_work, work_atom, work_after, with_block, with_seen, seen_on, has_work, stores}
 use Rattle.rl_work.specs.Unlocked.{wanted, with_word}

@@ -1,7 +1,7 @@
 -- One shard's place under a sequence lock: that of the work inside the lock, and the version behind the lock's words.
 use Rattle.std.specs.Prelude.{ℕ, List, take, slice_index}
 use Rattle.rl_model.specs.declared.geom.Geom.{Geom}
-use Rattle.rl_work.specs.Site.{Site, lock_base}
+use Rattle.rl_site.specs.Site.{Site, lock_base}
 
 -- `behind` is the number of the first word behind the lock's
 pub record SeqSite : Type 0 where

@@ -3,7 +3,7 @@ use Rattle.std.specs.Prelude.{◌≡◌, ℕ, ◌+◌, Bool, true, false, List, 
 use Rattle.rl_model.specs.declared.geom.Geom.{Geom}
 use Rattle.rl_step.specs.declared.events.Standing.{Standing}
 use Rattle.rl_step.specs.declared.events.Standing.TheVariants.{Out, Asking, Writer, Leaving}
-use Rattle.rl_work.specs.Site.{journal_base}
+use Rattle.rl_site.specs.Site.{journal_base}
 use Rattle.rl_seq.specs.declared.way.SeqWork.{SeqWork}
 use Rattle.rl_seq.specs.Site.{SeqSite, place_of}
 use Rattle.rl_seq.specs.SeqGood.{SeqRank}

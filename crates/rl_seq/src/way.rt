@@ -13,9 +13,10 @@ ghost use Rattle.rl_seq.specs.laws.SeqLaws.{seq_laws};
 use crate::side::SeqSide;
 use crate::stage::SeqStage;
 use rl_model::{Call, Entry, Geom};
+use rl_site::{COUNT_WORD, Site, VOLUME_BASE};
 use rl_step::Words;
 use rl_word::{Atom, Mode, Shape};
-use rl_work::{COUNT_WORD, KeepsOwn, Site, VOLUME_BASE, Work, WorkStep};
+use rl_work::{KeepsOwn, Work, WorkStep};
 use std::alloc::{AllocError as OutOfMemory, Global};
 
 /// The work under a sequence lock: a get alone reads without the lock, between two loads of the version, and any other block is

@@ -12,7 +12,7 @@ use Rattle.rl_journal.specs.Journal.{entry_of, six_from}
 use Rattle.rl_journal.specs.Legal.{table_after, IsLegalJournal}
 use Rattle.rl_volume.specs.Words.{volume_words}
 use Rattle.rl_volume.specs.Volume.{IsVolume}
-use Rattle.rl_work.specs.Site.{places, journal_base, lock_base}
+use Rattle.rl_site.specs.Site.{places, journal_base, lock_base}
 use Rattle.rl_asks.specs.ShardTables.{ShardTable, journal_at}
 use Rattle.rl_asks.specs.ShardLaws.{ShardCoreLaws}
 use Rattle.rl_asks.specs.laws.JournalLaws.{count_is, few_updates, place_low, update_is, part_fits}

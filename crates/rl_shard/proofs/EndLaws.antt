@@ -22,7 +22,7 @@ use Rattle.rl_journal.specs.Legal.{IsLegal}
 use Rattle.rl_journal.specs.History.{history, IsSorted}
 use Rattle.rl_journal.specs.laws.HistoryCounts.{same_entries}
 use Rattle.rl_journal.specs.Ranks.{IsOwn}
-use Rattle.rl_work.specs.WorkGood.{IsOwnTranscript}
+use Rattle.rl_site.specs.Opens.{IsOwnTranscript}
 use Rattle.rl_asks.specs.Desks.{entries_of}
 use Rattle.rl_asks.specs.Standings.{leaves}
 use Rattle.rl_asks.specs.ShardTables.{ShardTable, journal_at, kept_in}

@@ -17,9 +17,9 @@ use Rattle.rl_step.specs.declared.events.Stepped.{Stepped}
 use Rattle.rl_step.specs.declared.tallies.Tally.{Tally}
 use Rattle.rl_step.specs.Lock.{Deed}
 use Rattle.rl_step.specs.Do.{TheWindow}
-use Rattle.rl_work.specs.Site.{Site, lock_base}
-use Rattle.rl_work.specs.WorkGood.{opening_words}
-use Rattle.rl_work.specs.laws.OpeningLaws.{opening_size}
+use Rattle.rl_site.specs.Site.{Site, lock_base}
+use Rattle.rl_site.specs.Opens.{opening_words}
+use Rattle.rl_site.specs.laws.OpeningLaws.{opening_size}
 use Rattle.rl_asks.specs.ShardTables.{ShardTable, site_with, opening_held, first_views}
 use Rattle.rl_asks.specs.ShardLaws.{GoodOf, CauseOf, FurtherOf, LawsOf, ShardCoreLaws, IsLaidAtSite, IsNewDesk}
 use Rattle.rl_shard.specs.declared.counting.CountedView.{CountedView}

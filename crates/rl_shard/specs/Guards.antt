@@ -6,8 +6,8 @@ use Rattle.rl_model.specs.declared.call.Call.{Call}
 use Rattle.rl_step.specs.declared.events.Standing.{Standing}
 use Rattle.rl_step.specs.declared.events.Standing.TheVariants.{Asking, Writer}
 use Rattle.rl_step.specs.Lock.{IsHolder}
-use Rattle.rl_work.specs.Site.{lock_base}
-use Rattle.rl_work.specs.Ways.{IsGetAlone}
+use Rattle.rl_site.specs.Site.{lock_base}
+use Rattle.rl_site.specs.Opens.{IsGetAlone}
 use Rattle.rl_asks.specs.Touches.{NamesWord}
 use Rattle.rl_asks.specs.ShardTables.{ShardTable}
 use Rattle.rl_shard.specs.declared.counting.CountedView.{CountedView}

@@ -2,7 +2,7 @@
 use Rattle.std.specs.Prelude.{◌≡◌, ◌<◌, ◌≤◌, ◌^◌, ℕ, ◌+◌, false, List, length, sum, slice_get, Some}
 use Rattle.rl_word.specs.Acts.{Layout}
 use Rattle.rl_model.specs.Geom.{GeomFits}
-use Rattle.rl_work.specs.Site.{lock_base}
+use Rattle.rl_site.specs.Site.{lock_base}
 use Rattle.rl_asks.specs.ShardTables.{ShardTable, opening_held}
 use Rattle.rl_asks.specs.ShardLaws.{GoodOf}
 use Rattle.rl_shard.specs.declared.counting.CountedView.{CountedView}

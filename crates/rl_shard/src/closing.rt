@@ -2,7 +2,7 @@
 
 ghost use Rattle.std.specs.Prelude.{◌≡◌, ◌+◌, ◌*◌, ◌<◌, ◌≤◌, ◌++◌, ℕ, [], length, map, min, sum, take, slice_get, slice_index, Some, IfOk, vec_items, vec_len, vec_capacity};
 ghost use Rattle.std.specs.FinMap as finite;
-ghost use Rattle.rl_work.specs.Site.{journal_base};
+ghost use Rattle.rl_site.specs.Site.{journal_base};
 ghost use Rattle.rl_asks.specs.ShardTables.{journal_at};
 ghost use Rattle.rl_shard.specs.Tallies.{full};
 ghost use Rattle.rl_shard.specs.Shards.{IsShardOf, table_at, tallies_at};
@@ -16,10 +16,10 @@ use crate::shard::Shard;
 use rl_asks::ShardCore;
 use rl_journal::journal_entry;
 use rl_model::Entry;
+use rl_site::{COUNT_WORD, ENTRY_WORDS, VOLUME_BASE, journal_base};
 use rl_step::Tally;
 use rl_volume::{content_into, volume_words};
 use rl_window::WinSeat;
-use rl_work::{COUNT_WORD, ENTRY_WORDS, VOLUME_BASE, journal_base};
 use std::alloc::{AllocError as OutOfMemory, Global};
 
 /// The memory for a close.

@@ -19,10 +19,10 @@ use crate::seat::Seat;
 use rl_asks::{ShardCore, first_words};
 use rl_model::Geom;
 use rl_ops::Room;
+use rl_site::Site;
 use rl_step::queue_count;
 use rl_window::Window;
 use rl_word::{Knobs, Shape};
-use rl_work::Site;
 use std::alloc::{AllocError as OutOfMemory, Global};
 
 /// One shard of the table, whose window threads share. Its ranks act on it by their seats.

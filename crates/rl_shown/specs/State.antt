@@ -9,7 +9,7 @@ use Rattle.rl_place.specs.Shapes.{shape_of, knobs_of}
 use Rattle.rl_ops.specs.declared.ops.Ops.{Ops}
 use Rattle.rl_ops.specs.declared.schedule.Schedule.{Schedule}
 use Rattle.rl_ops.specs.Schedule.{steps_of}
-use Rattle.rl_work.specs.Site.{lock_base}
+use Rattle.rl_site.specs.Site.{lock_base}
 use Rattle.rl_history.specs.Naming.{TheNaming, naming_of}
 use Rattle.rl_names.specs.declared.word_map.WordMap.{WordMap}
 use Rattle.rl_names.specs.declared.word_name.WordName.{WordName}

@@ -12,8 +12,8 @@ ghost use Rattle.rl_shown.specs.Cores.{HaveTables, tables_of};
 use rl_asks::ShardCore;
 use rl_ops::{Ops, Room};
 use rl_place::Place;
+use rl_site::Site;
 use rl_word::Shape;
-use rl_work::Site;
 use std::alloc::{AllocError as OutOfMemory, Global};
 
 /// The core of a shard, in which the ranks make so many updates.

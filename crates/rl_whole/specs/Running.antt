@@ -5,7 +5,7 @@ use Rattle.rl_word.specs.Shapes.{TheShape}
 use Rattle.rl_word.specs.declared.shapes.Knobs.{Knobs}
 use Rattle.rl_step.specs.Lock.{LockTable, LockState, LockLaws, Deed}
 use Rattle.rl_word.specs.Acts.{Layout}
-use Rattle.rl_work.specs.Site.{Site, lock_base}
+use Rattle.rl_site.specs.Site.{Site, lock_base}
 use Rattle.rl_work.specs.Ways.{WorkTable, WorkSide, WorkLaws}
 use Rattle.rl_whole.specs.declared.whole.Whole.{Whole}
 

@@ -8,7 +8,7 @@ use Rattle.rl_model.specs.declared.entry.Entry.{Entry}
 pub use Rattle.rl_journal.specs.Blocks.{is_tenure}
 use Rattle.rl_work.specs.declared.follow.Follow.{Follow}
 use Rattle.rl_work.specs.declared.follow.Follow.TheVariants.{On, Ask, Over}
-use Rattle.rl_work.specs.Site.{lock_base}
+use Rattle.rl_site.specs.Site.{lock_base}
 use Rattle.rl_work.specs.Ways.{WorkSide, Worked, Look, look, own_look}
 use Rattle.rl_asks.specs.Desks.{Desk}
 pub use Rattle.rl_asks.specs.Standings.{leaves, one_if}

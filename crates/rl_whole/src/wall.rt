@@ -3,7 +3,7 @@
 ghost use Rattle.std.specs.Prelude.{◌≡◌, refl, ◌+◌};
 ghost use Rattle.std.proofs.Common.{ap, ◌∙◌};
 ghost use Rattle.rl_journal.specs.Blocks.{is_tenure};
-ghost use Rattle.rl_work.specs.Site.{lock_base};
+ghost use Rattle.rl_site.specs.Site.{lock_base};
 ghost use Rattle.rl_whole.specs.Causes.{Cause};
 ghost use Rattle.rl_whole.specs.Running.{lock_at, tables, goods, good_at, lock_with, kinds};
 ghost use Rattle.rl_whole.specs.laws.DeskLaws.{keeps_all};
@@ -16,9 +16,10 @@ use crate::round::seen_round;
 use crate::whole::{Whole, WholeView};
 use rl_asks::{Resting, Round, ShardCore, TellsAll};
 use rl_model::{Call, Entry, Geom};
+use rl_site::Site;
 use rl_step::{Algo, Standing, Stepped, Words};
 use rl_word::{Knobs, LockName, Shape};
-use rl_work::{KeepsOwn, Site, Work};
+use rl_work::{KeepsOwn, Work};
 use std::alloc::{AllocError as OutOfMemory, Global};
 
 /// How a rank stands on the shard that is out of the lock: it is asking while its block is open.

@@ -10,7 +10,7 @@ ghost use Rattle.rl_whole.specs.Domains.{KeepsToCards, KeepsToLocals};
 ghost use Rattle.rl_whole.specs.Opening.{first_view, opened_in};
 ghost use Rattle.rl_whole.specs.Running.{lock_at, tables, goods, good_at, lock_with, kinds};
 ghost use Rattle.rl_whole.specs.Split.{asked_act, card_of, card_word, word_home};
-ghost use Rattle.rl_work.specs.Site.{site_of};
+ghost use Rattle.rl_site.specs.Site.{site_of};
 ghost use Rattle.rl_whole.specs.Whole.{whole_table, planned_in, next_of, is_at_work, is_open, rule_of, touch_by, departure_by, followed};
 ghost use Rattle.rl_whole.specs.laws.WholeLaws.{whole_laws};
 
@@ -21,9 +21,10 @@ use crate::side::Side;
 use crate::split::{answer, card_word, effect, next_atom, word_planned};
 use arrayvec::ArrayVec;
 use rl_model::{Call, Geom};
+use rl_site::{ENTRY_WORDS, Site, journal_base};
 use rl_step::{Algo, Core, Event, Plan, Standing, Stepped};
 use rl_word::{Act, Atom, Knobs, Shape};
-use rl_work::{ENTRY_WORDS, Follow, Site, Work, journal_base};
+use rl_work::{Follow, Work};
 use std::alloc::{AllocError as OutOfMemory, Global};
 
 /// What a rank knows between two of its atoms.

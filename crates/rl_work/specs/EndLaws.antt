@@ -3,7 +3,6 @@ use Rattle.std.specs.Prelude.{◌≡◌, ℕ, ◌+◌, List, [], ◌∷◌}
 use Rattle.rl_word.specs.declared.acts.Atom.{Atom}
 use Rattle.rl_word.specs.declared.acts.Atom.TheVariants as atom
 use Rattle.rl_model.specs.declared.entry.Entry.{Entry}
-pub use Rattle.rl_work.specs.Opens.{Tells}
 
 abbrev pub IsPlain : Atom → Type 0
 IsPlain (atom.Load w) = Unit {0}

@@ -1,7 +1,4 @@
 -- to be believed, in reading order: what a way of working is
-pub mod Site
-pub mod Transcript
-pub mod Opens
 pub mod Ways
 -- and each block under its lock
 pub mod Work

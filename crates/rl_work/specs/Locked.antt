@@ -8,7 +8,7 @@ use Rattle.rl_model.specs.Call.{reads}
 use Rattle.rl_step.specs.declared.events.Stepped.TheVariants.{Moved}
 use Rattle.rl_work.specs.declared.follow.Follow.{Follow}
 use Rattle.rl_work.specs.declared.follow.Follow.TheVariants.{On, Over}
-use Rattle.rl_work.specs.Site.{Site, lock_base}
+use Rattle.rl_site.specs.Site.{Site, lock_base}
 use Rattle.rl_work.specs.Work.{TheWork, WorkTurned, first_work, with_block, work_atom, work_after, has_work, stores}
 use Rattle.rl_work.specs.WorkGood.{WorkSide, WorkGood}
 use Rattle.rl_work.specs.Ways.{WorkTable, Worked}

@@ -4,7 +4,7 @@ use Rattle.rl_volume.specs.Seen.{value_of}
 use Rattle.rl_volume.specs.Words.{volume_words}
 use Rattle.rl_work.specs.declared.stage.Stage.{Stage}
 use Rattle.rl_work.specs.declared.stage.Stage.TheVariants.{Rest, Begin, Read, Journal, Volume}
-use Rattle.rl_work.specs.Site.{Site}
+use Rattle.rl_site.specs.Site.{Site}
 use Rattle.rl_work.specs.Work.{TheWork}
 
 abbrev pub one_unless : Option ℕ → ℕ

@@ -13,11 +13,11 @@ use Rattle.rl_step.specs.Core.{home_at}
 use Rattle.rl_step.specs.Do.{CanDo, do_got, do_words}
 use Rattle.rl_journal.specs.Legal.{IsLegal}
 use Rattle.rl_journal.specs.History.{history, IsSorted}
-pub use Rattle.rl_work.specs.Ways.{journal_of}
+use Rattle.rl_site.specs.Site.{Site, lock_base, journal_of}
 use Rattle.rl_work.specs.declared.stage.Stage.TheVariants.{Read}
-use Rattle.rl_work.specs.Site.{Site, lock_base}
 use Rattle.rl_work.specs.Work.{work_atom, with_block, CanName, CanTurn}
-use Rattle.rl_work.specs.WorkGood.{WorkSide, WorkGood, IsApart, IsOpen, IsFirst, opening_words, transcripts, side_after}
+use Rattle.rl_site.specs.Opens.{IsOpen, opening_words}
+use Rattle.rl_work.specs.WorkGood.{WorkSide, WorkGood, IsApart, IsFirst, transcripts, side_after}
 
 -- the side of a rank in a state that meets the rule
 pub record IsSide (site : Site) (words : List ℕ) (sides : List WorkSide) (rank : ℕ) (x : WorkSide) : Type 0 where

@@ -6,7 +6,6 @@ use Rattle.rl_word.specs.declared.acts.Atom.TheVariants as atom
 use Rattle.rl_word.specs.declared.classes.Mode.{Mode}
 use Rattle.rl_word.specs.declared.classes.Mode.TheVariants as mode
 use Rattle.rl_model.specs.declared.call.Call.{Call}
-use Rattle.rl_model.specs.declared.call.Call.TheVariants as call
 use Rattle.rl_model.specs.declared.entry.Entry.{Entry}
 use Rattle.rl_model.specs.Geom.{GeomFits}
 use Rattle.rl_step.specs.declared.events.Event.{Event}
@@ -17,16 +16,15 @@ use Rattle.rl_step.specs.declared.events.Stepped.TheVariants.{Moved, Waiting, Lo
 use Rattle.rl_step.specs.Lock.{IsHolder, Rests, Shift, Suits}
 use Rattle.rl_step.specs.Do.{do_got, do_words}
 use Rattle.rl_volume.specs.Volume.{IsVolume}
-use Rattle.rl_journal.specs.Journal.{journal_in}
 use Rattle.rl_journal.specs.Blocks.{batch_of, calls_of, is_tenure}
 use Rattle.rl_journal.specs.Legal.{IsLegal, table_after}
 use Rattle.rl_journal.specs.History.{history, IsSorted}
 use Rattle.rl_work.specs.declared.follow.Follow.{Follow}
 use Rattle.rl_work.specs.declared.follow.Follow.TheVariants.{On, Ask, Over}
 use Rattle.rl_work.specs.declared.follow.WorkStep.{WorkStep}
-use Rattle.rl_work.specs.Site.{Site, count_word, journal_base, lock_base, places, volume_of}
-pub use Rattle.rl_work.specs.Transcript.{TheTranscript}
-pub use Rattle.rl_work.specs.Opens.{IsOpen, IsOwnTranscript, Tells, opening_words}
+use Rattle.rl_site.specs.Site.{Site, lock_base, places, volume_of, journal_by}
+use Rattle.rl_site.specs.Transcript.{TheTranscript}
+use Rattle.rl_site.specs.Opens.{IsOpen, IsOwnTranscript, Tells, opening_words}
 
 -- how a rank stands, and its side of the work
 pub record WorkSide (K : Type 0) : Type 0 where
@@ -279,10 +277,6 @@ TouchesAs None st = Unit {0}
 TouchesAs (Some false) st = IsHolder st
 TouchesAs (Some true) st = st ≡ Writer
 
--- one get, in no batch
-abbrev pub IsGetAlone : List Call → Type 0
-IsGetAlone calls = (key : ℕ) × (calls ≡ call.Get key ∷ [])
-
 -- an atom on a word before the lock's, which are those of count, volume and journal
 abbrev pub IsFrontAtom : ℕ → Atom → Type 0
 IsFrontAtom base (atom.Load w) = w < base
@@ -315,13 +309,6 @@ AnswersAs at got again follow Finished = ⊥
 -- the rank waits on by its atom, a load of this word that gave got: it has the side that it had, and the atom is no Touch
 abbrev pub WaitsOn : {K : Type 0} → WorkTable K → ℕ → K → ℕ → ℕ → Type 0
 WaitsOn T r x word got = (T.after r x got ≡ record { work = x; follow = On; stepped = Waiting word got }) × (T.touch x ≡ None)
-
--- the journal of a site, as the words before the lock's say: the entries of the places below the count
-abbrev pub journal_of : Site → List ℕ → List Entry
-journal_of site words = journal_in site.shard words (journal_base site.geom) (slice_index words count_word)
-
-abbrev pub journal_by : Site → List ℕ → List Entry
-journal_by site words = journal_of site (take (lock_base site) words)
 
 -- the way of working does blocks of so many calls
 abbrev pub Takes : {K : Type 0} → WorkTable K → List Call → Type 0

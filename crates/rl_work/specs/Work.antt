@@ -15,8 +15,8 @@ use Rattle.rl_work.specs.declared.stage.Stage.{Stage}
 use Rattle.rl_work.specs.declared.stage.Stage.TheVariants.{Rest, Begin, Read, Journal, Volume}
 use Rattle.rl_journal.specs.Journal.{spelled}
 use Rattle.rl_journal.specs.Blocks.{undone, stops, batch_of}
-use Rattle.rl_work.specs.Site.{count_word, volume_base, journal_base}
-pub use Rattle.rl_work.specs.Transcript.{TheTranscript}
+use Rattle.rl_site.specs.Site.{count_word, volume_base, journal_base}
+use Rattle.rl_site.specs.Transcript.{TheTranscript}
 
 -- a rank's side of the work
 pub record TheWork : Type 0 where

@@ -5,7 +5,8 @@ use Rattle.rl_model.specs.declared.call.Call.{Call}
 use Rattle.rl_step.specs.declared.events.Standing.TheVariants.{Out}
 use Rattle.rl_step.specs.Lock.{IsHolder}
 use Rattle.rl_step.specs.Do.{do_got, do_words}
-use Rattle.rl_work.specs.Ways.{WorkTable, WorkSide, IsLaid, IsSide, IsOpen, SameWork, Takes, Works}
+use Rattle.rl_site.specs.Opens.{IsOpen}
+use Rattle.rl_work.specs.Ways.{WorkTable, WorkSide, IsLaid, IsSide, SameWork, Takes, Works}
 
 -- the ranks' sides of the work
 abbrev pub works_in : {K : Type 0} → List (WorkSide K) → List K

@@ -21,10 +21,10 @@ use Rattle.rl_journal.specs.Blocks.{in_turn, any_stops, calls_of}
 use Rattle.rl_journal.specs.Legal.{table_after, IsLegal, IsLegalBlock}
 use Rattle.rl_journal.specs.Ranks.{IsOwn}
 use Rattle.rl_model.specs.Asked.{asks_update}
-use Rattle.rl_work.specs.Site.{Site, count_word, journal_base, lock_base, volume_of}
+use Rattle.rl_site.specs.Site.{Site, count_word, journal_base, lock_base, volume_of}
 use Rattle.rl_work.specs.Work.{TheWork, WorkTurned, work_after}
 use Rattle.rl_work.specs.Ways.{WorkSide as SideOf}
-pub use Rattle.rl_work.specs.Opens.{IsOpen, IsOwnTranscript, places_needed, opening_words}
+use Rattle.rl_site.specs.Opens.{IsOpen, IsOwnTranscript}
 
 -- how a rank stands, and its side of the work
 abbrev pub WorkSide : Type 0

@@ -1,5 +1,3 @@
-pub mod OpeningLaws
-pub mod VolumeLaws
 pub mod TurnLaws
 pub mod RoomLaws
 pub mod SideLaws

@@ -1,7 +1,5 @@
 //! What a way of working is: how a rank does its blocks on one shard, in the words beside the lock's; and the way of the five locks.
 //!
-//! - A **site** is one shard's place in its window: word 0, the **count** of its updates, the volume, the journal, and the
-//!   lock's words behind them.
 //! - A **block** is a call alone, or the 2 to 8 updates of a batch, which are done all or none.
 //! - A **way of working** ([`Work`]) says in which mode a block asks for the lock, if it does; which atom a rank makes where the lock
 //!   plans none; and what follows it ([`Follow`]): the block goes on, now the lock is asked for, or the block is over. It may have words
@@ -9,7 +7,6 @@
 //! - [`LockedWork`] does each block under its lock, with the side [`LockedSide`]: the count is loaded; the volume is read for one call
 //!   after the other, until each is decided; updates then write their entries to the journal, make their writes to the volume, and store
 //!   the count. A **stage** ([`Stage`]) is where a rank stands in it.
-//! - A **transcript** ([`Transcript`]) is the entries of one rank on the shard, in the order in which they were done.
 //!
 //! Promise: `LockedWork` keeps the laws of a way of working (`specs/Ways`), whatever the lock is that gives a writer alone and readers for
 //! gets alone. Beneath it is a rule of words and sides (`specs/WorkGood`) that each atom keeps ([`work_laws`]): under it the journal's words
@@ -23,9 +20,7 @@ mod ending;
 mod follow;
 mod laws;
 mod locked;
-mod site;
 mod stage;
-mod transcript;
 mod way;
 mod work;
 
@@ -33,8 +28,6 @@ pub use ending::WorkEnding;
 pub use follow::{Follow, WorkStep};
 pub use laws::work_laws;
 pub use locked::LockedWork;
-pub use site::{COUNT_WORD, ENTRY_WORDS, Site, VOLUME_BASE, journal_base, opening_word};
 pub use stage::Stage;
-pub use transcript::Transcript;
 pub use way::{KeepsOwn, Work};
 pub use work::{LockedSide, write_atom};

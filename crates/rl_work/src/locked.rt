@@ -5,10 +5,10 @@ ghost use Rattle.rl_work.specs.Locked.{locked_table, locked_good, mode_of};
 ghost use Rattle.rl_work.specs.laws.LockedLaws.{locked_laws};
 
 use crate::follow::{Follow, WorkStep};
-use crate::site::Site;
 use crate::way::{KeepsOwn, Work};
 use crate::work::LockedSide;
 use rl_model::{Call, Entry, Geom};
+use rl_site::Site;
 use rl_step::{Stepped, Words};
 use rl_word::{Atom, Mode, Shape};
 use std::alloc::{AllocError as OutOfMemory, Global};

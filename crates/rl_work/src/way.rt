@@ -3,12 +3,12 @@
 ghost use Rattle.std.specs.Prelude.{◌≡◌, ◌+◌, ◌<◌, ◌≤◌, ◌^◌, ℕ, Bool, List, true, false, length, sum, IfOk};
 ghost use Rattle.rl_model.specs.Geom.{GeomFits};
 ghost use Rattle.rl_word.specs.Shapes.{TheShape, IsProper};
-ghost use Rattle.rl_work.specs.Site.{Site as TheSite, site_of};
-ghost use Rattle.rl_work.specs.Ways.{WorkTable, WorkSide, WorkLaws, MayWork, MayTurn, WaitsOn, journal_by, worked_with};
+ghost use Rattle.rl_site.specs.Site.{Site as TheSite, site_of, journal_by};
+ghost use Rattle.rl_work.specs.Ways.{WorkTable, WorkSide, WorkLaws, MayWork, MayTurn, WaitsOn, worked_with};
 
 use crate::follow::WorkStep;
-use crate::site::Site;
 use rl_model::{Call, Entry, Geom};
+use rl_site::Site;
 use rl_step::Words;
 use rl_word::{Atom, Mode, Shape};
 use std::alloc::{AllocError as OutOfMemory, Global};

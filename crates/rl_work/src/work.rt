@@ -11,12 +11,11 @@ ghost use Rattle.rl_work.specs.Unlocked as unlocked;
 ghost use Rattle.rl_journal.specs.Journal.{spelled};
 ghost use Rattle.rl_model.specs.Asked.{asks_update};
 
-use crate::site::{COUNT_WORD, VOLUME_BASE, journal_base};
 use crate::stage::Stage;
-use crate::transcript::Transcript;
 use arrayvec::ArrayVec;
 use rl_journal::journal_value;
 use rl_model::{Call, Entry, Geom, Reply};
+use rl_site::{COUNT_WORD, Transcript, VOLUME_BASE, journal_base};
 use rl_volume::{Seen, Write, decide, next_read};
 use rl_word::Atom;
 use std::alloc::{AllocError as OutOfMemory, Global};

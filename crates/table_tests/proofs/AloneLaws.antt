@@ -19,9 +19,10 @@ use Rattle.rl_step.specs.declared.events.Event.TheVariants.{EnterW}
 use Rattle.rl_step.specs.declared.events.Standing.TheVariants.{Out, Asking, Writer, Reader, Leaving}
 use Rattle.rl_step.specs.Lock.{IsHolder}
 use Rattle.rl_journal.specs.Legal.{updates}
-use Rattle.rl_work.specs.Site.{lock_base}
+use Rattle.rl_site.specs.Site.{lock_base}
 use Rattle.rl_work.specs.Work.{TheWork, WorkTurned, first_work, CanName, CanTurn, work_atom, work_after, with_block}
-use Rattle.rl_work.specs.WorkGood.{WorkSide, IsApart, IsOpen, standing_after, places_needed, opening_words, IsFirst}
+use Rattle.rl_site.specs.Opens.{IsOpen, places_needed, opening_words}
+use Rattle.rl_work.specs.WorkGood.{WorkSide, IsApart, standing_after, IsFirst}
 use Rattle.rl_work.specs.laws.AtomLaws.{opening_good, atom_can, atom_keeps, can_name, can_turn, shift_keeps, open_keeps, entry_calls, few_replies}
 use Rattle.rl_work.specs.laws.EndLaws.{Ends, turn_ends}
 use Rattle.table_tests.specs.OneRank.{one_site, one_side, IsAlone}

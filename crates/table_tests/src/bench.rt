@@ -4,12 +4,12 @@ ghost use Rattle.std.specs.Prelude.{◌≡◌, ◌++◌, ◌≤◌, [], replicat
 ghost use Rattle.rl_model.specs.Geom.{GeomFits};
 ghost use Rattle.rl_step.specs.Do.{CanDo, do_got, do_words};
 ghost use Rattle.rl_work.specs.EndLaws.{IsPlain};
-ghost use Rattle.rl_work.specs.Site.{Site, places};
-ghost use Rattle.rl_work.specs.Ways.{opening_words};
+ghost use Rattle.rl_site.specs.Site.{Site, places};
+ghost use Rattle.rl_site.specs.Opens.{opening_words};
 
 use rl_model::Geom;
+use rl_site::{journal_base, opening_word};
 use rl_word::Atom;
-use rl_work::{journal_base, opening_word};
 use std::alloc::Global;
 use std::test::*;
 

@@ -5,9 +5,9 @@ use Rattle.std.proofs.lemmas.List.{take_at}
 use Rattle.std.proofs.lemmas.Option.{same_Some}
 use Rattle.rl_volume.specs.Volume.{start_words}
 use Rattle.rl_volume.proofs.StartLaws.{start_size}
-use Rattle.rl_work.specs.Site.{Site, places, journal_base, lock_base}
-use Rattle.rl_work.specs.WorkGood.{opening_words}
-use Rattle.rl_work.specs.laws.OpeningLaws.{opening_size}
+use Rattle.rl_site.specs.Site.{Site, places, journal_base, lock_base}
+use Rattle.rl_site.specs.Opens.{opening_words}
+use Rattle.rl_site.specs.laws.OpeningLaws.{opening_size}
 use Rattle.rl_asks.specs.ShardTables.{ShardTable, first_views}
 
 -- one element more of a list

@@ -10,8 +10,7 @@ use Rattle.rl_journal.specs.laws.BlockLaws.{part_at}
 use Rattle.rl_journal.specs.Journal.{entry_of, six_from, entries_from}
 use Rattle.rl_journal.specs.Legal.{IsLegalJournal, IsLegalBlock}
 use Rattle.rl_journal.specs.laws.LegalLaws.{IsIn, in_journal}
-use Rattle.rl_work.specs.Site.{Site, places, count_word, journal_base, lock_base}
-use Rattle.rl_work.specs.Rule.{journal_of}
+use Rattle.rl_site.specs.Site.{Site, places, count_word, journal_base, lock_base, journal_of}
 
 -- so many entries, one by one
 length_entries : (shard : ℕ) (words : List ℕ) (base p n : ℕ) → length (entries_from shard words base p n) ≡ n

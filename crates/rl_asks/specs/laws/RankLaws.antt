@@ -15,10 +15,9 @@ use Rattle.rl_journal.specs.Blocks.{calls_of, batch_of}
 use Rattle.rl_journal.specs.Legal.{updates}
 use Rattle.rl_journal.specs.Ranks.{IsInOrder, IsRankInOrder, IsEntryOf, AreAsked}
 use Rattle.rl_journal.specs.laws.RankLaws.{block_more}
-use Rattle.rl_work.specs.Site.{Site}
-use Rattle.rl_work.specs.Transcript.{TheTranscript}
-use Rattle.rl_work.specs.WorkGood.{IsOpen}
-use Rattle.rl_work.specs.EndLaws.{Tells}
+use Rattle.rl_site.specs.Site.{Site}
+use Rattle.rl_site.specs.Transcript.{TheTranscript}
+use Rattle.rl_site.specs.Opens.{IsOpen, Tells}
 use Rattle.rl_asks.specs.Asks.{is_on, AreBlocks, place_after, asked_of}
 use Rattle.rl_asks.specs.AskLaws.{is_update_on}
 use Rattle.rl_asks.specs.laws.AskLaws.{NextBlock, take_more, stands_at, calls_there, asks_next, inside, rest_behind, all_on, none_on, room_for, updates_room}

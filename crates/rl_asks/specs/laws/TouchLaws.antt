@@ -14,8 +14,8 @@ use Rattle.rl_step.specs.declared.events.Standing.TheVariants.{Out, Asking, Writ
 use Rattle.rl_step.specs.declared.events.Stepped.{Stepped}
 use Rattle.rl_step.specs.Lock.{Deed, IsHolder}
 use Rattle.rl_step.specs.Do.{TheWindow, do_words}
-use Rattle.rl_work.specs.Site.{lock_base}
-use Rattle.rl_work.specs.Ways.{IsGetAlone}
+use Rattle.rl_site.specs.Site.{lock_base}
+use Rattle.rl_site.specs.Opens.{IsGetAlone}
 use Rattle.rl_asks.specs.Touches.{StoresGuarded, IsGuarded, ChangesGuarded, NamesWord}
 use Rattle.rl_asks.specs.Standings.{AloneIn}
 use Rattle.rl_asks.specs.ShardTables.{ShardTable}

@@ -16,8 +16,10 @@ use Rattle.rl_step.specs.Lock.{Rests}
 use Rattle.rl_step.specs.Do.{do_words, do_got}
 use Rattle.rl_journal.specs.Blocks.{is_tenure}
 use Rattle.rl_work.specs.declared.follow.Follow.TheVariants.{Over}
-use Rattle.rl_work.specs.Transcript.{TheTranscript}
-use Rattle.rl_work.specs.Ways.{IsApart, IsLaid, IsOpen, look, own_look, opened_look, AtomWork, SameWork, journal_of, side_turned, tenure_of, AsksOut, mode_after}
+use Rattle.rl_site.specs.Transcript.{TheTranscript}
+use Rattle.rl_site.specs.Opens.{IsOpen}
+use Rattle.rl_site.specs.Site.{journal_of}
+use Rattle.rl_work.specs.Ways.{IsApart, IsLaid, look, own_look, opened_look, AtomWork, SameWork, side_turned, tenure_of, AsksOut, mode_after}
 use Rattle.rl_work.specs.Work.{more_entries}
 use Rattle.rl_work.specs.WorkGood.{WorkSide as Seat}
 use Rattle.rl_combine.specs.declared.stage.Stage.{Stage}

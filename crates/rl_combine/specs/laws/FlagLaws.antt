@@ -14,9 +14,9 @@ use Rattle.rl_volume.specs.Seen.{next_word}
 use Rattle.rl_journal.specs.Journal.{spelling}
 use Rattle.rl_journal.specs.Legal.{IsLegalRead}
 use Rattle.rl_work.specs.declared.stage.Stage.TheVariants as block
-use Rattle.rl_work.specs.Site.{count_word, volume_base, journal_base}
-use Rattle.rl_work.specs.Transcript.{TheTranscript}
-use Rattle.rl_work.specs.Ways.{Worked, IsApart, IsLaid, journal_by}
+use Rattle.rl_site.specs.Site.{count_word, volume_base, journal_base, journal_by}
+use Rattle.rl_site.specs.Transcript.{TheTranscript}
+use Rattle.rl_work.specs.Ways.{Worked, IsApart, IsLaid}
 use Rattle.rl_work.specs.Work.{write_atom, work_atom, more_entries}
 use Rattle.rl_work.specs.WorkGood.{WorkSide as Seat, transcript_of}
 use Rattle.rl_work.specs.laws.RuleLaws.{always_legal}

@@ -15,7 +15,7 @@ use Rattle.rl_volume.specs.declared.write.Write.{Write}
 use Rattle.rl_volume.specs.Seen.{next_word}
 use Rattle.rl_work.specs.declared.stage.Stage.{Stage as BlockStage}
 use Rattle.rl_work.specs.declared.stage.Stage.TheVariants as block
-use Rattle.rl_work.specs.Transcript.{TheTranscript}
+use Rattle.rl_site.specs.Transcript.{TheTranscript}
 use Rattle.rl_work.specs.Ways.{IsLaid}
 use Rattle.rl_work.specs.Work.{TheWork, WorkTurned, write_atom, stage_atom as block_atom, stage_after as block_after, block_close, block_close_by, decision_of, stops_block, read_next, read_on, left_of, with_call, with_seen, with_stop, more_entries}
 use Rattle.rl_work.specs.WorkGood.{WorkSide as Seat}

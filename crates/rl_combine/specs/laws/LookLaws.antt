@@ -9,9 +9,10 @@ use Rattle.rl_journal.specs.Legal.{IsLegal, table_after}
 use Rattle.rl_journal.specs.History.{history, IsSorted}
 use Rattle.rl_work.specs.declared.stage.Stage.{Stage as BlockStage}
 use Rattle.rl_work.specs.declared.stage.Stage.TheVariants as block
-use Rattle.rl_work.specs.Site.{places, volume_of}
-use Rattle.rl_work.specs.Transcript.{TheTranscript}
-use Rattle.rl_work.specs.Ways.{IsLaid, IsOwnTranscript, look, transcripts_from, BlockGoesOn, AtomWork, journal_by}
+use Rattle.rl_site.specs.Site.{places, volume_of, journal_by}
+use Rattle.rl_site.specs.Transcript.{TheTranscript}
+use Rattle.rl_site.specs.Opens.{IsOwnTranscript}
+use Rattle.rl_work.specs.Ways.{IsLaid, look, transcripts_from, BlockGoesOn, AtomWork}
 use Rattle.rl_work.specs.Work.{more_entries}
 use Rattle.rl_work.specs.WorkGood.{WorkSide as Seat, transcripts, is_writing, FitsAt as BlockFits}
 use Rattle.rl_work.specs.laws.RuleLaws.{journal_is, always_legal, always_sorted}

@@ -9,7 +9,7 @@ use Rattle.rl_word.specs.declared.acts.Atom.TheVariants as atom
 use Rattle.rl_step.specs.Do.{do_got}
 use Rattle.rl_volume.specs.Words.{volume_words}
 use Rattle.rl_work.specs.declared.stage.Stage.TheVariants as block
-use Rattle.rl_work.specs.Site.{count_word, lock_base}
+use Rattle.rl_site.specs.Site.{count_word, lock_base}
 use Rattle.rl_work.specs.Ways.{IsLaid, MayWork, MayTurn}
 use Rattle.rl_work.specs.Work.{CanName as SeatCanName, CanTurn as SeatCanTurn}
 use Rattle.rl_work.specs.WorkGood.{WorkSide as Seat}

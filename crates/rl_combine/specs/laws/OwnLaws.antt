@@ -7,7 +7,7 @@ use Rattle.rl_word.specs.laws.Places.{same_or_not}
 use Rattle.rl_step.specs.declared.events.Standing.{Standing}
 use Rattle.rl_step.specs.declared.events.Standing.TheVariants.{Out, Asking, Writer, Reader, Leaving}
 use Rattle.rl_step.specs.Lock.{Rests}
-use Rattle.rl_work.specs.Site.{count_word, lock_base}
+use Rattle.rl_site.specs.Site.{count_word, lock_base}
 use Rattle.rl_work.specs.Ways.{Worked, IsApart, IsLaid, side_turned, standing_done}
 use Rattle.rl_work.specs.Work.{more_entries, work_after}
 use Rattle.rl_work.specs.WorkGood.{WorkSide as Seat, IsDone}

@@ -6,7 +6,7 @@ use Rattle.rl_word.specs.declared.acts.Atom.{Atom}
 use Rattle.rl_word.specs.declared.acts.Atom.TheVariants as atom
 use Rattle.rl_volume.specs.declared.write.Write.{Write}
 use Rattle.rl_work.specs.declared.stage.Stage.TheVariants as block
-use Rattle.rl_work.specs.Site.{count_word, volume_base, journal_base, lock_base}
+use Rattle.rl_site.specs.Site.{count_word, volume_base, journal_base, lock_base}
 use Rattle.rl_work.specs.Ways.{IsApart, IsLaid, IsWorkWord, IsWorkAtom, IsFrontAtom}
 use Rattle.rl_work.specs.Work.{work_atom, write_atom}
 use Rattle.rl_work.specs.WorkGood.{WorkSide as Seat}

@@ -12,7 +12,7 @@ use Rattle.rl_model.specs.declared.entry.Reply.{Reply}
 use Rattle.rl_model.specs.declared.entry.Reply.TheVariants.{New, Was, Full, Val, Nothing, Sum, Over, No, Held, Undone}
 use Rattle.rl_model.specs.Call.{shard_of}
 use Rattle.rl_journal.specs.Journal.{value_in}
-use Rattle.rl_work.specs.Site.{lock_base}
+use Rattle.rl_site.specs.Site.{lock_base}
 use Rattle.rl_combine.specs.Posts.{CombineSite, ThePost, ranks_of, post_word, post_of, post_spelling, posted_call, post_code, answer_of}
 use Rattle.rl_combine.specs.CombineGood.{front_of}
 

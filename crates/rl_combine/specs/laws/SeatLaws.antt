@@ -22,9 +22,10 @@ use Rattle.rl_volume.specs.Decision.{decision}
 use Rattle.rl_work.specs.declared.stage.Stage.{Stage as BlockStage}
 use Rattle.rl_work.specs.declared.stage.Stage.TheVariants as block
 use Rattle.rl_journal.specs.Journal.{spelling}
-use Rattle.rl_work.specs.Site.{count_word, volume_base, journal_base, lock_base}
-use Rattle.rl_work.specs.Ways.{Worked, IsApart, IsLaid, IsOpen, side_turned}
-use Rattle.rl_work.specs.Transcript.{TheTranscript}
+use Rattle.rl_site.specs.Site.{count_word, volume_base, journal_base, lock_base}
+use Rattle.rl_site.specs.Opens.{IsOpen}
+use Rattle.rl_work.specs.Ways.{Worked, IsApart, IsLaid, side_turned}
+use Rattle.rl_site.specs.Transcript.{TheTranscript}
 use Rattle.rl_work.specs.Work.{WorkTurned, more_entries, work_atom, work_after, seen_on, at_rest, with_block, with_call, with_entries, block_close_by, journal_on, to_stage as block_to, read_next as block_next, written_on as block_written, write_atom}
 use Rattle.rl_work.specs.WorkGood.{WorkSide as Seat, WorkGood, IsApart as AreApart, side_turned as seat_turned, side_after as seat_after, FitsAt as BlockFits}
 use Rattle.rl_work.specs.laws.RoomLaws.{journal_short}

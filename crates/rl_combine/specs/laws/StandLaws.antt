@@ -14,9 +14,10 @@ use Rattle.rl_step.specs.declared.events.Event.{Event}
 use Rattle.rl_step.specs.declared.events.Standing.{Standing}
 use Rattle.rl_step.specs.declared.events.Standing.TheVariants.{Out, Asking, Writer, Reader, Leaving}
 use Rattle.rl_step.specs.Lock.{IsHolder, Shift}
-use Rattle.rl_work.specs.Site.{lock_base}
-use Rattle.rl_work.specs.Ways.{IsLaid, IsFirst, IsOpen, SameWork, GoesOnAt, TouchesAs, TellsTouch, opening_words}
-use Rattle.rl_work.specs.laws.OpeningLaws.{opening_size}
+use Rattle.rl_site.specs.Site.{lock_base}
+use Rattle.rl_site.specs.Opens.{IsOpen, opening_words}
+use Rattle.rl_work.specs.Ways.{IsLaid, IsFirst, SameWork, GoesOnAt, TouchesAs, TellsTouch}
+use Rattle.rl_site.specs.laws.OpeningLaws.{opening_size}
 use Rattle.rl_work.specs.Work.{first_work, write_atom}
 use Rattle.rl_work.specs.WorkGood.{WorkSide as Seat, WorkGood, IsDone, IsFirst as IsFirstSeat}
 use Rattle.rl_work.specs.laws.AtomLaws.{opening_good}

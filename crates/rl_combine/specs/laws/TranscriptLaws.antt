@@ -8,8 +8,8 @@ use Rattle.rl_word.specs.laws.Places.{get_map}
 use Rattle.rl_model.specs.declared.entry.Entry.{Entry}
 use Rattle.rl_model.specs.Call.{is_update}
 use Rattle.rl_journal.specs.Legal.{updates, is_of}
-use Rattle.rl_work.specs.Ways.{journal_by}
-use Rattle.rl_work.specs.Transcript.{TheTranscript}
+use Rattle.rl_site.specs.Site.{journal_by}
+use Rattle.rl_site.specs.Transcript.{TheTranscript}
 use Rattle.rl_work.specs.Work.{more_entries}
 use Rattle.rl_work.specs.WorkGood.{WorkSide as Seat, transcript_of}
 use Rattle.rl_work.specs.laws.RuleLaws.{journal_is}

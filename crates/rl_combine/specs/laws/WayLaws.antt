@@ -6,7 +6,8 @@ use Rattle.rl_model.specs.declared.call.Call.{Call}
 use Rattle.rl_step.specs.declared.events.Standing.TheVariants.{Out}
 use Rattle.rl_step.specs.declared.events.Stepped.TheVariants.{Moved}
 use Rattle.rl_step.specs.Do.{do_got}
-use Rattle.rl_work.specs.Ways.{WorkTable, WorkLaws, IsSide, IsOpen, Works, AnswersAs, look, own_look, opened_look, opened_mode}
+use Rattle.rl_site.specs.Opens.{IsOpen}
+use Rattle.rl_work.specs.Ways.{WorkTable, WorkLaws, IsSide, Works, AnswersAs, look, own_look, opened_look, opened_mode}
 use Rattle.rl_combine.specs.Posts.{CombineSite}
 use Rattle.rl_combine.specs.Combine.{TheCombineSide, combine_table, combine_after, early, is_open, with_block}
 use Rattle.rl_combine.specs.CombineGood.{RankSide, CombineGood}

@@ -7,9 +7,9 @@ use Rattle.rl_model.specs.declared.entry.Entry.{Entry}
 use Rattle.rl_model.specs.declared.geom.Geom.{Geom}
 use Rattle.rl_model.specs.Call.{shard_of, is_update}
 use Rattle.rl_journal.specs.Legal.{updates}
-use Rattle.rl_work.specs.WorkGood.{IsOpen, places_needed}
-use Rattle.rl_work.specs.Transcript.{TheTranscript}
-use Rattle.rl_work.specs.Site.{Site}
+use Rattle.rl_site.specs.Opens.{IsOpen, places_needed}
+use Rattle.rl_site.specs.Transcript.{TheTranscript}
+use Rattle.rl_site.specs.Site.{Site}
 use Rattle.rl_word.specs.Acts.{Layout}
 use Rattle.rl_asks.specs.ShardTables.{ShardTable}
 use Rattle.rl_asks.specs.ShardLaws.{GoodOf}

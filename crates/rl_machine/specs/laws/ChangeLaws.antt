@@ -9,7 +9,7 @@ use Rattle.rl_model.specs.declared.geom.Geom.{Geom}
 use Rattle.rl_step.specs.Answers.{steps_made}
 use Rattle.rl_step.specs.Do.{TheWindow, do_got}
 use Rattle.rl_step.specs.Exclusion.{writers}
-use Rattle.rl_work.specs.Site.{lock_base}
+use Rattle.rl_site.specs.Site.{lock_base}
 use Rattle.rl_asks.specs.Asks.{block_shard}
 use Rattle.rl_asks.specs.laws.TouchLaws.{only_writers}
 use Rattle.rl_asks.specs.ShardTables.{ShardTable}

@@ -3,7 +3,7 @@ use Rattle.std.specs.Prelude.{◌≡◌, ◌+◌, ◌^◌, ◌<◌, ◌≤◌, l
 use Rattle.rl_word.specs.Acts.{Layout}
 use Rattle.rl_model.specs.Geom.{GeomFits}
 use Rattle.rl_journal.specs.Legal.{IsLegalJournal}
-use Rattle.rl_work.specs.Site.{places, lock_base}
+use Rattle.rl_site.specs.Site.{places, lock_base}
 use Rattle.rl_asks.specs.ShardTables.{ShardTable, journal_at}
 use Rattle.rl_asks.specs.ShardLaws.{GoodOf, CauseOf, FurtherOf, LawsOf}
 use Rattle.rl_machine.specs.declared.shard.ShardState.{ShardState}

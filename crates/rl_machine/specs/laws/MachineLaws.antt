@@ -13,7 +13,7 @@ use Rattle.rl_step.specs.declared.tallies.Steps.{Steps}
 use Rattle.rl_step.specs.Answers.{counted, steps_made}
 use Rattle.rl_step.specs.Do.{do_got}
 use Rattle.rl_step.specs.Lock.{Deed}
-use Rattle.rl_work.specs.WorkGood.{IsOpen}
+use Rattle.rl_site.specs.Opens.{IsOpen}
 use Rattle.rl_asks.specs.Asks.{block_shard, place_after}
 use Rattle.rl_asks.specs.AskLaws.{is_update_on}
 use Rattle.rl_asks.specs.laws.AskLaws.{NextBlock, next_of_blocks, size_is, block_is, block_at, stands_at}

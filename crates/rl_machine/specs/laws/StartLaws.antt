@@ -10,7 +10,7 @@ use Rattle.rl_model.specs.declared.geom.Geom.{Geom}
 use Rattle.rl_model.specs.Geom.{GeomFits}
 use Rattle.rl_step.specs.Lock.{Deed}
 use Rattle.rl_ops.specs.Room.{calls_on, updates_on}
-use Rattle.rl_work.specs.Site.{Site, lock_base}
+use Rattle.rl_site.specs.Site.{Site, lock_base}
 use Rattle.rl_asks.specs.Asks.{AreBlocks, place_after}
 use Rattle.rl_asks.specs.RankGood.{IsFreshDesk, RankGood}
 use Rattle.rl_asks.specs.laws.RankLaws.{rank_begins}

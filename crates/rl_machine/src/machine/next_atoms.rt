@@ -2,7 +2,7 @@
 
 ghost use Rattle.std.specs.Prelude.{ℕ, ◌≡◌, ◌<◌, ◌≤◌, true, false, length, sum};
 ghost use Rattle.rl_step.specs.Do.{do_got, CanDo};
-ghost use Rattle.rl_work.specs.Site.{lock_base};
+ghost use Rattle.rl_site.specs.Site.{lock_base};
 ghost use Rattle.rl_machine.specs.Running.{running, cores_of};
 ghost use Rattle.rl_machine.specs.Run.{opens, opened_if, block_opened, stepped, answer_of_step};
 ghost use Rattle.rl_machine.specs.State.{running_shard, machine_view, IsGood};

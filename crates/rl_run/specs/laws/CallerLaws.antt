@@ -7,7 +7,7 @@ use Rattle.rl_model.specs.declared.call.Call.{Call}
 use Rattle.rl_model.specs.declared.geom.Geom.{Geom}
 use Rattle.rl_asks.specs.ShardTables.{ShardTable}
 use Rattle.rl_asks.specs.ShardLaws.{GoodOf, CauseOf, FurtherOf, LawsOf}
-use Rattle.rl_work.specs.WorkGood.{IsOpen}
+use Rattle.rl_site.specs.Opens.{IsOpen}
 use Rattle.rl_journal.specs.Ranks.{IsRankInOrder}
 use Rattle.rl_asks.specs.Asks.{asked_of}
 use Rattle.rl_asks.specs.Desks.{IsDesk, entries_of}

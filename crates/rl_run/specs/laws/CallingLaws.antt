@@ -7,8 +7,8 @@ use Rattle.rl_word.specs.laws.Places.{get_set_cases, some_at}
 use Rattle.rl_model.specs.declared.call.Call.{Call}
 use Rattle.rl_model.specs.declared.geom.Geom.{Geom}
 use Rattle.rl_journal.specs.Ranks.{IsRankInOrder}
-use Rattle.rl_work.specs.Site.{Site}
-use Rattle.rl_work.specs.WorkGood.{IsOpen}
+use Rattle.rl_site.specs.Site.{Site}
+use Rattle.rl_site.specs.Opens.{IsOpen}
 use Rattle.rl_asks.specs.Asks.{is_on, place_after, asked_of, block_from, block_shard}
 use Rattle.rl_asks.specs.laws.AskLaws.{NextBlock, next_of_blocks, size_is, block_is, inside, block_at, stands_at, is_begun}
 use Rattle.rl_asks.specs.Desks.{Desk, IsDesk, OpensBlock, Turns, entries_of}

@@ -26,7 +26,7 @@ use Rattle.rl_place.specs.Places.{ThePlace, IsProper}
 use Rattle.rl_place.specs.Shapes.{shape_of, knobs_of}
 use Rattle.rl_ops.specs.declared.ops.Ops.{Ops}
 use Rattle.rl_ops.specs.Room.{updates_on}
-use Rattle.rl_work.specs.Site.{Site}
+use Rattle.rl_site.specs.Site.{Site}
 use Rattle.rl_ops.specs.Ops.{OpsFit}
 use Rattle.rl_asks.specs.Asks.{asked_of}
 use Rattle.rl_asks.specs.RankGood.{entries_in}

@@ -16,7 +16,7 @@ use Rattle.rl_model.specs.Geom.{GeomFits}
 use Rattle.rl_journal.specs.laws.Lists.{all_at, get_more_cases}
 use Rattle.rl_ops.specs.Room.{calls_on, updates_on}
 use Rattle.rl_asks.specs.Asks.{is_on, AreBlocks}
-use Rattle.rl_work.specs.Site.{Site}
+use Rattle.rl_site.specs.Site.{Site}
 use Rattle.rl_asks.specs.Desks.{entries_of}
 use Rattle.rl_shard.specs.declared.shard.Shard.{Shard}
 use Rattle.rl_shard.specs.declared.seat.Seat.{Seat}

@@ -17,7 +17,7 @@ use Rattle.rl_journal.specs.Legal.{table_after}
 use Rattle.rl_journal.specs.Ranks.{IsOwn}
 use Rattle.rl_work.specs.declared.stage.Stage.TheVariants.{Rest}
 use Rattle.rl_work.specs.Locked.{first_reads}
-use Rattle.rl_work.specs.Site.{lock_base, volume_of}
+use Rattle.rl_site.specs.Site.{lock_base, volume_of}
 use Rattle.rl_work.specs.Unlocked.{wanted_by}
 use Rattle.rl_work.specs.Ways.{side_turned, standing_done}
 use Rattle.rl_work.specs.Work.{TheWork, WorkTurned, at_stage as at_work_stage, has_work, stores, seen_on, with_seen}

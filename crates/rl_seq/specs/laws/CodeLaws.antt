@@ -10,7 +10,7 @@ use Rattle.rl_volume.specs.Words.{volume_words}
 use Rattle.rl_work.specs.laws.AtomLaws.{atom_can, can_name, can_turn}
 use Rattle.rl_work.specs.laws.EndLaws.{plain_atom}
 use Rattle.rl_work.specs.laws.RoomLaws.{journal_short}
-use Rattle.rl_work.specs.Site.{count_word, lock_base, places}
+use Rattle.rl_site.specs.Site.{count_word, lock_base, places}
 use Rattle.rl_work.specs.Ways.{IsSide, MayWork, MayTurn}
 use Rattle.rl_work.specs.Work.{TheWork, CanName, CanTurn, work_atom}
 use Rattle.rl_work.specs.WorkGood.{WorkSide, HasOpen}

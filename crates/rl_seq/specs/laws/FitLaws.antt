@@ -10,7 +10,7 @@ use Rattle.rl_step.specs.Lock.{IsHolder}
 use Rattle.rl_work.specs.declared.stage.Stage.{Stage}
 use Rattle.rl_work.specs.declared.stage.Stage.TheVariants.{Rest, Begin, Read, Journal, Volume}
 use Rattle.rl_work.specs.laws.AtomLaws.{stores_alone}
-use Rattle.rl_work.specs.Site.{Site}
+use Rattle.rl_site.specs.Site.{Site}
 use Rattle.rl_work.specs.Work.{TheWork, stores}
 use Rattle.rl_work.specs.WorkGood.{WorkSide, IsApart, is_writing}
 use Rattle.rl_seq.specs.declared.stage.SeqStage.{SeqStage}

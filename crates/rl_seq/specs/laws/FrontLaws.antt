@@ -6,7 +6,7 @@ use Rattle.rl_word.specs.declared.acts.Atom.{Atom}
 use Rattle.rl_word.specs.declared.acts.Atom.TheVariants as atom
 use Rattle.rl_step.specs.Do.{CanDo, do_got, do_words}
 use Rattle.rl_work.specs.EndLaws.{IsPlain}
-use Rattle.rl_work.specs.Site.{lock_base}
+use Rattle.rl_site.specs.Site.{lock_base}
 use Rattle.rl_seq.specs.Site.{SeqSite, front, version_in}
 
 -- a store among the first words of a list is one on them alone

@@ -14,9 +14,9 @@ use Rattle.rl_volume.specs.Seen.{AgreesWith, value_of}
 use Rattle.rl_volume.proofs.NextWord.{next_there, next_unseen}
 use Rattle.rl_volume.proofs.SeenLaws.{agrees_more}
 use Rattle.rl_work.specs.declared.stage.Stage.TheVariants.{Rest}
-use Rattle.rl_work.specs.Site.{count_word, volume_base, lock_base, volume_of}
+use Rattle.rl_site.specs.Site.{count_word, volume_base, lock_base, volume_of}
 use Rattle.rl_work.specs.Unlocked.{wanted, wanted_by, with_word}
-use Rattle.rl_work.specs.laws.VolumeLaws.{volume_get}
+use Rattle.rl_site.specs.laws.VolumeLaws.{volume_get}
 use Rattle.rl_work.specs.Ways.{side_turned}
 use Rattle.rl_work.specs.Work.{TheWork, at_stage as at_work_stage}
 use Rattle.rl_work.specs.WorkGood.{WorkSide, WorkGood, IsDone}

@@ -16,7 +16,7 @@ use Rattle.rl_work.specs.laws.AtomLaws.{atom_keeps, atom_can}
 use Rattle.rl_work.specs.EndLaws.{IsPlain}
 use Rattle.rl_work.specs.laws.EndLaws.{plain_atom}
 use Rattle.rl_work.specs.Locked.{first_reads}
-use Rattle.rl_work.specs.Site.{count_word, volume_base, lock_base}
+use Rattle.rl_site.specs.Site.{count_word, volume_base, lock_base}
 use Rattle.rl_work.specs.laws.LockedLaws.{front_names}
 use Rattle.rl_work.specs.Ways.{IsWorkAtom, IsFrontAtom, side_turned, standing_done}
 use Rattle.rl_work.specs.Work.{TheWork, WorkTurned, has_work, stores, stage_atom, work_atom, work_after}

@@ -9,7 +9,7 @@ use Rattle.rl_journal.specs.Legal.{table_after, updates}
 use Rattle.rl_journal.specs.Ranks.{IsOwn}
 use Rattle.rl_work.specs.declared.stage.Stage.TheVariants.{Rest}
 use Rattle.rl_work.specs.laws.SideLaws.{side_stays, entry_joins}
-use Rattle.rl_work.specs.Site.{Site}
+use Rattle.rl_site.specs.Site.{Site}
 use Rattle.rl_work.specs.WorkGood.{WorkSide, WorkGood, Fits, FitsAt, IsDone, is_writing}
 
 module _ (site : Site) (words : List ℕ) (sides : List WorkSide) (g : WorkGood site words sides) (r : ℕ) (x : WorkSide) (has : slice_get sides r ≡ Some x) where

@@ -24,7 +24,7 @@ use Rattle.rl_work.specs.Locked.{first_reads}
 use Rattle.rl_work.specs.LockedLeft.{one_unless, words_unseen, far_at, far as work_far}
 use Rattle.rl_work.specs.laws.LockedSteps.{BeginsAnew, stage_less}
 use Rattle.rl_work.specs.laws.UnseenLaws.{appended_stays, appended_seen, words_unseen_falls, few_words_unseen}
-use Rattle.rl_work.specs.Site.{volume_base}
+use Rattle.rl_site.specs.Site.{volume_base}
 use Rattle.rl_work.specs.Unlocked.{wanted, wanted_by, with_word}
 use Rattle.rl_work.specs.Ways.{Works}
 use Rattle.rl_work.specs.Work.{TheWork, WorkTurned, CanTurn, stage_atom, stores, with_block, with_seen, work_after, seen_on}

@@ -18,11 +18,12 @@ use Rattle.rl_journal.specs.History.{history, IsSorted}
 use Rattle.rl_work.specs.declared.stage.Stage.TheVariants.{Rest}
 use Rattle.rl_work.specs.laws.AtomLaws.{opening_good, open_keeps, shift_keeps}
 use Rattle.rl_work.specs.Locked.{first_reads}
-use Rattle.rl_work.specs.laws.OpeningLaws.{opening_size}
+use Rattle.rl_site.specs.laws.OpeningLaws.{opening_size}
 use Rattle.rl_work.specs.laws.RoomLaws.{journal_short}
 use Rattle.rl_work.specs.laws.RuleLaws.{journal_is, always_legal, always_sorted}
-use Rattle.rl_work.specs.Site.{count_word, lock_base, places, volume_of}
-use Rattle.rl_work.specs.Ways.{WorkTable, IsSide, IsFirst, IsOpen, SameWork, look, opened_look, opened_standing, opened_mode, transcripts_from, opening_words, journal_by, IsOwnTranscript}
+use Rattle.rl_site.specs.Site.{count_word, lock_base, places, volume_of, journal_by}
+use Rattle.rl_site.specs.Opens.{IsOpen, opening_words, IsOwnTranscript}
+use Rattle.rl_work.specs.Ways.{WorkTable, IsSide, IsFirst, SameWork, look, opened_look, opened_standing, opened_mode, transcripts_from}
 use Rattle.rl_work.specs.Work.{TheWork, first_work, with_block, at_stage as at_work_stage, has_work}
 use Rattle.rl_work.specs.WorkGood.{WorkSide, WorkGood, is_writing, transcripts, IsFirst as FirstLocked}
 use Rattle.rl_seq.specs.declared.stage.SeqStage.{SeqStage}

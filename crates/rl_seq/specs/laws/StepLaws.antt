@@ -28,10 +28,12 @@ use Rattle.rl_work.specs.EndLaws.{Rises}
 use Rattle.rl_work.specs.laws.EndLaws.{tells_rise, Ends, EndsBy, turn_ends}
 use Rattle.rl_work.specs.Locked.{first_reads}
 use Rattle.rl_work.specs.laws.LockedLaws.{locked_laws, work_tells}
-use Rattle.rl_work.specs.Site.{lock_base}
+use Rattle.rl_site.specs.Site.{lock_base}
 use Rattle.rl_work.specs.Unlocked.{wanted, wanted_by, with_word}
-use Rattle.rl_work.specs.Ways.{WorkTable, Worked, IsApart, IsSide, Works, IsOpen, Look, AtomWork, GoesOnAt, TouchesAs, AsksOut, AnswersAs, IsLoadAtom, mode_after, side_after, tenure_of, tenure_by, IsGetAlone, TellsTouch}
-use Rattle.rl_work.specs.Work.{TheWork, WorkTurned, has_work, stores, stage_atom, work_atom, work_after, seen_on, with_seen, TheTranscript}
+use Rattle.rl_site.specs.Opens.{IsOpen, IsGetAlone}
+use Rattle.rl_work.specs.Ways.{WorkTable, Worked, IsApart, IsSide, Works, Look, AtomWork, GoesOnAt, TouchesAs, AsksOut, AnswersAs, IsLoadAtom, mode_after, side_after, tenure_of, tenure_by, TellsTouch}
+use Rattle.rl_site.specs.Transcript.{TheTranscript}
+use Rattle.rl_work.specs.Work.{TheWork, WorkTurned, has_work, stores, stage_atom, work_atom, work_after, seen_on, with_seen}
 use Rattle.rl_work.specs.WorkGood.{WorkSide, WorkGood}
 use Rattle.rl_seq.specs.declared.stage.SeqStage.{SeqStage}
 use Rattle.rl_seq.specs.declared.stage.SeqStage.TheVariants as stage

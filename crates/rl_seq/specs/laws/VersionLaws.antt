@@ -21,7 +21,7 @@ use Rattle.rl_step.specs.Do.{do_words}
 use Rattle.rl_work.specs.laws.AtomLaws.{atom_can}
 use Rattle.rl_work.specs.laws.EndLaws.{plain_atom}
 use Rattle.rl_work.specs.Locked.{first_reads}
-use Rattle.rl_work.specs.Site.{count_word, volume_base, lock_base, volume_of}
+use Rattle.rl_site.specs.Site.{count_word, volume_base, lock_base, volume_of}
 use Rattle.rl_work.specs.Unlocked.{wanted, wanted_by, with_word}
 use Rattle.rl_work.specs.Ways.{Works}
 use Rattle.rl_work.specs.Work.{TheWork, work_atom}

@@ -16,7 +16,7 @@ use Rattle.rl_work.specs.declared.stage.Stage.{Stage}
 use Rattle.rl_work.specs.declared.stage.Stage.TheVariants.{Rest, Begin, Read, Journal, Volume}
 use Rattle.rl_work.specs.laws.AtomLaws.{atom_keeps, atom_can, entry_calls}
 use Rattle.rl_work.specs.laws.EndLaws.{plain_atom, tells_rise}
-use Rattle.rl_work.specs.Site.{count_word, volume_base, journal_base, lock_base}
+use Rattle.rl_site.specs.Site.{count_word, volume_base, journal_base, lock_base}
 use Rattle.rl_work.specs.Ways.{side_turned, standing_done}
 use Rattle.rl_work.specs.Work.{WorkTurned, has_work, stores, stage_atom, stage_after, to_stage, work_atom, work_after, write_atom, written_on}
 use Rattle.rl_work.specs.WorkGood.{WorkSide, WorkGood, FitsAt, IsDecided, side_turned as locked_turned, standing_after as locked_standing}

@@ -15,7 +15,7 @@ use Rattle.rl_step.specs.declared.events.Stepped.TheVariants.{Moved, Busy}
 use Rattle.rl_step.specs.Lock.{Shift, holds_only}
 use Rattle.rl_step.specs.laws.CoreLemmas.{length-do_words}
 use Rattle.rl_step.specs.Do.{do_words, do_cards}
-use Rattle.rl_work.specs.Site.{lock_base}
+use Rattle.rl_site.specs.Site.{lock_base}
 use Rattle.rl_work.specs.Ways.{SameWork, IsWorkWord, IsWorkAtom}
 use Rattle.rl_whole.specs.Running.{LockAt}
 use Rattle.rl_whole.specs.laws.ShiftLaws.{IsLow, above_stays}

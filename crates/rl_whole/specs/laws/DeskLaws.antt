@@ -14,8 +14,9 @@ use Rattle.rl_journal.specs.Ranks.{IsOwn}
 use Rattle.rl_step.specs.declared.events.Event.{Event}
 use Rattle.rl_step.specs.Lock.{Deed}
 use Rattle.rl_step.specs.Do.{TheWindow, do_got, do_words}
-use Rattle.rl_work.specs.Site.{Site}
-use Rattle.rl_work.specs.Ways.{Look, BlockGoesOn, EndsWork, AtomWork, IsOpen, IsOwnTranscript, Takes, look, own_look, opened_look}
+use Rattle.rl_site.specs.Site.{Site}
+use Rattle.rl_site.specs.Opens.{IsOpen, IsOwnTranscript}
+use Rattle.rl_work.specs.Ways.{Look, BlockGoesOn, EndsWork, AtomWork, Takes, look, own_look, opened_look}
 use Rattle.rl_asks.specs.Desks.{KeepsBlock, EndsBlock, OpensBlock, Turns}
 use Rattle.rl_asks.specs.ShardLaws.{IsDeskOf, IsNewDesk}
 use Rattle.rl_whole.specs.declared.card_state.CardState.TheVariants.{Free}

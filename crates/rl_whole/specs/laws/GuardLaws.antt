@@ -14,7 +14,7 @@ use Rattle.rl_step.specs.Do.{TheWindow, do_got}
 use Rattle.rl_step.specs.Core.{Turned, MayGet}
 use Rattle.rl_work.specs.declared.follow.Follow.{Follow}
 use Rattle.rl_work.specs.declared.follow.Follow.TheVariants.{On, Ask, Over}
-use Rattle.rl_work.specs.Site.{lock_base}
+use Rattle.rl_site.specs.Site.{lock_base}
 use Rattle.rl_work.specs.Ways.{WorkTable, Works, IsWorkAtom, IsFrontAtom, GoesOnAt, TouchesAs, TellsTouch}
 use Rattle.rl_asks.specs.Touches.{touches_of, IsGuarded}
 use Rattle.rl_whole.specs.declared.effect.Effect.{Effect}

@@ -16,9 +16,11 @@ use Rattle.rl_step.specs.declared.events.Standing.TheVariants.{Out, Asking, Writ
 use Rattle.rl_step.specs.Lock.{Deed, Rests, first_views}
 use Rattle.rl_step.specs.Do.{TheWindow}
 use Rattle.rl_step.specs.Core.{MayBe}
-use Rattle.rl_work.specs.Site.{lock_base}
-use Rattle.rl_work.specs.laws.OpeningLaws.{opening_size}
-use Rattle.rl_work.specs.Ways.{WorkSide, TheTranscript, GoesOnAt, IsFirst, IsOpen, IsSide, Takes, opening_words, opened_mode, opened_standing}
+use Rattle.rl_site.specs.Site.{lock_base}
+use Rattle.rl_site.specs.laws.OpeningLaws.{opening_size}
+use Rattle.rl_site.specs.Transcript.{TheTranscript}
+use Rattle.rl_site.specs.Opens.{IsOpen, opening_words}
+use Rattle.rl_work.specs.Ways.{WorkSide, GoesOnAt, IsFirst, IsSide, Takes, opened_mode, opened_standing}
 use Rattle.rl_whole.specs.declared.card_state.CardState.{CardState}
 use Rattle.rl_whole.specs.declared.card_state.CardState.TheVariants.{Free, InCard, Loaded, ToLeave}
 use Rattle.rl_whole.specs.Running.{LockAt, Goods, BothLaws}

@@ -19,7 +19,7 @@ use Rattle.rl_step.specs.Do.{TheWindow, do_got, do_atom, do_words, CanDo}
 use Rattle.rl_step.specs.Core.{CoreLaws, Turned, home_at}
 use Rattle.rl_work.specs.declared.follow.Follow.{Follow}
 use Rattle.rl_work.specs.declared.follow.Follow.TheVariants.{On, Ask, Over}
-use Rattle.rl_work.specs.Site.{lock_base}
+use Rattle.rl_site.specs.Site.{lock_base}
 use Rattle.rl_work.specs.Ways.{WorkSide, Worked, IsApart, IsLaid, IsSide, Works, IsWorkAtom, AsksOut, AnswersAs, side_turned, standing_after, standing_done, mode_after, tenure_of}
 use Rattle.rl_whole.specs.declared.card_state.CardState.TheVariants.{Free}
 use Rattle.rl_whole.specs.declared.effect.Effect.{Effect}

@@ -30,7 +30,7 @@ use Rattle.rl_step.specs.Lock.{IsHolder, LockTable, LockState, Deed, AllOut, Res
 use Rattle.rl_step.specs.Queues.{IsFifo, settled, passed, tenures}
 use Rattle.rl_step.specs.laws.QueueLemmas.{within_bound}
 use Rattle.rl_step.specs.QueuePromises.{KeepQueues, KeepBudgets, CountTenures}
-use Rattle.rl_work.specs.Site.{Site, lock_base, places, volume_of}
+use Rattle.rl_site.specs.Site.{Site, lock_base, places, volume_of}
 use Rattle.rl_work.specs.Ways.{WorkSide, WorkTable, GoesOnAt, transcripts_from}
 use Rattle.rl_asks.specs.Domains.{IsLocalAct}
 use Rattle.rl_asks.specs.Idle.{IsIdle}

@@ -32,13 +32,13 @@ use Rattle.rl_journal.specs.Ranks.{IsOwn}
 use Rattle.rl_model.specs.Asked.{asks_update}
 use Rattle.rl_journal.specs.laws.JournalLaws.{agrees_none}
 use Rattle.rl_journal.specs.laws.Lists.{all_at}
-use Rattle.rl_work.specs.Site.{Site, places, count_word, volume_base, journal_base, lock_base}
+use Rattle.rl_site.specs.Site.{Site, places, count_word, volume_base, journal_base, lock_base}
 use Rattle.rl_work.specs.Work.{batch_in, stores, CanName, CanTurn, CanDecide, write_atom, stage_atom, work_atom, stage_after, with_block, written_on}
-use Rattle.rl_work.specs.WorkGood.{WorkSide, IsApart, transcript_of, transcripts, IsOpen, IsDecided, IsReading, HasDecided, FitsAt, is_writing, IsDone, IsInCall, IsOwnTranscript, WorkGood, side_turned, side_after, HasOpen, opening_words, IsFirst}
-use Rattle.rl_work.specs.EndLaws.{Tells}
+use Rattle.rl_site.specs.Opens.{IsOpen, IsOwnTranscript, opening_words, Tells}
+use Rattle.rl_work.specs.WorkGood.{WorkSide, IsApart, transcript_of, transcripts, IsDecided, IsReading, HasDecided, FitsAt, is_writing, IsDone, IsInCall, WorkGood, side_turned, side_after, HasOpen, IsFirst}
 use Rattle.rl_work.specs.laws.EndLaws.{parts_tell}
 use Rattle.rl_work.specs.laws.TurnLaws.{turn_length}
-use Rattle.rl_work.specs.laws.OpeningLaws.{opening_size}
+use Rattle.rl_site.specs.laws.OpeningLaws.{opening_size}
 use Rattle.rl_work.specs.laws.RoomLaws.{place_left, journal_short}
 use Rattle.rl_work.specs.laws.SideLaws.{side_stays}
 use Rattle.rl_work.specs.laws.WorkLaws.{count_loaded, word_loaded, journal_stored, write_made, count_stored}

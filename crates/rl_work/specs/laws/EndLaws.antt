@@ -22,8 +22,9 @@ use Rattle.rl_journal.specs.Blocks.{calls_of, undone, batch_of, AreParts}
 use Rattle.rl_journal.specs.Ranks.{IsOwn}
 use Rattle.rl_model.specs.Asked.{asks_update}
 use Rattle.rl_work.specs.laws.TurnLaws.{entries_calls}
-use Rattle.rl_work.specs.Opens.{Tells}
-use Rattle.rl_work.specs.Work.{TheWork, TheTranscript, WorkTurned, stage_atom, write_atom, stage_after, with_seen, with_stop, with_call, batch_in, entries_of, block_close_by, block_close, stops_block, read_next, read_on, left_of, written_on, journal_on, to_stage}
+use Rattle.rl_site.specs.Opens.{Tells}
+use Rattle.rl_site.specs.Transcript.{TheTranscript}
+use Rattle.rl_work.specs.Work.{TheWork, WorkTurned, stage_atom, write_atom, stage_after, with_seen, with_stop, with_call, batch_in, entries_of, block_close_by, block_close, stops_block, read_next, read_on, left_of, written_on, journal_on, to_stage}
 use Rattle.rl_work.specs.EndLaws.{IsPlain, Rises}
 
 plain_write : (at : ℕ) (o : Option Write) → IsPlain (write_atom at o)

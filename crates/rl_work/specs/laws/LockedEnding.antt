@@ -7,7 +7,7 @@ use Rattle.rl_step.specs.Do.{do_got}
 use Rattle.rl_volume.specs.Words.{volume_words}
 use Rattle.rl_work.specs.declared.stage.Stage.{Stage}
 use Rattle.rl_work.specs.declared.stage.Stage.TheVariants.{Rest, Begin, Read, Journal, Volume}
-use Rattle.rl_work.specs.Site.{Site, lock_base}
+use Rattle.rl_site.specs.Site.{Site, lock_base}
 use Rattle.rl_work.specs.Work.{stage_atom, with_block, work_after}
 use Rattle.rl_work.specs.WorkGood.{FitsAt, WorkSide, WorkGood}
 use Rattle.rl_work.specs.Ways.{Works}

@@ -30,17 +30,18 @@ use Rattle.rl_journal.specs.History.{history, IsSorted}
 use Rattle.rl_work.specs.declared.follow.Follow.TheVariants.{Over}
 use Rattle.rl_work.specs.declared.stage.Stage.{Stage}
 use Rattle.rl_work.specs.declared.stage.Stage.TheVariants.{Rest, Begin, Read, Journal, Volume}
-use Rattle.rl_work.specs.Site.{Site, lock_base, volume_of}
+use Rattle.rl_site.specs.Site.{Site, lock_base, volume_of, journal_of}
 use Rattle.rl_work.specs.Work.{TheWork, WorkTurned, CanName, CanTurn, batch_in, has_work, stage_atom, stores, work_atom, work_after, write_atom}
-use Rattle.rl_work.specs.WorkGood.{WorkSide, IsApart as LockedApart, IsDone, IsInCall, FitsAt, WorkGood, is_writing, transcripts, opening_words, IsFirst as FirstLocked, side_turned as locked_turned, standing_after as locked_standing}
+use Rattle.rl_site.specs.Opens.{opening_words}
+use Rattle.rl_work.specs.WorkGood.{WorkSide, IsApart as LockedApart, IsDone, IsInCall, FitsAt, WorkGood, is_writing, transcripts, IsFirst as FirstLocked, side_turned as locked_turned, standing_after as locked_standing}
 use Rattle.rl_work.specs.laws.AtomLaws.{opening_good, open_keeps, shift_keeps, atom_keeps, atom_can, can_name, can_turn, holder_asks, stores_alone, few_replies, entry_calls}
-use Rattle.rl_work.specs.laws.OpeningLaws.{opening_size}
+use Rattle.rl_site.specs.laws.OpeningLaws.{opening_size}
 use Rattle.rl_work.specs.laws.RoomLaws.{journal_short}
 use Rattle.rl_work.specs.laws.RuleLaws.{journal_is, always_legal, always_sorted}
 use Rattle.rl_work.specs.EndLaws.{IsPlain, Rises}
 use Rattle.rl_work.specs.laws.EndLaws.{plain_atom, tells_rise, Ends, EndsBy, turn_ends}
 use Rattle.rl_work.specs.Locked.{mode_by, mode_of, follow_by, locked_table, locked_good}
-use Rattle.rl_work.specs.Ways.{WorkTable, WorkLaws, IsApart, IsSide, Works, IsFirst, IsWorkAtom, Look, AtomWork, MayWork, MayTurn, GoesOnAt, TouchesAs, AsksOut, journal_of, mode_after, side_after, standing_after, tenure_of, tenure_by, transcripts_from, IsFrontAtom, TellsTouch}
+use Rattle.rl_work.specs.Ways.{WorkTable, WorkLaws, IsApart, IsSide, Works, IsFirst, IsWorkAtom, Look, AtomWork, MayWork, MayTurn, GoesOnAt, TouchesAs, AsksOut, mode_after, side_after, standing_after, tenure_of, tenure_by, transcripts_from, IsFrontAtom, TellsTouch}
 
 -- a lock that readers share gives them to gets alone, and no writer to a get; another lock has no reader
 read_mode : (b : Bool) → mode_by b ≡ mode.Read → b ≡ true

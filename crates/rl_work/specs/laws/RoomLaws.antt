@@ -11,8 +11,9 @@ use Rattle.rl_model.specs.Table.{sum_below}
 use Rattle.rl_model.specs.declared.entry.Entry.{Entry}
 use Rattle.rl_model.specs.Asked.{asks_update}
 use Rattle.rl_journal.specs.Legal.{updates, is_of}
-use Rattle.rl_work.specs.Site.{Site, places}
-use Rattle.rl_work.specs.WorkGood.{WorkSide, transcript_of, HasOpen, WorkGood, places_needed}
+use Rattle.rl_site.specs.Site.{Site, places}
+use Rattle.rl_site.specs.Opens.{places_needed}
+use Rattle.rl_work.specs.WorkGood.{WorkSide, transcript_of, HasOpen, WorkGood}
 use Rattle.rl_model.proofs.Counts.{sum_of_counts, count-cons}
 
 -- the sum of a list is that of its elements by number

@@ -9,9 +9,9 @@ use Rattle.rl_journal.specs.Legal.{IsLegal}
 use Rattle.rl_journal.specs.Ranks.{IsOwn}
 use Rattle.rl_journal.specs.History.{history, Each, AreOwn, IsSorted}
 use Rattle.rl_journal.specs.laws.HistorySorted.{history_sorted}
-use Rattle.rl_work.specs.Site.{Site, journal_base}
-use Rattle.rl_work.specs.WorkGood.{WorkSide, WorkGood, transcripts, IsOwnTranscript}
-use Rattle.rl_work.specs.Rule.{journal_of}
+use Rattle.rl_site.specs.Site.{Site, journal_base, journal_of}
+use Rattle.rl_site.specs.Opens.{IsOwnTranscript}
+use Rattle.rl_work.specs.WorkGood.{WorkSide, WorkGood, transcripts}
 
 -- what holds of all elements, one by one
 each_of : (shard rank r : ℕ) → rank ≡ r → (es : List Entry) → All (IsOwn shard rank) es → Each (λ e. e.rank ≡ r) es

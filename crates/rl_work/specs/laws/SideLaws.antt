@@ -14,9 +14,10 @@ use Rattle.rl_journal.specs.Legal.{table_after, map_at, IsAnswered, updates, Beg
 use Rattle.rl_journal.specs.laws.LegalLaws.{map_end, legal_read, in_order_more, IsBefore, before_follows, marked, IsMarked}
 use Rattle.rl_journal.specs.laws.Lists.{all_at}
 use Rattle.rl_journal.specs.Ranks.{IsOwn}
-use Rattle.rl_work.specs.Site.{Site, count_word, journal_base, volume_of}
-use Rattle.rl_work.specs.Work.{TheTranscript}
-use Rattle.rl_work.specs.WorkGood.{WorkSide, WorkGood, Fits, IsOwnTranscript, is_writing, transcript_of, transcripts}
+use Rattle.rl_site.specs.Site.{Site, count_word, journal_base, volume_of}
+use Rattle.rl_site.specs.Transcript.{TheTranscript}
+use Rattle.rl_site.specs.Opens.{IsOwnTranscript}
+use Rattle.rl_work.specs.WorkGood.{WorkSide, WorkGood, Fits, is_writing, transcript_of, transcripts}
 
 module _ (site : Site) (words : List ℕ) (sides : List WorkSide) (g : WorkGood site words sides) (r : ℕ) (x : WorkSide) (has : slice_get sides r ≡ Some x) where
   pub the_transcript : slice_get (transcripts sides) r ≡ Some x.work.transcript.items

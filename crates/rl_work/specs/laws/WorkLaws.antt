@@ -40,11 +40,13 @@ use Rattle.rl_model.specs.Asked.{asks_update}
 use Rattle.rl_journal.specs.laws.JournalLaws.{agrees_elsewhere, agrees_append, agrees_more, length_spelled, spelled_append, agrees_none}
 use Rattle.rl_journal.specs.laws.LegalLaws.{table_more, legal_update, in_order_block}
 use Rattle.rl_journal.specs.laws.Lists.{filter_all, all_at}
-use Rattle.rl_work.specs.Site.{Site, places, count_word, volume_base, journal_base, volume_of}
+use Rattle.rl_site.specs.Site.{Site, places, count_word, volume_base, journal_base, volume_of}
 use Rattle.rl_work.specs.laws.TurnLaws.{written_append, turn_length, turn_table, turn_replies, any_append, batch_alone, batch_size, batch_few, batch_not_one, block_runs, block_stops, stops_is, goes_is, entries_calls, entries_replies, entries_length, entries_parts, entries_own}
-use Rattle.rl_work.specs.Work.{TheWork, TheTranscript, WorkTurned, at_rest, at_stage, to_stage, journal_on, with_seen, with_call, with_stop, batch_in, entries_of, block_close_by, block_close, stops_block, read_next, read_on, left_of, seen_on}
-use Rattle.rl_work.specs.WorkGood.{WorkSide, IsApart, transcripts, HasOpen, IsNext, IsDecided, FitsAt, Fits, IsSpelled, is_writing, IsPartly, HasDecided, IsReading, IsOwnTranscript, WorkGood, places_needed, side_turned}
-use Rattle.rl_work.specs.laws.VolumeLaws.{volume_before, volume_behind, volume_set, volume_get}
+use Rattle.rl_site.specs.Transcript.{TheTranscript}
+use Rattle.rl_work.specs.Work.{TheWork, WorkTurned, at_rest, at_stage, to_stage, journal_on, with_seen, with_call, with_stop, batch_in, entries_of, block_close_by, block_close, stops_block, read_next, read_on, left_of, seen_on}
+use Rattle.rl_site.specs.Opens.{IsOwnTranscript, places_needed}
+use Rattle.rl_work.specs.WorkGood.{WorkSide, IsApart, transcripts, HasOpen, IsNext, IsDecided, FitsAt, Fits, IsSpelled, is_writing, IsPartly, HasDecided, IsReading, WorkGood, side_turned}
+use Rattle.rl_site.specs.laws.VolumeLaws.{volume_before, volume_behind, volume_set, volume_get}
 use Rattle.rl_work.specs.laws.RoomLaws.{place_left}
 use Rattle.rl_work.specs.laws.SideLaws.{the_transcript, stands, legal_kept, one_moves, side_stays, entry_joins}
 

@@ -1,7 +1,7 @@
 -- One word more.
 use Rattle.std.proofs.Common.{◌≡◌, ◌+◌, ◌<◌, slice_index, slice_set, replicate, ap, sym, ◌∙◌, arith, rules}
-use Rattle.rl_work.specs.Site.{journal_base, lock_base}
-use Rattle.rl_work.specs.WorkGood.{opening_words}
+use Rattle.rl_site.specs.Site.{journal_base, lock_base}
+use Rattle.rl_site.specs.Opens.{opening_words}
 use Rattle.rl_asks.specs.laws.Filling.{opened_none, opened_next, opened_all}
 use Rattle.rl_asks.proofs.opening.first_words.Goals as goal
 

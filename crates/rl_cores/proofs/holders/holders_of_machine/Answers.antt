@@ -1,7 +1,7 @@
 -- Each shard of the machine meets the rule of its core.
 use Rattle.std.proofs.Common.{sym, subst}
 use Rattle.rl_work.specs.laws.LockedLaws.{locked_laws}
-use Rattle.rl_work.specs.Site.{Site}
+use Rattle.rl_site.specs.Site.{Site}
 use Rattle.rl_cores.specs.Holding.{KeepsReads}
 use Rattle.rl_cores.proofs.HolderLaws.{keeps_reads}
 use Rattle.rl_cores.proofs.holders.holders_of_machine.Goals as goal

@@ -1,7 +1,7 @@
 -- The rule of the window has the rule of the core.
 use Rattle.std.proofs.Common.{map}
 use Rattle.rl_work.specs.laws.LockedLaws.{locked_laws}
-use Rattle.rl_work.specs.Site.{Site}
+use Rattle.rl_site.specs.Site.{Site}
 use Rattle.rl_shard.specs.Counting.{whole_of}
 use Rattle.rl_shard.specs.Shards.{core_at}
 use Rattle.rl_cores.proofs.HolderLaws.{keeps_reads}

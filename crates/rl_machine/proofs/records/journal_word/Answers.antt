@@ -2,7 +2,7 @@
 use Rattle.std.proofs.Common.{◌≡◌, ◌+◌, ◌*◌, ◌≤◌, length, slice_index, ap, sym, subst, ◌∙◌, arith}
 use Rattle.rl_model.specs.Geom.{GeomFits}
 use Rattle.rl_step.specs.Do.{TheWindow}
-use Rattle.rl_work.specs.Site.{journal_base, lock_base}
+use Rattle.rl_site.specs.Site.{journal_base, lock_base}
 use Rattle.rl_asks.specs.laws.JournalLaws.{place_low}
 use Rattle.rl_machine.specs.laws.JournalAt.{short, all_words, fits, geom_fits}
 use Rattle.rl_machine.proofs.records.journal_word.Goals as goal

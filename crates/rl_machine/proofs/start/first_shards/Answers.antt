@@ -9,7 +9,7 @@ use Rattle.rl_ops.specs.laws.RoomLaws.{first_room}
 use Rattle.rl_machine.specs.Cores.{EachCore}
 use Rattle.rl_machine.specs.laws.CoreLaws.{core_more, home_there}
 use Rattle.rl_machine.specs.laws.ShardsMore.{shards_more, cores_more, length_cores, length_more}
-use Rattle.rl_work.specs.Site.{Site}
+use Rattle.rl_site.specs.Site.{Site}
 use Rattle.rl_asks.specs.ShardTables.{site_with}
 use Rattle.std.proofs.Math.Seq.{take-length}
 use Rattle.rl_asks.specs.laws.OpsBridge.{few_updates}

@@ -1,8 +1,8 @@
 use Rattle.std.proofs.Common.{◌∙◌, ◌++◌, ◌∷◌, [], ◌<◌, ◌≤◌, ap, refl, sym, arith, length, take}
 use Rattle.std.proofs.lemmas.List.{take_all}
 use Rattle.std.proofs.lemmas.Grind.{take_at_read}
-use Rattle.rl_work.specs.Opens.{opening_words}
-use Rattle.rl_work.specs.laws.OpeningLaws.{opening_size}
+use Rattle.rl_site.specs.Opens.{opening_words}
+use Rattle.rl_site.specs.laws.OpeningLaws.{opening_size}
 use Rattle.rl_seq.specs.TwoRanks.{two_place}
 use Rattle.rl_seq.proofs.tests.opening.Goals as goal
 

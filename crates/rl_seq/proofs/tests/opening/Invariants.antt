@@ -1,5 +1,5 @@
 use Rattle.std.proofs.Common.{◌≡◌, take}
-use Rattle.rl_work.specs.Opens.{opening_words}
+use Rattle.rl_site.specs.Opens.{opening_words}
 use Rattle.rl_seq.specs.TwoRanks.{two_place}
 use Rattle.rl_seq.proofs.tests.opening.Given as goal
 

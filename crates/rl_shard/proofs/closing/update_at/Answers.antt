@@ -1,6 +1,6 @@
 -- The six words of the place say its entry.
 use Rattle.std.proofs.Common.{◌≡◌, ◌+◌, ◌*◌, ◌/◌, ◌<◌, ◌≤◌, ◌^◌, length, slice_index, Some, ap, sym, ◌∙◌, subst, arith}
-use Rattle.rl_work.specs.Site.{journal_base}
+use Rattle.rl_site.specs.Site.{journal_base}
 use Rattle.rl_journal.specs.Journal.{entry_of, six_from}
 use Rattle.rl_shard.proofs.ClosingLaws.{left_low, left_entry, left_part}
 use Rattle.rl_shard.proofs.closing.update_at.Goals as goal

@@ -1,9 +1,9 @@
 use Rattle.std.proofs.Common.{◌≡◌, ◌∙◌, ◌+◌, ◌*◌, ◌++◌, ◌∷◌, [], ◌<◌, ◌≤◌, ap, sym, arith, length, replicate, take}
 use Rattle.std.proofs.lemmas.List.{append_assoc, append-nil, replicate_more, take_all}
 use Rattle.std.proofs.lemmas.Grind.{take_at_read}
-use Rattle.rl_work.specs.Ways.{opening_words}
-use Rattle.rl_work.specs.laws.OpeningLaws.{opening_size}
-use Rattle.rl_work.specs.Site.{journal_base, places}
+use Rattle.rl_site.specs.Opens.{opening_words}
+use Rattle.rl_site.specs.laws.OpeningLaws.{opening_size}
+use Rattle.rl_site.specs.Site.{journal_base, places}
 use Rattle.table_tests.proofs.bench.opening.Goals as goal
 
 pub loop-word-preserved : goal.loop-word-preserved

@@ -1,6 +1,6 @@
 use Rattle.std.proofs.Common.{◌≡◌, ◌++◌, replicate, take}
-use Rattle.rl_work.specs.Ways.{opening_words}
-use Rattle.rl_work.specs.Site.{Site, places}
+use Rattle.rl_site.specs.Opens.{opening_words}
+use Rattle.rl_site.specs.Site.{Site, places}
 use Rattle.table_tests.proofs.bench.opening.Given as goal
 
 abbrev pub invariant-loop-word : goal.invariant-loop-word

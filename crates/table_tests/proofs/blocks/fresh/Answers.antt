@@ -1,8 +1,8 @@
 use Rattle.std.proofs.Common.{◌≡◌, ◌∙◌, sym, subst, refl, arith}
 use Rattle.std.proofs.lemmas.List.{append-nil}
 use Rattle.rl_step.specs.declared.events.Standing.TheVariants.{Out}
-use Rattle.rl_work.specs.Site.{places}
-use Rattle.rl_work.specs.Ways.{opening_words}
+use Rattle.rl_site.specs.Site.{places}
+use Rattle.rl_site.specs.Opens.{opening_words}
 use Rattle.table_tests.specs.OneRank.{one_site, IsAlone}
 use Rattle.table_tests.proofs.AloneLaws.{at_first}
 use Rattle.table_tests.proofs.blocks.fresh.Goals as goal

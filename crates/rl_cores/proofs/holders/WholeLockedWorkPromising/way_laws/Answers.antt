@@ -1,5 +1,5 @@
 use Rattle.rl_work.specs.laws.LockedLaws.{locked_laws}
-use Rattle.rl_work.specs.Site.{Site}
+use Rattle.rl_site.specs.Site.{Site}
 use Rattle.rl_cores.proofs.HolderLaws.{keeps_reads}
 use Rattle.rl_cores.proofs.holders.WholeLockedWorkPromising.way_laws.Goals as goal
 

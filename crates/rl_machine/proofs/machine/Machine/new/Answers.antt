@@ -1,7 +1,7 @@
 -- What was made is the start, and the start has all that is true of a machine.
 use Rattle.std.proofs.Common.{ℕ, List, ◌∙◌, ap, sym, subst, length, map, replicate}
 use Rattle.rl_word.specs.Shapes.{layout_of}
-use Rattle.rl_work.specs.Site.{Site}
+use Rattle.rl_site.specs.Site.{Site}
 use Rattle.rl_model.specs.declared.call.Call.{Call}
 use Rattle.rl_model.specs.declared.geom.Geom.{Geom}
 use Rattle.rl_step.specs.declared.tallies.Steps.{Steps}

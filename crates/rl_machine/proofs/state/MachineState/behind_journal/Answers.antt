@@ -1,7 +1,7 @@
 -- The shard is the one with this number, and its journal has few places.
 use Rattle.std.proofs.Common.{◌≡◌, slice_get, Some, ap, sym, ◌∙◌}
 use Rattle.std.proofs.lemmas.Option.{slice_get-get_or}
-use Rattle.rl_work.specs.Site.{lock_base}
+use Rattle.rl_site.specs.Site.{lock_base}
 use Rattle.rl_machine.specs.Run.{on_shard}
 use Rattle.rl_machine.specs.laws.StateLaws.{is_there, few_places}
 use Rattle.rl_machine.proofs.state.MachineState.behind_journal.Goals as goal

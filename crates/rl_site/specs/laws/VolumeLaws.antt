@@ -4,7 +4,7 @@ use Rattle.std.proofs.Common.{◌∙◌, ap, arith, get_or-drop}
 use Rattle.std.proofs.lemmas.List.{drop-set-add, drop-set-lt, take-set-le, get_or-take}
 use Rattle.rl_model.specs.declared.geom.Geom.{Geom}
 use Rattle.rl_volume.specs.Words.{volume_words}
-use Rattle.rl_work.specs.Site.{volume_of}
+use Rattle.rl_site.specs.Site.{volume_of}
 
 module _ (geom : Geom) where
   -- a write to the volume

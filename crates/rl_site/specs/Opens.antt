@@ -1,14 +1,19 @@
 -- A block that may be opened, a rank's own entries, and the words before the lock's at the start: the same for every way of working.
 use Rattle.std.specs.Prelude.{◌≡◌, ℕ, ◌+◌, ◌*◌, ◌^◌, ◌<◌, ◌≤◌, Bool, true, false, List, [], ◌∷◌, ◌++◌, All, length, replicate, count_by, slice_index}
 use Rattle.rl_model.specs.declared.call.Call.{Call}
+use Rattle.rl_model.specs.declared.call.Call.TheVariants as call
 use Rattle.rl_model.specs.declared.entry.Entry.{Entry}
 use Rattle.rl_model.specs.Call.{shard_of}
 use Rattle.rl_model.specs.Asked.{IsAsked, asks_update}
 use Rattle.rl_volume.specs.Volume.{start_words}
 use Rattle.rl_journal.specs.Legal.{updates}
 use Rattle.rl_journal.specs.Ranks.{IsInOrder, IsOwn}
-use Rattle.rl_work.specs.Site.{Site, places}
-use Rattle.rl_work.specs.Transcript.{TheTranscript}
+use Rattle.rl_site.specs.Site.{Site, places}
+use Rattle.rl_site.specs.Transcript.{TheTranscript}
+
+-- one get, in no batch
+abbrev pub IsGetAlone : List Call → Type 0
+IsGetAlone calls = (key : ℕ) × (calls ≡ call.Get key ∷ [])
 
 -- the places that so many calls need in the journal
 abbrev pub places_needed : Bool → ℕ → ℕ

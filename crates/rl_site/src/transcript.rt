@@ -16,7 +16,7 @@ pub struct Transcript {
 
 impl Model for Transcript {
     ghost use Rattle.std.specs.Prelude.{◌≤◌, length, vec_capacity};
-    ghost use Rattle.rl_work.specs.Transcript.{TheTranscript};
+    ghost use Rattle.rl_site.specs.Transcript.{TheTranscript};
 
     ghost Value = { TheTranscript };
 

@@ -2,8 +2,8 @@ use Rattle.std.proofs.Common.{◌∙◌, ◌<◌, ◌≤◌, ◌-◌, ap, sym, a
 use Rattle.rl_model.specs.declared.geom.Geom.{Geom}
 use Rattle.rl_volume.specs.Words.{volume_words}
 use Rattle.rl_volume.specs.Volume.{start_words}
-use Rattle.rl_work.specs.laws.OpeningLaws.{opening_in_volume, opening_behind}
-use Rattle.rl_work.proofs.site.opening_word.Goals as goal
+use Rattle.rl_site.specs.laws.OpeningLaws.{opening_in_volume, opening_behind}
+use Rattle.rl_site.proofs.site.opening_word.Goals as goal
 
 pub returns-then-word-volume_words : goal.returns-then-word-volume_words
 returns-then-word-volume_words c s is =

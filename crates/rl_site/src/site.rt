@@ -1,8 +1,8 @@
 // What place a shard has in the table, and where the parts of its window lie that the work is done on.
 ghost use Rattle.std.specs.Prelude.{◌≡◌, slice_index};
 ghost use Rattle.rl_model.specs.Geom.{GeomFits};
-ghost use Rattle.rl_work.specs.Site as site;
-ghost use Rattle.rl_work.specs.WorkGood.{opening_words};
+ghost use Rattle.rl_site.specs.Site as site;
+ghost use Rattle.rl_site.specs.Opens.{opening_words};
 
 use rl_model::Geom;
 use rl_volume::{start_word, volume_words};

@@ -5,8 +5,8 @@ use Rattle.std.proofs.lemmas.List.{length-replicate, get_or_append_left, get_or-
 use Rattle.rl_volume.specs.Words.{volume_words}
 use Rattle.rl_volume.specs.Volume.{start_words}
 use Rattle.rl_volume.proofs.StartLaws.{start_size}
-use Rattle.rl_work.specs.Site.{Site, places, lock_base}
-use Rattle.rl_work.specs.WorkGood.{opening_words}
+use Rattle.rl_site.specs.Site.{Site, places, lock_base}
+use Rattle.rl_site.specs.Opens.{opening_words}
 
 zero_at : (n i : ℕ) → slice_index (replicate n 0) i ≡ 0
 zero_at zero i = refl

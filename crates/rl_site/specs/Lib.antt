@@ -1,0 +1,5 @@
+-- to be believed, in reading order
+pub mod Site
+pub mod Transcript
+pub mod Opens
+pub mod laws
