@@ -1,4 +1,4 @@
--- of laws/Rounds: moved_to lost_to turned after_found rounds_table CanGoOn GoOn rounds_rule
+-- The core that the tests use: a rank's view is the atom that it makes next, and a round makes each of the seven kinds once.
 use Rattle.std.specs.Prelude.{◌≡◌, ℕ, ◌+◌, ◌%◌, ◌^◌, ◌==◌, List, [], length, if◌then◌else◌, slice_get, Option, Some, None}
 use Rattle.rl_word.specs.declared.acts.Atom.{Atom}
 use Rattle.rl_word.specs.declared.acts.Atom.TheVariants.{Load, Store, LocalCas, Take, CardLoad, CardStore, Leave}

@@ -1,4 +1,4 @@
--- of laws/Tower: top group node storeys tower
+-- A proper shape of three levels for the tests: one rank on a node under a group under the root.
 use Rattle.std.proofs.Common.{[], ◌∷◌, List, Some, None}
 use Rattle.rl_word.specs.declared.shapes.Element.{Element}
 use Rattle.rl_word.specs.Shapes.{TheShape}

@@ -5,7 +5,7 @@ use Rattle.rl_step.specs.Queues.{tenures}
 use Rattle.rl_queue.specs.declared.view.Phase.{Phase}
 use Rattle.rl_queue.specs.declared.view.Phase.TheVariants.{Idle, Settle, Look, Above}
 use Rattle.rl_queue.specs.Lane.{served}
-use Rattle.rl_queue.specs.QueueLaws.{QueueGood}
+use Rattle.rl_queue.specs.QueueGood.{QueueGood}
 use Rattle.rl_queue.specs.RankWords.{every_second}
 use Rattle.rl_queue.specs.RankViews.{of_rank}
 use Rattle.rl_alock.specs.declared.cohort.Cohort.{Cohort}

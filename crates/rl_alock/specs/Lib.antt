@@ -3,7 +3,5 @@ pub mod Alock
 pub mod AlockLeft
 pub mod AlockUrgency
 pub mod AlockGood
-pub mod AlockBounded
-pub mod AlockOvertakes
-pub mod AlockPots
+pub mod Overtakes
 pub mod laws

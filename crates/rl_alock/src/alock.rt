@@ -8,7 +8,7 @@ ghost use Rattle.rl_queue.specs.RankWords.{Seated};
 ghost use Rattle.rl_alock.specs.declared.cohort.Cohort.TheVariants.{Local, Remote};
 ghost use Rattle.rl_alock.specs.Alock.{cohort_names, cohort_no, cohorts_of, cohort_by, names_of, entry_act as the_entry_act, settles_now, entry_told, entry_of, alock_table, BoundsOvertaking};
 ghost use Rattle.rl_alock.specs.laws.SameViews.{same_alock};
-ghost use Rattle.rl_alock.specs.AlockBounded.{AlockBounded};
+ghost use Rattle.rl_alock.specs.Overtakes.{AlockBounded};
 ghost use Rattle.rl_alock.specs.laws.AlockBounded.{bounded_laws};
 
 use crate::cohort::Cohort;

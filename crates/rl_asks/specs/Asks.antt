@@ -1,8 +1,8 @@
 -- What a rank asks for, as its list of calls with a size for each: blocks, one after the other.
-use Rattle.std.specs.Prelude.{◌≡◌, ◌<◌, ℕ, zero, suc, List, [], ◌∷◌, ◌++◌, All, take, drop, length, map, slice_get, slice_index, Option, Some, None, Bool, ◌==◌}
+use Rattle.std.specs.Prelude.{◌≡◌, ◌<◌, ℕ, zero, suc, List, [], ◌∷◌, ◌++◌, All, take, drop, length, map, slice_get, slice_index, Option, Some, None, Bool, ◌==◌, ◌&&◌}
 use Rattle.rl_model.specs.declared.call.Call.{Call}
 use Rattle.rl_model.specs.declared.geom.Geom.{Geom}
-use Rattle.rl_model.specs.Call.{shard_of}
+use Rattle.rl_model.specs.Call.{shard_of, is_update}
 use Rattle.rl_model.specs.Asked.{IsAsked}
 pub use Rattle.rl_ops.specs.Asked.{asked_after, asked_of}
 
@@ -44,3 +44,7 @@ call_shard geom (Some call) = shard_of geom call
 abbrev pub place_after : Geom → List Call → ℕ → ℕ
 place_after geom calls zero = 0
 place_after geom calls (suc n) = call_shard geom (slice_get calls n)
+
+-- an update of the shard
+abbrev pub is_update_on : Geom → ℕ → Call → Bool
+is_update_on geom s call = is_on geom s call && is_update call

@@ -15,5 +15,4 @@ pub mod ShardLaws
 pub mod GoodStates
 pub mod ShardEnding
 pub mod ShardGuiding
-pub mod AskLaws
 pub mod laws

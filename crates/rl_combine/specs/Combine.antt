@@ -279,3 +279,20 @@ combine_table S node =
       spares = λ shares. false;
       batches = false;
     }
+
+-- the rank whose flag the sweep has found 1, and not made 2 yet
+abbrev pub found : Stage → Option ℕ
+found Rest = None
+found (Post made) = None
+found Raise = None
+found Look = None
+found Count = None
+found (Sweep owner) = None
+found (Copy owner made) = Some owner
+found (Read owner word) = Some owner
+found (Journal owner made) = Some owner
+found (Volume owner made) = Some owner
+found (Answer owner made) = Some owner
+found (Mark owner) = Some owner
+found (Collect made) = None
+found Lower = None

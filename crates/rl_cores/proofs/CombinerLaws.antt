@@ -31,11 +31,10 @@ use Rattle.rl_asks.specs.ShardTables.{ShardTable}
 use Rattle.rl_combine.specs.declared.stage.Stage.{Stage}
 use Rattle.rl_combine.specs.declared.stage.Stage.TheVariants.{Sweep, Copy, Read, Journal, Volume, Answer, Mark, Rest, Post, Raise, Look, Count, Collect, Lower}
 use Rattle.rl_combine.specs.Posts.{CombineSite, ThePost, ranks_of, post_of, post_word, flag_word}
-use Rattle.rl_combine.specs.Combine.{TheCombineSide, Opened, opened_of, combine_table, early, is_open, stage_atom, stage_after, read_next, sweep_on, to_collect, to_stage, with_nothing, with_posted, with_copied, with_word}
+use Rattle.rl_combine.specs.Combine.{TheCombineSide, Opened, opened_of, combine_table, early, is_open, stage_atom, stage_after, read_next, sweep_on, to_collect, to_stage, with_nothing, with_posted, with_copied, with_word, found}
 use Rattle.rl_combine.specs.CombineGood.{RankSide, CombineGood, OwnAt, SweepAt, Progress, waits, handled, counted, answered, IsPosted, IsCounted, IsLeft, IsToEnd, IsAnswering, IsReading, reading, front_of}
 use Rattle.rl_combine.specs.Sweep.{IsLate, IsLateAt, FlagSays, MayWrite, FlagMoves, passes, raises, lowers, marks}
 use Rattle.rl_combine.specs.laws.PostLaws.{front_get}
-use Rattle.rl_combine.specs.SideLaws.{found}
 use Rattle.rl_combine.specs.laws.SideLaws.{posted_at}
 use Rattle.rl_combine.specs.laws.SeatLaws.{counted_as}
 use Rattle.rl_combine.specs.laws.LookLaws.{handed_at, no_more_entries}

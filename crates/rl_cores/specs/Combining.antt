@@ -13,9 +13,8 @@ use Rattle.rl_model.specs.Call.{is_update}
 use Rattle.rl_combine.specs.declared.stage.Stage.{Stage}
 use Rattle.rl_combine.specs.declared.stage.Stage.TheVariants.{Count, Sweep, Copy, Read, Answer, Mark, Collect}
 use Rattle.rl_combine.specs.Posts.{CombineSite, post_word, flag_word}
-use Rattle.rl_combine.specs.Combine.{TheCombineSide, early}
+use Rattle.rl_combine.specs.Combine.{TheCombineSide, early, found}
 use Rattle.rl_combine.specs.CombineGood.{RankSide}
-use Rattle.rl_combine.specs.SideLaws.{found}
 use Rattle.rl_combine.specs.Sweep.{FlagSays, FlagMoves}
 use Rattle.rl_whole.specs.declared.whole.WholeView.{WholeView}
 

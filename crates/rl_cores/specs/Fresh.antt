@@ -1,4 +1,4 @@
--- of laws/Fresh: IsFresh AreTwo AreFreshTwo
+-- For tests: a seat that can begin one call.
 use Rattle.std.specs.Prelude.{◌≡◌, ◌≤◌, ℕ, [], slice_index}
 use Rattle.rl_model.specs.declared.geom.Geom.{Geom}
 use Rattle.rl_word.specs.Acts.{Layout}

@@ -1,4 +1,3 @@
 -- to be believed
 pub mod WayOn
-pub mod WayOnLaws
 pub mod laws

@@ -1,12 +1,13 @@
 -- A way on to the end of all calls, and the turns that it is written as.
-use Rattle.std.specs.Prelude.{◌≢◌, ℕ, ◌<◌, List, [], ◌∷◌}
+use Rattle.std.specs.Prelude.{◌≢◌, ℕ, ◌<◌, List, [], ◌∷◌, ◌≡◌, ◌+◌, ◌++◌}
 use Rattle.rl_ops.specs.declared.schedule.Turn.{Turn}
 use Rattle.rl_ops.specs.declared.schedule.Turn.TheVariants.{Steps, Stop}
-use Rattle.rl_ops.specs.Schedule.{rank_of}
+use Rattle.rl_ops.specs.Schedule.{rank_of, TurnFits}
 use Rattle.rl_asks.specs.ShardGuiding.{UrgentOf}
 use Rattle.rl_machine.specs.Running.{Running}
-use Rattle.rl_machine.specs.Run.{stepped}
+use Rattle.rl_machine.specs.Run.{stepped, ranks_of, steps_in}
 use Rattle.rl_machine.specs.GoesNext.{GoesNext}
+use Rattle.std.specs.List.{AllByRecursion}
 
 -- each rank of the list is the one that goes next at its moment; of a machine over these cores
 module _ {C V : Type 0} (urgent : UrgentOf C V) (cores : List C) where
@@ -24,3 +25,10 @@ abbrev pub AreWhole : List Turn → Type 0
 AreWhole [] = Unit {0}
 AreWhole (t ∷ []) = HasSteps t
 AreWhole (t ∷ u ∷ ts) = HasSteps t × (rank_of t ≢ rank_of u) × AreWhole (u ∷ ts)
+
+-- these turns have one step more, of this rank
+pub record HaveOneMore (ts : List Turn) (rank : ℕ) (us : List Turn) : Type 0 where
+  pub ranks : ranks_of us ≡ ranks_of ts ++ rank ∷ []
+  pub steps : steps_in us ≡ steps_in ts + 1
+  pub fit : (n : ℕ) → rank < n → AllByRecursion (TurnFits n) ts → AllByRecursion (TurnFits n) us
+  pub whole : AreWhole us

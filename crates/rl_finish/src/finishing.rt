@@ -7,8 +7,7 @@ ghost use Rattle.rl_ops.specs.Schedule.{TurnFits};
 ghost use Rattle.rl_machine.specs.MachineEnding.{AllDone, machine_left};
 ghost use Rattle.rl_machine.specs.Run.{run_of, ranks_of, steps_in};
 ghost use Rattle.rl_machine.specs.Running.{running, cores_of};
-ghost use Rattle.rl_finish.specs.WayOn.{IsWayOn, AreWhole};
-ghost use Rattle.rl_finish.specs.WayOnLaws.{HaveOneMore};
+ghost use Rattle.rl_finish.specs.WayOn.{IsWayOn, AreWhole, HaveOneMore};
 
 use rl_asks::ShardGuiding;
 use rl_machine::Machine;

@@ -1,4 +1,4 @@
--- of laws/Choosing: sooner_if sooner
+-- Who goes next of the ranks that were looked at so far: the most urgent, and of these the first.
 use Rattle.std.specs.Prelude.{ℕ, Bool, true, false, nat_lt, Option, Some, None}
 use Rattle.rl_machine.specs.declared.machine.guiding.Urgent.{Urgent}
 

@@ -22,5 +22,4 @@ pub mod State
 pub mod MachineGood
 pub mod Ruled
 pub mod Choosing
-pub mod RoundSteps
 pub mod laws

@@ -1,5 +1,5 @@
 -- A machine as a value: its shards, each with its table, and what the ranks ask for.
-use Rattle.std.specs.Prelude.{ℕ, List, map}
+use Rattle.std.specs.Prelude.{ℕ, List, map, slice_set}
 use Rattle.rl_model.specs.declared.call.Call.{Call}
 use Rattle.rl_model.specs.declared.geom.Geom.{Geom}
 use Rattle.rl_step.specs.declared.events.Event.{Event}
@@ -56,3 +56,8 @@ shard_cores shards = map (λ s. s.core) shards
 
 abbrev pub cores_of : {C V : Type 0} → TheMachine C V → List C
 cores_of m = shard_cores m.shards
+
+module _ {V : Type 0} where
+  -- the shard once rank k has this view, and the machine then, with these counts
+  abbrev pub viewed : ShardRun V → ℕ → V → ShardRun V
+  viewed S k y = record { table = S.table; held = S.held; views = slice_set S.views k y; trace = S.trace }

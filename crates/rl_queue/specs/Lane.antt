@@ -209,3 +209,13 @@ LineStep m (Swing g) (Link h) l k = (x : ℕ) × ((r : List ℕ) × ((l ≡ x �
 LineStep m (Close left) Idle l k = (l ≡ m ∷ []) × (k ≡ [])
 LineStep m (Hand s left) q l k = (r : List ℕ) × ((l ≡ m ∷ s ∷ r) × (k ≡ s ∷ r))
 LineStep m p q l k = k ≡ l
+
+-- how a first member stands that isn't just waiting with status 0
+abbrev pub IsFirst : Phase → ℕ → Type 0
+IsFirst Idle s = ⊥
+IsFirst Clear s = ⊥
+IsFirst Reset s = ⊥
+IsFirst (Swing g) s = ⊥
+IsFirst (Link g) s = ⊥
+IsFirst Wait s = 0 < s
+IsFirst _ s = Unit {0}

@@ -1,7 +1,7 @@
 -- to be believed, in reading order
 pub mod Queue
 pub mod Lane
-pub mod QueueLaws
+pub mod QueueGood
 pub mod QueueStatements
 pub mod RankWords
 pub mod RankViews
@@ -10,12 +10,6 @@ pub mod Dmcs
 pub mod DmcsLeft
 pub mod Urgency
 pub mod DmcsUrgency
-pub mod LaneLaws
-pub mod QueueActs
-pub mod QueueCredit
-pub mod QueueFits
-pub mod QueueFrame
-pub mod QueueHeads
-pub mod QueueMoves
-pub mod TraceLaws
+pub mod Heads
+pub mod QueuesApart
 pub mod laws

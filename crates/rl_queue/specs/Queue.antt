@@ -176,3 +176,9 @@ pub record PlanFits (n : TheNames) (m : ℕ) (p : Phase) : Type 0 where
   pub alike : length n.status ≡ length n.next
   pub named : m < length n.next
   pub phase : PhaseFits (length n.next) p
+
+-- an act is planned exactly where a member is joining or leaving
+abbrev pub MakesActs : Stage → Type 0
+MakesActs stage.Joining = Unit {0}
+MakesActs stage.Leaving = Unit {0}
+MakesActs _ = ⊥

@@ -10,14 +10,10 @@ use Rattle.rl_step.specs.Queues.{IsWithin, IsFifo, settled, passed}
 use Rattle.rl_queue.specs.declared.view.Phase.{Phase}
 use Rattle.rl_queue.specs.declared.view.Phase.TheVariants.{Idle, Clear, Settle, Granted, Look, Above}
 use Rattle.rl_queue.specs.Queue.{TheNames, full_budget, status_word, plan_at, turn_at, settled_at, resume_at, PlanFits, GotFits}
-use Rattle.rl_queue.specs.Lane.{lane_of, told_left, served, IsAlone, SuitsAlone, LineStep}
-use Rattle.rl_queue.specs.LaneLaws.{IsFirst}
-use Rattle.rl_queue.specs.TraceLaws.{Apart}
-use Rattle.rl_queue.specs.QueueHeads.{head_in}
-use Rattle.rl_queue.specs.QueueCredit.{Spends}
-use Rattle.rl_queue.specs.QueueFrame.{AreApart, AllApart, Place}
-use Rattle.rl_queue.specs.QueueLaws.{IsNaming, QueueGood, Moves}
-use Rattle.rl_queue.specs.QueueMoves.{ActMoves, ActGoes}
+use Rattle.rl_queue.specs.Lane.{lane_of, told_left, served, IsAlone, SuitsAlone, LineStep, IsFirst}
+use Rattle.rl_queue.specs.QueuesApart.{Apart, AreApart, AllApart, Place}
+use Rattle.rl_queue.specs.Heads.{head_in, Spends}
+use Rattle.rl_queue.specs.QueueGood.{IsNaming, QueueGood, Moves, ActMoves, ActGoes}
 
 -- the members that a test names
 abbrev pub In : (ℕ → Bool) → ℕ → Type 0

@@ -2,9 +2,8 @@
 
 ghost use Rattle.std.specs.Prelude.{◌≡◌, ◌↔◌, ℕ, ◌+◌, ◌-◌, ◌<◌, ◌^◌, [], Some, None, length, drop};
 ghost use Rattle.rl_word.specs.declared.acts.Act.{Act as TheAct};
-ghost use Rattle.rl_queue.specs.QueueFits.{MakesActs};
+ghost use Rattle.rl_queue.specs.Queue.{MakesActs, PlanFits, GotFits, swap_act, code_of, code_left, look_at, plan_at, turn_at, told_by, at_phase, IsGranted, settled_at, leave_at, resume_at, stage_at, TheNames as TheQueueNames};
 ghost use Rattle.rl_step.specs.Lock.{told_with};
-ghost use Rattle.rl_queue.specs.Queue.{PlanFits, GotFits, swap_act, code_of, code_left, look_at, plan_at, turn_at, told_by, at_phase, IsGranted, settled_at, leave_at, resume_at, stage_at};
 ghost use Rattle.rl_queue.specs.Standings.{standing_of};
 ghost use Rattle.rl_queue.specs.Urgency.{loaded, urgent_at};
 
@@ -33,7 +32,6 @@ pub struct QueueNames {
 }
 
 impl Model for QueueNames {
-    ghost use Rattle.rl_queue.specs.Queue.{TheNames as TheQueueNames};
 
     ghost Value = { TheQueueNames };
 

@@ -5,8 +5,7 @@ use Rattle.rl_model.specs.declared.call.Call.{Call}
 use Rattle.rl_model.specs.declared.geom.Geom.{Geom}
 use Rattle.rl_model.specs.Geom.{GeomFits}
 use Rattle.rl_site.specs.Site.{Site}
-use Rattle.rl_asks.specs.Asks.{is_on, AreBlocks, place_after}
-use Rattle.rl_asks.specs.AskLaws.{is_update_on}
+use Rattle.rl_asks.specs.Asks.{is_on, AreBlocks, place_after, is_update_on}
 use Rattle.rl_asks.specs.Desks.{Desk}
 use Rattle.rl_asks.specs.RankGood.{RankGood}
 use Rattle.rl_run.specs.Rows.{IsRow}

@@ -10,8 +10,7 @@ use Rattle.rl_queue.specs.declared.view.Phase.TheVariants.{Settle}
 use Rattle.rl_tree.specs.declared.view.TreeView.{TreeView}
 use Rattle.rl_tree.specs.Tree.{at_hook, tree_standing}
 use Rattle.rl_tree.specs.Elements.{ranks_in}
-use Rattle.rl_tree.specs.TreeGood.{GoodAt}
-use Rattle.rl_tree.specs.TreeStandings.{IsAbove}
+use Rattle.rl_tree.specs.TreeGood.{GoodAt, IsAbove}
 use Rattle.rl_counter.specs.declared.view.Doing.{Doing}
 use Rattle.rl_counter.specs.declared.view.Doing.TheVariants.{Nothing, Refused, SeeTail, Round, RoundTail, Put, Count, Compare, TakeOut, TakeOff}
 use Rattle.rl_counter.specs.CounterGood.{AllGood, IsMark, mark_by}

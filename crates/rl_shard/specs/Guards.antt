@@ -1,4 +1,4 @@
--- of laws/Guards: NamesAs ComesAs AllComeAs ComesThere StoresThere OneStores
+-- Who comes to count, volume and journal, the words before the lock's, on a shard that threads share.
 use Rattle.std.specs.Prelude.{◌≡◌, ◌⊎◌, ◌≤◌, ◌<◌, ℕ, List, slice_get, Some}
 use Rattle.rl_word.specs.declared.acts.Atom.{Atom}
 use Rattle.rl_word.specs.declared.acts.Atom.TheVariants as atom

@@ -5,5 +5,4 @@ pub mod Fits
 pub mod TreeGood
 pub mod TreeShape
 pub mod TreeFacts
-pub mod TreeStandings
 pub mod laws

@@ -12,7 +12,7 @@ use Rattle.rl_step.specs.Queues.{IsWithin, IsFifo, settled, passed, tenures}
 use Rattle.rl_queue.specs.declared.view.Phase.{Phase}
 use Rattle.rl_queue.specs.declared.view.Phase.TheVariants.{Clear, Settle}
 use Rattle.rl_queue.specs.Queue.{leave_at}
-use Rattle.rl_queue.specs.QueueLaws.{QueueGood}
+use Rattle.rl_queue.specs.QueueGood.{QueueGood}
 use Rattle.rl_tree.specs.declared.view.TreeView.{TreeView}
 use Rattle.rl_tree.specs.Tree.{has_above, path, at_level, tree_plan, tree_learn, at_hook, tree_resume, tree_standing, entry_if}
 use Rattle.rl_tree.specs.declared.rooted.Rooted.{Rooted}

@@ -8,8 +8,8 @@ use Rattle.rl_step.specs.Queues.{tenures}
 use Rattle.rl_queue.specs.declared.view.Phase.{Phase}
 use Rattle.rl_queue.specs.declared.view.Phase.TheVariants.{Idle, Clear, Reset, Swing, Link, Wait, Settle, Granted, Look, Close, Await, Hand, Above}
 use Rattle.rl_queue.specs.Lane.{lane_of, is_pass}
-use Rattle.rl_queue.specs.QueueLaws.{QueueGood}
-use Rattle.rl_queue.specs.QueueHeads.{Head, head_in}
+use Rattle.rl_queue.specs.QueueGood.{QueueGood}
+use Rattle.rl_queue.specs.Heads.{Head, head_in}
 use Rattle.rl_queue.specs.Standings.{standing_of}
 use Rattle.rl_tree.specs.declared.view.TreeView.{TreeView}
 use Rattle.rl_tree.specs.Tree.{has_above, hook_by, path, works_for, behind_at}
@@ -161,3 +161,8 @@ root_open K words phase line = is_open (gate_of (head_in (lane_of (names_in K 0)
 pub record GoodAt (K : Rooted) (levels : ℕ) (inside : Bool) (words : List ℕ) (views : List TreeView) (trace : List Event) : Type 0 where
   pub tree : TreeGood K levels words views trace
   pub gate : root_open K words tree.phase tree.line ≡ inside
+
+-- it gives up what is above
+abbrev pub IsAbove : Phase → Type 0
+IsAbove (Above succ) = Unit {0}
+IsAbove p = ⊥

@@ -1,4 +1,4 @@
--- of laws/Domains: UsesLocals KeepsToCards KeepsToLocals
+-- Which atoms a rank's next one may be: those of cards only where the rank may make acts through cards.
 use Rattle.std.specs.Prelude.{◌≡◌, ℕ, true, List, Some}
 use Rattle.rl_word.specs.declared.acts.Act.{Act}
 use Rattle.rl_word.specs.declared.acts.Atom.{Atom}

@@ -12,5 +12,5 @@ pub mod WholeGuiding
 -- what is good of a shard
 pub mod WholeShards
 pub mod SeenLoads
-pub mod Changes
+pub mod Holders
 pub mod laws

@@ -1,4 +1,4 @@
--- of laws/Whole: side_of shifted shifted_answer planned_in work_plan lock_or_work next_of is_at_work whole_turned left_by followed touch_by departure_by work_events work_turned effect_turned after_of home_of_word whole_table is_open made_deeds lock_words split_of work_side desk_by own_desk told_desk counts Good rule_of IsShiftable IsAnswerShiftable
+-- A rank's whole machine over any lock: the lock's atoms, and the work of a block while it holds; and the rule of its window.
 use Rattle.std.specs.Prelude.{◌≡◌, ℕ, ◌+◌, ◌-◌, ◌^◌, ◌<◌, List, [], ◌∷◌, ◌++◌, Bool, true, false, ◌||◌, length, map, take, drop, count_by, if◌then◌else◌, nat_lt, slice_get, Option, Some, None}
 use Rattle.rl_word.specs.declared.classes.Mode.{Mode}
 use Rattle.rl_word.specs.declared.acts.Atom.{Atom}

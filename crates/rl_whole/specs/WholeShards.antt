@@ -16,7 +16,7 @@ use Rattle.rl_whole.specs.declared.whole.WholeView.{WholeView}
 use Rattle.rl_whole.specs.Running.{LockAt, Tables, Goods, lock_at}
 use Rattle.rl_whole.specs.Opening.{first_view, opened_in}
 use Rattle.rl_whole.specs.Split.{card_of}
-use Rattle.rl_whole.specs.Changes.{Match}
+use Rattle.rl_whole.specs.Holders.{Match}
 use Rattle.rl_whole.specs.Whole.{Good, counts, own_desk, told_desk, whole_table, made_deeds}
 
 -- how a rank with this view stands at the lock

@@ -12,10 +12,10 @@ use Rattle.rl_queue.specs.declared.view.Phase.{Phase}
 use Rattle.rl_queue.specs.declared.view.Phase.TheVariants.{Idle}
 use Rattle.rl_queue.specs.Queue.{TheNames, Turn, status_word, plan_at, turn_at}
 use Rattle.rl_queue.specs.Lane.{served}
-use Rattle.rl_queue.specs.QueueLaws.{QueueGood}
+use Rattle.rl_queue.specs.QueueGood.{QueueGood}
 use Rattle.rl_queue.specs.laws.QueueLaws.{still_keeps}
 use Rattle.rl_queue.specs.laws.QueueMoves.{act_keeps}
-use Rattle.rl_queue.specs.QueueFrame.{AllApart}
+use Rattle.rl_queue.specs.QueuesApart.{AllApart}
 use Rattle.rl_queue.specs.laws.QueueFrame.{beside_all_keep, other_queue_keeps}
 use Rattle.rl_alock.specs.declared.view.Entry.{Entry}
 use Rattle.rl_alock.specs.declared.view.Entry.TheVariants.{Announce, Victim}

@@ -12,7 +12,7 @@ use Rattle.rl_queue.specs.declared.view.Phase.{Phase}
 use Rattle.rl_queue.specs.declared.view.Phase.TheVariants.{Idle, Clear, Settle, Granted, Look, Above}
 use Rattle.rl_queue.specs.laws.Choices.{other_test}
 use Rattle.rl_queue.specs.Queue.{leave_at}
-use Rattle.rl_queue.specs.LaneLaws.{IsFirst}
+use Rattle.rl_queue.specs.Lane.{IsFirst}
 use Rattle.rl_queue.specs.laws.QueueMoves.{one_first}
 use Rattle.rl_queue.specs.Standings.{standing_of}
 use Rattle.rl_queue.specs.laws.StandingLaws.{out_idle, no_reader}
@@ -27,12 +27,10 @@ use Rattle.rl_alock.specs.laws.CohortLaws.{other_differs, other_cohort}
 use Rattle.rl_alock.specs.laws.AlockViews.{phase_get, entry_get, mine_is}
 use Rattle.rl_alock.specs.laws.AlockKeeps.{none_listed, announced_listed, both_lines, by_test, load_same}
 use Rattle.rl_alock.specs.laws.AlockLaws.{alock_laws}
-use Rattle.rl_alock.specs.AlockPots.{pot}
-use Rattle.rl_alock.specs.AlockOvertakes.{Overtaken, pot_in}
+use Rattle.rl_alock.specs.Overtakes.{pot, Overtaken, pot_in, AlockBounded}
 use Rattle.rl_alock.specs.laws.AlockOvertakes.{pot_by, goes_on, plus_zero, queue_overtakes, still_overtakes, settle_overtakes, announce_overtakes}
 use Rattle.rl_step.specs.Overtaking.{window_of}
 use Rattle.rl_step.specs.laws.OvertakingLaws.{is_overtaken}
-use Rattle.rl_alock.specs.AlockBounded.{AlockBounded}
 
 module _ (K : Cohorts) where
   -- a head in the entry is the only first of its cohort

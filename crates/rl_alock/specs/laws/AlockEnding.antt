@@ -30,7 +30,7 @@ use Rattle.rl_alock.specs.Alock.{Cohorts, ranks_of, budget_in, cohort_of, cohort
 use Rattle.rl_alock.specs.AlockGood.{AlockGood, InCohort, Flat, phases_of}
 use Rattle.rl_alock.specs.laws.AlockViews.{phase_get, mine_is}
 use Rattle.rl_alock.specs.laws.CohortLaws.{other_differs, same_no}
-use Rattle.rl_alock.specs.AlockBounded.{AlockBounded}
+use Rattle.rl_alock.specs.Overtakes.{AlockBounded}
 use Rattle.rl_alock.specs.AlockLeft.{far, near, far_of, near_of, alock_left}
 use Rattle.rl_ending.specs.Ending.{LockEnds, CanGoOn}
 use Rattle.rl_ending.specs.laws.SumLaws.{nearer, less_change, grows}

@@ -23,7 +23,7 @@ use Rattle.rl_alock.specs.declared.view.AlockView.{AlockView}
 use Rattle.rl_alock.specs.Alock.{Cohorts, ranks_of, budget_in, cohort_of, cohort_no, tail_no, victim_no, other, names_of, at_entry, alock_table}
 use Rattle.rl_alock.specs.AlockGood.{AlockGood, InCohort, phases_of}
 use Rattle.rl_alock.specs.laws.AlockViews.{phase_get, mine_is}
-use Rattle.rl_alock.specs.AlockBounded.{AlockBounded}
+use Rattle.rl_alock.specs.Overtakes.{AlockBounded}
 use Rattle.rl_alock.specs.AlockLeft.{alock_left}
 use Rattle.rl_alock.specs.AlockUrgency.{head_urgent, rank_urgent, alock_urgent}
 use Rattle.rl_alock.specs.laws.AlockEnding.{Hangs, goes_by, lane, member_in, one_hangs}

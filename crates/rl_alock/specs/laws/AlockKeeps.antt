@@ -17,11 +17,11 @@ use Rattle.rl_queue.specs.declared.view.Phase.TheVariants.{Idle, Clear, Reset, S
 use Rattle.rl_queue.specs.Queue.{TheNames, Turn, status_word, plan_at, turn_at}
 use Rattle.rl_queue.specs.Lane.{Listed, lane_of, served}
 use Rattle.rl_queue.specs.laws.LaneLaws.{in_line}
-use Rattle.rl_queue.specs.QueueLaws.{QueueGood}
+use Rattle.rl_queue.specs.QueueGood.{QueueGood}
 use Rattle.rl_queue.specs.laws.QueueLaws.{still_keeps}
 use Rattle.rl_queue.specs.laws.QueueMoves.{act_keeps, settle_keeps, beside_keeps}
 use Rattle.rl_queue.specs.laws.QueueActs.{tail_last}
-use Rattle.rl_queue.specs.QueueFrame.{Place, AllApart}
+use Rattle.rl_queue.specs.QueuesApart.{Place, AllApart}
 use Rattle.rl_queue.specs.laws.QueueFrame.{act_place, elsewhere_keeps, beside_all_keep}
 use Rattle.rl_queue.specs.laws.PhaseLaws.{served_busy, served_listed}
 use Rattle.rl_queue.specs.laws.QueueTurns.{empty_unlisted}

@@ -18,12 +18,10 @@ use Rattle.rl_queue.specs.declared.view.Phase.{Phase}
 use Rattle.rl_queue.specs.declared.view.Phase.TheVariants.{Idle, Clear, Link, Settle, Granted, Look, Hand}
 use Rattle.rl_queue.specs.laws.Choices.{choose}
 use Rattle.rl_queue.specs.Queue.{next_word, status_word, plan_at, turn_at}
-use Rattle.rl_queue.specs.Lane.{Awaits, SuitsAlone, Listed, Busy, Own, served}
-use Rattle.rl_queue.specs.LaneLaws.{IsFirst}
+use Rattle.rl_queue.specs.Lane.{Awaits, SuitsAlone, Listed, Busy, Own, served, IsFirst, lane_of}
 use Rattle.rl_queue.specs.laws.LaneLaws.{in_line}
 use Rattle.rl_queue.specs.laws.LaneMoves.{link_guess}
-use Rattle.rl_queue.specs.Lane.{lane_of}
-use Rattle.rl_queue.specs.QueueLaws.{QueueGood}
+use Rattle.rl_queue.specs.QueueGood.{QueueGood}
 use Rattle.rl_queue.specs.laws.QueueLaws.{still_keeps}
 use Rattle.rl_queue.specs.laws.QueueMoves.{join_keeps, leave_keeps, beside_keeps, hand_succ, one_first, queue_fifo, queue_within, queue_counted}
 use Rattle.rl_queue.specs.laws.RankWordLaws.{all_zero}

@@ -15,13 +15,12 @@ use Rattle.rl_queue.specs.declared.view.Phase.{Phase}
 use Rattle.rl_queue.specs.declared.view.Phase.TheVariants.{Idle, Clear, Reset, Swing, Link, Wait, Settle, Granted, Look, Close, Await, Hand}
 use Rattle.rl_queue.specs.laws.Choices.{same_test, other_test}
 use Rattle.rl_queue.specs.Queue.{TheNames, Turn, status_word, full_budget, plan_at, turn_at}
-use Rattle.rl_queue.specs.Lane.{lane_of, Busy, Own}
-use Rattle.rl_queue.specs.LaneLaws.{IsFirst}
+use Rattle.rl_queue.specs.Lane.{lane_of, Busy, Own, IsFirst}
 use Rattle.rl_queue.specs.laws.QueueMoves.{act_keeps, one_first}
 use Rattle.rl_queue.specs.laws.QueueActs.{first_code}
-use Rattle.rl_queue.specs.QueueFrame.{Place}
+use Rattle.rl_queue.specs.QueuesApart.{Place}
 use Rattle.rl_queue.specs.laws.QueueFrame.{act_place}
-use Rattle.rl_queue.specs.QueueHeads.{head_in}
+use Rattle.rl_queue.specs.Heads.{head_in}
 use Rattle.rl_alock.specs.declared.view.Entry.{Entry}
 use Rattle.rl_alock.specs.declared.view.Entry.TheVariants.{Announce, Tail, Victim}
 use Rattle.rl_alock.specs.declared.view.AlockView.{AlockView}
@@ -34,11 +33,10 @@ use Rattle.rl_alock.specs.laws.AlockWords.{named_in, victim_apart, cohorts_apart
 use Rattle.rl_alock.specs.laws.AlockTurns.{entry_all}
 use Rattle.rl_queue.specs.laws.QueueTurns.{turn_all}
 use Rattle.rl_queue.specs.laws.PhaseLaws.{first_busy}
-use Rattle.rl_alock.specs.AlockPots.{pot}
+use Rattle.rl_alock.specs.Overtakes.{pot, pot_in, Overtaken}
 use Rattle.rl_alock.specs.laws.AlockPots.{pot_victim, pot_first, head_pot, enters, act_pots, pot_of_head, head_is}
 use Rattle.rl_step.specs.Overtaking.{opened, one_more, window_after, window_of, Low, OvertakenFrom}
 use Rattle.rl_step.specs.laws.OvertakingLaws.{window-append, overtaken-append}
-use Rattle.rl_alock.specs.AlockOvertakes.{pot_in, Overtaken}
 
 -- what entering adds, and how many enter by it
 entry_both : (P : List Event → ℕ → Type 0) (m : ℕ) (q : Phase) → P [] 0 → P (event.EnterW m ∷ []) 1 → P (entry_of m q) (enters q)

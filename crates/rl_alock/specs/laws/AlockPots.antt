@@ -13,18 +13,16 @@ use Rattle.rl_queue.specs.declared.view.Phase.{Phase}
 use Rattle.rl_queue.specs.declared.view.Phase.TheVariants.{Idle, Clear, Reset, Swing, Link, Wait, Settle, Granted, Look, Close, Await, Hand, Above}
 use Rattle.rl_queue.specs.laws.Choices.{choose}
 use Rattle.rl_queue.specs.Queue.{TheNames, status_word, code_of, code_left, Turn, moves_to, moves_with, waits_at, joined_at, look_at, hand_turn, plan_at, turn_at}
-use Rattle.rl_queue.specs.Lane.{lane_of, Lane, Has, LineStep}
-use Rattle.rl_queue.specs.LaneLaws.{IsFirst}
+use Rattle.rl_queue.specs.Lane.{lane_of, Lane, Has, LineStep, IsFirst}
 use Rattle.rl_queue.specs.laws.LaneLaws.{is_first, in_line}
-use Rattle.rl_queue.specs.QueueLaws.{IsNaming, QueueGood}
+use Rattle.rl_queue.specs.QueueGood.{IsNaming, QueueGood, ActMoves}
 use Rattle.rl_queue.specs.laws.QueueActs.{code_more}
-use Rattle.rl_queue.specs.QueueMoves.{ActMoves}
-use Rattle.rl_queue.specs.QueueHeads.{Head, head_in}
+use Rattle.rl_queue.specs.Heads.{Head, head_in}
 use Rattle.rl_queue.specs.laws.QueueHeads.{head, HeadStep, head_act}
 use Rattle.rl_queue.specs.laws.QueueServed.{wait_found}
 use Rattle.rl_alock.specs.declared.view.Entry.{Entry}
 use Rattle.rl_alock.specs.declared.view.Entry.TheVariants.{Announce, Tail, Victim}
-use Rattle.rl_alock.specs.AlockPots.{pot}
+use Rattle.rl_alock.specs.Overtakes.{pot}
 
 -- the victim may enter no more
 pub pot_victim : (B : ℕ) (y : Bool) (e : Entry) (p : Phase) (s : ℕ) → pot B true e p s ≤ pot B y e p s

@@ -3,7 +3,7 @@ use Rattle.std.specs.Prelude.{◌≡◌, ◌≢◌, ◌⊎◌, ℕ, true, false,
 use Rattle.std.proofs.Common.{sym, ◌∙◌, ap, ⊎_elim}
 use Rattle.rl_step.specs.Lock.{first_views}
 use Rattle.rl_queue.specs.declared.view.Phase.TheVariants.{Idle}
-use Rattle.rl_queue.specs.QueueLaws.{Moves}
+use Rattle.rl_queue.specs.QueueGood.{Moves}
 use Rattle.rl_queue.specs.laws.RankViewLaws.{read_get, read_set_same, read_set_other, read_all, read_first}
 use Rattle.rl_alock.specs.declared.cohort.Cohort.{Cohort}
 use Rattle.rl_alock.specs.declared.view.Entry.TheVariants.{Announce}

@@ -3,8 +3,8 @@ use Rattle.std.specs.Prelude.{◌≡◌, ◌⊎◌, ℕ, ◌+◌, ◌*◌, ◌<�
 use Rattle.std.proofs.Common.{sym, ◌∙◌, ap, inl, inr, ⊎_elim, arith}
 use Rattle.rl_queue.specs.Queue.{next_word, status_word}
 use Rattle.rl_queue.specs.laws.RankWordLaws.{every_second_at}
-use Rattle.rl_queue.specs.QueueLaws.{IsNaming}
-use Rattle.rl_queue.specs.QueueFrame.{Place, AreApart}
+use Rattle.rl_queue.specs.QueueGood.{IsNaming}
+use Rattle.rl_queue.specs.QueuesApart.{Place, AreApart}
 use Rattle.rl_alock.specs.declared.cohort.Cohort.{Cohort}
 use Rattle.rl_alock.specs.Alock.{Cohorts, cohort_of, ranks_of, tail_no, victim_no, names_of, other}
 use Rattle.rl_alock.specs.AlockGood.{InCohort}

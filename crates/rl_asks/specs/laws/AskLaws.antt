@@ -15,9 +15,8 @@ use Rattle.rl_model.proofs.Counts.{count-append, count-cons}
 use Rattle.rl_ops.specs.Ops.{total_calls}
 use Rattle.rl_journal.specs.Blocks.{batch_of}
 use Rattle.rl_site.specs.Opens.{places_needed}
-use Rattle.rl_asks.specs.Asks.{is_on, sizes_in, IsBlockOf, AreBlocks, block_from, block_shard, call_shard, place_after, asked_after, asked_of}
+use Rattle.rl_asks.specs.Asks.{is_on, sizes_in, IsBlockOf, AreBlocks, block_from, block_shard, call_shard, place_after, asked_after, asked_of, is_update_on}
 use Rattle.rl_asks.specs.RankGood.{AsksNext}
-use Rattle.rl_asks.specs.AskLaws.{is_update_on}
 
 -- ---- lists
 

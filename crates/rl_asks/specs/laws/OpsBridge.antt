@@ -17,8 +17,7 @@ use Rattle.rl_ops.specs.Blocks.{sizes_of, shard_among, AreOneBlock}
 use Rattle.rl_ops.specs.Ops as ops
 use Rattle.rl_ops.specs.Ops.{total_calls, EachOfBlocks, OpsFit}
 use Rattle.rl_ops.specs.Room.{updates_on}
-use Rattle.rl_asks.specs.Asks.{sizes_in, IsBlockOf, AreBlocks}
-use Rattle.rl_asks.specs.AskLaws.{is_update_on}
+use Rattle.rl_asks.specs.Asks.{sizes_in, IsBlockOf, AreBlocks, is_update_on}
 use Rattle.rl_asks.specs.laws.AskLaws.{few_calls}
 
 module _ (geom : Geom) (fits : GeomFits geom) where

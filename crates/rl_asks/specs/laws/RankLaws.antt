@@ -18,8 +18,7 @@ use Rattle.rl_journal.specs.laws.RankLaws.{block_more}
 use Rattle.rl_site.specs.Site.{Site}
 use Rattle.rl_site.specs.Transcript.{TheTranscript}
 use Rattle.rl_site.specs.Opens.{IsOpen, Tells}
-use Rattle.rl_asks.specs.Asks.{is_on, AreBlocks, place_after, asked_of}
-use Rattle.rl_asks.specs.AskLaws.{is_update_on}
+use Rattle.rl_asks.specs.Asks.{is_on, AreBlocks, place_after, asked_of, is_update_on}
 use Rattle.rl_asks.specs.laws.AskLaws.{NextBlock, take_more, stands_at, calls_there, asks_next, inside, rest_behind, all_on, none_on, room_for, updates_room}
 use Rattle.rl_asks.specs.Desks.{Desk, IsDesk, OpensBlock, KeepsBlock, EndsBlock, Turns, entries_of}
 use Rattle.rl_asks.specs.RankGood.{AsksNext, IsAtWork, IsOn, RankGood, IsFreshDesk, entries_in}

@@ -23,11 +23,10 @@ use Rattle.rl_work.specs.laws.RuleLaws.{always_legal}
 use Rattle.rl_combine.specs.declared.stage.Stage.{Stage}
 use Rattle.rl_combine.specs.declared.stage.Stage.TheVariants.{Rest, Post, Raise, Look, Count, Sweep, Copy, Read, Journal, Volume, Answer, Mark, Collect, Lower}
 use Rattle.rl_combine.specs.Posts.{CombineSite, ThePost, ranks_of, post_word, flag_word, post_of, answered_entry}
-use Rattle.rl_combine.specs.Combine.{TheCombineSide, opened_of, combine_after, combine_table, is_open, early, stage_atom, stage_after, to_stage, to_collect, with_copied, with_posted, with_word, read_next, read_on, written_on, decided_stage}
+use Rattle.rl_combine.specs.Combine.{TheCombineSide, opened_of, combine_after, combine_table, is_open, early, stage_atom, stage_after, to_stage, to_collect, with_copied, with_posted, with_word, read_next, read_on, written_on, decided_stage, found}
 use Rattle.rl_combine.specs.CombineGood.{RankSide, front_of, IsAnswered, Progress, waits, handled, counted, answered, IsPosted, OwnAt, SweepAt, CombineGood, deciding}
 use Rattle.rl_combine.specs.Sweep.{after_all, atoms_of, StoresTwo, IsLate, FlagSays, StoresFlag, FlagMoves, passes, raises, lowers, marks}
 use Rattle.rl_combine.specs.laws.PostLaws.{others_stay, posts_stay, flag_stored}
-use Rattle.rl_combine.specs.SideLaws.{found}
 use Rattle.rl_combine.specs.laws.MoveLaws.{seat_of, is_rank}
 use Rattle.rl_combine.specs.laws.OwnLaws.{found_flag}
 use Rattle.rl_combine.specs.laws.SeatLaws.{seat_word}

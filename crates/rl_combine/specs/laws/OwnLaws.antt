@@ -14,10 +14,9 @@ use Rattle.rl_work.specs.WorkGood.{WorkSide as Seat, IsDone}
 use Rattle.rl_combine.specs.declared.stage.Stage.{Stage}
 use Rattle.rl_combine.specs.declared.stage.Stage.TheVariants.{Rest, Post, Raise, Look, Count, Sweep, Copy, Read, Journal, Volume, Answer, Mark, Collect, Lower}
 use Rattle.rl_combine.specs.Posts.{CombineSite, ThePost, ranks_of, post_word, post_of, post_spelling, answered_entry}
-use Rattle.rl_combine.specs.Combine.{TheCombineSide, Opened, opened_of, in_hand, combine_table, stage_after, sweep_on, to_collect, to_stage, with_nothing, with_copied}
+use Rattle.rl_combine.specs.Combine.{TheCombineSide, Opened, opened_of, in_hand, combine_table, stage_after, sweep_on, to_collect, to_stage, with_nothing, with_copied, found}
 use Rattle.rl_combine.specs.CombineGood.{RankSide, front_of, HasAsked, IsPosting, IsAnswered, Progress, waits, handled, counted, answered, IsPosted, IsCollecting, IsSweeping, IsCopying, IsAnswering, IsLeft, IsToEnd, OwnAt, SweepAt, CombineGood}
 use Rattle.rl_combine.specs.laws.PostLaws.{others_stay, call_word, answer_word, flag_stored, call_stored, front_get, front_behind, copies_on, stores_on}
-use Rattle.rl_combine.specs.SideLaws.{found}
 use Rattle.rl_combine.specs.laws.SideLaws.{sweep_any, flag_at}
 use Rattle.rl_combine.specs.laws.MoveLaws.{Keeps, seat_of, side_of, is_rank, only_writer, own_moves}
 

@@ -33,10 +33,9 @@ use Rattle.rl_work.specs.laws.AtomLaws.{atom_can, atom_keeps, shift_keeps, open_
 use Rattle.rl_combine.specs.declared.stage.Stage.{Stage}
 use Rattle.rl_combine.specs.declared.stage.Stage.TheVariants.{Copy, Read, Journal, Volume, Answer, Mark}
 use Rattle.rl_combine.specs.Posts.{CombineSite, ThePost, post_word, post_of, post_spelling, posted_call, posted_seq, answer_spelling, answered_entry}
-use Rattle.rl_combine.specs.Combine.{TheCombineSide, Opened, opened_of, in_hand, combine_table, stage_after, sweep_on, to_stage, at_stage, with_copied, with_posted, with_word, with_decision, read_next, read_on, decided_stage, written_on}
+use Rattle.rl_combine.specs.Combine.{TheCombineSide, Opened, opened_of, in_hand, combine_table, stage_after, sweep_on, to_stage, at_stage, with_copied, with_posted, with_word, with_decision, read_next, read_on, decided_stage, written_on, found}
 use Rattle.rl_combine.specs.CombineGood.{RankSide, front_of, Waits, IsInHand, IsCounted, Progress, waits, handled, counted, answered, IsPosted, IsCombiner, IsSweeping, IsCopying, HasEntry, IsAnswering, IsLeft, IsToEnd, OwnAt, SweepAt, CombineGood, reading, deciding}
 use Rattle.rl_combine.specs.laws.PostLaws.{others_stay, posts_stay, call_word, flag_stored, answer_stored, front_get, front_set, front_behind, copies_on, stores_on, call_back, reply_back}
-use Rattle.rl_combine.specs.SideLaws.{found}
 use Rattle.rl_combine.specs.laws.SideLaws.{posted_at, posted_on}
 use Rattle.rl_combine.specs.laws.MoveLaws.{SeatGoesOn, Keeps, Combines, combiner_of, seat_of, held_by, seats_apart, writer_moves, combiner_moves}
 use Rattle.rl_combine.specs.laws.OwnLaws.{found_flag, sweeps_on}

@@ -12,8 +12,7 @@ use Rattle.rl_machine.specs.Running.{Running}
 use Rattle.rl_machine.specs.Run.{stepped, run_of, turn_ranks, ranks_of, steps_in}
 use Rattle.rl_machine.specs.laws.ReplayLaws.{run_append, replicate-end}
 use Rattle.rl_machine.specs.GoesNext.{GoesNext}
-use Rattle.rl_finish.specs.WayOn.{IsWayOn, HasSteps, AreWhole}
-use Rattle.rl_finish.specs.WayOnLaws.{HaveOneMore}
+use Rattle.rl_finish.specs.WayOn.{IsWayOn, HasSteps, AreWhole, HaveOneMore}
 
 -- a way on goes on by whoever goes next at its end
 pub way_more : {C V : Type 0} (urgent : UrgentOf C V) (cores : List C) (m : Running V) (ranks : List ℕ) (rank : ℕ) → IsWayOn urgent cores m ranks → GoesNext urgent cores (run_of m ranks) rank → IsWayOn urgent cores m (ranks ++ rank ∷ [])

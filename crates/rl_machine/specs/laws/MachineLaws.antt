@@ -14,8 +14,7 @@ use Rattle.rl_step.specs.Answers.{counted, steps_made}
 use Rattle.rl_step.specs.Do.{do_got}
 use Rattle.rl_step.specs.Lock.{Deed}
 use Rattle.rl_site.specs.Opens.{IsOpen}
-use Rattle.rl_asks.specs.Asks.{block_shard, place_after}
-use Rattle.rl_asks.specs.AskLaws.{is_update_on}
+use Rattle.rl_asks.specs.Asks.{block_shard, place_after, is_update_on}
 use Rattle.rl_asks.specs.laws.AskLaws.{NextBlock, next_of_blocks, size_is, block_is, block_at, stands_at}
 use Rattle.rl_asks.specs.Desks.{Desk, IsDesk, OpensBlock, Turns}
 use Rattle.rl_asks.specs.RankGood.{RankGood}

@@ -16,7 +16,7 @@ use Rattle.rl_asks.specs.ShardLaws.{GoodOf}
 use Rattle.rl_asks.specs.ShardTables.{ShardTable}
 use Rattle.rl_machine.specs.declared.shard.ShardState.{ShardState}
 use Rattle.rl_machine.specs.declared.state.MachineState.{MachineState}
-use Rattle.rl_machine.specs.Running.{ShardRun, Running, shard_run, running}
+use Rattle.rl_machine.specs.Running.{ShardRun, Running, shard_run, running, viewed}
 use Rattle.rl_machine.specs.ShardSteps.{numbered, makes, made_at, atom_on, answer_to, answer_at, answer_on, open_at, open_on}
 use Rattle.rl_machine.specs.Run.{changed, changed_if, on_shard, calls_by, place_of, has_open_call, opens, opened_if, atom_answer, atom_made, stepped}
 use Rattle.rl_machine.specs.MachineGood.{IsMachine}
@@ -26,7 +26,6 @@ use Rattle.rl_machine.specs.laws.RestLaws.{open_shuts}
 use Rattle.rl_machine.specs.Rested.{IsInRound}
 use Rattle.rl_machine.specs.State.{shard_view, machine_view}
 use Rattle.rl_machine.specs.laws.StateLaws.{is_there, shard_set}
-use Rattle.rl_machine.specs.RoundSteps.{viewed}
 
 module _ {V : Type 0} where
   abbrev pub viewed_on : Running V → ℕ → ℕ → ShardRun V → V → Steps → Running V

@@ -3,12 +3,11 @@
 ghost use Rattle.std.specs.Prelude.{◌≡◌, ◌-◌, ◌<◌, ◌^◌, length, slice_set, IfSome};
 ghost use Rattle.rl_step.specs.Answers.{steps_made};
 ghost use Rattle.rl_asks.specs.Rounds.{turned_round};
-ghost use Rattle.rl_machine.specs.Running.{running, cores_of};
+ghost use Rattle.rl_machine.specs.Running.{running, cores_of, viewed};
 ghost use Rattle.rl_machine.specs.Run.{stepped};
 ghost use Rattle.rl_machine.specs.State.{running_shard, machine_view, OfView};
 ghost use Rattle.rl_machine.specs.MachineGood.{IsMachine};
 ghost use Rattle.rl_machine.specs.Rested.{RestsAt, IsInRound, GoesRound};
-ghost use Rattle.rl_machine.specs.RoundSteps.{viewed};
 
 use crate::machine::Machine;
 use crate::shard::ShardState;

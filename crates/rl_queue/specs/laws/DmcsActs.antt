@@ -14,7 +14,7 @@ use Rattle.rl_queue.specs.declared.view.Phase.{Phase}
 use Rattle.rl_queue.specs.declared.view.Phase.TheVariants.{Settle, Granted, Hand}
 use Rattle.rl_queue.specs.declared.view.QueueView.{QueueView}
 use Rattle.rl_queue.specs.Queue.{TheNames, Turn, at_phase, plan_at, turn_at}
-use Rattle.rl_queue.specs.QueueLaws.{QueueGood}
+use Rattle.rl_queue.specs.QueueGood.{QueueGood}
 use Rattle.rl_queue.specs.laws.QueueLaws.{still_keeps}
 use Rattle.rl_queue.specs.laws.QueueMoves.{act_keeps, settle_keeps, beside_keeps, hand_succ}
 use Rattle.rl_queue.specs.Dmcs.{dmcs_names, dmcs_enter, dmcs_learn, dmcs_queue, dmcs_table, phase_in, Calm, Below, DmcsGood}

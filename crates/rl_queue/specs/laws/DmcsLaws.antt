@@ -18,9 +18,8 @@ use Rattle.rl_queue.specs.declared.view.Phase.{Phase}
 use Rattle.rl_queue.specs.declared.view.Phase.TheVariants.{Idle, Clear, Link, Granted, Look}
 use Rattle.rl_queue.specs.declared.view.QueueView.{QueueView}
 use Rattle.rl_queue.specs.Queue.{next_word, status_word, at_phase, plan_at, turn_at, PlanFits, PhaseFits, GotFits}
-use Rattle.rl_queue.specs.Lane.{Awaits, SuitsAlone, Listed, Busy, Own}
-use Rattle.rl_queue.specs.LaneLaws.{IsFirst}
-use Rattle.rl_queue.specs.QueueLaws.{QueueGood}
+use Rattle.rl_queue.specs.Lane.{Awaits, SuitsAlone, Listed, Busy, Own, IsFirst}
+use Rattle.rl_queue.specs.QueueGood.{QueueGood}
 use Rattle.rl_queue.specs.laws.QueueMoves.{join_keeps, leave_keeps, beside_keeps, one_first, queue_fifo, queue_counted}
 use Rattle.rl_queue.specs.laws.QueueFits.{plan_fits, learn_fits, alone_finds, alone_moves_on, waits_on}
 use Rattle.rl_queue.specs.laws.Choices.{lt_test}

@@ -5,7 +5,7 @@ use Rattle.rl_queue.specs.declared.view.Phase.{Phase}
 use Rattle.rl_queue.specs.declared.view.Phase.TheVariants.{Idle, Settle, Granted, Above}
 use Rattle.rl_queue.specs.declared.view.QueueView.{QueueView}
 use Rattle.rl_queue.specs.Queue.{at_phase, plan_at}
-use Rattle.rl_queue.specs.QueueLaws.{Moves}
+use Rattle.rl_queue.specs.QueueGood.{Moves}
 use Rattle.rl_queue.specs.Dmcs.{dmcs_names, phase_in, Calm}
 use Rattle.rl_queue.specs.laws.RankViewLaws.{read_get, read_set_same, read_set_other, read_all, read_first}
 use Rattle.rl_queue.specs.Standings.{standing_of}

@@ -13,7 +13,7 @@ use Rattle.rl_queue.specs.declared.view.Phase.{Phase}
 use Rattle.rl_queue.specs.declared.view.Phase.TheVariants.{Clear, Reset, Swing, Link, Wait, Look, Close, Await, Hand}
 use Rattle.rl_queue.specs.laws.Choices.{other_test}
 use Rattle.rl_queue.specs.Queue.{next_word, status_word, plan_at, PlanFits}
-use Rattle.rl_queue.specs.QueueLaws.{IsNaming}
+use Rattle.rl_queue.specs.QueueGood.{IsNaming}
 use Rattle.rl_queue.specs.RankWords.{Seated}
 use Rattle.rl_queue.specs.laws.RankWordLaws.{every_second_at}
 use Rattle.rl_queue.specs.Dmcs.{dmcs_names, dmcs_spot, Below}

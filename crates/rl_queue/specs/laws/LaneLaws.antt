@@ -4,9 +4,8 @@ use Rattle.std.proofs.Common.{sym, ◌∙◌, ap, subst, inl, inr, ⊎_elim, ari
 use Rattle.rl_word.specs.laws.Places.{same_or_not}
 use Rattle.rl_queue.specs.declared.view.Phase.{Phase}
 use Rattle.rl_queue.specs.declared.view.Phase.TheVariants.{Idle, Clear, Reset, Swing, Link, Wait, Settle}
-use Rattle.rl_queue.specs.Lane.{Lane, Has, Distinct, last_of, Listed, Busy, Leads, Line, Own, QueueInvariant}
+use Rattle.rl_queue.specs.Lane.{Lane, Has, Distinct, last_of, Listed, Busy, Leads, Line, Own, QueueInvariant, IsFirst}
 use Rattle.rl_queue.specs.laws.LineLaws.{has_last, has_more, has_less, distinct_more, last_more, chain_frame, chain_append, chain_behind, Behind}
-use Rattle.rl_queue.specs.LaneLaws.{IsFirst}
 
 -- who stands in the line uses the queue
 pub listed_busy : (p : Phase) → Listed p → Busy p

@@ -4,9 +4,8 @@ use Rattle.std.proofs.Common.{sym, ◌∙◌, ap, subst, inl, inr, ⊎_elim, ari
 use Rattle.rl_word.specs.laws.Places.{same_or_not}
 use Rattle.rl_queue.specs.declared.view.Phase.{Phase}
 use Rattle.rl_queue.specs.declared.view.Phase.TheVariants.{Idle, Clear, Reset, Swing, Link, Wait, Hand, Above}
-use Rattle.rl_queue.specs.Lane.{Lane, Has, Distinct, last_of, Listed, Busy, IsCode, Leads, Follows, Chain, Line, Own, QueueInvariant}
+use Rattle.rl_queue.specs.Lane.{Lane, Has, Distinct, last_of, Listed, Busy, IsCode, Leads, Follows, Chain, Line, Own, QueueInvariant, IsFirst}
 use Rattle.rl_queue.specs.laws.LineLaws.{last_first, chain_frame, chain_next, chain_link}
-use Rattle.rl_queue.specs.LaneLaws.{IsFirst}
 use Rattle.rl_queue.specs.laws.LaneLaws.{Stays, in_line, others_own, rebuild, is_first}
 
 -- the guess of a member at Link is the one before it

@@ -2,8 +2,7 @@
 use Rattle.std.specs.Prelude.{◌≡◌, ℕ, true}
 use Rattle.rl_queue.specs.declared.view.Phase.{Phase}
 use Rattle.rl_queue.specs.declared.view.Phase.TheVariants.{Idle, Clear, Reset, Swing}
-use Rattle.rl_queue.specs.Lane.{Busy, Listed, served}
-use Rattle.rl_queue.specs.LaneLaws.{IsFirst}
+use Rattle.rl_queue.specs.Lane.{Busy, Listed, served, IsFirst}
 
 pub served_busy : (p : Phase) (s : ℕ) → served p s ≡ true → Busy p
 served_busy Idle s h = cc

@@ -10,15 +10,13 @@ use Rattle.rl_queue.specs.declared.view.Phase.{Phase}
 use Rattle.rl_queue.specs.declared.view.Phase.TheVariants.{Idle, Clear, Reset, Swing, Link, Wait, Settle, Granted, Look, Close, Await, Hand, Above}
 use Rattle.rl_queue.specs.laws.Choices.{other_test}
 use Rattle.rl_queue.specs.Queue.{TheNames, next_word, status_word, full_budget, code_of, code_left, turn_at, moves_to, moves_with, joined_at, look_at, hand_turn}
-use Rattle.rl_queue.specs.Lane.{Awaits, Lane, lane_of, Has, last_of, Listed, Busy, IsCode, Leads, Line, Own, Guessed, told_left, QueueInvariant, is_pass, served, credit, holds, rest_if, waits_in, credit_in, held_in, QueueTrace, SuitsAlone, IsAlone, LineStep}
+use Rattle.rl_queue.specs.Lane.{Awaits, Lane, lane_of, Has, last_of, Listed, Busy, IsCode, Leads, Line, Own, Guessed, told_left, QueueInvariant, is_pass, served, credit, holds, rest_if, waits_in, credit_in, held_in, QueueTrace, SuitsAlone, IsAlone, LineStep, IsFirst}
 use Rattle.rl_queue.specs.laws.LineLaws.{has_last_of}
 use Rattle.rl_queue.specs.laws.TraceLaws.{trace_quiet, trace_join}
-use Rattle.rl_queue.specs.LaneLaws.{IsFirst}
 use Rattle.rl_queue.specs.laws.LaneLaws.{in_line, is_first, swing_first, swing_next}
 use Rattle.rl_queue.specs.laws.LaneMoves.{link_guess, link_moves, close_moves}
-use Rattle.rl_queue.specs.QueueLaws.{IsNaming, Moves, QueueGood}
+use Rattle.rl_queue.specs.QueueGood.{IsNaming, Moves, QueueGood, QueueGoes}
 use Rattle.rl_queue.specs.laws.QueueLaws.{says_first, first_says, tail_write, next_write, status_write, alone_moves, awaited_moves, awaited_stays, still_keeps, outside_keeps, first_keeps}
-use Rattle.rl_queue.specs.QueueActs.{QueueGoes}
 
 -- one more at the end of a line waits
 pub rest_more : (b : Bool) (h : ℕ) (r : List ℕ) (m : ℕ) → rest_if b h r ++ m ∷ [] ≡ rest_if b h (r ++ m ∷ [])

@@ -11,13 +11,11 @@ use Rattle.rl_queue.specs.declared.view.Phase.TheVariants.{Idle, Swing, Link, Wa
 use Rattle.rl_queue.specs.laws.Choices.{choose, same_test}
 use Rattle.rl_queue.specs.Queue.{TheNames, status_word, code_of, code_left, Turn, moves_to, moves_with, waits_at, joined_at, look_at, hand_turn, plan_at, turn_at}
 use Rattle.rl_queue.specs.Lane.{lane_of, credit, LineStep}
-use Rattle.rl_queue.specs.QueueLaws.{IsNaming, QueueGood}
+use Rattle.rl_queue.specs.QueueGood.{IsNaming, QueueGood, ActMoves}
 use Rattle.rl_queue.specs.laws.QueueActs.{code_more, pass_more}
-use Rattle.rl_queue.specs.QueueMoves.{ActMoves}
-use Rattle.rl_queue.specs.QueueHeads.{Head, head_in}
+use Rattle.rl_queue.specs.Heads.{Head, head_in, head_credit, Spends}
 use Rattle.rl_queue.specs.laws.QueueHeads.{head, HeadStep, head_act}
 use Rattle.rl_queue.specs.laws.QueueServed.{wait_found}
-use Rattle.rl_queue.specs.QueueCredit.{head_credit, Spends}
 
 same_spends : (x y : Option Head) → y ≡ x → Spends 0 x y
 same_spends x y e = let k : head_credit y ≡ head_credit x = ap head_credit e in omega arith

@@ -10,17 +10,15 @@ use Rattle.rl_step.specs.Lock.{FindsOld, PlansLoad}
 use Rattle.rl_queue.specs.declared.view.Phase.{Phase}
 use Rattle.rl_queue.specs.declared.view.Phase.TheVariants.{Idle, Swing, Link, Wait, Settle, Granted, Look, Close, Await, Hand, Above}
 use Rattle.rl_queue.specs.laws.Choices.{choose}
-use Rattle.rl_queue.specs.Queue.{stage_at, full_budget, TheNames, next_word, status_word, plan_at, turn_at, moves_to, moves_with, waits_at, code_left, joined_at, hand_turn, PlanFits, PhaseFits, GotFits}
-use Rattle.rl_queue.specs.Lane.{Own, told_left, lane_of, Has, last_of, Listed, IsCode, QueueInvariant, SuitsAlone, IsAlone}
+use Rattle.rl_queue.specs.Queue.{stage_at, full_budget, TheNames, next_word, status_word, plan_at, turn_at, moves_to, moves_with, waits_at, code_left, joined_at, hand_turn, PlanFits, PhaseFits, GotFits, MakesActs}
+use Rattle.rl_queue.specs.Lane.{Own, told_left, lane_of, Has, last_of, Listed, IsCode, QueueInvariant, SuitsAlone, IsAlone, IsFirst}
 use Rattle.rl_queue.specs.laws.LineLaws.{has_last_of, chain_next}
-use Rattle.rl_queue.specs.LaneLaws.{IsFirst}
 use Rattle.rl_queue.specs.laws.LaneLaws.{in_line, is_first}
 use Rattle.rl_queue.specs.laws.LaneMoves.{link_guess}
-use Rattle.rl_queue.specs.QueueLaws.{QueueGood}
+use Rattle.rl_queue.specs.QueueGood.{QueueGood}
 use Rattle.rl_queue.specs.laws.QueueLaws.{swap_word}
 use Rattle.rl_queue.specs.laws.QueueActs.{tail_last, first_code, pass_more}
 use Rattle.rl_queue.specs.laws.QueueMoves.{hand_succ, swap_finds}
-use Rattle.rl_queue.specs.QueueFits.{MakesActs}
 
 module _ (n : TheNames) (In : ℕ → Type 0) where
   -- a member of a good queue, in any phase, meets the condition of queue_plan

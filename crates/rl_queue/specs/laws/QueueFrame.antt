@@ -13,11 +13,11 @@ use Rattle.rl_queue.specs.Queue.{TheNames, next_word, status_word, code_left, pl
 use Rattle.rl_queue.specs.Lane.{lane_of, Busy}
 use Rattle.rl_queue.specs.laws.LaneLaws.{in_line}
 use Rattle.rl_queue.specs.laws.LaneMoves.{link_guess}
-use Rattle.rl_queue.specs.QueueLaws.{QueueGood}
+use Rattle.rl_queue.specs.QueueGood.{QueueGood}
 use Rattle.rl_queue.specs.laws.QueueLaws.{swap_word, still_keeps}
 use Rattle.rl_queue.specs.laws.QueueActs.{no_event, pass_more}
 use Rattle.rl_queue.specs.laws.QueueMoves.{hand_succ, beside_keeps}
-use Rattle.rl_queue.specs.QueueFrame.{Place, AllApart, AreApart}
+use Rattle.rl_queue.specs.QueuesApart.{Place, AllApart, AreApart}
 
 module _ (n : TheNames) (In : ℕ → Type 0) where
   -- an act is made on a word of its queue

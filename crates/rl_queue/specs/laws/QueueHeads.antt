@@ -12,15 +12,14 @@ use Rattle.rl_step.specs.declared.events.Event.TheVariants as event
 use Rattle.rl_queue.specs.declared.view.Phase.{Phase}
 use Rattle.rl_queue.specs.declared.view.Phase.TheVariants.{Idle, Clear, Reset, Swing, Link, Wait, Settle, Granted, Look, Close, Await, Hand, Above}
 use Rattle.rl_queue.specs.Queue.{TheNames, next_word, status_word, code_of, code_left, plan_at, turn_at, moves_to, moves_with, joined_at, look_at}
-use Rattle.rl_queue.specs.Lane.{Lane, lane_of, Has, Listed, Busy, Leads, Line, is_pass, served, LineStep}
-use Rattle.rl_queue.specs.LaneLaws.{IsFirst}
+use Rattle.rl_queue.specs.Lane.{Lane, lane_of, Has, Listed, Busy, Leads, Line, is_pass, served, LineStep, IsFirst}
 use Rattle.rl_queue.specs.laws.LaneLaws.{in_line, is_first}
 use Rattle.rl_queue.specs.laws.LaneMoves.{link_guess, hand_moves}
-use Rattle.rl_queue.specs.QueueLaws.{IsNaming, Moves, QueueGood}
+use Rattle.rl_queue.specs.QueueGood.{IsNaming, Moves, QueueGood}
 use Rattle.rl_queue.specs.laws.QueueLaws.{tail_write, next_write, status_write}
 use Rattle.rl_queue.specs.laws.QueueActs.{own_in, wait_turn, await_turn}
 use Rattle.rl_queue.specs.laws.QueueMoves.{hand_succ, at_swap, is_code, hand_idle}
-use Rattle.rl_queue.specs.QueueHeads.{Head, head_in}
+use Rattle.rl_queue.specs.Heads.{Head, head_in}
 
 abbrev pub head : ℕ → Phase → ℕ → Option Head
 head h p s = Some (record { who = h; phase = p; status = s })

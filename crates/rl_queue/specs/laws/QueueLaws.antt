@@ -10,10 +10,9 @@ use Rattle.rl_step.specs.Queues.{count}
 use Rattle.rl_queue.specs.declared.view.Phase.{Phase}
 use Rattle.rl_queue.specs.declared.view.Phase.TheVariants.{Idle, Clear, Reset, Swing, Await}
 use Rattle.rl_queue.specs.Queue.{TheNames, next_word, status_word, swap_act}
-use Rattle.rl_queue.specs.Lane.{Awaits, Lane, lane_of, Has, Listed, Busy, Leads, Own, QueueInvariant, served, credit, holds, rest_if, waits_in, credit_in, held_in, QueueTrace, SuitsAlone, IsAlone}
-use Rattle.rl_queue.specs.LaneLaws.{IsFirst}
+use Rattle.rl_queue.specs.Lane.{Awaits, Lane, lane_of, Has, Listed, Busy, Leads, Own, QueueInvariant, served, credit, holds, rest_if, waits_in, credit_in, held_in, QueueTrace, SuitsAlone, IsAlone, IsFirst}
 use Rattle.rl_queue.specs.laws.LaneLaws.{in_line, is_first, outside, first_moves, line_frame, own_stays}
-use Rattle.rl_queue.specs.QueueLaws.{IsNaming, Moves, QueueGood}
+use Rattle.rl_queue.specs.QueueGood.{IsNaming, Moves, QueueGood}
 
 -- what a write of v leaves of a queue's words: to the tail, to the next word of member k, and to its status word
 pub record TailWrite (In : ℕ → Type 0) (L M : Lane) (v : ℕ) : Type 0 where

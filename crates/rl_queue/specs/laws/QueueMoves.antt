@@ -16,18 +16,15 @@ use Rattle.rl_step.specs.Lock.{FindsOld}
 use Rattle.rl_queue.specs.declared.view.Phase.{Phase}
 use Rattle.rl_queue.specs.declared.view.Phase.TheVariants.{Idle, Clear, Reset, Swing, Link, Wait, Settle, Granted, Look, Close, Await, Hand, Above}
 use Rattle.rl_queue.specs.Queue.{TheNames, next_word, status_word, full_budget, code_of, swap_act, plan_at, turn_at, moves_to, moves_with, joined_at, hand_turn, resume_at, settled_at}
-use Rattle.rl_queue.specs.Lane.{Lane, lane_of, Has, Listed, IsCode, Own, QueueInvariant, is_pass, rest_if, waits_in, credit_in, held_in, QueueTrace}
+use Rattle.rl_queue.specs.Lane.{Lane, lane_of, Has, Listed, IsCode, Own, QueueInvariant, is_pass, rest_if, waits_in, credit_in, held_in, QueueTrace, IsFirst}
 use Rattle.rl_queue.specs.laws.LineLaws.{chain_next}
-use Rattle.rl_queue.specs.TraceLaws.{Apart}
+use Rattle.rl_queue.specs.QueuesApart.{Apart}
 use Rattle.rl_queue.specs.laws.TraceLaws.{trace_quiet, trace_settle, trace_pass, trace_leave, trace_leave_quiet, trace_apart}
-use Rattle.rl_queue.specs.LaneLaws.{IsFirst}
 use Rattle.rl_queue.specs.laws.LaneLaws.{in_line, is_first}
 use Rattle.rl_queue.specs.laws.LaneMoves.{hand_moves}
-use Rattle.rl_queue.specs.QueueLaws.{IsNaming, Moves, QueueGood}
+use Rattle.rl_queue.specs.QueueGood.{IsNaming, Moves, QueueGood, QueueGoes, ActMoves, ActGoes}
 use Rattle.rl_queue.specs.laws.QueueLaws.{says_first, first_says, status_write, alone_moves, awaited_stays, outside_keeps, first_keeps}
-use Rattle.rl_queue.specs.QueueActs.{QueueGoes}
 use Rattle.rl_queue.specs.laws.QueueActs.{own_in, clear_act, reset_act, swing_lost, swing_won, link_act, wait_act, go_on, look_act, close_won, close_lost, await_act, code_more, pass_more, told_whole}
-use Rattle.rl_queue.specs.QueueMoves.{ActMoves, ActGoes}
 
 -- who hands the queue over is idle then
 pub hand_idle : (q : ℕ) (B : Option ℕ) (s left : ℕ) → (hand_turn q B s left).phase ≡ Idle

@@ -9,13 +9,12 @@ use Rattle.rl_step.specs.declared.events.Event.{Event}
 use Rattle.rl_queue.specs.declared.view.Phase.{Phase}
 use Rattle.rl_queue.specs.declared.view.Phase.TheVariants.{Wait, Settle, Granted, Look, Close, Await, Hand, Above}
 use Rattle.rl_queue.specs.Queue.{TheNames, status_word, plan_at, turn_at}
-use Rattle.rl_queue.specs.Lane.{lane_of, Has, is_pass, served, LineStep}
-use Rattle.rl_queue.specs.LaneLaws.{IsFirst}
+use Rattle.rl_queue.specs.Lane.{lane_of, Has, is_pass, served, LineStep, IsFirst}
 use Rattle.rl_queue.specs.laws.LaneLaws.{in_line, is_first}
-use Rattle.rl_queue.specs.QueueLaws.{IsNaming, Moves, QueueGood}
+use Rattle.rl_queue.specs.QueueGood.{IsNaming, Moves, QueueGood}
 use Rattle.rl_queue.specs.laws.QueueActs.{wait_turn}
 use Rattle.rl_queue.specs.laws.QueueMoves.{one_first}
-use Rattle.rl_queue.specs.QueueHeads.{head_in}
+use Rattle.rl_queue.specs.Heads.{head_in}
 use Rattle.rl_queue.specs.laws.QueueHeads.{head_act, is_served, served_before, MayGo}
 
 -- a status that passes isn't 0

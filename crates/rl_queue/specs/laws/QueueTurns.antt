@@ -11,11 +11,11 @@ use Rattle.rl_queue.specs.laws.Choices.{choose}
 use Rattle.rl_queue.specs.Queue.{TheNames, status_word, code_left, moves_to, moves_with, waits_at, joined_at, hand_turn, plan_at, turn_at}
 use Rattle.rl_queue.specs.Lane.{lane_of, Has, Line, Listed}
 use Rattle.rl_queue.specs.laws.LaneLaws.{in_line}
-use Rattle.rl_queue.specs.QueueLaws.{QueueGood}
+use Rattle.rl_queue.specs.QueueGood.{QueueGood}
 use Rattle.rl_queue.specs.laws.QueueActs.{pass_more}
-use Rattle.rl_queue.specs.QueueFrame.{AreApart}
+use Rattle.rl_queue.specs.QueuesApart.{AreApart}
 use Rattle.rl_queue.specs.laws.QueueFrame.{act_place}
-use Rattle.rl_queue.specs.QueueHeads.{head_in}
+use Rattle.rl_queue.specs.Heads.{head_in}
 use Rattle.rl_queue.specs.laws.QueueHeads.{same_head}
 
 -- nothing happens, or the member joins, or it passes the queue to its successor

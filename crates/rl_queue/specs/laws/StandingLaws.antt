@@ -6,8 +6,7 @@ use Rattle.rl_step.specs.Lock.{IsHolder, Suits}
 use Rattle.rl_queue.specs.declared.view.Phase.{Phase}
 use Rattle.rl_queue.specs.declared.view.Phase.TheVariants.{Idle, Granted}
 use Rattle.rl_queue.specs.Queue.{leave_at}
-use Rattle.rl_queue.specs.Lane.{Busy, served}
-use Rattle.rl_queue.specs.LaneLaws.{IsFirst}
+use Rattle.rl_queue.specs.Lane.{Busy, served, IsFirst}
 use Rattle.rl_queue.specs.Standings.{standing_of}
 
 -- nobody stands as a reader; who stands as a writer, or holds the lock, is the first of the queue

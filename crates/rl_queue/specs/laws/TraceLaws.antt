@@ -9,7 +9,7 @@ use Rattle.rl_step.specs.laws.QueueLemmas.{joined-append, given-append, settled-
 use Rattle.rl_queue.specs.laws.Choices.{same_test, other_test}
 use Rattle.rl_queue.specs.Queue.{full_budget}
 use Rattle.rl_queue.specs.Lane.{QueueTrace}
-use Rattle.rl_queue.specs.TraceLaws.{Apart}
+use Rattle.rl_queue.specs.QueuesApart.{Apart}
 
 module _ (q : ℕ) (B : Option ℕ) where
   -- more events, by what they say of the queue

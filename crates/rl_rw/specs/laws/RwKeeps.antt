@@ -22,8 +22,7 @@ use Rattle.rl_tree.specs.declared.view.TreeView.{TreeView}
 use Rattle.rl_tree.specs.Tree.{at_hook, tree_plan, tree_standing, entry_if}
 use Rattle.rl_tree.specs.Elements.{ranks_in, tree_of}
 use Rattle.rl_tree.specs.TreeFacts.{GateMoves, HasView, PlansAct, TreeFacts, opens}
-use Rattle.rl_tree.specs.TreeGood.{GoodAt}
-use Rattle.rl_tree.specs.TreeStandings.{IsAbove}
+use Rattle.rl_tree.specs.TreeGood.{GoodAt, IsAbove}
 use Rattle.rl_tree.specs.laws.TreeStandings.{above_is}
 use Rattle.rl_counter.specs.declared.view.Doing.{Doing}
 use Rattle.rl_counter.specs.declared.view.Doing.TheVariants.{Nothing, Arrive, Refused, SeeTail, Swap, Reset as ResetOff, Round, RoundTail, Inside, Depart, Put, Count, Compare, TakeOut, TakeOff}

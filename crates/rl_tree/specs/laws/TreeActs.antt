@@ -12,12 +12,12 @@ use Rattle.rl_queue.specs.laws.Choices.{same_test, other_test}
 use Rattle.rl_queue.specs.declared.view.Phase.{Phase}
 use Rattle.rl_queue.specs.Queue.{Turn, status_word, plan_at, turn_at}
 use Rattle.rl_queue.specs.Lane.{lane_of}
-use Rattle.rl_queue.specs.QueueLaws.{QueueGood}
+use Rattle.rl_queue.specs.QueueGood.{QueueGood}
 use Rattle.rl_queue.specs.laws.QueueLaws.{still_keeps}
 use Rattle.rl_queue.specs.laws.QueueMoves.{act_keeps}
 use Rattle.rl_queue.specs.laws.QueueFrame.{other_queue_keeps}
 use Rattle.rl_queue.specs.laws.QueueTurns.{turn_all, other_head_stays}
-use Rattle.rl_queue.specs.QueueHeads.{head_in}
+use Rattle.rl_queue.specs.Heads.{head_in}
 use Rattle.rl_queue.specs.laws.QueueHeads.{HeadStep, head_act}
 use Rattle.rl_tree.specs.declared.view.TreeView.{TreeView}
 use Rattle.rl_tree.specs.Tree.{has_above, hook_by, path, works_for, behind_at, at_level}

@@ -13,11 +13,11 @@ use Rattle.rl_queue.specs.declared.view.Phase.{Phase}
 use Rattle.rl_queue.specs.declared.view.Phase.TheVariants.{Idle, Clear, Granted, Look, Above}
 use Rattle.rl_queue.specs.Queue.{status_word}
 use Rattle.rl_queue.specs.Lane.{lane_of, told_left}
-use Rattle.rl_queue.specs.TraceLaws.{Apart}
-use Rattle.rl_queue.specs.QueueLaws.{QueueGood, Moves}
+use Rattle.rl_queue.specs.QueuesApart.{Apart}
+use Rattle.rl_queue.specs.QueueGood.{QueueGood, Moves}
 use Rattle.rl_queue.specs.laws.QueueMoves.{join_keeps, leave_keeps, leave_keeps_quietly, beside_keeps}
 use Rattle.rl_queue.specs.laws.QueueFits.{holder_told}
-use Rattle.rl_queue.specs.QueueHeads.{Head, head_in}
+use Rattle.rl_queue.specs.Heads.{Head, head_in}
 use Rattle.rl_queue.specs.laws.QueueHeads.{head_first, head_kept, unlisted}
 use Rattle.rl_tree.specs.declared.view.TreeView.{TreeView}
 use Rattle.rl_tree.specs.Tree.{has_above, path, works_for, behind_at, at_level}

@@ -12,13 +12,12 @@ use Rattle.rl_queue.specs.laws.Choices.{same_test, other_test}
 use Rattle.rl_queue.specs.declared.view.Phase.{Phase}
 use Rattle.rl_queue.specs.declared.view.Phase.TheVariants.{Settle, Granted}
 use Rattle.rl_queue.specs.Queue.{status_word, settled_at}
-use Rattle.rl_queue.specs.Lane.{Lane, lane_of, Has}
-use Rattle.rl_queue.specs.LaneLaws.{IsFirst}
+use Rattle.rl_queue.specs.Lane.{Lane, lane_of, Has, IsFirst}
 use Rattle.rl_queue.specs.laws.LaneLaws.{is_first}
-use Rattle.rl_queue.specs.QueueLaws.{QueueGood}
+use Rattle.rl_queue.specs.QueueGood.{QueueGood}
 use Rattle.rl_queue.specs.laws.QueueLaws.{still_keeps}
 use Rattle.rl_queue.specs.laws.QueueMoves.{settle_keeps, beside_keeps}
-use Rattle.rl_queue.specs.QueueHeads.{head_in}
+use Rattle.rl_queue.specs.Heads.{head_in}
 use Rattle.rl_queue.specs.laws.QueueHeads.{head, head_at, head_first}
 use Rattle.rl_tree.specs.declared.view.TreeView.{TreeView}
 use Rattle.rl_tree.specs.Tree.{path, works_for, settles_below}

@@ -14,13 +14,12 @@ use Rattle.rl_step.specs.Queues.{settled, passed, tenures}
 use Rattle.rl_queue.specs.declared.view.Phase.{Phase}
 use Rattle.rl_queue.specs.declared.view.Phase.TheVariants.{Idle, Granted}
 use Rattle.rl_queue.specs.Queue.{status_word, plan_at}
-use Rattle.rl_queue.specs.Lane.{lane_of, Listed, Busy, IsAlone}
-use Rattle.rl_queue.specs.LaneLaws.{IsFirst}
+use Rattle.rl_queue.specs.Lane.{lane_of, Listed, Busy, IsAlone, IsFirst}
 use Rattle.rl_queue.specs.laws.LaneLaws.{busy_or_idle}
-use Rattle.rl_queue.specs.QueueLaws.{QueueGood}
+use Rattle.rl_queue.specs.QueueGood.{QueueGood}
 use Rattle.rl_queue.specs.laws.QueueMoves.{one_first, queue_counted}
 use Rattle.rl_queue.specs.laws.QueueFits.{alone_finds}
-use Rattle.rl_queue.specs.QueueHeads.{head_in}
+use Rattle.rl_queue.specs.Heads.{head_in}
 use Rattle.rl_queue.specs.laws.QueueHeads.{head_first}
 use Rattle.rl_tree.specs.declared.view.TreeView.{TreeView}
 use Rattle.rl_tree.specs.Tree.{hook_by, path, member_at, works_for, plan_by, tree_plan, at_hook, tree_standing}

@@ -10,7 +10,7 @@ use Rattle.rl_queue.specs.declared.view.Phase.TheVariants.{Settle, Above}
 use Rattle.rl_queue.specs.Queue.{resume_at}
 use Rattle.rl_queue.specs.laws.QueueMoves.{resume_keeps}
 use Rattle.rl_queue.specs.Lane.{lane_of}
-use Rattle.rl_queue.specs.QueueHeads.{head_in}
+use Rattle.rl_queue.specs.Heads.{head_in}
 use Rattle.rl_queue.specs.laws.QueueHeads.{head_first}
 use Rattle.rl_tree.specs.declared.view.TreeView.{TreeView}
 use Rattle.rl_tree.specs.Tree.{has_above, path, works_for, behind_at, at_level, settles_below}

@@ -7,9 +7,8 @@ use Rattle.rl_queue.specs.laws.Choices.{choose}
 use Rattle.rl_queue.specs.declared.view.Phase.{Phase}
 use Rattle.rl_queue.specs.declared.view.Phase.TheVariants.{Settle, Granted}
 use Rattle.rl_queue.specs.Queue.{status_word}
-use Rattle.rl_queue.specs.Lane.{lane_of}
-use Rattle.rl_queue.specs.LaneLaws.{IsFirst}
-use Rattle.rl_queue.specs.QueueHeads.{head_in}
+use Rattle.rl_queue.specs.Lane.{lane_of, IsFirst}
+use Rattle.rl_queue.specs.Heads.{head_in}
 use Rattle.rl_tree.specs.declared.view.TreeView.{TreeView}
 use Rattle.rl_tree.specs.Tree.{has_above, hook_by, path, works_for, behind_at, at_level, settles_below}
 use Rattle.rl_tree.specs.declared.rooted.Rooted.{Rooted}

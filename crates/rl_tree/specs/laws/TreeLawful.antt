@@ -17,7 +17,7 @@ use Rattle.rl_queue.specs.Queue.{TheNames, next_word, status_word, plan_at}
 use Rattle.rl_queue.specs.Lane.{lane_of, Busy, IsAlone}
 use Rattle.rl_queue.specs.laws.LaneLaws.{in_line}
 use Rattle.rl_queue.specs.laws.LaneMoves.{link_guess}
-use Rattle.rl_queue.specs.QueueLaws.{QueueGood}
+use Rattle.rl_queue.specs.QueueGood.{QueueGood}
 use Rattle.rl_queue.specs.laws.QueueMoves.{hand_succ}
 use Rattle.rl_queue.specs.Standings.{standing_of}
 use Rattle.rl_tree.specs.declared.view.TreeView.{TreeView}

@@ -17,11 +17,10 @@ use Rattle.rl_tree.specs.declared.view.TreeView.{TreeView}
 use Rattle.rl_tree.specs.Tree.{TheTree, has_above, is_none, hook_by, path, works_for, names_at, behind_at, inside_from, goes_down, walk, plan_by, tree_plan, learn_by, at_hook, resume_by, tree_standing}
 use Rattle.rl_tree.specs.declared.rooted.Rooted.{Rooted}
 use Rattle.rl_tree.specs.Elements.{how_many, names_in, tree_of}
-use Rattle.rl_tree.specs.TreeGood.{Spent, IsGrantedAt, InQueue, is_open, TreeGood}
+use Rattle.rl_tree.specs.TreeGood.{Spent, IsGrantedAt, InQueue, is_open, TreeGood, IsAbove}
 use Rattle.rl_tree.specs.TreeShape.{IsWellShaped}
 use Rattle.rl_tree.specs.laws.TreeOnward.{resume_unhooked}
 use Rattle.rl_tree.specs.laws.TreeLawful.{spot_home, up_goes, gives_goes, walk_waits}
-use Rattle.rl_tree.specs.TreeStandings.{IsAbove}
 use Rattle.rl_tree.specs.laws.TreeStandings.{above_is, hook_cases, hook_first, holds_is, writer_holds, granted_first, granted_gate}
 use Rattle.rl_tree.specs.laws.TreeHolders.{level_there, at_root, phase_here, head_is, has_above_it, holds_up, one_holder, root_phase, one_hooked, one_acts, counted_at, lawful_at, alone_at, finds_at}
 use Rattle.rl_tree.specs.laws.TreeFits.{placed_at, may_plan, may_learn}

@@ -16,7 +16,7 @@ use Rattle.rl_queue.specs.declared.view.Phase.{Phase}
 use Rattle.rl_queue.specs.declared.view.Phase.TheVariants.{Clear, Settle, Granted, Look, Above}
 use Rattle.rl_queue.specs.Queue.{status_word, full_budget, plan_at, settled_at, leave_at, resume_at}
 use Rattle.rl_queue.specs.Lane.{lane_of, Busy, told_left}
-use Rattle.rl_queue.specs.QueueHeads.{head_in}
+use Rattle.rl_queue.specs.Heads.{head_in}
 use Rattle.rl_queue.specs.laws.QueueHeads.{head_first}
 use Rattle.rl_queue.specs.Standings.{standing_of}
 use Rattle.rl_tree.specs.declared.view.TreeView.{TreeView}

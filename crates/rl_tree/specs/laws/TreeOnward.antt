@@ -13,11 +13,10 @@ use Rattle.rl_queue.specs.laws.Choices.{choose, same_test, other_test}
 use Rattle.rl_queue.specs.declared.view.Phase.{Phase}
 use Rattle.rl_queue.specs.declared.view.Phase.TheVariants.{Idle, Clear, Wait, Settle, Granted, Above}
 use Rattle.rl_queue.specs.Queue.{Turn, status_word, plan_at, resume_at}
-use Rattle.rl_queue.specs.Lane.{lane_of, Listed, is_pass}
-use Rattle.rl_queue.specs.LaneLaws.{IsFirst}
+use Rattle.rl_queue.specs.Lane.{lane_of, Listed, is_pass, IsFirst}
 use Rattle.rl_queue.specs.laws.QueueMoves.{join_keeps, resume_keeps}
 use Rattle.rl_queue.specs.laws.QueueTurns.{turn_all}
-use Rattle.rl_queue.specs.QueueHeads.{Head, head_in}
+use Rattle.rl_queue.specs.Heads.{Head, head_in}
 use Rattle.rl_queue.specs.laws.QueueHeads.{head_first, head_kept, HeadStep, head, unlisted}
 use Rattle.rl_tree.specs.declared.view.TreeView.{TreeView}
 use Rattle.rl_tree.specs.Tree.{has_above, hook_by, path, member_at, works_for, behind_at, at_level, asks_status, leaves_behind, settles_below}

@@ -8,9 +8,9 @@ use Rattle.rl_step.specs.Queues.{tenures}
 use Rattle.rl_queue.specs.laws.Choices.{same_test}
 use Rattle.rl_queue.specs.declared.view.Phase.{Phase}
 use Rattle.rl_queue.specs.Lane.{lane_of}
-use Rattle.rl_queue.specs.QueueLaws.{QueueGood}
+use Rattle.rl_queue.specs.QueueGood.{QueueGood}
 use Rattle.rl_queue.specs.laws.QueueLaws.{still_keeps}
-use Rattle.rl_queue.specs.QueueHeads.{head_in}
+use Rattle.rl_queue.specs.Heads.{head_in}
 use Rattle.rl_tree.specs.declared.view.TreeView.{TreeView}
 use Rattle.rl_tree.specs.Tree.{has_above, path, member_at, works_for, behind_at}
 use Rattle.rl_tree.specs.declared.rooted.Rooted.{Rooted}

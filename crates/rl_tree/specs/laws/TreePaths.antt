@@ -5,8 +5,8 @@ use Rattle.rl_step.specs.declared.events.Event.{Event}
 use Rattle.rl_queue.specs.laws.Choices.{same_test, other_test}
 use Rattle.rl_queue.specs.declared.view.Phase.{Phase}
 use Rattle.rl_queue.specs.Queue.{status_word}
-use Rattle.rl_queue.specs.LaneLaws.{IsFirst}
-use Rattle.rl_queue.specs.QueueLaws.{QueueGood, Moves}
+use Rattle.rl_queue.specs.Lane.{IsFirst}
+use Rattle.rl_queue.specs.QueueGood.{QueueGood, Moves}
 use Rattle.rl_queue.specs.laws.QueueMoves.{one_first}
 use Rattle.rl_tree.specs.Tree.{path, member_at}
 use Rattle.rl_tree.specs.declared.rooted.Rooted.{Rooted}

@@ -13,10 +13,10 @@ use Rattle.rl_queue.specs.Queue.{next_word, status_word}
 use Rattle.rl_queue.specs.laws.RankWordLaws.{all_zero}
 use Rattle.rl_queue.specs.Lane.{lane_of}
 use Rattle.rl_queue.specs.laws.LaneLaws.{in_line}
-use Rattle.rl_queue.specs.TraceLaws.{Apart}
-use Rattle.rl_queue.specs.QueueLaws.{QueueGood}
+use Rattle.rl_queue.specs.QueuesApart.{Apart}
+use Rattle.rl_queue.specs.QueueGood.{QueueGood}
 use Rattle.rl_queue.specs.laws.QueueLaws.{still_keeps}
-use Rattle.rl_queue.specs.QueueHeads.{head_in}
+use Rattle.rl_queue.specs.Heads.{head_in}
 use Rattle.rl_tree.specs.declared.view.TreeView.{TreeView}
 use Rattle.rl_tree.specs.Tree.{has_above}
 use Rattle.rl_tree.specs.declared.rooted.Rooted.{Rooted}

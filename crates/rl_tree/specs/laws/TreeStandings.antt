@@ -8,14 +8,13 @@ use Rattle.rl_step.specs.Lock.{IsHolder, Rests, Suits}
 use Rattle.rl_queue.specs.declared.view.Phase.{Phase}
 use Rattle.rl_queue.specs.declared.view.Phase.TheVariants.{Idle, Settle, Granted, Above}
 use Rattle.rl_queue.specs.Queue.{leave_at}
-use Rattle.rl_queue.specs.LaneLaws.{IsFirst}
+use Rattle.rl_queue.specs.Lane.{IsFirst}
 use Rattle.rl_queue.specs.Standings.{standing_of}
 use Rattle.rl_queue.specs.laws.StandingLaws.{no_reader, out_idle, suits_at}
 use Rattle.rl_tree.specs.declared.view.TreeView.{TreeView}
 use Rattle.rl_tree.specs.Tree.{TheTree, hook_by, works_for, names_at, plan_by, standing_by}
-use Rattle.rl_tree.specs.TreeGood.{Open, gate_at, is_open, IsGrantedAt}
+use Rattle.rl_tree.specs.TreeGood.{Open, gate_at, is_open, IsGrantedAt, IsAbove}
 use Rattle.rl_tree.specs.laws.TreeLawful.{rests_by}
-use Rattle.rl_tree.specs.TreeStandings.{IsAbove}
 
 -- who holds the lock has its queue, and leaves it so
 pub phase_holds : (p : Phase) → IsHolder (standing_of p) → IsGrantedAt p

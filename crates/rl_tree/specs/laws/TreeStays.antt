@@ -6,7 +6,7 @@ use Rattle.rl_step.specs.declared.events.Event.{Event}
 use Rattle.rl_queue.specs.declared.view.Phase.{Phase}
 use Rattle.rl_queue.specs.declared.view.Phase.TheVariants.{Clear, Reset, Swing, Link, Wait, Look, Close, Await, Hand}
 use Rattle.rl_queue.specs.Queue.{plan_at}
-use Rattle.rl_queue.specs.QueueHeads.{Head}
+use Rattle.rl_queue.specs.Heads.{Head}
 use Rattle.rl_queue.specs.laws.QueueHeads.{head, HeadStep}
 use Rattle.rl_tree.specs.declared.view.TreeView.{TreeView}
 use Rattle.rl_tree.specs.Tree.{has_above, hook_by, path, works_for, at_level}

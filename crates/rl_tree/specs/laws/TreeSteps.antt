@@ -19,7 +19,7 @@ use Rattle.rl_queue.specs.Queue.{TheNames, Turn, status_word, full_budget, code_
 use Rattle.rl_queue.specs.Lane.{Busy, is_pass, lane_of}
 use Rattle.rl_queue.specs.laws.QueueActs.{wait_turn, pass_more, code_more}
 use Rattle.rl_queue.specs.laws.QueueMoves.{hand_succ}
-use Rattle.rl_queue.specs.QueueHeads.{Head, head_in}
+use Rattle.rl_queue.specs.Heads.{Head, head_in}
 use Rattle.rl_queue.specs.laws.QueueHeads.{head_kept, HeadStep, unlisted}
 use Rattle.rl_queue.specs.Standings.{standing_of}
 use Rattle.rl_tree.specs.declared.view.TreeView.{TreeView}

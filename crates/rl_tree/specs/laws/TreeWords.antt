@@ -5,8 +5,8 @@ use Rattle.std.proofs.lemmas.Option.{same_Some, slice_get_within}
 use Rattle.std.proofs.lemmas.Bool.Decides.{nat_tests}
 use Rattle.rl_word.specs.declared.shapes.Element.{Element}
 use Rattle.rl_step.specs.laws.QueueLemmas.{eqb_means}
-use Rattle.rl_queue.specs.QueueLaws.{IsNaming}
-use Rattle.rl_queue.specs.QueueFrame.{AreApart}
+use Rattle.rl_queue.specs.QueueGood.{IsNaming}
+use Rattle.rl_queue.specs.QueuesApart.{AreApart}
 use Rattle.rl_queue.specs.Queue.{next_word, status_word}
 use Rattle.rl_queue.specs.RankWords.{every_second}
 use Rattle.rl_queue.specs.laws.RankWordLaws.{every_second_at}

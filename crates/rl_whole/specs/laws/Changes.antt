@@ -15,7 +15,7 @@ use Rattle.rl_work.specs.declared.follow.Follow.TheVariants.{On, Ask, Over}
 use Rattle.rl_work.specs.Ways.{AsksOut, TouchesAs, standing_after}
 use Rattle.rl_asks.specs.Standings.{AloneIn}
 use Rattle.rl_whole.specs.Whole.{work_events}
-use Rattle.rl_whole.specs.Changes.{Match}
+use Rattle.rl_whole.specs.Holders.{Match}
 
 -- A change of a rank's standing, and the events of holders that come with it: those of an act; a touch alone, of a writer or, to
 -- read, of a reader; or the holder's leave, with such a touch before it or without.

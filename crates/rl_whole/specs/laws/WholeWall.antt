@@ -47,7 +47,7 @@ use Rattle.rl_whole.specs.Split.{lock_of, view_of, home_of, first_at, card_atom,
 use Rattle.rl_whole.specs.Whole.{side_of, work_side, split_of, is_open, next_of, after_of, counts, made_deeds, Good}
 use Rattle.rl_whole.specs.laws.WholeLaws.{keeps_at, laid, next_either, after_lock, after_work, work_at, works_at}
 use Rattle.rl_whole.specs.laws.OpenLaws.{IsFirstView, opening_rule, open_keeps, shut_is_none, none_is_shut, closed_is_out, closed_parts, closed_work}
-use Rattle.rl_whole.specs.Changes.{Match}
+use Rattle.rl_whole.specs.Holders.{Match}
 use Rattle.rl_whole.specs.laws.Changes.{Change, Goes, goes}
 use Rattle.rl_whole.specs.laws.StandLaws.{atom_change, alone_in, asked_change}
 use Rattle.rl_whole.specs.laws.DeskLaws.{first_is_new, told_is, own_is, settled_is, told_opens, own_opens, own_turns, told_turns}

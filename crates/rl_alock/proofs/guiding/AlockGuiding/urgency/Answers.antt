@@ -8,7 +8,7 @@ use Rattle.rl_queue.specs.Urgency.{loaded, urgent_at}
 use Rattle.rl_queue.specs.laws.UrgencyLaws.{loaded_in, aims, load_there, load_fits}
 use Rattle.rl_alock.specs.declared.view.Entry.{Entry}
 use Rattle.rl_alock.specs.Alock.{Cohorts, cohorts_of, cohort_of, names_of, ranks_of, alock_table, BoundsOvertaking}
-use Rattle.rl_alock.specs.AlockBounded.{AlockBounded}
+use Rattle.rl_alock.specs.Overtakes.{AlockBounded}
 use Rattle.rl_alock.specs.laws.AlockBounded.{bounded_laws}
 use Rattle.rl_alock.specs.AlockUrgency.{rank_urgent}
 use Rattle.rl_alock.proofs.CodeLaws.{fits_at, plan_away}

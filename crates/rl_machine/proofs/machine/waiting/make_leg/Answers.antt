@@ -2,7 +2,7 @@
 use Rattle.std.proofs.Common.{◌≡◌, slice_get, Some, ap, sym, ◌∙◌}
 use Rattle.std.proofs.lemmas.Option.{slice_get-get_or}
 use Rattle.rl_step.specs.Answers.{counted}
-use Rattle.rl_machine.specs.RoundSteps.{viewed}
+use Rattle.rl_machine.specs.Running.{viewed}
 use Rattle.rl_machine.specs.laws.RoundSteps.{round_there, round_seen, round_rank, leg_made, leg_turned}
 use Rattle.rl_machine.specs.State.{running_shard}
 use Rattle.rl_machine.specs.laws.StateLaws.{core_set}

@@ -1,4 +1,4 @@
--- of laws/Changes: Match
+-- The holders that a trace tells of are the ranks that stand so.
 use Rattle.std.specs.Prelude.{◌≡◌, ℕ, Bool, true, List, slice_get, Some}
 use Rattle.rl_step.specs.declared.events.Standing.{Standing}
 use Rattle.rl_step.specs.declared.events.Standing.TheVariants.{Writer, Reader}

@@ -1,8 +1,21 @@
--- of laws/QueueFrame: Place AllApart AreApart
-use Rattle.std.specs.Prelude.{◌≡◌, ◌≢◌, ◌⊎◌, ℕ, List, [], ◌∷◌, Option}
+-- Two queues whose words and members are apart, so that no act of one changes the other; and events that aren't of a queue.
+use Rattle.std.specs.Prelude.{◌≢◌, ℕ, Option, ◌≡◌, ◌⊎◌, List, [], ◌∷◌}
 use Rattle.rl_step.specs.declared.events.Event.{Event}
+use Rattle.rl_step.specs.declared.events.Event.TheVariants.{Join, Announce, Pass, Settle, Touch, EnterW, EnterR, LeaveW, LeaveR}
 use Rattle.rl_queue.specs.Queue.{TheNames, next_word, status_word}
-use Rattle.rl_queue.specs.TraceLaws.{Apart}
+
+module _ (q : ℕ) (B : Option ℕ) where
+  -- an event that isn't of the queue
+  abbrev pub Apart : Event → Type 0
+  Apart (Join k m) = k ≢ q
+  Apart (Announce c) = Unit {0}
+  Apart (Pass k m) = k ≢ q
+  Apart (Settle k m) = k ≢ q
+  Apart (Touch k x) = Unit {0}
+  Apart (EnterW k) = Unit {0}
+  Apart (EnterR k) = Unit {0}
+  Apart (LeaveW k) = Unit {0}
+  Apart (LeaveR k) = Unit {0}
 
 -- a word of the queue
 abbrev pub Place : TheNames → (ℕ → Type 0) → ℕ → Type 0
