@@ -3,7 +3,7 @@
 ghost use Rattle.std.specs.Prelude.{◌<◌, length};
 
 use crate::shapes::{four_ranks, one_node, two_nodes};
-use rl_alock::{Alock, Cohort, Entry, two_domains};
+use rl_alock::{Alock, Cohort, SettleStage, two_domains};
 use rl_counter::{CounterView, Doing};
 use rl_mcs::Mcs;
 use rl_queue::{Dmcs, Phase};
@@ -51,7 +51,7 @@ fn a_spin_lock_is_one_word(rt: HostRuntime) -> Result<(), Fail> {
     let lock = Spin::make(rt.alloc(), &shape, 0, KNOBS)?;
     has_spots(&rt, &lock, &[(Class::Card, 0)]);
     let view = asks(&rt, &lock, 1, Mode::Read);
-    assert_eq!(rt; view.phase, rl_spin::Phase::Trying);
+    assert_eq!(rt; view.phase, rl_spin::SpinPhase::Trying);
     Ok(())
 }
 
@@ -82,7 +82,7 @@ fn alock_has_a_rank_at_home_and_one_away(rt: HostRuntime) -> Result<(), Fail> {
     has_spots(&rt, &lock, &spots);
     let view = asks(&rt, &lock, 1, Mode::Read);
     assert_eq!(rt; view.queue.phase, Phase::Clear);
-    assert_eq!(rt; view.entry, Entry::Announce);
+    assert_eq!(rt; view.entry, SettleStage::Announce);
     two_domains();
     Ok(())
 }

@@ -14,7 +14,7 @@ use Rattle.rl_queue.specs.laws.QueueTurns.{turn_all}
 use Rattle.rl_queue.specs.RankWords.{every_second}
 use Rattle.rl_queue.specs.laws.RankWordLaws.{length-every_second}
 use Rattle.rl_alock.specs.declared.cohort.Cohort.{Cohort}
-use Rattle.rl_alock.specs.declared.view.Entry.{Entry}
+use Rattle.rl_alock.specs.declared.view.SettleStage.{SettleStage}
 use Rattle.rl_alock.specs.declared.view.AlockView.{AlockView}
 use Rattle.rl_alock.specs.Alock.{Cohorts, ranks_of, budget_in, cohort_of, names_of, queue_in, alock_plan, alock_learn, told_turn}
 use Rattle.rl_alock.specs.AlockGood.{InCohort, phases_of, AlockGood}
@@ -22,11 +22,11 @@ use Rattle.rl_alock.specs.laws.AlockViews.{phase_get, mine_is}
 use Rattle.rl_alock.specs.laws.AlockLaws.{rank_there}
 
 -- away from the entry a rank's act is its queue's, and so is what it learns
-pub plan_away : (N : TheNames) (c : Cohort) (m : ℕ) (p : Phase) (st : Entry) → p ≢ Settle → alock_plan N c m p st ≡ plan_at N m p
+pub plan_away : (N : TheNames) (c : Cohort) (m : ℕ) (p : Phase) (st : SettleStage) → p ≢ Settle → alock_plan N c m p st ≡ plan_at N m p
 plan_away N c m Settle st ne = absurd (ne refl)
 plan_away N c m _ st ne = refl
 
-pub learn_away : (N : TheNames) (c : Cohort) (m : ℕ) (p : Phase) (st : Entry) (got : ℕ) → p ≢ Settle → alock_learn N c m p st got ≡ told_turn m (turn_at N m p got)
+pub learn_away : (N : TheNames) (c : Cohort) (m : ℕ) (p : Phase) (st : SettleStage) (got : ℕ) → p ≢ Settle → alock_learn N c m p st got ≡ told_turn m (turn_at N m p got)
 learn_away N c m Settle st got ne = absurd (ne refl)
 learn_away N c m _ st got ne = refl
 

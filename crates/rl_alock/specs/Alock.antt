@@ -14,13 +14,13 @@ use Rattle.rl_step.specs.LockQueues.{sits_at, same, cohort_queue}
 use Rattle.rl_step.specs.Overtaking.{IsOvertakenAtMost}
 use Rattle.rl_queue.specs.declared.view.Phase.{Phase}
 use Rattle.rl_queue.specs.declared.view.Phase.TheVariants.{Idle, Clear, Settle, Granted}
-use Rattle.rl_queue.specs.Queue.{TheNames, Turn, full_budget, at_phase, plan_at, turn_at, settled_at, leave_at}
+use Rattle.rl_queue.specs.Queue.{TheNames, QueueTurn, full_budget, at_phase, plan_at, turn_at, settled_at, leave_at}
 use Rattle.rl_queue.specs.RankWords.{every_second}
 use Rattle.rl_queue.specs.Standings.{standing_of}
 use Rattle.rl_alock.specs.declared.cohort.Cohort.{Cohort}
 use Rattle.rl_alock.specs.declared.cohort.Cohort.TheVariants.{Local, Remote}
-use Rattle.rl_alock.specs.declared.view.Entry.{Entry}
-use Rattle.rl_alock.specs.declared.view.Entry.TheVariants.{Announce, Tail, Victim}
+use Rattle.rl_alock.specs.declared.view.SettleStage.{SettleStage}
+use Rattle.rl_alock.specs.declared.view.SettleStage.TheVariants.{Announce, Tail, Victim}
 use Rattle.rl_alock.specs.declared.view.AlockView.{AlockView}
 
 -- THE COHORTS: where the shard is and where its ranks sit, and the budget of each cohort.
@@ -56,8 +56,8 @@ abbrev pub is_home : Cohort → Bool
 is_home Local = true
 is_home Remote = false
 
-abbrev pub is_in : Cohorts → Cohort → ℕ → Bool
-is_in K c r = same (is_home c) (sits_at_home K r)
+abbrev pub is_in_cohort : Cohorts → Cohort → ℕ → Bool
+is_in_cohort K c r = same (is_home c) (sits_at_home K r)
 
 abbrev pub other : Cohort → Cohort
 other Local = Remote
@@ -101,12 +101,12 @@ abbrev pub queue_in : Cohorts → Cohort → QueueOf
 queue_in K c = cohort_queue K.home K.node_of (is_home c) (budget_in K c)
 
 -- THE ENTRY: a head that must settle names its cohort the victim, then looks at the other's tail and at the victim by turns.
-abbrev pub entry_act : Cohort → Entry → Act
+abbrev pub entry_act : Cohort → SettleStage → Act
 entry_act c Announce = Store victim_no (cohort_no c)
 entry_act c Tail = Load (tail_no (other c))
 entry_act c Victim = Load victim_no
 
-abbrev pub at_entry : ℕ → Phase → Entry → AlockView
+abbrev pub at_entry : ℕ → Phase → SettleStage → AlockView
 at_entry m p st = record { queue = at_phase m p; entry = st }
 
 -- a head that settles has the whole budget, and enters at once
@@ -114,25 +114,25 @@ abbrev pub settles_now : TheNames → ℕ → Told AlockView
 settles_now N m = record { view = at_entry m (settled_at N.budget) Announce; events = event.Settle N.queue m ∷ event.EnterW m ∷ []; waits = false }
 
 -- it settles where the other cohort's queue is empty, or where its own cohort isn't the victim; else it looks on
-abbrev pub entry_told : TheNames → Cohort → ℕ → Entry → ℕ → Told AlockView
+abbrev pub entry_told : TheNames → Cohort → ℕ → SettleStage → ℕ → Told AlockView
 entry_told N c m Announce got = record { view = at_entry m Settle Tail; events = event.Announce (cohort_no c) ∷ []; waits = false }
 entry_told N c m Tail got = if got == 0 then settles_now N m else record { view = at_entry m Settle Victim; events = []; waits = false }
 entry_told N c m Victim got = if got == cohort_no c then record { view = at_entry m Settle Tail; events = []; waits = true } else settles_now N m
 
 -- THE ACTS of rank m, of the cohort c, whose queue has the names N: at Settle those of the entry, else those of its queue.
-abbrev pub alock_plan : TheNames → Cohort → ℕ → Phase → Entry → Option Act
+abbrev pub alock_plan : TheNames → Cohort → ℕ → Phase → SettleStage → Option Act
 alock_plan N c m Settle st = Some (entry_act c st)
 alock_plan N c m p st = plan_at N m p
 
 -- who has the queue enters
-abbrev pub entry_of : ℕ → Phase → List Event
-entry_of m (Granted left) = event.EnterW m ∷ []
-entry_of m p = []
+abbrev pub entry_events : ℕ → Phase → List Event
+entry_events m (Granted left) = event.EnterW m ∷ []
+entry_events m p = []
 
-abbrev pub told_turn : ℕ → Turn → Told AlockView
-told_turn m t = record { view = at_entry m t.phase Announce; events = t.events ++ entry_of m t.phase; waits = t.waits }
+abbrev pub told_turn : ℕ → QueueTurn → Told AlockView
+told_turn m t = record { view = at_entry m t.phase Announce; events = t.events ++ entry_events m t.phase; waits = t.waits }
 
-abbrev pub alock_learn : TheNames → Cohort → ℕ → Phase → Entry → ℕ → Told AlockView
+abbrev pub alock_learn : TheNames → Cohort → ℕ → Phase → SettleStage → ℕ → Told AlockView
 alock_learn N c m Settle st got = entry_told N c m st got
 alock_learn N c m p st got = told_turn m (turn_at N m p got)
 
@@ -162,7 +162,7 @@ alock_table K =
 -- WHAT IT SAYS FURTHER: a cohort that has announced itself is overtaken by the other's budget and one of its ranks at most. The events alone
 -- say it, whatever else is given, as all acts or all atoms.
 abbrev pub BoundsOvertaking : {X : Type 0} → Cohorts → List Event → X → Type 0
-BoundsOvertaking K t xs = (c : Cohort) → IsOvertakenAtMost (is_in K c) (cohort_no c) (budget_in K (other c) + 1) t
+BoundsOvertaking K t xs = (c : Cohort) → IsOvertakenAtMost (is_in_cohort K c) (cohort_no c) (budget_in K (other c) + 1) t
 
 -- TWO DOMAINS: which acts the ranks on the shard's home may make, and which all others.
 pub record HasTwoDomains (K : Cohorts) : Type 0 where

@@ -9,16 +9,16 @@ use Rattle.rl_queue.specs.QueueGood.{QueueGood}
 use Rattle.rl_queue.specs.RankWords.{every_second}
 use Rattle.rl_queue.specs.RankViews.{of_rank}
 use Rattle.rl_alock.specs.declared.cohort.Cohort.{Cohort}
-use Rattle.rl_alock.specs.declared.view.Entry.{Entry}
-use Rattle.rl_alock.specs.declared.view.Entry.TheVariants.{Announce, Tail, Victim}
+use Rattle.rl_alock.specs.declared.view.SettleStage.{SettleStage}
+use Rattle.rl_alock.specs.declared.view.SettleStage.TheVariants.{Announce, Tail, Victim}
 use Rattle.rl_alock.specs.declared.view.AlockView.{AlockView}
-use Rattle.rl_alock.specs.Alock.{Cohorts, ranks_of, cohort_of, is_in, cohort_no, victim_no, names_of, queue_in}
+use Rattle.rl_alock.specs.Alock.{Cohorts, ranks_of, cohort_of, is_in_cohort, cohort_no, victim_no, names_of, queue_in}
 
 -- the phase and the place in the entry of each rank, by its number
 abbrev pub phase_at : List AlockView → ℕ → Phase
 phase_at vs m = of_rank {V = AlockView} (λ v. v.queue.phase) Idle vs m
 
-abbrev pub entry_at : List AlockView → ℕ → Entry
+abbrev pub entry_at : List AlockView → ℕ → SettleStage
 entry_at vs m = of_rank {V = AlockView} (λ v. v.entry) Announce vs m
 
 -- a rank's phase in the queue of a cohort: idle where it isn't one of it
@@ -27,7 +27,7 @@ part true p = p
 part false p = Idle
 
 abbrev pub phases_of : Cohorts → Cohort → List AlockView → ℕ → Phase
-phases_of K c vs m = part (is_in K c m) (phase_at vs m)
+phases_of K c vs m = part (is_in_cohort K c m) (phase_at vs m)
 
 -- the ranks of a cohort
 pub record InCohort (K : Cohorts) (c : Cohort) (m : ℕ) : Type 0 where
@@ -44,7 +44,7 @@ Flat (Above succ) = ⊥
 Flat p = Unit {0}
 
 -- a head that has named its cohort the victim and hasn't settled
-abbrev pub Announced : Phase → Entry → Type 0
+abbrev pub Announced : Phase → SettleStage → Type 0
 Announced Settle Announce = ⊥
 Announced Settle Tail = Unit {0}
 Announced Settle Victim = Unit {0}
@@ -52,7 +52,7 @@ Announced p st = ⊥
 
 -- The entry of two: where a head has announced itself the victim is named; where a rank of one cohort has been given the lock, a head
 -- of the other that has announced itself is the victim, and no rank of the other has been given it.
-pub record Entered (cohort : ℕ → Cohort) (ph : ℕ → Phase) (en : ℕ → Entry) (status : ℕ → ℕ) (victim : ℕ) : Type 0 where
+pub record Entered (cohort : ℕ → Cohort) (ph : ℕ → Phase) (en : ℕ → SettleStage) (status : ℕ → ℕ) (victim : ℕ) : Type 0 where
   pub named : (k : ℕ) → Announced (ph k) (en k) → (victim ≡ 1) ⊎ (victim ≡ 2)
   pub yields : (m k : ℕ) → cohort m ≢ cohort k → served (ph m) (status m) ≡ true → Announced (ph k) (en k) → victim ≡ cohort_no (cohort k)
   pub one : (m k : ℕ) → cohort m ≢ cohort k → served (ph m) (status m) ≡ true → served (ph k) (status k) ≡ true → ⊥

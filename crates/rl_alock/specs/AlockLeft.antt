@@ -3,14 +3,14 @@ use Rattle.std.specs.Prelude.{ℕ, ◌==◌, List, if◌then◌else◌, slice_in
 use Rattle.rl_queue.specs.declared.view.Phase.{Phase}
 use Rattle.rl_queue.specs.declared.view.Phase.TheVariants.{Idle, Clear, Reset, Swing, Link, Wait, Settle, Granted, Look, Close, Await, Hand, Above}
 use Rattle.rl_alock.specs.declared.cohort.Cohort.{Cohort}
-use Rattle.rl_alock.specs.declared.view.Entry.{Entry}
-use Rattle.rl_alock.specs.declared.view.Entry.TheVariants.{Announce, Tail, Victim}
+use Rattle.rl_alock.specs.declared.view.SettleStage.{SettleStage}
+use Rattle.rl_alock.specs.declared.view.SettleStage.TheVariants.{Announce, Tail, Victim}
 use Rattle.rl_alock.specs.declared.view.AlockView.{AlockView}
 use Rattle.rl_alock.specs.Alock.{Cohorts, cohort_of, cohort_no, tail_no, victim_no}
 use Rattle.rl_ending.specs.TwoSums.{two_sums}
 
 -- how many acts a rank has before it, up to where it has the lock or has left it
-abbrev pub far : Phase → Entry → ℕ
+abbrev pub far : Phase → SettleStage → ℕ
 far Idle st = 0
 far Clear st = 7
 far Reset st = 6
@@ -29,7 +29,7 @@ far (Above succ) st = 0
 
 -- Small change: a guess that isn't the tail; and in the entry, a head that is the victim looks at the victim word, then at the other's
 -- tail, and again at the victim word once the other is the victim.
-abbrev pub near : ℕ → ℕ → Cohort → Phase → Entry → ℕ
+abbrev pub near : ℕ → ℕ → Cohort → Phase → SettleStage → ℕ
 near tail victim c (Swing guess) st = if tail == guess then 0 else 1
 near tail victim c Settle Announce = 0
 near tail victim c Settle Tail = 2

@@ -6,13 +6,13 @@ ghost use Rattle.rl_step.specs.LockQueues.{sits_at};
 ghost use Rattle.rl_queue.specs.Queue.{full_budget};
 ghost use Rattle.rl_queue.specs.RankWords.{Seated};
 ghost use Rattle.rl_alock.specs.declared.cohort.Cohort.TheVariants.{Local, Remote};
-ghost use Rattle.rl_alock.specs.Alock.{cohort_names, cohort_no, cohorts_of, cohort_by, names_of, entry_act as the_entry_act, settles_now, entry_told, entry_of, alock_table, BoundsOvertaking};
+ghost use Rattle.rl_alock.specs.Alock.{cohort_names, cohort_no, cohorts_of, cohort_by, names_of, entry_act as the_entry_act, settles_now, entry_told, entry_events, alock_table, BoundsOvertaking};
 ghost use Rattle.rl_alock.specs.laws.SameViews.{same_alock};
 ghost use Rattle.rl_alock.specs.Overtakes.{AlockBounded};
 ghost use Rattle.rl_alock.specs.laws.AlockBounded.{bounded_laws};
 
 use crate::cohort::Cohort;
-use crate::view::{AlockView, Entry};
+use crate::view::{AlockView, SettleStage};
 use arrayvec::ArrayVec;
 use rl_queue::{
     Phase, QueueNames, QueueView, queue_idle, queue_join, queue_learn, queue_leave, queue_plan,
@@ -81,18 +81,18 @@ fn seats(shape: &Shape) -> Result<Vec<u32>, OutOfMemory>
 }
 
 /// The act of a head that must settle.
-fn entry_act(cohort: Cohort, entry: Entry) -> Act
+fn entry_act(cohort: Cohort, entry: SettleStage) -> Act
     ensures { result ≡ the_entry_act cohort entry }
 {
     match entry {
-        Entry::Announce => Act::Store {
+        SettleStage::Announce => Act::Store {
             word: VICTIM,
             value: cohort.number() as u64,
         },
-        Entry::Tail => Act::Load {
+        SettleStage::Tail => Act::Load {
             word: cohort.other().queue(),
         },
-        Entry::Victim => Act::Load { word: VICTIM },
+        SettleStage::Victim => Act::Load { word: VICTIM },
     }
 }
 
@@ -110,20 +110,20 @@ fn settle(view: &mut AlockView, names: &QueueNames, events: &mut ArrayVec<Event,
     events.push(Event::EnterW { rank: head.member });
     *view = AlockView {
         queue: queue_settled(head, names),
-        entry: Entry::Announce,
+        entry: SettleStage::Announce,
     };
 }
 
 /// A head has named its cohort the victim, and looks at the other's tail next.
 fn announce(view: &mut AlockView, cohort: Cohort, events: &mut ArrayVec<Event, 8>)
     requires { events.old.items ≡ [] }
-    ensures view { view.new ≡ record { queue = view.old.queue; entry = Entry.Tail } }
+    ensures view { view.new ≡ record { queue = view.old.queue; entry = SettleStage.Tail } }
     ensures events { events.new.items ≡ Event.Announce (cohort_no cohort) ∷ [] }
 {
     events.push(Event::Announce {
         cohort: cohort.number(),
     });
-    view.entry = Entry::Tail;
+    view.entry = SettleStage::Tail;
 }
 
 /// What a head learns in the entry, where its act told `got`. Whether it has to make its round again.
@@ -139,17 +139,17 @@ fn entry_turn(
     ensures { record { view = view.new; events = events.new.items; waits = result } ≡ entry_told names.now cohort view.old.queue.member view.old.entry got }
 {
     match view.entry {
-        Entry::Announce => announce(view, cohort, events),
-        Entry::Tail => {
+        SettleStage::Announce => announce(view, cohort, events),
+        SettleStage::Tail => {
             if got == 0 {
                 settle(view, names, events);
             } else {
-                view.entry = Entry::Victim;
+                view.entry = SettleStage::Victim;
             }
         }
-        Entry::Victim => {
+        SettleStage::Victim => {
             if got == cohort.number() as u64 {
-                view.entry = Entry::Tail;
+                view.entry = SettleStage::Tail;
                 return true;
             }
             settle(view, names, events);
@@ -161,9 +161,9 @@ fn entry_turn(
 /// Who has been given its queue enters. Whether it has to make a load again.
 fn enter(view: &mut AlockView, turn: Learnt<QueueView>, events: &mut ArrayVec<Event, 8>) -> bool
     requires { length events.old.items ≤ 1 }
-    ensures view { view.new ≡ record { queue = turn.view; entry = Entry.Announce } }
+    ensures view { view.new ≡ record { queue = turn.view; entry = SettleStage.Announce } }
     ensures waits { result ≡ turn.waits }
-    ensures events { events.new.items ≡ events.old.items ++ entry_of turn.view.member turn.view.phase }
+    ensures events { events.new.items ≡ events.old.items ++ entry_events turn.view.member turn.view.phase }
 {
     if matches!(turn.view.phase, Phase::Granted { .. }) {
         events.push(Event::EnterW {
@@ -172,7 +172,7 @@ fn enter(view: &mut AlockView, turn: Learnt<QueueView>, events: &mut ArrayVec<Ev
     }
     *view = AlockView {
         queue: turn.view,
-        entry: Entry::Announce,
+        entry: SettleStage::Announce,
     };
     turn.waits
 }
@@ -274,14 +274,14 @@ impl Algo for Alock {
     fn first(&self, rank: u32) -> AlockView {
         AlockView {
             queue: queue_idle(rank),
-            entry: Entry::Announce,
+            entry: SettleStage::Announce,
         }
     }
 
     fn ask(&self, view: AlockView, _mode: Mode) -> AlockView {
         AlockView {
             queue: queue_join(view.queue),
-            entry: Entry::Announce,
+            entry: SettleStage::Announce,
         }
     }
 
@@ -310,7 +310,7 @@ impl Algo for Alock {
     fn leave(&self, view: AlockView) -> AlockView {
         AlockView {
             queue: queue_leave(view.queue, false),
-            entry: Entry::Announce,
+            entry: SettleStage::Announce,
         }
     }
 

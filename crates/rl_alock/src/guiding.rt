@@ -7,20 +7,20 @@ ghost use Rattle.rl_alock.specs.laws.AlockGuiding.{alock_guides};
 
 use crate::alock::{Alock, VICTIM};
 use crate::cohort::Cohort;
-use crate::view::{AlockView, Entry};
+use crate::view::{AlockView, SettleStage};
 use rl_ending::Guiding;
 use rl_queue::{Phase, queue_plan, queue_urgency};
 use rl_step::Words;
 
 /// How urgently a head of a cohort goes on at the entry; the lock's words are those of `words` from number `base` on.
-fn head_urgency(cohort: Cohort, entry: Entry, words: &Words, base: u32) -> Option<u32>
+fn head_urgency(cohort: Cohort, entry: SettleStage, words: &Words, base: u32) -> Option<u32>
     requires there { base + 3 ≤ length words.now.words }
     requires fits { base + 3 ≤ 2 ^ 32 }
     ensures { result ≡ head_urgent cohort entry (slice_index words.now.words (base + tail_no (other cohort))) (slice_index words.now.words (base + victim_no)) }
 {
     match entry {
-        Entry::Announce | Entry::Victim => Some(0),
-        Entry::Tail => {
+        SettleStage::Announce | SettleStage::Victim => Some(0),
+        SettleStage::Tail => {
             if words.value(base + cohort.other().queue()) == 0 {
                 Some(0)
             } else if words.value(base + VICTIM) == cohort.number() as u64 {

@@ -2,7 +2,7 @@
 //!
 //! - A *cohort* (`Cohort`) is the ranks on the shard's home, which are *local*, or all others, which are *remote*. Each has a queue
 //!   of its own, with a *budget* of its own.
-//! - The *head* of a queue that must settle makes the *entry* (`Entry`): it *announces* its cohort, which makes it the *victim*, the one
+//! - The *head* of a queue that must settle makes the *entry* (`SettleStage`): it *announces* its cohort, which makes it the *victim*, the one
 //!   that yields. Then it looks by turns whether the other's queue is empty, and whether the other is the victim by now. Either lets
 //!   it settle and enter.
 //! - A rank's *view* (`AlockView`) is its view of its cohort's queue and its place in the entry.
@@ -25,4 +25,4 @@ mod view;
 pub use alock::Alock;
 pub use cohort::Cohort;
 pub use laws::two_domains;
-pub use view::{AlockView, Entry};
+pub use view::{AlockView, SettleStage};

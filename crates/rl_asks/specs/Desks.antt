@@ -2,7 +2,7 @@
 use Rattle.std.specs.Prelude.{◌≡◌, ◌⊎◌, ℕ, Bool, true, false, List, [], ◌++◌, length}
 use Rattle.rl_model.specs.declared.call.Call.{Call}
 use Rattle.rl_model.specs.declared.entry.Entry.{Entry}
-use Rattle.rl_journal.specs.Blocks.{batch_of, calls_of}
+use Rattle.rl_journal.specs.Blocks.{batch_number, calls_of}
 use Rattle.rl_journal.specs.Ranks.{IsInOrder}
 use Rattle.rl_site.specs.Transcript.{TheTranscript}
 use Rattle.rl_site.specs.Opens.{Tells}
@@ -18,8 +18,8 @@ pub record Desk : Type 0 where
   pub calls : List Call
   pub seq : ℕ
 
-abbrev pub entries_of : Desk → List Entry
-entries_of d = d.kept.items
+abbrev pub desk_entries : Desk → List Entry
+desk_entries d = d.kept.items
 
 -- the desk of a rank that isn't there
 abbrev pub no_desk : Desk
@@ -53,7 +53,7 @@ pub record EndsBlock (shard rank : ℕ) (d e : Desk) : Type 0 where
   pub entries : List Entry
   pub items : e.kept.items ≡ d.kept.items ++ entries
   pub calls_are : calls_of entries ≡ d.calls
-  pub tells : Tells shard rank (batch_of (length d.calls)) d.seq 0 entries
+  pub tells : Tells shard rank (batch_number (length d.calls)) d.seq 0 entries
 
 -- how the desk of a rank on a shard goes on with an atom, its own or another rank's; no atom opens a block
 pub record Turns (shard rank : ℕ) (d e : Desk) : Type 0 where

@@ -5,10 +5,10 @@ use Rattle.rl_model.specs.declared.entry.Entry.{Entry}
 use Rattle.rl_model.specs.declared.geom.Geom.{Geom}
 use Rattle.rl_model.specs.Call.{shard_of}
 use Rattle.rl_model.specs.Asked.{Asked}
-use Rattle.rl_journal.specs.Blocks.{calls_of, batch_of}
+use Rattle.rl_journal.specs.Blocks.{calls_of, batch_number}
 use Rattle.rl_journal.specs.Ranks.{IsRankInOrder}
 use Rattle.rl_asks.specs.Asks.{is_on, AreBlocks, place_after, asked_of}
-use Rattle.rl_asks.specs.Desks.{Desk, entries_of}
+use Rattle.rl_asks.specs.Desks.{Desk, desk_entries}
 
 -- the calls of a block are the next ones that are asked for, from a number on
 abbrev pub AsksNext : ℕ → ℕ → List Asked → ℕ → List Call → Type 0
@@ -21,7 +21,7 @@ pub record IsAtWork (geom : Geom) (calls : List Call) (asked : List Asked) (done
   pub seq_is : seq ≡ done
   pub ends : done + length block ≡ opened
   pub calls_are : take (length block) (drop done calls) ≡ block
-  pub next : AsksNext (batch_of (length block)) 0 asked done block
+  pub next : AsksNext (batch_number (length block)) 0 asked done block
   pub one_shard : All (λ call. shard_of geom call ≡ s) block
 
 -- a rank's desk at shard s: it has an entry for each of the first `done` calls on the shard, in their order, and room for all; no block
@@ -45,8 +45,8 @@ pub record RankGood (geom : Geom) (calls : List Call) (sizes : List ℕ) (opened
   pub done : ℕ
   pub low : opened ≤ length calls
   pub rest : AreBlocks geom (drop opened calls) (drop opened sizes)
-  pub order : IsRankInOrder geom k (asked_of calls sizes) done (map entries_of desks)
-  pub total : entries_in (map entries_of desks) ≡ done
+  pub order : IsRankInOrder geom k (asked_of calls sizes) done (map desk_entries desks)
+  pub total : entries_in (map desk_entries desks) ≡ done
   pub on : (s : ℕ) (d : Desk) → slice_get desks s ≡ Some d → IsOn geom calls (asked_of calls sizes) done opened s d
 
 -- a desk at which nothing was done, with room for the rank's calls on the shard at least

@@ -26,7 +26,7 @@ use Rattle.rl_asks.specs.Domains.{IsCardAtom, IsLocalAtom, UsesCards, UsesLocals
 use Rattle.rl_asks.specs.EventRanks.{AreByRanks}
 use Rattle.rl_asks.specs.Standings.{AloneIn, leaves, IsUnhindered}
 use Rattle.rl_asks.specs.Touches.{IsGuarded}
-use Rattle.rl_asks.specs.Desks.{Desk, OpensBlock, Turns, entries_of}
+use Rattle.rl_asks.specs.Desks.{Desk, OpensBlock, Turns, desk_entries}
 use Rattle.rl_asks.specs.ShardTables.{ShardTable, opening_held, first_views, transition_by, journal_at, kept_in}
 
 -- the table is one of this site, its words are those of the site and those behind the journal, and the work's own are the last of these
@@ -44,13 +44,13 @@ pub record MayOpen {V : Type 0} (T : ShardTable V) (rank : ℕ) (v : V) (calls :
 
 -- a rank's desk on a shard: its entries are its own, in order, and no more updates than it has room for; none are owed but of an open block
 pub record IsDeskOf (site : Site) (rank : ℕ) (d : Desk) : Type 0 where
-  pub own : IsOwnTranscript site rank (entries_of d)
+  pub own : IsOwnTranscript site rank (desk_entries d)
   pub owing : d.owes ≡ true → d.is_open ≡ true
 
 -- a desk before the first block
 pub record IsNewDesk (room : ℕ) (d : Desk) : Type 0 where
   pub shut : d.is_open ≡ false
-  pub nothing : entries_of d ≡ []
+  pub nothing : desk_entries d ≡ []
   pub room_is : d.kept.room ≡ room
 
 module _ {V : Type 0} (T : ShardTable V) (good : TheWindow → List V → List Event → List Deed → Type 0) where
@@ -125,7 +125,7 @@ module _ {V : Type 0} (T : ShardTable V) (good : TheWindow → List V → List E
     -- over has left as a writer as often as its entries say
     pub queues : (h : TheWindow) (vs : List V) (t : List Event) (ds : List Deed) → good h vs t ds → KeepQueues T.queues t
     pub counted : (h : TheWindow) (vs : List V) (t : List Event) (ds : List Deed) → good h vs t ds → AllShut vs → CountTenures T.queues t
-    pub left_as : (h : TheWindow) (vs : List V) (t : List Event) (ds : List Deed) (r : ℕ) (v : V) → IsSeated h vs t ds r v → (T.own v).is_open ≡ false → leaves r t ≡ count_by T.tenure (entries_of (T.own v))
+    pub left_as : (h : TheWindow) (vs : List V) (t : List Event) (ds : List Deed) (r : ℕ) (v : V) → IsSeated h vs t ds r v → (T.own v).is_open ≡ false → leaves r t ≡ count_by T.tenure (desk_entries (T.own v))
     -- the events name queues, members and cohorts that the lock has, and ranks that there are; those of one atom stand in the order of
     -- their kinds
     pub named : (h : TheWindow) (vs : List V) (t : List Event) (ds : List Deed) → good h vs t ds → AllNamed T.queues T.cohort t

@@ -14,7 +14,7 @@ use Rattle.rl_step.specs.Transitions.{Transition}
 use Rattle.rl_step.specs.Queues.{QueueOf}
 use Rattle.rl_site.specs.Site.{Site, lock_base, journal_of}
 use Rattle.rl_site.specs.Opens.{opening_words}
-use Rattle.rl_asks.specs.Desks.{Desk, entries_of}
+use Rattle.rl_asks.specs.Desks.{Desk, desk_entries}
 
 pub record ShardTable (V : Type 0) : Type 0 where
   -- the atoms: a view's next one and what it leaves, how many words there are, and the home of each
@@ -76,4 +76,4 @@ module _ {V : Type 0} (T : ShardTable V) where
   -- the entries of the ranks from one on
   abbrev pub kept_in : List ℕ → ℕ → List V → List (List Entry)
   kept_in words rank [] = []
-  kept_in words rank (v ∷ vs) = entries_of (T.desk words rank v) ∷ kept_in words (rank + 1) vs
+  kept_in words rank (v ∷ vs) = desk_entries (T.desk words rank v) ∷ kept_in words (rank + 1) vs

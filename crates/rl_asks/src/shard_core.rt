@@ -17,7 +17,7 @@ ghost use Rattle.rl_step.specs.Transitions.{Transition as TheTransition};
 ghost use Rattle.rl_step.specs.Batches.{HandsOn};
 ghost use Rattle.rl_step.specs.LockQueues.{queues_of, readers_share, cohorts_of};
 ghost use Rattle.rl_site.specs.Site.{Site as TheSite, site_of};
-ghost use Rattle.rl_asks.specs.Desks.{entries_of};
+ghost use Rattle.rl_asks.specs.Desks.{desk_entries};
 ghost use Rattle.rl_asks.specs.ShardTables.{ShardTable, journal_at};
 ghost use Rattle.rl_asks.specs.ShardLaws.{ShardCoreLaws, IsLaidAtSite};
 
@@ -125,11 +125,11 @@ pub trait ShardCore: Core {
 
     /// The rank's entries on the shard, as its view has them, in the order in which they were done.
     fn entries<'a>(&self, view: &'a Self::View) -> &'a [Entry]
-        ensures { result.now ≡ entries_of ((shard_table self.now).own view.now) };
+        ensures { result.now ≡ desk_entries ((shard_table self.now).own view.now) };
 
     /// The same, taken out of the view.
     fn into_entries(&self, view: Self::View) -> Vec<Entry>
-        ensures { result.items ≡ entries_of ((shard_table self.now).own view) };
+        ensures { result.items ≡ desk_entries ((shard_table self.now).own view) };
 
     /// The rank's entries on the shard, by the words and by the journal that they have: those of its view, and those that are done by
     /// the words alone. Refused only for want of memory.
@@ -143,7 +143,7 @@ pub trait ShardCore: Core {
     ) -> Result<Vec<Entry>, OutOfMemory>
         requires seen { (s : MayBe (Self.rule self.now) view.now) × ((s.held ≡ words.now) × (s.rank ≡ rank)) }
         requires journal { journal.now ≡ journal_at (shard_table self.now) words.now.words }
-        ensures { IfOk result (λ t. t.items ≡ entries_of ((shard_table self.now).desk words.now.words rank view.now)) };
+        ensures { IfOk result (λ t. t.items ≡ desk_entries ((shard_table self.now).desk words.now.words rank view.now)) };
 
     /// How a rank with this view stands on the shard: at the lock, and asking while a block of it is open that isn't there.
     fn standing(&self, view: &Self::View) -> Standing

@@ -11,7 +11,7 @@ use Rattle.rl_model.specs.Asked.{Asked, AreUpdates}
 use Rattle.rl_model.specs.Call.{is_update}
 use Rattle.rl_model.specs.Table.{sum_below}
 use Rattle.rl_model.proofs.Counts.{count-cons, count-append, sum_of_counts}
-use Rattle.rl_journal.specs.Legal.{joined}
+use Rattle.rl_journal.specs.Legal.{blocks_joined}
 use Rattle.rl_journal.specs.laws.Lists.{get_cases, get_left}
 use Rattle.rl_journal.specs.Ranks.{count_in}
 use Rattle.rl_ops.specs.Asked.{asked_after, asked_of, batch_of}
@@ -51,13 +51,13 @@ map_there f [] i x get = absurd (cc)
 map_there f (y ∷ ys) zero x get = ap (λ z. Some (f z)) (same_Some _ _ get)
 map_there f (y ∷ ys) (suc i) x get = map_there f ys i x get
 
-pub flat_joined : {X : Type 0} (f : X → List Entry) (xs : List X) → flat_map f xs ≡ joined (map f xs)
+pub flat_joined : {X : Type 0} (f : X → List Entry) (xs : List X) → flat_map f xs ≡ blocks_joined (map f xs)
 flat_joined f [] = refl
 flat_joined f (x ∷ xs) = flat_map-cons f x xs ∙ ap (λ z. f x ++ z) (flat_joined f xs)
 
-pub count_joined : (test : Entry → Bool) (ts : List (List Entry)) → count_by test (joined ts) ≡ count_in test ts
+pub count_joined : (test : Entry → Bool) (ts : List (List Entry)) → count_by test (blocks_joined ts) ≡ count_in test ts
 count_joined test [] = refl
-count_joined test (t ∷ ts) = omega (arith, count-append test t (joined ts), count_joined test ts)
+count_joined test (t ∷ ts) = omega (arith, count-append test t (blocks_joined ts), count_joined test ts)
 
 get_behind : {X : Type 0} (xs ys : List X) (i : ℕ) → slice_get (xs ++ ys) (length xs + i) ≡ slice_get ys i
 get_behind [] ys i = ap (slice_get ys) (omega arith)
@@ -71,18 +71,18 @@ pub record StandsIn (ts : List (List Entry)) (e : Entry) : Type 0 where
   pub j : ℕ
   pub there : slice_get t j ≡ Some e
 
-pub stands_in : (ts : List (List Entry)) (e : Entry) → Stands (joined ts) e → StandsIn ts e
+pub stands_in : (ts : List (List Entry)) (e : Entry) → Stands (blocks_joined ts) e → StandsIn ts e
 stands_in [] e h = absurd (let bad = h.1 in cc)
 stands_in (t ∷ ts) e h =
     ⊎_elim
     (λ q. record { s = 0; t = t; list = refl; j = h.0; there = q.1 })
     (λ q. let r = stands_in ts e (q.0, q.2) in record { s = suc r.s; t = r.t; list = r.list; j = r.j; there = r.there })
-    (get_cases t (joined ts) h.0 e h.1)
+    (get_cases t (blocks_joined ts) h.0 e h.1)
 
-pub stands_out : (ts : List (List Entry)) (s : ℕ) (t : List Entry) (j : ℕ) (e : Entry) → slice_get ts s ≡ Some t → slice_get t j ≡ Some e → Stands (joined ts) e
+pub stands_out : (ts : List (List Entry)) (s : ℕ) (t : List Entry) (j : ℕ) (e : Entry) → slice_get ts s ≡ Some t → slice_get t j ≡ Some e → Stands (blocks_joined ts) e
 stands_out [] s t j e list there = absurd (cc)
-stands_out (u ∷ ts) zero t j e list there = (j, get_left u (joined ts) j e (ap (λ z. slice_get z j) (same_Some _ _ list) ∙ there))
-stands_out (u ∷ ts) (suc s) t j e list there = let q = stands_out ts s t j e list there in (length u + q.0, get_behind u (joined ts) q.0 ∙ q.1)
+stands_out (u ∷ ts) zero t j e list there = (j, get_left u (blocks_joined ts) j e (ap (λ z. slice_get z j) (same_Some _ _ list) ∙ there))
+stands_out (u ∷ ts) (suc s) t j e list there = let q = stands_out ts s t j e list there in (length u + q.0, get_behind u (blocks_joined ts) q.0 ∙ q.1)
 
 -- ---- counts
 

@@ -12,7 +12,7 @@ use Rattle.rl_model.specs.Call.{shard_of}
 use Rattle.rl_model.specs.Table.{Table}
 use Rattle.rl_model.proofs.Counts.{count-append, count-cons}
 use Rattle.rl_journal.specs.Legal.{updates}
-use Rattle.rl_check.specs.Entries.{before, updates_before, StandsBefore, MayFollow, IsOfShard, IsInOrder, IsInBatch, IsAtPlace, HasReply}
+use Rattle.rl_check.specs.Entries.{before, updates_before, StandsBefore, MayFollow, IsOfShard, EntryIsInOrder, IsInBatch, IsAtPlace, HasReply}
 use Rattle.rl_check.specs.OneThread.{BatchesFit, Tells, IsToldTo}
 use Rattle.rl_check.specs.Finding.{IsGood, AreGood}
 use Rattle.rl_check.proofs.Places.{below_next, take_more}
@@ -41,7 +41,7 @@ module _ (entries : List Entry) (p : ℕ) (d : Entry) (low : p < length entries)
   of_shard geom shard is f get = ap (λ (z : Entry). shard_of geom z.call) (sym (same f get)) ∙ is
 
   module _ (o : Option Entry) (b : Bool) (is_before : o ≡ before entries p) where
-    pub in_order : IsTrue b ↔ ((x : Entry) → o ≡ Some x → StandsBefore x e) → b ≡ true → IsInOrder entries p
+    pub in_order : IsTrue b ↔ ((x : Entry) → o ≡ Some x → StandsBefore x e) → b ≡ true → EntryIsInOrder entries p
     in_order is so x f at get = subst (StandsBefore x) (same f get) (is.0 so x (is_before ∙ at))
 
     pub in_batch : IsTrue b ↔ MayFollow o e → b ≡ true → IsInBatch entries p

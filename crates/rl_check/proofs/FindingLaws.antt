@@ -16,7 +16,7 @@ use Rattle.rl_history.specs.Naming.{naming_of}
 use Rattle.rl_history.specs.Reports.{ShardFits}
 use Rattle.rl_check.specs.declared.illegal.Test.{Test}
 use Rattle.rl_check.specs.declared.illegal.Test.TheVariants as test
-use Rattle.rl_check.specs.Entries.{before, updates_before, table_before, IsOfShard, IsInOrder, IsInBatch, IsAtPlace, HasReply}
+use Rattle.rl_check.specs.Entries.{before, updates_before, table_before, IsOfShard, EntryIsInOrder, IsInBatch, IsAtPlace, HasReply}
 use Rattle.rl_check.specs.Faults.{number_of, is_of_events}
 use Rattle.rl_check.specs.OneThread.{is_begun, IsToldTo}
 use Rattle.rl_check.specs.Shards.{NoneIsBegun, TalliesHold, PairsHold, EventsHold, ShardPasses}
@@ -38,7 +38,7 @@ module _ (place : ThePlace) (replay : Bool) (shard home : ℕ) (S : TheShard) wh
   -- the tests that an entry is known to pass, in their order
   record UpTo (p k : ℕ) : Type 0 where
     of_shard : 0 < k → IsOfShard es p place.geom shard
-    in_order : 1 < k → IsInOrder es p
+    in_order : 1 < k → EntryIsInOrder es p
     in_batch : 2 < k → IsInBatch es p
     at_place : 3 < k → IsAtPlace es p
     has_reply : 4 < k → HasReply es p place.geom

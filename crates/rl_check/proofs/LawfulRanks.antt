@@ -6,7 +6,7 @@ use Rattle.rl_word.specs.laws.Places.{some_at}
 use Rattle.rl_model.specs.declared.call.Call.{Call}
 use Rattle.rl_model.specs.declared.entry.Entry.{Entry}
 use Rattle.rl_model.specs.declared.geom.Geom.{Geom}
-use Rattle.rl_journal.specs.Legal.{joined}
+use Rattle.rl_journal.specs.Legal.{blocks_joined}
 use Rattle.rl_journal.specs.laws.Lists.{all_at}
 use Rattle.rl_journal.specs.Ranks.{Follows, IsInOrder, IsEntryOf, IsRankInOrder}
 use Rattle.rl_ops.specs.Asked.{asked_of}
@@ -54,7 +54,7 @@ follows_by t order i j d e gd ge low =
 
 module _ (geom : Geom) (k : ℕ) (calls : List Call) (sizes : List ℕ) (n : ℕ) (ts : List (List Entry)) (O : IsRankInOrder geom k (asked_of calls sizes) n ts) where
   abbrev own : List Entry
-  own = joined ts
+  own = blocks_joined ts
 
   entry_is : (e : Entry) (h : StandsIn ts e) → IsEntryOf geom k (asked_of calls sizes) n h.s e
   entry_is e h = all_at (IsEntryOf geom k (asked_of calls sizes) n h.s) h.t h.j e (O.each h.s h.t h.list) h.there

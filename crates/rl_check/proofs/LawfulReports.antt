@@ -20,13 +20,13 @@ use Rattle.rl_ops.specs.Ops.{OpsFit, AreBlocks}
 use Rattle.rl_history.specs.declared.report.Done.{Done}
 use Rattle.rl_history.specs.Naming.{naming_of}
 use Rattle.rl_history.specs.Reports.{TheShard, TheReport, EntryFits, ShardFits, ReportFits}
-use Rattle.rl_history.specs.Lawful.{journal_in, transcript_in, queues_at, IsLawfulShard, IsLawful}
-use Rattle.rl_history.specs.Tallies.{trace_of}
+use Rattle.rl_history.specs.Lawful.{journal_among, transcript_in, queues_at, IsLawfulShard, IsLawful}
+use Rattle.rl_history.specs.Tallies.{trace_of_report}
 use Rattle.rl_check.specs.declared.illegal.Group.TheVariants as group
 use Rattle.rl_check.specs.declared.illegal.Test.{Test}
 use Rattle.rl_check.specs.Shards.{TalliesHold, PairsHold, KeepsRules, EventsHold, ShardPasses}
 use Rattle.rl_check.specs.LawfulReplays.{TellsHistory, IsReplayedShard, IsLawfulReplay, done_by}
-use Rattle.rl_check.specs.Ranks.{entries_by, EndsWell, RankPasses}
+use Rattle.rl_check.specs.Ranks.{entries_of_rank, EndsWell, RankPasses}
 use Rattle.rl_check.specs.Legal.{IsLegalReport}
 use Rattle.rl_check.proofs.RankFirst.{each_block}
 use Rattle.rl_check.proofs.ReportFacts.{shard_fits}
@@ -72,9 +72,9 @@ module _ (place : ThePlace) (ops : Ops) (report : TheReport) (calls : OpsFit (le
         alone (λ p e get. (entry_is p e get).place) replay tallies pairs events p t)
 
   rank_tests : (k : ℕ) → k < length ops.by_rank → EndsWell replay (get_or ops.by_rank k []) (get_or ops.sizes k []) (done k) → (d : Done) → d.done ≡ done k → d.given ≡ length (get_or ops.by_rank k []) → (p : ℕ) (t : Test) →
-      RankPasses (is_some report.steps) (get_or ops.by_rank k []) (get_or ops.sizes k []) (entries_by report k) d p t
+      RankPasses (is_some report.steps) (get_or ops.by_rank k []) (get_or ops.sizes k []) (entries_of_rank report k) d p t
   rank_tests k low ends d as_done as_given p t =
-      subst (λ b. RankPasses b (get_or ops.by_rank k []) (get_or ops.sizes k []) (entries_by report k) d p t) (sym mode)
+      subst (λ b. RankPasses b (get_or ops.by_rank k []) (get_or ops.sizes k []) (entries_of_rank report k) d p t) (sym mode)
       (subst (λ z. RankPasses replay (get_or ops.by_rank k []) (get_or ops.sizes k []) z d p t) (sym (flat_joined (told_by k) report.shards))
       (rank_passes place.geom k (get_or ops.by_rank k []) (get_or ops.sizes k []) (done k) (map (told_by k) report.shards) (order k low) replay ends d as_done as_given p t))
 
@@ -96,10 +96,10 @@ module _ (place : ThePlace) (ops : Ops) (report : TheReport) (calls : OpsFit (le
       let L : IsLawfulShard place home S = lawful.shards s home S gh gS in
       let quiet : S.events ≡ [] = (fit place ops report calls lawful.fits false is_run (λ k. length (calls_of k)) lawful.calls s home S gS).events in
       shard_tests place ops report calls lawful.fits false is_run (λ k. length (calls_of k)) lawful.calls s home S gS (record { legal = L.legal; in_order = L.in_order; told = L.told }) L.tallied
-      (L.table ∙ ap (λ es. finite.entries (table_after place.geom finite.empty (journal_in es))) (sym (take_whole S.entries (length S.entries) refl)))
+      (L.table ∙ ap (λ es. finite.entries (table_after place.geom finite.empty (journal_among es))) (sym (take_whole S.entries (length S.entries) refl)))
       (no_events place home S quiet)
 
-  run_rank : (k : ℕ) (d : Done) → slice_get report.done k ≡ Some d → (p : ℕ) (t : Test) → RankPasses (is_some report.steps) (calls_of k) (get_or ops.sizes k []) (entries_by report k) d p t
+  run_rank : (k : ℕ) (d : Done) → slice_get report.done k ≡ Some d → (p : ℕ) (t : Test) → RankPasses (is_some report.steps) (calls_of k) (get_or ops.sizes k []) (entries_of_rank report k) d p t
   run_rank k d gd = rank_tests place ops report calls lawful.fits false is_run (λ k. length (calls_of k)) lawful.calls k low refl d (ap (λ (z : Done). z.done) done_is) (ap (λ (z : Done). z.given) done_is) where
     low : k < length ops.by_rank
     low = let h = slice_get_within report.done k d gd in let n : length report.done ≡ length ops.by_rank = ap length lawful.done ∙ length-map ops.by_rank _ in omega arith
@@ -122,9 +122,9 @@ module _ (place : ThePlace) (ops : Ops) (report : TheReport) (calls : OpsFit (le
   replay_shard s home S gh gS =
       let L : IsReplayedShard place home S = lawful.shards s home S gh gS in
       shard_tests place ops report calls lawful.fits true lawful.of_replay (done_by report) lawful.calls s home S gS L.history_told L.tallied tt
-      (all_hold (queues_at place home) S.events (length S.events) (omega arith) (subst (λ z. KeepsRules (queues_at place home) (trace_of z)) (sym (take_whole S.events (length S.events) refl)) L.rules))
+      (all_hold (queues_at place home) S.events (length S.events) (omega arith) (subst (λ z. KeepsRules (queues_at place home) (trace_of_report z)) (sym (take_whole S.events (length S.events) refl)) L.rules))
 
-  replay_rank : (k : ℕ) (d : Done) → slice_get report.done k ≡ Some d → (p : ℕ) (t : Test) → RankPasses (is_some report.steps) (get_or ops.by_rank k []) (get_or ops.sizes k []) (entries_by report k) d p t
+  replay_rank : (k : ℕ) (d : Done) → slice_get report.done k ≡ Some d → (p : ℕ) (t : Test) → RankPasses (is_some report.steps) (get_or ops.by_rank k []) (get_or ops.sizes k []) (entries_of_rank report k) d p t
   replay_rank k d gd =
       let low : k < length ops.by_rank = let h = slice_get_within report.done k d gd in let a = lawful.fits.each_rank in let b = calls.ranks_there in omega arith in
       rank_tests place ops report calls lawful.fits true lawful.of_replay (done_by report) lawful.calls k low (lawful.whole k low) d

@@ -17,7 +17,7 @@ use Rattle.rl_journal.specs.laws.HistorySorted.{history_sorted}
 use Rattle.rl_journal.specs.Ranks.{IsInOrder}
 use Rattle.rl_place.specs.Places.{ThePlace}
 use Rattle.rl_history.specs.Reports.{TheShard}
-use Rattle.rl_history.specs.Lawful.{journal_in, transcript_in, transcripts_in, queues_at}
+use Rattle.rl_history.specs.Lawful.{journal_among, transcript_in, transcripts_in, queues_at}
 use Rattle.rl_check.specs.declared.illegal.Test.{Test}
 use Rattle.rl_check.specs.declared.illegal.Test.TheVariants as test
 use Rattle.rl_check.specs.Entries.{before, StandsBefore}
@@ -75,13 +75,13 @@ module _ (place : ThePlace) (s home : ℕ) (S : TheShard) (L : TellsHistory plac
   ts = transcripts_in S.entries 0 (length place.paths)
 
   sorted : IsSorted es
-  sorted = subst IsSorted (sym L.in_order) (history_sorted place.geom (journal_in es) ts L.legal (own_from es 0 (length place.paths) (λ k low high. order k (omega arith))))
+  sorted = subst IsSorted (sym L.in_order) (history_sorted place.geom (journal_among es) ts L.legal (own_from es 0 (length place.paths) (λ k low high. order k (omega arith))))
 
   told : TellsUpdatesBefore es
-  told = subst TellsUpdatesBefore (sym L.in_order) (places_told place.geom (journal_in es) ts L.legal)
+  told = subst TellsUpdatesBefore (sym L.in_order) (places_told place.geom (journal_among es) ts L.legal)
 
   replay : IsReplayedByOneThread place.geom finite.empty 0 es
-  replay = subst (IsReplayedByOneThread place.geom finite.empty 0) (sym L.in_order) (replayed place.geom (journal_in es) ts L.legal)
+  replay = subst (IsReplayedByOneThread place.geom finite.empty 0) (sym L.in_order) (replayed place.geom (journal_among es) ts L.legal)
 
   placed : ((k : ℕ) (e : Entry) → slice_get es k ≡ Some e → IsPlaced place.geom es alone k e) × (is_begun (before es (length es)) ≡ false)
   placed = replay_placed place.geom es alone 0 replay.blocks replay.split replay.replayed

@@ -22,7 +22,7 @@ use Rattle.rl_journal.specs.Ranks.{IsInOrder}
 use Rattle.rl_place.specs.Places.{ThePlace}
 use Rattle.rl_history.specs.Naming.{naming_of}
 use Rattle.rl_history.specs.Reports.{TheShard, ShardFits}
-use Rattle.rl_history.specs.Lawful.{journal_in, transcript_in, transcripts_in}
+use Rattle.rl_history.specs.Lawful.{journal_among, transcript_in, transcripts_in}
 use Rattle.rl_check.specs.declared.illegal.Test.{Test}
 use Rattle.rl_check.specs.declared.illegal.Test.TheVariants as test
 use Rattle.rl_check.specs.Entries.{updates_before, table_before}
@@ -179,10 +179,10 @@ twice p q (e ∷ es) = by (p e) (q e) refl refl (twice p q es) where
       step false false x y on = on
 
 -- where an update of a journal stands
-update_at : (es : List Entry) (m : ℕ) (f : Entry) → slice_get (journal_in es) m ≡ Some f → (q : ℕ) × (slice_get es q ≡ Some f) × (updates_before es q ≡ m)
+update_at : (es : List Entry) (m : ℕ) (f : Entry) → slice_get (journal_among es) m ≡ Some f → (q : ℕ) × (slice_get es q ≡ Some f) × (updates_before es q ≡ m)
 update_at [] m f get = absurd (cc)
 update_at (e ∷ es) m f get = by (updates e) refl m get (λ k g. update_at es k f g) where
-  by : (b : Bool) → updates e ≡ b → (m : ℕ) → slice_get (cond b (e ∷ journal_in es) (journal_in es)) m ≡ Some f → ((k : ℕ) → slice_get (journal_in es) k ≡ Some f → (q : ℕ) × (slice_get es q ≡ Some f) × (updates_before es q ≡ k)) →
+  by : (b : Bool) → updates e ≡ b → (m : ℕ) → slice_get (cond b (e ∷ journal_among es) (journal_among es)) m ≡ Some f → ((k : ℕ) → slice_get (journal_among es) k ≡ Some f → (q : ℕ) × (slice_get es q ≡ Some f) × (updates_before es q ≡ k)) →
       (q : ℕ) × (slice_get (e ∷ es) q ≡ Some f) × (updates_before (e ∷ es) q ≡ m)
   by true hit zero get later = (0, get, refl)
   by true hit (suc m) get later =
@@ -200,17 +200,17 @@ module _ (place : ThePlace) (replay : Bool) (s home : ℕ) (S : TheShard) (fit :
   up i = updates_before es i
 
   abbrev journal : List Entry
-  journal = journal_in es
+  journal = journal_among es
 
   abbrev ts : List (List Entry)
   ts = transcripts_in es 0 (length place.paths)
 
   -- the journal's beginning is what stands before
-  split : (p : ℕ) → journal ≡ journal_in (take p es) ++ journal_in (drop p es)
-  split p = ap journal_in (sym (take-append-drop p es)) ∙ filter-append updates (take p es) (drop p es)
+  split : (p : ℕ) → journal ≡ journal_among (take p es) ++ journal_among (drop p es)
+  split p = ap journal_among (sym (take-append-drop p es)) ∙ filter-append updates (take p es) (drop p es)
 
-  beginning : (p : ℕ) → take (up p) journal ≡ journal_in (take p es)
-  beginning p = ap (take (up p)) (split p) ∙ take_at (journal_in (take p es)) (journal_in (drop p es)) (up p) (length-filter updates (take p es))
+  beginning : (p : ℕ) → take (up p) journal ≡ journal_among (take p es)
+  beginning p = ap (take (up p)) (split p) ∙ take_at (journal_among (take p es)) (journal_among (drop p es)) (up p) (length-filter updates (take p es))
 
   low_up : (p : ℕ) → up p ≤ length journal
   low_up p =

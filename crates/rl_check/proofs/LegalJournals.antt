@@ -13,15 +13,15 @@ use Rattle.rl_model.specs.declared.entry.Entry.{Entry}
 use Rattle.rl_model.specs.Table.{Table, apply}
 use Rattle.rl_journal.specs.Blocks.{apply_block, apply_batch, calls_of, replies_of, half_after, is_last, size_of, IsPart, AreParts, IsBlock}
 use Rattle.rl_journal.specs.laws.BlockLaws.{block_done}
-use Rattle.rl_journal.specs.Legal.{updates, table_after, joined, IsLegalBlock, AreLegalFrom, IsLegalJournal}
+use Rattle.rl_journal.specs.Legal.{updates, table_after, blocks_joined, IsLegalBlock, AreLegalFrom, IsLegalJournal}
 use Rattle.rl_journal.specs.laws.Lists.{filter_all}
 use Rattle.rl_place.specs.Places.{ThePlace}
 use Rattle.rl_history.specs.Naming.{naming_of}
 use Rattle.rl_history.specs.Reports.{TheShard, PartFits, ShardFits}
-use Rattle.rl_history.specs.Lawful.{journal_in}
+use Rattle.rl_history.specs.Lawful.{journal_among}
 use Rattle.rl_check.specs.declared.illegal.Test.{Test}
 use Rattle.rl_check.specs.declared.illegal.Test.TheVariants as test
-use Rattle.rl_check.specs.Entries.{before, updates_before, table_before, GoesOnInBatch, IsFirstOfBlock, MayFollow, IsWholeBatch, IsAnswered}
+use Rattle.rl_check.specs.Entries.{before, updates_before, table_before, GoesOnInBatch, IsFirstOfBlock, MayFollow, IsWholeBatch, EntryIsAnswered}
 use Rattle.rl_check.specs.OneThread.{is_begun}
 use Rattle.rl_check.specs.Shards.{ShardPasses}
 use Rattle.rl_check.proofs.Places.{below_next, take_more, in_stretch, length_stretch}
@@ -73,7 +73,7 @@ module _ (place : ThePlace) (replay : Bool) (s home : ℕ) (S : TheShard) (fit :
   up i = updates_before es i
 
   abbrev state : ℕ → Table × List Call
-  state i = half_after place.geom finite.empty [] (journal_in (take i es))
+  state i = half_after place.geom finite.empty [] (journal_among (take i es))
 
   part_fits : (p : ℕ) (e : Entry) → slice_get es p ≡ Some e → PartFits e.batch e.part
   part_fits p e get = (entry_fits place replay s home S fit T p e get).part
@@ -192,7 +192,7 @@ module _ (place : ThePlace) (replay : Bool) (s home : ℕ) (S : TheShard) (fit :
         let within : k < length b = let h = slice_get_within (replies_of b) k x gx in omega (arith, length-map b (λ (z : Entry). z.reply)) in
         let d = some_at b k within in
         let q = link_in k d.0 d.1 in
-        let a : IsAnswered es (i + k) place.geom d.0 = T (i + k) test.Reply d.0 q.1.there in
+        let a : EntryIsAnswered es (i + k) place.geom d.0 = T (i + k) test.Reply d.0 q.1.there in
         let got = a.in_batch i (let z = q.1.part_is in omega arith) (let low = q.0 in let y = q.1.part_is in let z = q.1.batch_is in omega arith) (subst (IsWholeBatch es i) (sym q.1.batch_is) whole) in
         let here : slice_get (apply_batch place.geom (calls_of b) (table_before place.geom es i)).1 k ≡ Some d.0.reply =
         ap (slice_get (apply_batch place.geom (calls_of b) (table_before place.geom es i)).1) (sym q.1.part_is)
@@ -211,11 +211,11 @@ module _ (place : ThePlace) (replay : Bool) (s home : ℕ) (S : TheShard) (fit :
         let at : i + e.batch ≡ suc (i + (e.batch - 1)) = omega arith in
         ap (λ z. up z) at ∙ up_one es (i + (e.batch - 1)) c.0 c.1.there c.1.hit ∙ (let x = c.1.count in let y = long in omega arith)
 
-    in_journal : journal_in (drop i es) ≡ b ++ journal_in (drop (i + e.batch) es)
+    in_journal : journal_among (drop i es) ≡ b ++ journal_among (drop (i + e.batch) es)
     in_journal =
-        ap journal_in (sym (take-append-drop e.batch (drop i es))) ∙ filter-append updates b (drop e.batch (drop i es))
-        ∙ ap (λ z. z ++ journal_in (drop e.batch (drop i es))) (filter_all updates b (λ k d gd. (link_in k d gd).1.hit))
-        ∙ ap (λ z. b ++ journal_in z) (drop-drop e.batch i es)
+        ap journal_among (sym (take-append-drop e.batch (drop i es))) ∙ filter-append updates b (drop e.batch (drop i es))
+        ∙ ap (λ z. z ++ journal_among (drop e.batch (drop i es))) (filter_all updates b (λ k d gd. (link_in k d gd).1.hit))
+        ∙ ap (λ z. b ++ journal_among z) (drop-drop e.batch i es)
 
     legal_batch : (t : Table) → table_before place.geom es i ≡ t → IsLegalBlock place.geom t (up i) b
     legal_batch t table =
@@ -234,7 +234,7 @@ module _ (place : ThePlace) (replay : Bool) (s home : ℕ) (S : TheShard) (fit :
 
   record IsSplit (i : ℕ) (t : Table) : Type 0 where
     blocks : List (List Entry)
-    split : joined blocks ≡ journal_in (drop i es)
+    split : blocks_joined blocks ≡ journal_among (drop i es)
     legal : AreLegalFrom place.geom t (up i) blocks
 
   module _ (i : ℕ) (t : Table) (table : state i ≡ (t, [])) (e : Entry) (get : slice_get es i ≡ Some e) (none : e.batch ≡ 0) (first : e.part ≡ 0) where
@@ -247,7 +247,7 @@ module _ (place : ThePlace) (replay : Bool) (s home : ℕ) (S : TheShard) (fit :
     after_table : state (suc i) ≡ ((apply place.geom e.call t).0, [])
     after_table =
         let at : i + 1 ≡ suc i = omega arith in
-        ap (λ z. state z) (sym at) ∙ ap (λ z. half_after place.geom finite.empty [] (journal_in z)) (take_more es i e get) ∙ after_call place.geom (take i es) e t table none
+        ap (λ z. state z) (sym at) ∙ ap (λ z. half_after place.geom finite.empty [] (journal_among z)) (take_more es i e get) ∙ after_call place.geom (take i es) e t table none
 
     alone_is : updates e ≡ true → IsBlock e.rank 0 e.seq (up i) (e ∷ [])
     alone_is hit =
@@ -275,18 +275,18 @@ module _ (place : ThePlace) (replay : Bool) (s home : ℕ) (S : TheShard) (fit :
           let behind : table_after place.geom t (e ∷ []) ≡ (apply place.geom e.call t).0 = block_done place.geom e.rank 0 e.seq (up i) t (e ∷ []) (alone_is hit) in
           record {
             blocks = (e ∷ []) ∷ on.blocks;
-            split = ap (λ z. e ∷ z) on.split ∙ ap (λ x. cond x (e ∷ journal_in (drop (suc i) es)) (journal_in (drop (suc i) es))) (sym hit) ∙ ap journal_in (sym (drop_here es i e get));
+            split = ap (λ z. e ∷ z) on.split ∙ ap (λ x. cond x (e ∷ journal_among (drop (suc i) es)) (journal_among (drop (suc i) es))) (sym hit) ∙ ap journal_among (sym (drop_here es i e get));
             legal = (alone_block hit, subst (λ u. AreLegalFrom place.geom u (up i + 1) on.blocks) (sym behind) (subst (λ m. AreLegalFrom place.geom (apply place.geom e.call t).0 m on.blocks) (up_one es i e get hit) on.legal));
           }
       by false miss =
           record {
             blocks = on.blocks;
-            split = on.split ∙ ap (λ x. cond x (e ∷ journal_in (drop (suc i) es)) (journal_in (drop (suc i) es))) (sym miss) ∙ ap journal_in (sym (drop_here es i e get));
+            split = on.split ∙ ap (λ x. cond x (e ∷ journal_among (drop (suc i) es)) (journal_among (drop (suc i) es))) (sym miss) ∙ ap journal_among (sym (drop_here es i e get));
             legal = subst (λ u. AreLegalFrom place.geom u (up i) on.blocks) (read_leaves place.geom e.call t miss) (subst (λ m. AreLegalFrom place.geom (apply place.geom e.call t).0 m on.blocks) (up_none es i e get miss) on.legal);
           }
 
   walk : (m i : ℕ) (t : Table) → length es ≤ i + m → is_begun (before es i) ≡ false → state i ≡ (t, []) → IsSplit i t
-  walk zero i t past none table = record { blocks = []; split = sym (ap journal_in (drop_all i es (omega arith))); legal = tt }
+  walk zero i t past none table = record { blocks = []; split = sym (ap journal_among (drop_all i es (omega arith))); legal = tt }
   walk (suc m) i t past none table =
       elim (nat_lt i (length es)) as (λ b. nat_lt i (length es) ≡ b → IsSplit i t) [
         | true ↦ λ h.
@@ -315,14 +315,14 @@ module _ (place : ThePlace) (replay : Bool) (s home : ℕ) (S : TheShard) (fit :
             (part_fits i e.0 e.1)
         | false ↦ λ h.
             let past : length es ≤ i = grind (arith, nat_tests) in
-            record { blocks = []; split = sym (ap journal_in (drop_all i es past)); legal = tt }
+            record { blocks = []; split = sym (ap journal_among (drop_all i es past)); legal = tt }
       ] refl
 
-  pub journal_legal : IsLegalJournal place.geom (journal_in es)
+  pub journal_legal : IsLegalJournal place.geom (journal_among es)
   journal_legal =
-      let all : IsSplit 0 finite.empty = walk (length es) 0 finite.empty (omega arith) refl (ap (λ z. half_after place.geom finite.empty [] (journal_in z)) (take_none es)) in
+      let all : IsSplit 0 finite.empty = walk (length es) 0 finite.empty (omega arith) refl (ap (λ z. half_after place.geom finite.empty [] (journal_among z)) (take_none es)) in
       record {
         blocks = all.blocks;
-        split = all.split ∙ ap journal_in (drop_none es);
+        split = all.split ∙ ap journal_among (drop_none es);
         legal = subst (λ m. AreLegalFrom place.geom finite.empty m all.blocks) (ap (count_by updates) (take_none es)) all.legal;
       }

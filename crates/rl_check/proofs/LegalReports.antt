@@ -13,7 +13,7 @@ use Rattle.rl_step.specs.declared.events.Event.{Event}
 use Rattle.rl_step.specs.laws.ExclusionLaws.{is_exclusive}
 use Rattle.rl_step.specs.Queues.{QueueOf}
 use Rattle.rl_step.specs.laws.QueueLemmas.{is_within}
-use Rattle.rl_journal.specs.Legal.{is_of, joined, table_after}
+use Rattle.rl_journal.specs.Legal.{is_of, blocks_joined, table_after}
 use Rattle.rl_journal.specs.laws.LegalLaws.{each_part}
 use Rattle.rl_journal.specs.Ranks.{IsInOrder, IsEntryOf, IsRankInOrder}
 use Rattle.rl_place.specs.Places.{ThePlace, IsProper}
@@ -23,15 +23,15 @@ use Rattle.rl_ops.specs.Ops.{OpsFit}
 use Rattle.rl_history.specs.declared.report.Done.{Done}
 use Rattle.rl_history.specs.Naming.{naming_of}
 use Rattle.rl_history.specs.Reports.{TheShard, TheReport, ShardFits, ReportFits}
-use Rattle.rl_history.specs.Lawful.{journal_in, transcript_in, queues_at, IsLawfulShard, IsLawful}
-use Rattle.rl_history.specs.Tallies.{trace_of}
+use Rattle.rl_history.specs.Lawful.{journal_among, transcript_in, queues_at, IsLawfulShard, IsLawful}
+use Rattle.rl_history.specs.Tallies.{trace_of_report}
 use Rattle.rl_check.specs.declared.illegal.Group.TheVariants as group
 use Rattle.rl_check.specs.declared.illegal.Test.{Test}
 use Rattle.rl_check.specs.declared.illegal.Test.TheVariants as test
 use Rattle.rl_check.specs.Entries.{updates_before, StandsBefore}
 use Rattle.rl_check.specs.Shards.{KeepsRules, EventsHold, ShardPasses}
 use Rattle.rl_check.specs.LawfulReplays.{TellsHistory, IsReplayedShard, IsLawfulReplay, done_by}
-use Rattle.rl_check.specs.Ranks.{entries_by, IsDone, RankPasses, Stands}
+use Rattle.rl_check.specs.Ranks.{entries_of_rank, IsDone, RankPasses, Stands}
 use Rattle.rl_check.specs.Legal.{IsLegalReport}
 use Rattle.rl_check.proofs.ReportFacts.{shard_fits}
 use Rattle.rl_check.proofs.EntryFacts.{was_there, map_there, flat_joined, count_joined, stands_out}
@@ -46,13 +46,13 @@ same_done : (d : Done) (n m : ℕ) → d.done ≡ n → d.given ≡ m → d ≡ 
 same_done d n m a b = ap (λ z. record { done = z; given = d.given }) a ∙ ap (λ z. record { done = n; given = z }) b
 
 -- the rules hold of all events where they hold so far as each
-rules_of : (queues : List QueueOf) (events : List (ℕ × Event)) → ((p : ℕ) → EventsHold queues events p) → KeepsRules queues (trace_of events)
+rules_of : (queues : List QueueOf) (events : List (ℕ × Event)) → ((p : ℕ) → EventsHold queues events p) → KeepsRules queues (trace_of_report events)
 rules_of queues [] hold =
     record {
       exclusive = is_exclusive [] (record { one = λ i j p q. absurd (cc); none = λ i j p q. absurd (cc) });
       budgets = λ q budget queue has b. is_within [] q budget tt;
     }
-rules_of queues (e ∷ events) hold = subst (λ z. KeepsRules queues (trace_of z)) (take_whole (e ∷ events) (length events + 1) (omega arith)) (hold (length events) (omega arith))
+rules_of queues (e ∷ events) hold = subst (λ z. KeepsRules queues (trace_of_report z)) (take_whole (e ∷ events) (length events + 1) (omega arith)) (hold (length events) (omega arith))
 
 -- ---- what is told
 
@@ -69,12 +69,12 @@ module _ (place : ThePlace) (ops : Ops) (report : TheReport) (proper : IsProper 
 
   -- a rank's entries, shard after shard
   abbrev own : ℕ → List Entry
-  own k = joined (map (told_by k) report.shards)
+  own k = blocks_joined (map (told_by k) report.shards)
 
   rank_tests : (k : ℕ) (d : Done) → slice_get report.done k ≡ Some d → (p : ℕ) (t : Test) → RankPasses replay (calls_by k) (sizes_by k) (own k) d p t
   rank_tests k d gd p t =
       subst (λ z. RankPasses replay (calls_by k) (sizes_by k) z d p t) (flat_joined (told_by k) report.shards)
-      (subst (λ b. RankPasses b (calls_by k) (sizes_by k) (entries_by report k) d p t) mode (legal (group.Rank k) p t d gd))
+      (subst (λ b. RankPasses b (calls_by k) (sizes_by k) (entries_of_rank report k) d p t) mode (legal (group.Rank k) p t d gd))
 
   module _ (s home : ℕ) (S : TheShard) (gh : slice_get place.homes s ≡ Some home) (gS : slice_get report.shards s ≡ Some S) where
     fit : ShardFits (naming_of place) replay s S
@@ -208,7 +208,7 @@ module _ (place : ThePlace) (ops : Ops) (report : TheReport) (proper : IsProper 
         legal = t.legal;
         in_order = t.in_order;
         told = t.told;
-        table = T (length S.entries) test.Pairs refl ∙ ap (λ z. finite.entries (table_after place.geom finite.empty (journal_in z))) (take_whole S.entries (length S.entries) refl);
+        table = T (length S.entries) test.Pairs refl ∙ ap (λ z. finite.entries (table_after place.geom finite.empty (journal_among z))) (take_whole S.entries (length S.entries) refl);
         tallied = T (length S.entries) test.Tally refl;
       }
 
@@ -240,7 +240,7 @@ module _ (place : ThePlace) (ops : Ops) (report : TheReport) (proper : IsProper 
       }
 
   abbrev entries_of : ℕ → List Entry
-  entries_of k = joined (map (λ (S : TheShard). transcript_in S.entries k) report.shards)
+  entries_of k = blocks_joined (map (λ (S : TheShard). transcript_in S.entries k) report.shards)
 
   told : (k : ℕ) → k < length ops.by_rank → (done_by report k ≡ length (entries_of k)) × BeginsAt (get_or ops.by_rank k []) (get_or ops.sizes k []) (length (entries_of k))
   told k low =

@@ -9,7 +9,7 @@ use Rattle.rl_model.proofs.Counts.{count-cons, count-append}
 use Rattle.rl_model.specs.declared.entry.Entry.{Entry}
 use Rattle.rl_journal.specs.Blocks.{is_last}
 use Rattle.rl_journal.specs.Legal.{updates}
-use Rattle.rl_journal.specs.History.{Precedes, ByRank, Each, IsSorted}
+use Rattle.rl_journal.specs.History.{Precedes, IsBeforeByRank, Each, IsSorted}
 use Rattle.rl_place.specs.Places.{ThePlace}
 use Rattle.rl_history.specs.Naming.{naming_of}
 use Rattle.rl_history.specs.Reports.{TheShard, EntryFits, PartFits, ShardFits}
@@ -51,7 +51,7 @@ module _ (es : List Entry) where
 
 -- ---- the order
 
-by_rank_on : (d e f : Entry) → ByRank d e → ByRank e f → ByRank d f
+by_rank_on : (d e f : Entry) → IsBeforeByRank d e → IsBeforeByRank e f → IsBeforeByRank d f
 by_rank_on d e f a b =
     ⊎_elim
     (λ x. ⊎_elim (λ y. inl (omega arith)) (λ y. let same = y.0 in inl (omega arith)) b)

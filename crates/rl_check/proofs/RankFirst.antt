@@ -27,7 +27,7 @@ use Rattle.rl_check.specs.declared.illegal.Test.TheVariants as test
 use Rattle.rl_check.specs.Faults.{number_of, is_of_events, IsEarlier}
 use Rattle.rl_check.specs.Finding.{IsFirstAt}
 use Rattle.rl_check.specs.Legal.{PassesBy}
-use Rattle.rl_check.specs.Ranks.{Stands, IsCalled, IsFresh, IsDone, RankPasses, entries_by}
+use Rattle.rl_check.specs.Ranks.{Stands, IsCalled, IsFresh, IsDone, RankPasses, entries_of_rank}
 use Rattle.rl_check.specs.Slots.{AreCalled, FoundByNumber}
 
 -- ---- the calls
@@ -81,7 +81,7 @@ shard_low naming replay k from (S ∷ shards) fits j e get =
     (λ q. let low = shard_low naming replay k (from + 1) shards fits.1 q.0 e q.2 in omega arith)
     (get_cases (transcript_in S.entries k) (flat_map (λ (S : TheShard). transcript_in S.entries k) shards) j e get)
 
-pub shards_there : (naming : TheNaming) (report : TheReport) (replay : Bool) → ShardsFit naming replay 0 report.shards → (k : ℕ) (e : Entry) → Stands (entries_by report k) e → e.shard < length report.shards
+pub shards_there : (naming : TheNaming) (report : TheReport) (replay : Bool) → ShardsFit naming replay 0 report.shards → (k : ℕ) (e : Entry) → Stands (entries_of_rank report k) e → e.shard < length report.shards
 shards_there naming report replay fits k e stands = let low = shard_low naming replay k 0 report.shards fits stands.0 e stands.1 in omega arith
 
 -- ---- the first fault
@@ -149,24 +149,24 @@ module _ (replay : Bool) (calls : List Call) (sizes : List ℕ) (own : List Entr
 
 -- ---- a rank of a report
 
-module _ (ops : Ops) (report : TheReport) (k : ℕ) (d : Done) (there : slice_get report.done k ≡ Some d) (b : Bool) (mode : b ≡ is_some report.steps) (calls : List Call) (calls_are : calls ≡ get_or ops.by_rank k []) (sizes : List ℕ) (sizes_are : sizes ≡ get_or ops.sizes k []) (own : List Entry) (own_is : own ≡ entries_by report k) where
+module _ (ops : Ops) (report : TheReport) (k : ℕ) (d : Done) (there : slice_get report.done k ≡ Some d) (b : Bool) (mode : b ≡ is_some report.steps) (calls : List Call) (calls_are : calls ≡ get_or ops.by_rank k []) (sizes : List ℕ) (sizes_are : sizes ≡ get_or ops.sizes k []) (own : List Entry) (own_is : own ≡ entries_of_rank report k) where
   abbrev Here : Bool → List Call → List ℕ → List Entry → Done → ℕ → Test → Type 0
   Here b calls sizes own d p t = RankPasses b calls sizes own d p t
 
   on_rank : (p : ℕ) (t : Test) → Here b calls sizes own d p t → PassesBy ops report k p t
   on_rank p t h x gx =
-      subst (λ z. Here z (get_or ops.by_rank k []) (get_or ops.sizes k []) (entries_by report k) x p t) mode
-      (subst (λ z. Here b z (get_or ops.sizes k []) (entries_by report k) x p t) calls_are
-      (subst (λ z. Here b calls z (entries_by report k) x p t) sizes_are
+      subst (λ z. Here z (get_or ops.by_rank k []) (get_or ops.sizes k []) (entries_of_rank report k) x p t) mode
+      (subst (λ z. Here b z (get_or ops.sizes k []) (entries_of_rank report k) x p t) calls_are
+      (subst (λ z. Here b calls z (entries_of_rank report k) x p t) sizes_are
       (subst (λ z. Here b calls sizes z x p t) own_is
       (subst (λ z. Here b calls sizes own z p t) (same_Some _ _ (sym there ∙ gx)) h))))
 
   off_rank : (p : ℕ) (t : Test) → PassesBy ops report k p t → Here b calls sizes own d p t
   off_rank p t h =
       subst (λ z. Here b calls sizes z d p t) (sym own_is)
-      (subst (λ z. Here b calls z (entries_by report k) d p t) (sym sizes_are)
-      (subst (λ z. Here b z (get_or ops.sizes k []) (entries_by report k) d p t) (sym calls_are)
-      (subst (λ z. Here z (get_or ops.by_rank k []) (get_or ops.sizes k []) (entries_by report k) d p t) (sym mode) (h d there))))
+      (subst (λ z. Here b calls z (entries_of_rank report k) d p t) (sym sizes_are)
+      (subst (λ z. Here b z (get_or ops.sizes k []) (entries_of_rank report k) d p t) (sym calls_are)
+      (subst (λ z. Here z (get_or ops.by_rank k []) (get_or ops.sizes k []) (entries_of_rank report k) d p t) (sym mode) (h d there))))
 
   pub first_by : (o : Option (ℕ × Test)) → IsFirstAt (Here b calls sizes own d) o → IsFirstAt (PassesBy ops report k) o
   first_by None h = λ p t. on_rank p t (h p t)
@@ -196,7 +196,7 @@ few_own calls sizes own n called =
 pub read_there : {X : Type 0} (xs items : List X) → items ≡ xs → (i : ℕ) (x : X) → i < length xs → x ≡ get_or items i x → slice_get xs i ≡ Some x
 read_there xs items same i x low is = slice_get-get_or xs i x low ∙ ap (λ z. Some (get_or z i x)) (sym same) ∙ ap (λ z. Some z) (sym is)
 
-module _ (ops : Ops) (report : TheReport) (k : ℕ) (calls : List Call) (calls_are : calls ≡ get_or ops.by_rank k []) (sizes : List ℕ) (sizes_are : sizes ≡ get_or ops.sizes k []) (own : List Entry) (own_is : own ≡ entries_by report k) (fault : Option (ℕ × Test)) (found : FoundByNumber (asked_of calls sizes) own fault) where
+module _ (ops : Ops) (report : TheReport) (k : ℕ) (calls : List Call) (calls_are : calls ≡ get_or ops.by_rank k []) (sizes : List ℕ) (sizes_are : sizes ≡ get_or ops.sizes k []) (own : List Entry) (own_is : own ≡ entries_of_rank report k) (fault : Option (ℕ × Test)) (found : FoundByNumber (asked_of calls sizes) own fault) where
   pub rank_some : k < length report.done → is_some fault ≡ true → IsFirstAt (PassesBy ops report k) fault
   rank_some low so =
       let f = some_is fault so in

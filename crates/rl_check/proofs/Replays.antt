@@ -11,11 +11,11 @@ use Rattle.rl_model.specs.declared.geom.Geom.{Geom}
 use Rattle.rl_model.specs.Table.{Table, apply}
 use Rattle.rl_journal.specs.Blocks.{apply_block, apply_batch, calls_of, replies_of, half_after, is_last, size_of, IsPart, IsBlock}
 use Rattle.rl_journal.specs.laws.BlockLaws.{part_at, size_pos, block_half, block_done}
-use Rattle.rl_journal.specs.Legal.{updates, table_after, joined, IsLegalBlock}
+use Rattle.rl_journal.specs.Legal.{updates, table_after, blocks_joined, IsLegalBlock}
 use Rattle.rl_journal.specs.History.{IsReplayed}
 use Rattle.rl_journal.specs.laws.Lists.{get_cases, get_left, filter_all}
-use Rattle.rl_history.specs.Lawful.{journal_in}
-use Rattle.rl_check.specs.Entries.{before, table_before, IsFirstOfBlock, MayFollow, IsInBatch, IsAnswered, HasReply}
+use Rattle.rl_history.specs.Lawful.{journal_among}
+use Rattle.rl_check.specs.Entries.{before, table_before, IsFirstOfBlock, MayFollow, IsInBatch, EntryIsAnswered, HasReply}
 use Rattle.rl_check.specs.OneThread.{is_begun}
 use Rattle.rl_check.proofs.BatchLaws.{is_the_last, ends_here}
 use Rattle.rl_check.proofs.TableLaws.{behind, after_call}
@@ -40,7 +40,7 @@ module _ (geom : Geom) (es : List Entry) (alone : (p : ℕ) (e : Entry) → slic
   -- no batch is begun before a place, and this is the table there
   pub record IsBetween (i : ℕ) (t : Table) : Type 0 where
     pub none : is_begun (before es i) ≡ false
-    pub table : half_after geom finite.empty [] (journal_in (take i es)) ≡ (t, [])
+    pub table : half_after geom finite.empty [] (journal_among (take i es)) ≡ (t, [])
 
   -- a call alone, with its reply
   pub record IsAlone (p : ℕ) (e : Entry) : Type 0 where
@@ -107,7 +107,7 @@ module _ (geom : Geom) (es : List Entry) (alone : (p : ℕ) (e : Entry) → slic
           sized zero h = absurd (omega arith)
           sized (suc n) h = refl
 
-    inside_answered : IsAnswered es p geom e
+    inside_answered : EntryIsAnswered es p geom e
     inside_answered =
         record {
           alone = λ none. absurd (let size = part.batch_is in let two = a.two in omega arith);
@@ -130,7 +130,7 @@ module _ (geom : Geom) (es : List Entry) (alone : (p : ℕ) (e : Entry) → slic
 
   pub placed_answered : (p : ℕ) (e : Entry) → slice_get es p ≡ Some e → IsPlaced p e → HasReply es p geom
   placed_answered p e get placed f other =
-      subst (IsAnswered es p geom) (same_Some _ _ (sym get ∙ other))
+      subst (EntryIsAnswered es p geom) (same_Some _ _ (sym get ∙ other))
       (⊎_elim
       (λ a. record {
         alone = λ none. a.reply_is ∙ ap (λ u. (apply geom e.call u).1) (sym (ap (λ (z : Table × List Call). z.0) a.here.table));
@@ -155,8 +155,8 @@ module _ (geom : Geom) (es : List Entry) (alone : (p : ℕ) (e : Entry) → slic
     in_place = ap (λ z. take (length b) (drop (length front) z)) (sym split) ∙ ap (take (length b)) (drop_front front (b ++ rest)) ∙ take_at b rest (length b) refl
 
     module _ (t : Table) (here : IsBetween (length front) t) where
-      state_here : half_after geom finite.empty [] (journal_in front) ≡ (t, [])
-      state_here = ap (λ z. half_after geom finite.empty [] (journal_in z)) (sym in_front) ∙ here.table
+      state_here : half_after geom finite.empty [] (journal_among front) ≡ (t, [])
+      state_here = ap (λ z. half_after geom finite.empty [] (journal_among z)) (sym in_front) ∙ here.table
 
       -- the last entry of a block leaves no batch begun
       ended : (k : ℕ) (d : Entry) → length b ≡ suc k → slice_get b k ≡ Some d → is_last d ≡ true → is_begun (before es (length (front ++ b))) ≡ false
@@ -176,7 +176,7 @@ module _ (geom : Geom) (es : List Entry) (alone : (p : ℕ) (e : Entry) → slic
       alone_between x is none =
           record {
             none = ended 0 x (ap length is) (ap (λ z. slice_get z 0) is) (is_the_last x (omega arith));
-            table = ap (λ z. half_after geom finite.empty [] (journal_in z)) (in_front_too ∙ ap (λ z. front ++ z) is) ∙ after_call geom front x t state_here none;
+            table = ap (λ z. half_after geom finite.empty [] (journal_among z)) (in_front_too ∙ ap (λ z. front ++ z) is) ∙ after_call geom front x t state_here none;
           }
 
       module _ (rank seq at : ℕ) where
@@ -211,7 +211,7 @@ module _ (geom : Geom) (es : List Entry) (alone : (p : ℕ) (e : Entry) → slic
         batch_between batch is =
             record {
               none = by b refl is.whole;
-              table = ap (λ z. half_after geom finite.empty [] (journal_in z)) in_front_too ∙ behind geom front b t state_here
+              table = ap (λ z. half_after geom finite.empty [] (journal_among z)) in_front_too ∙ behind geom front b t state_here
                   ∙ ap (half_after geom t []) (filter_all updates b (λ j f get. (part_at rank batch seq at 0 b j f is.parts get).is_update))
                   ∙ block_half geom rank batch seq at t b is ∙ ap (λ z. (z, [])) (sym (block_done geom rank batch seq at t b is));
             } where
@@ -232,8 +232,8 @@ module _ (geom : Geom) (es : List Entry) (alone : (p : ℕ) (e : Entry) → slic
           (λ q. let at : length (front ++ b) + q.0 ≡ length front + k = let h = q.1 in omega (arith, length-append front b) in subst (λ z. IsPlaced z e) at (later q.0 e q.2))
           (get_cases b rest k e get)
 
-  walk : (front : List Entry) (t : Table) (n : ℕ) (bs : List (List Entry)) → front ++ joined bs ≡ es → IsBetween (length front) t → IsReplayed geom t n bs →
-      ((k : ℕ) (e : Entry) → slice_get (joined bs) k ≡ Some e → IsPlaced (length front + k) e) × (is_begun (before es (length es)) ≡ false)
+  walk : (front : List Entry) (t : Table) (n : ℕ) (bs : List (List Entry)) → front ++ blocks_joined bs ≡ es → IsBetween (length front) t → IsReplayed geom t n bs →
+      ((k : ℕ) (e : Entry) → slice_get (blocks_joined bs) k ≡ Some e → IsPlaced (length front + k) e) × (is_begun (before es (length es)) ≡ false)
   walk front t n [] split here r = (
     (λ k e get. absurd (cc)),
     (let long : length front ≡ length es = omega (arith, length-append front [], ap length split) in subst (λ m. is_begun (before es m) ≡ false) long here.none),
@@ -242,17 +242,17 @@ module _ (geom : Geom) (es : List Entry) (alone : (p : ℕ) (e : Entry) → slic
       ⊎_elim
       (λ q.
       let x : Entry = q.0.entry in
-      let there : slice_get es (length front + 0) ≡ Some x = there_too front b (joined bs) split 0 x (ap (λ z. slice_get z 0) q.0.alone) in
+      let there : slice_get es (length front + 0) ≡ Some x = there_too front b (blocks_joined bs) split 0 x (ap (λ z. slice_get z 0) q.0.alone) in
       let none : x.batch ≡ 0 = alone (length front + 0) x there q.0.is in
-      let on = walk (front ++ b) (apply geom x.call t).0 n bs (append_assoc front b (joined bs) ∙ split) (alone_between front b (joined bs) split t here x q.0.alone none) q.1 in
-      (both front b (joined bs) split t here (alone_placed front b (joined bs) split t here x q.0.alone none q.0.answered) on.0, on.1))
+      let on = walk (front ++ b) (apply geom x.call t).0 n bs (append_assoc front b (blocks_joined bs) ∙ split) (alone_between front b (blocks_joined bs) split t here x q.0.alone none) q.1 in
+      (both front b (blocks_joined bs) split t here (alone_placed front b (blocks_joined bs) split t here x q.0.alone none q.0.answered) on.0, on.1))
       (λ q.
       let l : IsLegalBlock geom t n b = q.0 in
-      let on = walk (front ++ b) (table_after geom t b) (n + length b) bs (append_assoc front b (joined bs) ∙ split) (batch_between front b (joined bs) split t here l.rank l.seq n l.batch l.is) q.1 in
-      (both front b (joined bs) split t here (batch_placed front b (joined bs) split t here l.rank l.seq n l.batch l.is l.answered) on.0, on.1))
+      let on = walk (front ++ b) (table_after geom t b) (n + length b) bs (append_assoc front b (blocks_joined bs) ∙ split) (batch_between front b (blocks_joined bs) split t here l.rank l.seq n l.batch l.is) q.1 in
+      (both front b (blocks_joined bs) split t here (batch_placed front b (blocks_joined bs) split t here l.rank l.seq n l.batch l.is l.answered) on.0, on.1))
       r
 
-  pub replay_placed : (n : ℕ) (bs : List (List Entry)) → joined bs ≡ es → IsReplayed geom finite.empty n bs →
+  pub replay_placed : (n : ℕ) (bs : List (List Entry)) → blocks_joined bs ≡ es → IsReplayed geom finite.empty n bs →
       ((k : ℕ) (e : Entry) → slice_get es k ≡ Some e → IsPlaced k e) × (is_begun (before es (length es)) ≡ false)
   replay_placed n bs split r =
       let all = walk [] finite.empty n bs split (record { none = refl; table = refl }) r in

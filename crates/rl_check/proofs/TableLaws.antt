@@ -18,8 +18,8 @@ use Rattle.rl_journal.specs.Blocks.{stops, any_stops, only_first, undone, in_tur
 use Rattle.rl_journal.specs.laws.BlockLaws.{half_append}
 use Rattle.rl_journal.specs.Legal.{updates}
 use Rattle.rl_journal.specs.laws.Lists.{get_cases, get_more_cases, filter_all}
-use Rattle.rl_history.specs.Lawful.{journal_in}
-use Rattle.rl_check.specs.Entries.{before, table_before, IsWholeBatch, IsAnswered}
+use Rattle.rl_history.specs.Lawful.{journal_among}
+use Rattle.rl_check.specs.Entries.{before, table_before, IsWholeBatch, EntryIsAnswered}
 use Rattle.rl_check.specs.OneThread.{is_begun, BatchesFit, Tells, IsToldTo}
 use Rattle.rl_check.proofs.Places.{take_more, in_stretch, length_stretch}
 use Rattle.rl_check.proofs.BatchLaws.{is_the_last, not_last, IsPartOf, part_of, none_begun, none_begun_alone, in_none, no_end, still_broken}
@@ -57,12 +57,12 @@ module _ (geom : Geom) where
   read_leaves (Hold shard) t is = refl
 
   abbrev pub state : List Entry → Table × List Call
-  state es = half_after geom finite.empty [] (journal_in es)
+  state es = half_after geom finite.empty [] (journal_among es)
 
-  pub behind : (es fs : List Entry) (t : Table) → state es ≡ (t, []) → state (es ++ fs) ≡ half_after geom t [] (journal_in fs)
+  pub behind : (es fs : List Entry) (t : Table) → state es ≡ (t, []) → state (es ++ fs) ≡ half_after geom t [] (journal_among fs)
   behind es fs t h =
-      ap (half_after geom finite.empty []) (filter-append updates es fs) ∙ half_append geom finite.empty [] (journal_in es) (journal_in fs)
-      ∙ ap (λ (z : Table × List Call). half_after geom z.0 z.1 (journal_in fs)) h
+      ap (half_after geom finite.empty []) (filter-append updates es fs) ∙ half_append geom finite.empty [] (journal_among es) (journal_among fs)
+      ∙ ap (λ (z : Table × List Call). half_after geom z.0 z.1 (journal_among fs)) h
 
   -- behind a call alone
   pub after_call : (es : List Entry) (e : Entry) (t : Table) → state es ≡ (t, []) → e.batch ≡ 0 → state (es ++ e ∷ []) ≡ ((apply geom e.call t).0, [])
@@ -140,7 +140,7 @@ module _ (geom : Geom) where
 
       tells_call : e.batch ≡ 0 → BatchesFit entries (i + 1) → Tells geom entries i (Some (apply geom e.call t).1)
       tells_call alone fit f other =
-          subst (λ z. (z.reply ≡ (apply geom e.call t).1) ↔ IsAnswered entries i geom z) (same_Some _ _ (sym get ∙ other)) (
+          subst (λ z. (z.reply ≡ (apply geom e.call t).1) ↔ EntryIsAnswered entries i geom z) (same_Some _ _ (sym get ∙ other)) (
             (λ h. record { alone = λ _. h ∙ ap (λ u. (apply geom e.call u).1) (sym table); in_batch = λ b place low w. absurd (omega arith) }),
             (λ a. a.alone alone ∙ ap (λ u. (apply geom e.call u).1) table),
           ) where
@@ -168,7 +168,7 @@ module _ (geom : Geom) where
       module _ (some : 1 ≤ e.batch) (not_whole : IsWholeBatch entries i e.batch → ⊥) where
         tells_none : BatchesFit entries (i + 1) → Tells geom entries i None
         tells_none fit f other =
-            subst (IsAnswered entries i geom) (same_Some _ _ (sym get ∙ other))
+            subst (EntryIsAnswered entries i geom) (same_Some _ _ (sym get ∙ other))
             (record {
               alone = λ none. absurd (omega arith);
               in_batch = λ b place low w. absurd (in_none entries i e get not_whole so_far.broken (fewer i (i + 1) (omega arith) fit) b e.batch w (omega arith) (omega arith));

@@ -7,8 +7,8 @@ use Rattle.rl_model.specs.Call.{shard_of}
 use Rattle.rl_model.specs.Table.{Table, apply}
 use Rattle.rl_journal.specs.Blocks.{apply_batch, calls_of, is_last}
 use Rattle.rl_journal.specs.Legal.{updates, table_after}
-use Rattle.rl_journal.specs.History.{ByRank}
-use Rattle.rl_history.specs.Lawful.{journal_in}
+use Rattle.rl_journal.specs.History.{IsBeforeByRank}
+use Rattle.rl_history.specs.Lawful.{journal_among}
 
 -- ---- what stands before an entry
 
@@ -23,7 +23,7 @@ updates_before entries p = count_by updates (take p entries)
 
 -- the table that they make, block by block
 abbrev pub table_before : Geom → List Entry → ℕ → Table
-table_before geom entries p = table_after geom finite.empty (journal_in (take p entries))
+table_before geom entries p = table_after geom finite.empty (journal_among (take p entries))
 
 -- ---- the order
 
@@ -31,7 +31,7 @@ table_before geom entries p = table_after geom finite.empty (journal_in (take p 
 -- which comes first too: that they are at one place is another fault.
 abbrev pub StandsBefore : Entry → Entry → Type 0
 StandsBefore e f =
-    (e.at < f.at) ⊎ ((e.at ≡ f.at) × (((updates e ≡ false) × (updates f ≡ true)) ⊎ ((updates e ≡ updates f) × ByRank e f)))
+    (e.at < f.at) ⊎ ((e.at ≡ f.at) × (((updates e ≡ false) × (updates f ≡ true)) ⊎ ((updates e ≡ updates f) × IsBeforeByRank e f)))
 
 -- ---- batches
 
@@ -71,8 +71,8 @@ module _ (entries : List Entry) (p : ℕ) where
   IsOfShard geom shard = (e : Entry) → slice_get entries p ≡ Some e → shard_of geom e.call ≡ shard
 
   -- it stands after the entry before it
-  abbrev pub IsInOrder : Type 0
-  IsInOrder = (d e : Entry) → before entries p ≡ Some d → slice_get entries p ≡ Some e → StandsBefore d e
+  abbrev pub EntryIsInOrder : Type 0
+  EntryIsInOrder = (d e : Entry) → before entries p ≡ Some d → slice_get entries p ≡ Some e → StandsBefore d e
 
   -- it goes on with a batch that is begun, and begins a block where none is
   abbrev pub IsInBatch : Type 0
@@ -84,10 +84,10 @@ module _ (entries : List Entry) (p : ℕ) where
 
   -- Its reply is what one thread gets on the table before it. In a batch it is the one that the batch gets there, on the table before the
   -- batch, where the batch is whole; of a batch that isn't nothing is asked here.
-  pub record IsAnswered (geom : Geom) (e : Entry) : Type 0 where
+  pub record EntryIsAnswered (geom : Geom) (e : Entry) : Type 0 where
     pub alone : e.batch ≡ 0 → e.reply ≡ (apply geom e.call (table_before geom entries p)).1
     pub in_batch : (i : ℕ) → p ≡ i + e.part → e.part < e.batch → IsWholeBatch entries i e.batch →
         slice_get (apply_batch geom (calls_of (take e.batch (drop i entries))) (table_before geom entries i)).1 e.part ≡ Some e.reply
 
   abbrev pub HasReply : Geom → Type 0
-  HasReply geom = (e : Entry) → slice_get entries p ≡ Some e → IsAnswered geom e
+  HasReply geom = (e : Entry) → slice_get entries p ≡ Some e → EntryIsAnswered geom e

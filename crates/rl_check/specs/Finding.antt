@@ -11,9 +11,9 @@ use Rattle.rl_journal.specs.Tenures.{AreTallied}
 use Rattle.rl_place.specs.LockWords.{name_of}
 use Rattle.rl_place.specs.Places.{ThePlace}
 use Rattle.rl_history.specs.Reports.{TheShard}
-use Rattle.rl_history.specs.Tallies.{tallies_from, trace_of}
+use Rattle.rl_history.specs.Tallies.{tallies_from, trace_of_report}
 use Rattle.rl_history.specs.Lawful.{queues_at}
-use Rattle.rl_check.specs.Entries.{updates_before, IsOfShard, IsInOrder, IsInBatch, IsAtPlace, HasReply}
+use Rattle.rl_check.specs.Entries.{updates_before, IsOfShard, EntryIsInOrder, IsInBatch, IsAtPlace, HasReply}
 use Rattle.rl_check.specs.Faults.{IsEarlier}
 use Rattle.rl_check.specs.Shards.{EventsHold}
 use Rattle.rl_check.specs.declared.illegal.Test.{Test}
@@ -22,7 +22,7 @@ use Rattle.rl_check.specs.declared.illegal.Test.TheVariants as test
 -- the entry at a place passes all tests
 pub record IsGood (geom : Geom) (shard : ℕ) (entries : List Entry) (p : ℕ) : Type 0 where
   pub of_shard : IsOfShard entries p geom shard
-  pub in_order : IsInOrder entries p
+  pub in_order : EntryIsInOrder entries p
   pub in_batch : IsInBatch entries p
   pub at_place : IsAtPlace entries p
   pub has_reply : HasReply entries p geom
@@ -36,10 +36,10 @@ module _ (geom : Geom) (shard : ℕ) (entries : List Entry) where
   abbrev pub FoundAt : ℕ → Option Test → Type 0
   FoundAt p None = IsGood geom shard entries p
   FoundAt p (Some test.Shard) = IsOfShard entries p geom shard → ⊥
-  FoundAt p (Some test.Order) = IsOfShard entries p geom shard × (IsInOrder entries p → ⊥)
-  FoundAt p (Some test.Batch) = IsOfShard entries p geom shard × IsInOrder entries p × (IsInBatch entries p → ⊥)
-  FoundAt p (Some test.At) = IsOfShard entries p geom shard × IsInOrder entries p × IsInBatch entries p × (IsAtPlace entries p → ⊥)
-  FoundAt p (Some test.Reply) = IsOfShard entries p geom shard × IsInOrder entries p × IsInBatch entries p × IsAtPlace entries p × (HasReply entries p geom → ⊥)
+  FoundAt p (Some test.Order) = IsOfShard entries p geom shard × (EntryIsInOrder entries p → ⊥)
+  FoundAt p (Some test.Batch) = IsOfShard entries p geom shard × EntryIsInOrder entries p × (IsInBatch entries p → ⊥)
+  FoundAt p (Some test.At) = IsOfShard entries p geom shard × EntryIsInOrder entries p × IsInBatch entries p × (IsAtPlace entries p → ⊥)
+  FoundAt p (Some test.Reply) = IsOfShard entries p geom shard × EntryIsInOrder entries p × IsInBatch entries p × IsAtPlace entries p × (HasReply entries p geom → ⊥)
   FoundAt p (Some _) = ⊥
 
   -- what is found of all entries: how many updates they have, or the first fault
@@ -65,7 +65,7 @@ FoundOfRun queues spares S table (Some test.Pairs) = AreTallied queues spares S.
 FoundOfRun queues spares S table (Some _) = ⊥
 
 abbrev pub AreCounted : TheShard → Type 0
-AreCounted S = S.queues ≡ tallies_from 0 (length S.queues) (trace_of S.events)
+AreCounted S = S.queues ≡ tallies_from 0 (length S.queues) (trace_of_report S.events)
 
 -- what is found of a replay's shard behind its entries
 abbrev pub FoundOfReplay : List QueueOf → TheShard → Option (ℕ × Test) → Type 0

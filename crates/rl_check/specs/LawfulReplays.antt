@@ -10,25 +10,25 @@ use Rattle.rl_ops.specs.Asked.{asked_of, BeginsAt}
 use Rattle.rl_history.specs.declared.report.Done.{Done}
 use Rattle.rl_history.specs.Naming.{naming_of}
 use Rattle.rl_history.specs.Reports.{TheShard, TheReport, ReportFits}
-use Rattle.rl_history.specs.Lawful.{journal_in, transcript_in, transcripts_in, queues_at}
-use Rattle.rl_history.specs.Tallies.{tallies_from, trace_of}
+use Rattle.rl_history.specs.Lawful.{journal_among, transcript_in, transcripts_in, queues_at}
+use Rattle.rl_history.specs.Tallies.{tallies_from, trace_of_report}
 use Rattle.rl_check.specs.Shards.{KeepsRules}
 
 -- the entries of a shard tell a history
 pub record TellsHistory (place : ThePlace) (s : TheShard) : Type 0 where
   -- journal and transcripts are legal, and the entries are their history
-  pub legal : IsLegal place.geom (journal_in s.entries) (transcripts_in s.entries 0 (length place.paths))
-  pub in_order : s.entries ≡ history (journal_in s.entries) (transcripts_in s.entries 0 (length place.paths))
+  pub legal : IsLegal place.geom (journal_among s.entries) (transcripts_in s.entries 0 (length place.paths))
+  pub in_order : s.entries ≡ history (journal_among s.entries) (transcripts_in s.entries 0 (length place.paths))
   -- as many updates are told as there are
-  pub told : s.updates ≡ length (journal_in s.entries)
+  pub told : s.updates ≡ length (journal_among s.entries)
 
 -- the part of a shard with this home
 pub record IsReplayedShard (place : ThePlace) (home : ℕ) (s : TheShard) : Type 0 where
   pub history_told : TellsHistory place s
   -- the tallies of the queues count the events
-  pub tallied : s.queues ≡ tallies_from 0 (length s.queues) (trace_of s.events)
+  pub tallied : s.queues ≡ tallies_from 0 (length s.queues) (trace_of_report s.events)
   -- no writer was ever beside another holder, and each queue with a budget kept it
-  pub rules : KeepsRules (queues_at place home) (trace_of s.events)
+  pub rules : KeepsRules (queues_at place home) (trace_of_report s.events)
 
 -- how many calls a rank has done
 abbrev pub done_by : TheReport → ℕ → ℕ

@@ -11,7 +11,7 @@ use Rattle.rl_check.specs.declared.illegal.Group.{Group}
 use Rattle.rl_check.specs.declared.illegal.Group.TheVariants as group
 use Rattle.rl_check.specs.declared.illegal.Test.{Test}
 use Rattle.rl_check.specs.Shards.{ShardPasses}
-use Rattle.rl_check.specs.Ranks.{entries_by, RankPasses}
+use Rattle.rl_check.specs.Ranks.{entries_of_rank, RankPasses}
 use Rattle.rl_check.specs.LawfulReplays.{IsLawfulReplay}
 
 -- the shard of this number passes the test at place p, if there is such a shard
@@ -22,7 +22,7 @@ PassesOn place report s p t =
 -- the same of a rank
 abbrev pub PassesBy : Ops → TheReport → ℕ → ℕ → Test → Type 0
 PassesBy ops report k p t =
-    (d : Done) → slice_get report.done k ≡ Some d → RankPasses (is_some report.steps) (get_or ops.by_rank k []) (get_or ops.sizes k []) (entries_by report k) d p t
+    (d : Done) → slice_get report.done k ≡ Some d → RankPasses (is_some report.steps) (get_or ops.by_rank k []) (get_or ops.sizes k []) (entries_of_rank report k) d p t
 
 abbrev pub Passes : ThePlace → Ops → TheReport → Group → ℕ → Test → Type 0
 Passes place ops report (group.Shard s) p t = PassesOn place report s p t

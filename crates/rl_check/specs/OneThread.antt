@@ -6,8 +6,8 @@ use Rattle.rl_model.specs.declared.entry.Reply.{Reply}
 use Rattle.rl_model.specs.declared.geom.Geom.{Geom}
 use Rattle.rl_model.specs.Table.{Table}
 use Rattle.rl_journal.specs.Blocks.{half_after, is_last}
-use Rattle.rl_history.specs.Lawful.{journal_in}
-use Rattle.rl_check.specs.Entries.{before, IsInBatch, IsAnswered, HasReply, IsWholeBatch}
+use Rattle.rl_history.specs.Lawful.{journal_among}
+use Rattle.rl_check.specs.Entries.{before, IsInBatch, EntryIsAnswered, HasReply, IsWholeBatch}
 
 -- an entry leaves a batch begun
 abbrev pub is_begun : Option Entry → Bool
@@ -21,7 +21,7 @@ BatchesFit entries n = (q : ℕ) → q < n → IsInBatch entries q
 -- what is told of the entry at a place: the reply that passes the test, or that any does
 abbrev pub Tells : Geom → List Entry → ℕ → Option Reply → Type 0
 Tells geom entries p None = HasReply entries p geom
-Tells geom entries p (Some reply) = (e : Entry) → slice_get entries p ≡ Some e → (e.reply ≡ reply) ↔ IsAnswered entries p geom e
+Tells geom entries p (Some reply) = (e : Entry) → slice_get entries p ≡ Some e → (e.reply ≡ reply) ↔ EntryIsAnswered entries p geom e
 
 -- no whole batch has entries on both sides of a place
 abbrev pub IsBroken : List Entry → ℕ → Type 0
@@ -33,5 +33,5 @@ pub record IsToldTo (geom : Geom) (entries : List Entry) (i : ℕ) (replies : Li
   pub long : length replies ≡ i
   pub within : i < length entries + 1
   pub tells : (p : ℕ) (o : Option Reply) → slice_get replies p ≡ Some o → BatchesFit entries (p + 1) → Tells geom entries p o
-  pub table_is : BatchesFit entries i → is_begun (before entries i) ≡ false → half_after geom finite.empty [] (journal_in (take i entries)) ≡ (table, [])
+  pub table_is : BatchesFit entries i → is_begun (before entries i) ≡ false → half_after geom finite.empty [] (journal_among (take i entries)) ≡ (table, [])
   pub broken : BatchesFit entries i → is_begun (before entries i) ≡ true → IsBroken entries i

@@ -12,8 +12,8 @@ use Rattle.rl_check.specs.declared.illegal.Test.{Test}
 use Rattle.rl_check.specs.declared.illegal.Test.TheVariants as test
 
 -- a rank's entries, shard after shard
-abbrev pub entries_by : TheReport → ℕ → List Entry
-entries_by report rank = flat_map (λ (S : TheShard). transcript_in S.entries rank) report.shards
+abbrev pub entries_of_rank : TheReport → ℕ → List Entry
+entries_of_rank report rank = flat_map (λ (S : TheShard). transcript_in S.entries rank) report.shards
 
 -- an entry is one of these
 abbrev pub Stands : List Entry → Entry → Type 0

@@ -23,14 +23,14 @@ use Rattle.rl_work.specs.declared.follow.Follow.TheVariants.{On, Ask, Over}
 use Rattle.rl_work.specs.Ways.{Worked, WorkTable}
 use Rattle.rl_work.specs.Work.{write_atom, more_entries}
 use Rattle.rl_step.specs.declared.events.Stepped.TheVariants.{Moved}
-use Rattle.rl_combine.specs.declared.stage.Stage.{Stage}
-use Rattle.rl_combine.specs.declared.stage.Stage.TheVariants.{Rest, Post, Raise, Look, Count, Sweep, Copy, Read, Journal, Volume, Answer, Mark, Collect, Lower}
-use Rattle.rl_combine.specs.Posts.{CombineSite, ThePost, ranks_of, post_word, flag_word, post_of, post_spelling, posted_call, posted_seq, answer_spelling, answered_entry}
+use Rattle.rl_combine.specs.declared.stage.CombineStage.{CombineStage}
+use Rattle.rl_combine.specs.declared.stage.CombineStage.TheVariants.{Rest, Post, Raise, Look, Count, Sweep, Copy, Read, Journal, Volume, Answer, Mark, Collect, Lower}
+use Rattle.rl_combine.specs.Posts.{CombineSite, ThePost, combine_ranks, post_word, flag_word, post_of, post_spelling, posted_call, posted_seq, answer_spelling, answered_entry}
 
 -- a rank's side of the work
 pub record TheCombineSide : Type 0 where
   -- where it stands in its open call
-  pub stage : Stage
+  pub stage : CombineStage
   -- that call, and its number
   pub call : Call
   pub seq : ℕ
@@ -58,36 +58,36 @@ abbrev pub opened_of : TheCombineSide → Opened
 opened_of x = record { call = x.call; seq = x.seq; kept = x.kept }
 
 -- the atom of a stage
-abbrev pub stage_atom : CombineSite → ℕ → TheCombineSide → Stage → Option Atom
-stage_atom S rank x Rest = None
-stage_atom S rank x (Post made) = Some (Store (post_word S rank (1 + made)) (slice_index (post_spelling x.call x.seq) made))
-stage_atom S rank x Raise = Some (Store (flag_word S rank) 1)
-stage_atom S rank x Look = Some (Load (flag_word S rank))
-stage_atom S rank x Count = Some (Load count_word)
-stage_atom S rank x (Sweep owner) = Some (Load (flag_word S owner))
-stage_atom S rank x (Copy owner made) = Some (Load (post_word S owner (1 + made)))
-stage_atom S rank x (Read owner word) = Some (Load (volume_base + word))
-stage_atom S rank x (Journal owner made) = Some (Store (journal_base S.site.geom + (6 * x.count + made)) (slice_index (spelling x.entry) made))
-stage_atom S rank x (Volume owner made) = Some (write_atom (x.count + 1) (slice_get x.writes made))
-stage_atom S rank x (Answer owner made) = Some (Store (post_word S owner (6 + made)) (slice_index (answer_spelling x.entry) made))
-stage_atom S rank x (Mark owner) = Some (Store (flag_word S owner) 2)
-stage_atom S rank x (Collect made) = Some (Load (post_word S rank (6 + made)))
-stage_atom S rank x Lower = Some (Store (flag_word S rank) 0)
+abbrev pub combine_stage_atom : CombineSite → ℕ → TheCombineSide → CombineStage → Option Atom
+combine_stage_atom S rank x Rest = None
+combine_stage_atom S rank x (Post made) = Some (Store (post_word S rank (1 + made)) (slice_index (post_spelling x.call x.seq) made))
+combine_stage_atom S rank x Raise = Some (Store (flag_word S rank) 1)
+combine_stage_atom S rank x Look = Some (Load (flag_word S rank))
+combine_stage_atom S rank x Count = Some (Load count_word)
+combine_stage_atom S rank x (Sweep owner) = Some (Load (flag_word S owner))
+combine_stage_atom S rank x (Copy owner made) = Some (Load (post_word S owner (1 + made)))
+combine_stage_atom S rank x (Read owner word) = Some (Load (volume_base + word))
+combine_stage_atom S rank x (Journal owner made) = Some (Store (journal_base S.site.geom + (6 * x.count + made)) (slice_index (spelling x.entry) made))
+combine_stage_atom S rank x (Volume owner made) = Some (write_atom (x.count + 1) (slice_get x.writes made))
+combine_stage_atom S rank x (Answer owner made) = Some (Store (post_word S owner (6 + made)) (slice_index (answer_spelling x.entry) made))
+combine_stage_atom S rank x (Mark owner) = Some (Store (flag_word S owner) 2)
+combine_stage_atom S rank x (Collect made) = Some (Load (post_word S rank (6 + made)))
+combine_stage_atom S rank x Lower = Some (Store (flag_word S rank) 0)
 
 -- the next atom of a rank for which the lock plans none
 abbrev pub combine_atom : CombineSite → ℕ → TheCombineSide → Option Atom
-combine_atom S rank x = stage_atom S rank x x.stage
+combine_atom S rank x = combine_stage_atom S rank x x.stage
 
 -- what an atom leaves: the side, and what follows. It has always moved
 abbrev pub turned : TheCombineSide → Follow → Worked TheCombineSide
 turned x follow = record { work = x; follow = follow; stepped = Moved }
 
 -- the same side at another stage
-abbrev pub at_stage : TheCombineSide → Stage → TheCombineSide
-at_stage x stage = record x { stage = stage }
+abbrev pub combine_at_stage : TheCombineSide → CombineStage → TheCombineSide
+combine_at_stage x stage = record x { stage = stage }
 
-abbrev pub to_stage : TheCombineSide → Stage → Worked TheCombineSide
-to_stage x stage = turned (at_stage x stage) On
+abbrev pub combine_to_stage : TheCombineSide → CombineStage → Worked TheCombineSide
+combine_to_stage x stage = turned (combine_at_stage x stage) On
 
 -- a rank's side before its first call, with room for so many entries
 abbrev pub first_combine : Geom → ℕ → TheCombineSide
@@ -111,9 +111,9 @@ abbrev pub with_open : TheCombineSide → Call → ℕ → TheCombineSide
 with_open x call seq = record x { stage = Post 0; call = call; seq = seq }
 
 -- a block is opened: it is a call alone
-abbrev pub with_block : ℕ → TheCombineSide → List Call → ℕ → TheCombineSide
-with_block rank x [] seq = x
-with_block rank x (call ∷ calls) seq = with_open x call seq
+abbrev pub combine_with_block : ℕ → TheCombineSide → List Call → ℕ → TheCombineSide
+combine_with_block rank x [] seq = x
+combine_with_block rank x (call ∷ calls) seq = with_open x call seq
 
 -- one word more of a post is copied
 abbrev pub with_copied : TheCombineSide → ℕ → TheCombineSide
@@ -125,11 +125,11 @@ with_nothing x = record x { copied = [] }
 
 -- the own answer is collected next
 abbrev pub to_collect : TheCombineSide → Worked TheCombineSide
-to_collect x = to_stage (with_nothing x) (Collect 0)
+to_collect x = combine_to_stage (with_nothing x) (Collect 0)
 
 -- the sweep goes on with this rank, or is over
 abbrev pub sweep_on : CombineSite → TheCombineSide → ℕ → Worked TheCombineSide
-sweep_on S x owner = if owner == ranks_of S then to_collect x else to_stage x (Sweep owner)
+sweep_on S x owner = if owner == combine_ranks S then to_collect x else combine_to_stage x (Sweep owner)
 
 -- all words of a rank's posted call are copied
 abbrev pub with_posted : CombineSite → TheCombineSide → TheCombineSide
@@ -145,77 +145,77 @@ abbrev pub with_decision : CombineSite → TheCombineSide → ℕ → List Write
 with_decision S x owner d = record x { entry = posted_entry S x owner d.1; writes = d.0 }
 
 -- an update goes on to the journal, any other call to its answer
-abbrev pub decided_stage : ℕ → Bool → Stage
+abbrev pub decided_stage : ℕ → Bool → CombineStage
 decided_stage owner true = Journal owner 0
 decided_stage owner false = Answer owner 0
 
 abbrev pub decided_on : CombineSite → TheCombineSide → ℕ → Worked TheCombineSide
-decided_on S x owner = to_stage (with_decision S x owner (decision S.site.geom x.posted (value_or_zero x.seen.pairs))) (decided_stage owner (is_update x.posted))
+decided_on S x owner = combine_to_stage (with_decision S x owner (decision S.site.geom x.posted (value_or_zero x.seen.pairs))) (decided_stage owner (is_update x.posted))
 
 -- the next word of the volume is read, or the call is decided
-abbrev pub read_next : CombineSite → TheCombineSide → ℕ → Option ℕ → Worked TheCombineSide
-read_next S x owner (Some word) = to_stage x (Read owner word)
-read_next S x owner None = decided_on S x owner
+abbrev pub combine_read_next : CombineSite → TheCombineSide → ℕ → Option ℕ → Worked TheCombineSide
+combine_read_next S x owner (Some word) = combine_to_stage x (Read owner word)
+combine_read_next S x owner None = decided_on S x owner
 
-abbrev pub read_on : CombineSite → TheCombineSide → ℕ → Worked TheCombineSide
-read_on S x owner = read_next S x owner (next_word S.site.geom x.posted x.seen.pairs)
+abbrev pub combine_read_on : CombineSite → TheCombineSide → ℕ → Worked TheCombineSide
+combine_read_on S x owner = combine_read_next S x owner (next_word S.site.geom x.posted x.seen.pairs)
 
 -- what the rank has seen, and one word more
-abbrev pub with_word : TheCombineSide → ℕ → ℕ → TheCombineSide
-with_word x word got = record x { seen = record x.seen { pairs = x.seen.pairs ++ (word, got) ∷ [] } }
+abbrev pub combine_with_word : TheCombineSide → ℕ → ℕ → TheCombineSide
+combine_with_word x word got = record x { seen = record x.seen { pairs = x.seen.pairs ++ (word, got) ∷ [] } }
 
 -- after a write the next one follows; the store of the count makes the count one more
-abbrev pub written_on : TheCombineSide → ℕ → ℕ → Option Write → Worked TheCombineSide
-written_on x owner made (Some w) = to_stage x (Volume owner (made + 1))
-written_on x owner made None = to_stage (record x { count = x.count + 1 }) (Answer owner 0)
+abbrev pub combine_written_on : TheCombineSide → ℕ → ℕ → Option Write → Worked TheCombineSide
+combine_written_on x owner made (Some w) = combine_to_stage x (Volume owner (made + 1))
+combine_written_on x owner made None = combine_to_stage (record x { count = x.count + 1 }) (Answer owner 0)
 
 -- the rank's own entry, by the answer that it has copied, joins those that it keeps
 abbrev pub with_own : CombineSite → ℕ → TheCombineSide → TheCombineSide
 with_own S rank x = record x { stage = Rest; kept = more_entries x.kept (answered_entry S.site.shard rank x.seq x.call x.copied ∷ []) }
 
 -- what the atom of a stage leaves
-abbrev pub stage_after : CombineSite → ℕ → TheCombineSide → ℕ → Stage → Worked TheCombineSide
-stage_after S rank x got Rest = turned x On
-stage_after S rank x got (Post made) = if made + 1 == 5 then to_stage x Raise else to_stage x (Post (made + 1))
-stage_after S rank x got Raise = turned (at_stage x Look) (Ask mode.Write)
-stage_after S rank x got Look = if got == 2 then to_collect x else to_stage x Count
-stage_after S rank x got Count = sweep_on S (record x { count = got }) 0
-stage_after S rank x got (Sweep owner) = if got == 1 then to_stage (with_nothing x) (Copy owner 0) else sweep_on S x (owner + 1)
-stage_after S rank x got (Copy owner made) =
-    if made + 1 == 5 then read_on S (with_posted S (with_copied x got)) owner else to_stage (with_copied x got) (Copy owner (made + 1))
-stage_after S rank x got (Read owner word) = read_on S (with_word x word got) owner
-stage_after S rank x got (Journal owner made) = if made + 1 == 6 then to_stage x (Volume owner 0) else to_stage x (Journal owner (made + 1))
-stage_after S rank x got (Volume owner made) = written_on x owner made (slice_get x.writes made)
-stage_after S rank x got (Answer owner made) = if made + 1 == 3 then to_stage x (Mark owner) else to_stage x (Answer owner (made + 1))
-stage_after S rank x got (Mark owner) = sweep_on S x (owner + 1)
-stage_after S rank x got (Collect made) = if made + 1 == 3 then to_stage (with_copied x got) Lower else to_stage (with_copied x got) (Collect (made + 1))
-stage_after S rank x got Lower = turned (with_own S rank x) Over
+abbrev pub combine_stage_after : CombineSite → ℕ → TheCombineSide → ℕ → CombineStage → Worked TheCombineSide
+combine_stage_after S rank x got Rest = turned x On
+combine_stage_after S rank x got (Post made) = if made + 1 == 5 then combine_to_stage x Raise else combine_to_stage x (Post (made + 1))
+combine_stage_after S rank x got Raise = turned (combine_at_stage x Look) (Ask mode.Write)
+combine_stage_after S rank x got Look = if got == 2 then to_collect x else combine_to_stage x Count
+combine_stage_after S rank x got Count = sweep_on S (record x { count = got }) 0
+combine_stage_after S rank x got (Sweep owner) = if got == 1 then combine_to_stage (with_nothing x) (Copy owner 0) else sweep_on S x (owner + 1)
+combine_stage_after S rank x got (Copy owner made) =
+    if made + 1 == 5 then combine_read_on S (with_posted S (with_copied x got)) owner else combine_to_stage (with_copied x got) (Copy owner (made + 1))
+combine_stage_after S rank x got (Read owner word) = combine_read_on S (combine_with_word x word got) owner
+combine_stage_after S rank x got (Journal owner made) = if made + 1 == 6 then combine_to_stage x (Volume owner 0) else combine_to_stage x (Journal owner (made + 1))
+combine_stage_after S rank x got (Volume owner made) = combine_written_on x owner made (slice_get x.writes made)
+combine_stage_after S rank x got (Answer owner made) = if made + 1 == 3 then combine_to_stage x (Mark owner) else combine_to_stage x (Answer owner (made + 1))
+combine_stage_after S rank x got (Mark owner) = sweep_on S x (owner + 1)
+combine_stage_after S rank x got (Collect made) = if made + 1 == 3 then combine_to_stage (with_copied x got) Lower else combine_to_stage (with_copied x got) (Collect (made + 1))
+combine_stage_after S rank x got Lower = turned (with_own S rank x) Over
 
 -- what an atom that gave got leaves of rank's side
 abbrev pub combine_after : CombineSite → ℕ → TheCombineSide → ℕ → Worked TheCombineSide
-combine_after S rank x got = stage_after S rank x got x.stage
+combine_after S rank x got = combine_stage_after S rank x got x.stage
 
 -- the atom of this stage touches what the lock guards, and whether it writes there
-abbrev pub touch_at : Stage → Option Bool
-touch_at Count = Some false
-touch_at (Read owner word) = Some false
-touch_at (Journal owner made) = Some true
-touch_at (Volume owner made) = Some true
-touch_at _ = None
+abbrev pub combine_touch_at : CombineStage → Option Bool
+combine_touch_at Count = Some false
+combine_touch_at (Read owner word) = Some false
+combine_touch_at (Journal owner made) = Some true
+combine_touch_at (Volume owner made) = Some true
+combine_touch_at _ = None
 
 -- what follows the atom of a stage: the lock is asked for once the call is posted, and the call is over once its flag is lowered
-abbrev pub follow_of : Stage → Follow
+abbrev pub follow_of : CombineStage → Follow
 follow_of Raise = Ask mode.Write
 follow_of Lower = Over
 follow_of _ = On
 
 -- a call is open
-abbrev pub is_open : Stage → Bool
-is_open Rest = false
-is_open _ = true
+abbrev pub combine_is_open : CombineStage → Bool
+combine_is_open Rest = false
+combine_is_open _ = true
 
 -- the rank whose posted call is in hand: all its words were copied
-abbrev pub in_hand : Stage → Option ℕ
+abbrev pub in_hand : CombineStage → Option ℕ
 in_hand (Read owner word) = Some owner
 in_hand (Journal owner made) = Some owner
 in_hand (Volume owner made) = Some owner
@@ -243,15 +243,15 @@ early_open S words rank x true = early_by S words rank x (is_update x.call)
 early_open S words rank x false = []
 
 abbrev pub early : CombineSite → List ℕ → ℕ → TheCombineSide → List Entry
-early S words rank x = early_open S words rank x (is_open x.stage)
+early S words rank x = early_open S words rank x (combine_is_open x.stage)
 
 -- the rank's transcript: what it keeps, and then these
 abbrev pub transcript : CombineSite → List ℕ → ℕ → TheCombineSide → List Entry
 transcript S words rank x = x.kept.items ++ early S words rank x
 
 -- a call is open, and its entry isn't in the transcript yet
-abbrev pub owes : CombineSite → List ℕ → ℕ → TheCombineSide → Bool
-owes S words rank x = is_open x.stage && (length (early S words rank x) == 0)
+abbrev pub combine_owes : CombineSite → List ℕ → ℕ → TheCombineSide → Bool
+combine_owes S words rank x = combine_is_open x.stage && (length (early S words rank x) == 0)
 
 -- the way of working, over nodes of the ranks
 abbrev pub combine_table : CombineSite → (ℕ → ℕ) → WorkTable TheCombineSide
@@ -259,15 +259,15 @@ combine_table S node =
     record {
       site = S.site;
       behind = S.behind;
-      size = 9 * ranks_of S;
+      size = 9 * combine_ranks S;
       home = λ word. node (word / 9);
       first = λ rank room. first_combine S.site.geom room;
-      opens = with_block;
+      opens = combine_with_block;
       asks = λ calls. None;
       next = combine_atom S;
       after = combine_after S;
-      touch = λ x. touch_at x.stage;
-      is_open = λ x. is_open x.stage;
+      touch = λ x. combine_touch_at x.stage;
+      is_open = λ x. combine_is_open x.stage;
       calls = λ x. x.call ∷ [];
       seq = λ x. x.seq;
       mode = λ x. mode.Write;
@@ -275,13 +275,13 @@ combine_table S node =
       pends = λ x. true;
       ended = λ x. x.kept.items;
       transcript = transcript S;
-      owes = owes S;
+      owes = combine_owes S;
       spares = λ shares. false;
       batches = false;
     }
 
 -- the rank whose flag the sweep has found 1, and not made 2 yet
-abbrev pub found : Stage → Option ℕ
+abbrev pub found : CombineStage → Option ℕ
 found Rest = None
 found (Post made) = None
 found Raise = None

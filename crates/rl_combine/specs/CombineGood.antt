@@ -20,9 +20,9 @@ use Rattle.rl_work.specs.Work.{TheWork, more_entries, work_atom, work_after, at_
 use Rattle.rl_site.specs.Opens.{IsOpen}
 use Rattle.rl_work.specs.Ways.{WorkSide}
 use Rattle.rl_work.specs.WorkGood.{WorkSide as Seat, WorkGood, IsDone}
-use Rattle.rl_combine.specs.declared.stage.Stage.{Stage}
-use Rattle.rl_combine.specs.declared.stage.Stage.TheVariants.{Rest, Post, Raise, Look, Count, Sweep, Copy, Read, Journal, Volume, Answer, Mark, Collect, Lower}
-use Rattle.rl_combine.specs.Posts.{CombineSite, ThePost, ranks_of, post_of, post_spelling, answer_spelling, answered_entry}
+use Rattle.rl_combine.specs.declared.stage.CombineStage.{CombineStage}
+use Rattle.rl_combine.specs.declared.stage.CombineStage.TheVariants.{Rest, Post, Raise, Look, Count, Sweep, Copy, Read, Journal, Volume, Answer, Mark, Collect, Lower}
+use Rattle.rl_combine.specs.Posts.{CombineSite, ThePost, combine_ranks, post_of, post_spelling, answer_spelling, answered_entry}
 use Rattle.rl_combine.specs.Combine.{TheCombineSide, Opened, opened_of, in_hand}
 
 -- how a rank stands, and its side of the work
@@ -111,7 +111,7 @@ abbrev pub IsCombiner : CombineSite → ThePost → ℕ → RankSide → Seat �
 IsCombiner S p rank x y = (x.standing ≡ Writer) × IsPosted S p rank (opened_of x.work) y
 
 -- what holds of a rank's own call and post, by where it stands
-abbrev pub OwnAt : CombineSite → ThePost → ℕ → RankSide → Seat → Stage → Type 0
+abbrev pub OwnAt : CombineSite → ThePost → ℕ → RankSide → Seat → CombineStage → Type 0
 OwnAt S p rank x y Rest = IsDone x.standing × (p.flag ≡ 0) × IsFree y x.work.kept
 OwnAt S p rank x y (Post made) = (x.standing ≡ Out) × (made < 5) × IsPosting S p rank (opened_of x.work) y made
 OwnAt S p rank x y Raise = (x.standing ≡ Out) × IsPosting S p rank (opened_of x.work) y 5
@@ -130,7 +130,7 @@ OwnAt S p rank x y Lower = (x.standing ≡ Writer) × IsCollecting S p rank (ope
 -- a sweep knows the count, and has come to a rank; the own call is done once it is past
 pub record IsSweeping (S : CombineSite) (words : List ℕ) (rank : ℕ) (count owner : ℕ) : Type 0 where
   pub same : count ≡ slice_index words count_word
-  pub there : owner < ranks_of S
+  pub there : owner < combine_ranks S
   pub past : rank < owner → (post_of S words rank).flag ≡ 2
 
 -- so many words of a post whose flag was found 1 are copied
@@ -215,7 +215,7 @@ pub record IsAnswering (S : CombineSite) (words : List ℕ) (seats : List Seat) 
   pub end : IsLeft seats entry owner ⊎ IsToEnd S words seats call number entry owner
 
 -- what holds of a rank's sweep, by where it stands
-abbrev pub SweepAt : CombineSite → List ℕ → List Seat → ℕ → TheCombineSide → Stage → Type 0
+abbrev pub SweepAt : CombineSite → List ℕ → List Seat → ℕ → TheCombineSide → CombineStage → Type 0
 SweepAt S words seats rank x Rest = Unit {0}
 SweepAt S words seats rank x (Post made) = Unit {0}
 SweepAt S words seats rank x Raise = Unit {0}
@@ -241,7 +241,7 @@ pub record IsHeld (sides : List RankSide) (owner : ℕ) : Type 0 where
 -- the rule
 pub record CombineGood (S : CombineSite) (words : List ℕ) (sides : List RankSide) : Type 0 where
   pub seats : List Seat
-  pub ranks : length sides ≡ ranks_of S
+  pub ranks : length sides ≡ combine_ranks S
   pub work : WorkGood S.site (front_of S words) seats
   pub seen_rooms : (r : ℕ) (x : RankSide) → slice_get sides r ≡ Some x → x.work.seen.room ≡ volume_words S.site.geom
   pub own : (r : ℕ) (x : RankSide) (y : Seat) → slice_get sides r ≡ Some x → slice_get seats r ≡ Some y → OwnAt S (post_of S words r) r x y x.work.stage

@@ -2,9 +2,9 @@
 use Rattle.std.specs.Prelude.{ℕ, ◌+◌, ◌*◌, ◌-◌, List, length, sum_by}
 use Rattle.rl_volume.specs.Words.{volume_words}
 use Rattle.rl_work.specs.LockedLeft.{words_unseen}
-use Rattle.rl_combine.specs.declared.stage.Stage.{Stage}
-use Rattle.rl_combine.specs.declared.stage.Stage.TheVariants.{Rest, Post, Raise, Look, Count, Sweep, Copy, Read, Journal, Volume, Answer, Mark, Collect, Lower}
-use Rattle.rl_combine.specs.Posts.{CombineSite, ranks_of}
+use Rattle.rl_combine.specs.declared.stage.CombineStage.{CombineStage}
+use Rattle.rl_combine.specs.declared.stage.CombineStage.TheVariants.{Rest, Post, Raise, Look, Count, Sweep, Copy, Read, Journal, Volume, Answer, Mark, Collect, Lower}
+use Rattle.rl_combine.specs.Posts.{CombineSite, combine_ranks}
 use Rattle.rl_combine.specs.Combine.{TheCombineSide}
 
 -- from the look at the flag of this rank on: a posted call is done in as many atoms as the volume has words and 40 at most
@@ -12,7 +12,7 @@ abbrev pub sweep_left : ℕ → ℕ → ℕ → ℕ
 sweep_left volume ranks owner = 5 + (volume + 40) * (ranks - owner)
 
 -- how many atoms a rank has before it at most
-abbrev pub far_at : ℕ → ℕ → TheCombineSide → Stage → ℕ
+abbrev pub far_at : ℕ → ℕ → TheCombineSide → CombineStage → ℕ
 far_at volume ranks x Rest = 0
 far_at volume ranks x (Post made) = sweep_left volume ranks 0 + 4 + (5 - made)
 far_at volume ranks x Raise = sweep_left volume ranks 0 + 3
@@ -29,10 +29,10 @@ far_at volume ranks x (Collect made) = 1 + (3 - made)
 far_at volume ranks x Lower = 1
 
 abbrev pub far : CombineSite → TheCombineSide → ℕ
-far S x = far_at (volume_words S.site.geom) (ranks_of S) x x.stage
+far S x = far_at (volume_words S.site.geom) (combine_ranks S) x x.stage
 
 abbrev pub combine_left : CombineSite → List ℕ → List TheCombineSide → ℕ
 combine_left S words works = sum_by (far S) works
 
 abbrev pub combine_most : CombineSite → ℕ
-combine_most S = sweep_left (volume_words S.site.geom) (ranks_of S) 0 + 9
+combine_most S = sweep_left (volume_words S.site.geom) (combine_ranks S) 0 + 9

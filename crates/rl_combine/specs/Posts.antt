@@ -13,8 +13,8 @@ pub record CombineSite : Type 0 where
   pub site : Site
   pub behind : ℕ
 
-abbrev pub ranks_of : CombineSite → ℕ
-ranks_of S = length S.site.rooms
+abbrev pub combine_ranks : CombineSite → ℕ
+combine_ranks S = length S.site.rooms
 
 -- each rank has nine words behind the lock's: flag, kind, key, first, second, number, place, code and value
 abbrev pub post_word : CombineSite → ℕ → ℕ → ℕ
@@ -64,8 +64,8 @@ abbrev pub answer_spelling : Entry → List ℕ
 answer_spelling e = e.at ∷ post_code e.reply ∷ value_in e.reply ∷ []
 
 -- the reply of a code
-abbrev pub answer_of : ℕ → ℕ → Reply
-answer_of code value =
+abbrev pub combine_reply_of : ℕ → ℕ → Reply
+combine_reply_of code value =
     if code == 9 then Val value
     else (if code == 10 then Held
     else reply_of code value)
@@ -79,7 +79,7 @@ answered_entry shard rank seq call copied =
       seq = seq;
       call = call;
       at = slice_index copied 0;
-      reply = answer_of (slice_index copied 1) (slice_index copied 2);
+      reply = combine_reply_of (slice_index copied 1) (slice_index copied 2);
       batch = 0;
       part = 0;
     }

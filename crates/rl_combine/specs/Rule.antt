@@ -2,9 +2,9 @@
 use Rattle.std.specs.Prelude.{◌≡◌, ◌<◌, ℕ, ◌+◌, ◌*◌, false, List, ◌∷◌}
 use Rattle.rl_word.specs.declared.acts.Atom.{Atom}
 use Rattle.rl_work.specs.Ways.{WorkLaws, IsSide, Works}
-use Rattle.rl_combine.specs.declared.stage.Stage.TheVariants.{Sweep}
+use Rattle.rl_combine.specs.declared.stage.CombineStage.TheVariants.{Sweep}
 use Rattle.rl_combine.specs.Posts.{CombineSite}
-use Rattle.rl_combine.specs.Combine.{TheCombineSide, combine_table, is_open}
+use Rattle.rl_combine.specs.Combine.{TheCombineSide, combine_table, combine_is_open}
 use Rattle.rl_combine.specs.CombineGood.{RankSide, CombineGood}
 use Rattle.rl_combine.specs.Sweep.{after_all, atoms_of, StoresTwo, FlagSays, FlagMoves}
 
@@ -16,7 +16,7 @@ IsWay = (S : CombineSite) (node : ℕ → ℕ) → WorkLaws (combine_table S nod
 -- a rank that found the flag 1 in its sweep has stored 2 there before its call is over, and so before it leaves the lock
 abbrev pub SweepsStoreTwo : Type 0
 SweepsStoreTwo =
-    (S : CombineSite) (rank : ℕ) (x : TheCombineSide) (owner : ℕ) (more : List ℕ) → x.stage ≡ Sweep owner → is_open (after_all S rank x (1 ∷ more)).stage ≡ false → StoresTwo S owner (atoms_of S rank x (1 ∷ more))
+    (S : CombineSite) (rank : ℕ) (x : TheCombineSide) (owner : ℕ) (more : List ℕ) → x.stage ≡ Sweep owner → combine_is_open (after_all S rank x (1 ∷ more)).stage ≡ false → StoresTwo S owner (atoms_of S rank x (1 ∷ more))
 
 -- what a flag says
 abbrev pub FlagsSay : Type 0

@@ -7,10 +7,10 @@ use Rattle.rl_step.specs.declared.events.Standing.TheVariants.{Writer}
 use Rattle.rl_step.specs.Do.{do_words}
 use Rattle.rl_journal.specs.Legal.{IsLegalRead}
 use Rattle.rl_site.specs.Site.{journal_by}
-use Rattle.rl_combine.specs.declared.stage.Stage.{Stage}
-use Rattle.rl_combine.specs.declared.stage.Stage.TheVariants.{Answer, Mark}
+use Rattle.rl_combine.specs.declared.stage.CombineStage.{CombineStage}
+use Rattle.rl_combine.specs.declared.stage.CombineStage.TheVariants.{Answer, Mark}
 use Rattle.rl_combine.specs.Posts.{CombineSite, post_of, flag_word, post_spelling, answered_entry}
-use Rattle.rl_combine.specs.Combine.{TheCombineSide, combine_atom, combine_after, is_open, early}
+use Rattle.rl_combine.specs.Combine.{TheCombineSide, combine_atom, combine_after, combine_is_open, early}
 use Rattle.rl_combine.specs.CombineGood.{RankSide}
 
 -- a rank's side after several of its atoms, which gave these numbers
@@ -29,7 +29,7 @@ pub record StoresTwo (S : CombineSite) (owner : ℕ) (atoms : List (Option Atom)
   pub is : slice_get atoms place ≡ Some (Some (Store (flag_word S owner) 2))
 
 -- a writer has done with this rank's call but for the answer and the flag: an update is counted by then
-abbrev pub IsLateAt : Stage → ℕ → Type 0
+abbrev pub IsLateAt : CombineStage → ℕ → Type 0
 IsLateAt (Answer owner made) k = owner ≡ k
 IsLateAt (Mark owner) k = owner ≡ k
 IsLateAt _ k = ⊥
@@ -47,13 +47,13 @@ pub record IsLate (sides : List RankSide) (k : ℕ) (x : TheCombineSide) : Type 
 pub record FlagSays (S : CombineSite) (words : List ℕ) (sides : List RankSide) (k : ℕ) (x : TheCombineSide) : Type 0 where
   pub few : ((post_of S words k).flag ≡ 0) ⊎ (((post_of S words k).flag ≡ 1) ⊎ ((post_of S words k).flag ≡ 2))
   -- where it is 1 the post's words spell the open call,
-  pub posted : (post_of S words k).flag ≡ 1 → (is_open x.stage ≡ true) × ((post_of S words k).call ≡ post_spelling x.call x.seq)
+  pub posted : (post_of S words k).flag ≡ 1 → (combine_is_open x.stage ≡ true) × ((post_of S words k).call ≡ post_spelling x.call x.seq)
   -- which isn't done, but where a writer is late:
   pub not_done : (post_of S words k).flag ≡ 1 → (early S words k x ≡ []) ⊎ IsLate sides k x
   -- as long as one is the flag is 1 and the call is done, and its one entry is the one that the writer has
   pub late : (l : IsLate sides k x) → ((post_of S words k).flag ≡ 1) × (early S words k x ≡ l.side.work.entry ∷ [])
   -- where it is 2 the call is done, and its one entry is the one that the post's answer gives
-  pub done : (post_of S words k).flag ≡ 2 → (is_open x.stage ≡ true) × (early S words k x ≡ answered_entry S.site.shard k x.seq x.call (post_of S words k).answer ∷ [])
+  pub done : (post_of S words k).flag ≡ 2 → (combine_is_open x.stage ≡ true) × (early S words k x ≡ answered_entry S.site.shard k x.seq x.call (post_of S words k).answer ∷ [])
   -- Of an update that is the entry in the journal. A get or hold leaves none there, and `early` takes its entry from the answer: so of
   -- that it says too that the reply is the one on the table of the journal up to the answer's place.
   pub due : (post_of S words k).flag ≡ 2 → IsLegalRead S.site.geom (journal_by S.site words) (answered_entry S.site.shard k x.seq x.call (post_of S words k).answer)

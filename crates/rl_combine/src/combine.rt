@@ -2,7 +2,7 @@
 
 ghost use Rattle.std.specs.Prelude.{◌≡◌, ◌<◌, ◌≤◌, ◌^◌, ◌+◌, ◌*◌, ◌==◌, length, slice_index, if◌then◌else◌, IfOk};
 ghost use Rattle.rl_word.specs.declared.acts.Atom.TheVariants as atom;
-ghost use Rattle.rl_combine.specs.declared.stage.Stage.TheVariants as stage;
+ghost use Rattle.rl_combine.specs.declared.stage.CombineStage.TheVariants as stage;
 ghost use Rattle.rl_journal.specs.Journal.{spelling};
 ghost use Rattle.rl_site.specs.Site.{journal_base};
 ghost use Rattle.rl_model.specs.Geom.{GeomFits};
@@ -15,7 +15,7 @@ use crate::posts::{
     post_value,
 };
 use crate::side::CombineSide;
-use crate::stage::Stage;
+use crate::stage::CombineStage;
 use rl_journal::journal_value;
 use rl_model::{Call, Entry, Geom};
 use rl_site::{COUNT_WORD, ENTRY_WORDS, Site, VOLUME_BASE, journal_base};
@@ -54,7 +54,7 @@ impl Model for CombineWork {
 impl CombineWork {
     // How many ranks there are.
     fn ranks(&self) -> u32
-        ensures is { result ≡ posts.ranks_of self.now.here }
+        ensures is { result ≡ posts.combine_ranks self.now.here }
         ensures few { result ≤ 32 }
     {
         self.rooms.len() as u32
@@ -107,26 +107,26 @@ impl CombineWork {
         ensures { result ≡ model.combine_atom self.now.here rank side.now }
     {
         match side.stage {
-            Stage::Rest => None,
-            Stage::Post { made } => {
+            CombineStage::Rest => None,
+            CombineStage::Post { made } => {
                 self.store_post(rank, CALL + made, post_value(side.call, side.seq, made))
             }
-            Stage::Raise => self.store_post(rank, FLAG, POSTED),
-            Stage::Look => self.load_post(rank, FLAG),
-            Stage::Count => Some(Atom::Load { word: COUNT_WORD }),
-            Stage::Sweep { owner } => self.load_post(owner, FLAG),
-            Stage::Copy { owner, made } => self.load_post(owner, CALL + made),
-            Stage::Read { word, .. } => Some(Atom::Load {
+            CombineStage::Raise => self.store_post(rank, FLAG, POSTED),
+            CombineStage::Look => self.load_post(rank, FLAG),
+            CombineStage::Count => Some(Atom::Load { word: COUNT_WORD }),
+            CombineStage::Sweep { owner } => self.load_post(owner, FLAG),
+            CombineStage::Copy { owner, made } => self.load_post(owner, CALL + made),
+            CombineStage::Read { word, .. } => Some(Atom::Load {
                 word: VOLUME_BASE + word,
             }),
-            Stage::Journal { made, .. } => self.store_journal(side, made),
-            Stage::Volume { made, .. } => Some(write_atom(side.count_after(), side.write_at(made))),
-            Stage::Answer { owner, made } => {
+            CombineStage::Journal { made, .. } => self.store_journal(side, made),
+            CombineStage::Volume { made, .. } => Some(write_atom(side.count_after(), side.write_at(made))),
+            CombineStage::Answer { owner, made } => {
                 self.store_post(owner, ANSWER + made, answer_value(&side.entry, made))
             }
-            Stage::Mark { owner } => self.store_post(owner, FLAG, DONE),
-            Stage::Collect { made } => self.load_post(rank, ANSWER + made),
-            Stage::Lower => self.store_post(rank, FLAG, EMPTY),
+            CombineStage::Mark { owner } => self.store_post(owner, FLAG, DONE),
+            CombineStage::Collect { made } => self.load_post(rank, ANSWER + made),
+            CombineStage::Lower => self.store_post(rank, FLAG, EMPTY),
         }
     }
 
@@ -137,14 +137,14 @@ impl CombineWork {
         if owner == self.ranks() {
             side.collect();
         } else {
-            side.stage = Stage::Sweep { owner };
+            side.stage = CombineStage::Sweep { owner };
         }
     }
 
     // A rank's flag was loaded: its post is copied, or the sweep goes on.
     fn flag_on(&self, side: &mut CombineSide, owner: u32, got: u64)
         requires { owner < 32 }
-        ensures { side.new ≡ (model.stage_after self.now.here 0 side.old got (stage.Sweep owner)).work }
+        ensures { side.new ≡ (model.combine_stage_after self.now.here 0 side.old got (stage.Sweep owner)).work }
     {
         if got == POSTED {
             side.copy(owner);
@@ -158,14 +158,14 @@ impl CombineWork {
         requires few { made < 5 }
         requires so_far { length side.old.copied ≡ made }
         requires small { fits.EndsCopy side.old got made }
-        ensures { side.new ≡ (model.stage_after self.now.here 0 side.old got (stage.Copy owner made)).work }
+        ensures { side.new ≡ (model.combine_stage_after self.now.here 0 side.old got (stage.Copy owner made)).work }
     {
         side.add_copied(got);
         if made + 1 == CALL_WORDS {
             side.take_post(self.shard);
             self.read_on(side, owner);
         } else {
-            side.stage = Stage::Copy {
+            side.stage = CombineStage::Copy {
                 owner,
                 made: made + 1,
             };
@@ -174,10 +174,10 @@ impl CombineWork {
 
     // Having seen what it has, it reads the next word of the volume, or decides the posted call.
     fn read_on(&self, side: &mut CombineSide, owner: u32)
-        ensures { side.new ≡ (model.read_on self.now.here side.old owner).work }
+        ensures { side.new ≡ (model.combine_read_on self.now.here side.old owner).work }
     {
         match next_read(self.geom, side.posted, &side.seen) {
-            Some(word) => side.stage = Stage::Read { owner, word },
+            Some(word) => side.stage = CombineStage::Read { owner, word },
             None => side.decide(self.geom, self.shard, owner),
         }
     }
@@ -185,7 +185,7 @@ impl CombineWork {
     // The entry of the open call, whose answer stands in the rank's post.
     fn answered(&self, words: &Words, rank: u32, side: &CombineSide) -> Entry
         requires has { fits.HasPost self.now.here rank }
-        requires there { length words.now.words ≡ self.now.here.behind + 9 * posts.ranks_of self.now.here }
+        requires there { length words.now.words ≡ self.now.here.behind + 9 * posts.combine_ranks self.now.here }
         requires small { slice_index (posts.post_of self.now.here words.now.words rank).answer 0 < 2 ^ 32 }
         ensures { result ≡ posts.answered_entry self.now.here.site.shard rank side.now.seq side.now.call (posts.post_of self.now.here words.now.words rank).answer }
     {
@@ -210,26 +210,26 @@ impl CombineWork {
         ensures { side.new ≡ (model.combine_after self.now.here rank side.old got).work }
     {
         match side.stage {
-            Stage::Rest => {}
-            Stage::Post { made } => side.stage = Stage::after_post(made),
-            Stage::Raise => side.stage = Stage::Look,
-            Stage::Look => side.look_on(got),
-            Stage::Count => {
+            CombineStage::Rest => {}
+            CombineStage::Post { made } => side.stage = CombineStage::after_post(made),
+            CombineStage::Raise => side.stage = CombineStage::Look,
+            CombineStage::Look => side.look_on(got),
+            CombineStage::Count => {
                 side.count = got as u32;
                 self.sweep_on(side, 0);
             }
-            Stage::Sweep { owner } => self.flag_on(side, owner, got),
-            Stage::Copy { owner, made } => self.copy_on(side, owner, made, got),
-            Stage::Read { owner, word } => {
+            CombineStage::Sweep { owner } => self.flag_on(side, owner, got),
+            CombineStage::Copy { owner, made } => self.copy_on(side, owner, made, got),
+            CombineStage::Read { owner, word } => {
                 side.seen.add(word, got);
                 self.read_on(side, owner);
             }
-            Stage::Journal { owner, made } => side.stage = Stage::after_journal(owner, made),
-            Stage::Volume { owner, made } => side.write_on(owner, made),
-            Stage::Answer { owner, made } => side.stage = Stage::after_answer(owner, made),
-            Stage::Mark { owner } => self.sweep_on(side, owner + 1),
-            Stage::Collect { made } => side.collect_on(made, got),
-            Stage::Lower => side.finish(self.shard, rank),
+            CombineStage::Journal { owner, made } => side.stage = CombineStage::after_journal(owner, made),
+            CombineStage::Volume { owner, made } => side.write_on(owner, made),
+            CombineStage::Answer { owner, made } => side.stage = CombineStage::after_answer(owner, made),
+            CombineStage::Mark { owner } => self.sweep_on(side, owner + 1),
+            CombineStage::Collect { made } => side.collect_on(made, got),
+            CombineStage::Lower => side.finish(self.shard, rank),
         }
     }
 }

@@ -2,7 +2,7 @@
 //!
 //! - A **post** is nine words of a rank's own, its **owner**'s, behind the lock's: a **flag**, the five words of a call, and the three of
 //!   its **answer**. The flag is 0 where nothing is posted, 1 where a call is, and 2 where it is done.
-//! - A **stage** ([`Stage`]) is where a rank stands in its call: it posts the call, asks for the lock, and looks whether its call
+//! - A **stage** ([`CombineStage`]) is where a rank stands in its call: it posts the call, asks for the lock, and looks whether its call
 //!   is done by then. If not it **sweeps** over the posts of all ranks and does the calls that it finds. At the end it **collects**
 //!   its own answer.
 //! - A **side** ([`CombineSide`]) is what a rank knows of that, with the entries that it has collected.
@@ -24,4 +24,4 @@ mod stage;
 pub use combine::CombineWork;
 pub use laws::combine_laws;
 pub use side::CombineSide;
-pub use stage::Stage;
+pub use stage::CombineStage;

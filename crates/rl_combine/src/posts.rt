@@ -119,7 +119,7 @@ fn code(reply: Reply) -> u64
 
 /// The reply of a code and a value.
 pub(crate) fn answered_reply(code: u64, value: u64) -> Reply
-    ensures { result ≡ model.answer_of code value }
+    ensures { result ≡ model.combine_reply_of code value }
 {
     match code {
         9 => Reply::Val(value),

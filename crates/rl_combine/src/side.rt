@@ -3,12 +3,12 @@
 ghost use Rattle.std.specs.Prelude.{◌≡◌, ◌<◌, ◌≤◌, ◌^◌, ◌+◌, ◌∷◌, ◌++◌, ◌==◌, [], length, slice_get, slice_index, if◌then◌else◌, IfOk, IfSome};
 ghost use Rattle.std.specs.List.{All};
 ghost use Rattle.rl_model.specs.Geom.{GeomFits};
-ghost use Rattle.rl_combine.specs.declared.stage.Stage.TheVariants as stage;
+ghost use Rattle.rl_combine.specs.declared.stage.CombineStage.TheVariants as stage;
 ghost use Rattle.rl_combine.specs.Combine as model;
 ghost use Rattle.rl_combine.specs.Posts.{CombineSite, posted_call as called, posted_seq};
 
 use crate::posts::{ANSWER_WORDS, DONE, answered_reply, posted_call};
-use crate::stage::Stage;
+use crate::stage::CombineStage;
 use arrayvec::ArrayVec;
 use rl_model::{Call, Entry, Geom, Reply};
 use rl_site::Transcript;
@@ -21,7 +21,7 @@ use std::marker::Model;
 /// It is made once, with room for all that it keeps, and takes no memory after that.
 #[derive(Drop)]
 pub struct CombineSide {
-    pub(crate) stage: Stage,
+    pub(crate) stage: CombineStage,
     // The open call, and its number.
     pub(crate) call: Call,
     pub(crate) seq: u32,
@@ -60,7 +60,7 @@ impl CombineSide {
     {
         let hold = Call::Hold { shard: 0 };
         Ok(CombineSide {
-            stage: Stage::Rest,
+            stage: CombineStage::Rest,
             call: hold,
             seq: 0,
             count: 0,
@@ -87,7 +87,7 @@ impl CombineSide {
     pub fn open(&mut self, call: Call, seq: u32)
         ensures { self.new ≡ model.with_open self.old call seq }
     {
-        self.stage = Stage::Post { made: 0 };
+        self.stage = CombineStage::Post { made: 0 };
         self.call = call;
         self.seq = seq;
     }
@@ -133,17 +133,17 @@ impl CombineSide {
         ensures { self.new ≡ (model.to_collect self.old).work }
     {
         self.copied.clear();
-        self.stage = Stage::Collect { made: 0 };
+        self.stage = CombineStage::Collect { made: 0 };
     }
 
     /// The own flag was loaded: the own call is done, or the sweep begins.
     pub(crate) fn look_on(&mut self, got: u64)
-        ensures { self.new ≡ (if got == 2 then model.to_collect self.old else model.to_stage self.old stage.Count).work }
+        ensures { self.new ≡ (if got == 2 then model.to_collect self.old else model.combine_to_stage self.old stage.Count).work }
     {
         if got == DONE {
             self.collect();
         } else {
-            self.stage = Stage::Count;
+            self.stage = CombineStage::Count;
         }
     }
 
@@ -151,22 +151,22 @@ impl CombineSide {
     pub(crate) fn collect_on(&mut self, made: u32, got: u64)
         requires few { made < 3 }
         requires so_far { length self.old.copied ≡ made }
-        ensures { self.new ≡ (if made + 1 == 3 then model.to_stage (model.with_copied self.old got) stage.Lower else model.to_stage (model.with_copied self.old got) (stage.Collect (made + 1))).work }
+        ensures { self.new ≡ (if made + 1 == 3 then model.combine_to_stage (model.with_copied self.old got) stage.Lower else model.combine_to_stage (model.with_copied self.old got) (stage.Collect (made + 1))).work }
     {
         self.add_copied(got);
         self.stage = if made + 1 == ANSWER_WORDS {
-            Stage::Lower
+            CombineStage::Lower
         } else {
-            Stage::Collect { made: made + 1 }
+            CombineStage::Collect { made: made + 1 }
         };
     }
 
     /// A flag was found 1: the post is copied next.
     pub(crate) fn copy(&mut self, owner: u32)
-        ensures { self.new ≡ (model.to_stage (model.with_nothing self.old) (stage.Copy owner 0)).work }
+        ensures { self.new ≡ (model.combine_to_stage (model.with_nothing self.old) (stage.Copy owner 0)).work }
     {
         self.copied.clear();
-        self.stage = Stage::Copy { owner, made: 0 };
+        self.stage = CombineStage::Copy { owner, made: 0 };
     }
 
     /// One word more of a post is copied.
@@ -206,9 +206,9 @@ impl CombineSide {
         };
         self.writes = writes;
         self.stage = if self.posted.is_update() {
-            Stage::Journal { owner, made: 0 }
+            CombineStage::Journal { owner, made: 0 }
         } else {
-            Stage::Answer { owner, made: 0 }
+            CombineStage::Answer { owner, made: 0 }
         };
     }
 
@@ -216,16 +216,16 @@ impl CombineSide {
     pub(crate) fn write_on(&mut self, owner: u32, made: u32)
         requires few { made ≤ length self.old.writes }
         requires fits { self.old.count + 1 < 2 ^ 32 }
-        ensures { self.new ≡ (model.written_on self.old owner made (slice_get self.old.writes made)).work }
+        ensures { self.new ≡ (model.combine_written_on self.old owner made (slice_get self.old.writes made)).work }
     {
         if (made as usize) < self.writes.len() {
-            self.stage = Stage::Volume {
+            self.stage = CombineStage::Volume {
                 owner,
                 made: made + 1,
             };
         } else {
             self.count += 1;
-            self.stage = Stage::Answer { owner, made: 0 };
+            self.stage = CombineStage::Answer { owner, made: 0 };
         }
     }
 
@@ -246,7 +246,7 @@ impl CombineSide {
             batch: 0,
             part: 0,
         };
-        self.stage = Stage::Rest;
+        self.stage = CombineStage::Rest;
         self.kept.add_all(&[entry]);
     }
 }

@@ -1,7 +1,7 @@
 //! Where a rank stands in its call.
 
 ghost use Rattle.std.specs.Prelude.{◌≡◌, ◌<◌, ◌+◌, ◌==◌, if◌then◌else◌};
-ghost use Rattle.rl_combine.specs.declared.stage.Stage.TheVariants as stage;
+ghost use Rattle.rl_combine.specs.declared.stage.CombineStage.TheVariants as stage;
 ghost use Rattle.rl_combine.specs.Combine as model;
 
 use crate::posts::{ANSWER_WORDS, CALL_WORDS};
@@ -13,7 +13,7 @@ use rl_work::Follow;
 ///
 /// `owner` is the rank whose post is looked at: a rank that has the lock sweeps over the posts of all ranks, its own among them.
 #[derive(Clone, Copy, PartialEq, Eq, Debug)]
-pub enum Stage {
+pub enum CombineStage {
     /// No call is open.
     Rest,
     /// So many words of the call are posted: the store of the next one.
@@ -44,21 +44,21 @@ pub enum Stage {
     Lower,
 }
 
-impl Stage {
+impl CombineStage {
     /// Whether a call is open.
     pub(crate) fn is_open(self) -> bool
-        ensures { result ≡ model.is_open self }
+        ensures { result ≡ model.combine_is_open self }
     {
-        !matches!(self, Stage::Rest)
+        !matches!(self, CombineStage::Rest)
     }
 
     /// Whether its atom touches what the lock guards, and if so whether it writes there.
     pub(crate) fn touch(self) -> Option<bool>
-        ensures { result ≡ model.touch_at self }
+        ensures { result ≡ model.combine_touch_at self }
     {
         match self {
-            Stage::Count | Stage::Read { .. } => Some(false),
-            Stage::Journal { .. } | Stage::Volume { .. } => Some(true),
+            CombineStage::Count | CombineStage::Read { .. } => Some(false),
+            CombineStage::Journal { .. } | CombineStage::Volume { .. } => Some(true),
             _ => None,
         }
     }
@@ -68,33 +68,33 @@ impl Stage {
         ensures { result ≡ model.follow_of self }
     {
         match self {
-            Stage::Raise => Follow::Ask(Mode::Write),
-            Stage::Lower => Follow::Over,
+            CombineStage::Raise => Follow::Ask(Mode::Write),
+            CombineStage::Lower => Follow::Over,
             _ => Follow::On,
         }
     }
 
     /// After a word of the call is posted.
-    pub(crate) fn after_post(made: u32) -> Stage
+    pub(crate) fn after_post(made: u32) -> CombineStage
         requires { made < 5 }
         ensures { result ≡ (if made + 1 == 5 then stage.Raise else stage.Post (made + 1)) }
     {
         if made + 1 == CALL_WORDS {
-            Stage::Raise
+            CombineStage::Raise
         } else {
-            Stage::Post { made: made + 1 }
+            CombineStage::Post { made: made + 1 }
         }
     }
 
     /// After a word of an entry is written to the journal.
-    pub(crate) fn after_journal(owner: u32, made: u32) -> Stage
+    pub(crate) fn after_journal(owner: u32, made: u32) -> CombineStage
         requires { made < 6 }
         ensures { result ≡ (if made + 1 == 6 then stage.Volume owner 0 else stage.Journal owner (made + 1)) }
     {
         if made + 1 == ENTRY_WORDS {
-            Stage::Volume { owner, made: 0 }
+            CombineStage::Volume { owner, made: 0 }
         } else {
-            Stage::Journal {
+            CombineStage::Journal {
                 owner,
                 made: made + 1,
             }
@@ -102,14 +102,14 @@ impl Stage {
     }
 
     /// After a word of an answer is stored.
-    pub(crate) fn after_answer(owner: u32, made: u32) -> Stage
+    pub(crate) fn after_answer(owner: u32, made: u32) -> CombineStage
         requires { made < 3 }
         ensures { result ≡ (if made + 1 == 3 then stage.Mark owner else stage.Answer owner (made + 1)) }
     {
         if made + 1 == ANSWER_WORDS {
-            Stage::Mark { owner }
+            CombineStage::Mark { owner }
         } else {
-            Stage::Answer {
+            CombineStage::Answer {
                 owner,
                 made: made + 1,
             }

@@ -20,7 +20,7 @@ use Rattle.rl_ops.specs.declared.schedule.TheConstants.{MOST_STEPS}
 use Rattle.rl_ops.specs.Schedule.{TurnFits, ScheduleFits, StayStopped, schedule_spelling, steps_of}
 use Rattle.rl_ops.specs.ScheduleReading.{schedule_at, IsReadAsSchedule}
 use Rattle.rl_machine.specs.Running.{Running}
-use Rattle.rl_machine.specs.Run.{run_of, stepped, turn_ranks, ranks_of, steps_in}
+use Rattle.rl_machine.specs.Run.{run_of, stepped, turn_ranks, ranks_of_turns, steps_in}
 use Rattle.rl_machine.specs.MachineEnding.{AllDone}
 use Rattle.rl_machine.specs.laws.ReplayLaws.{stepped_one, run_append, ranks_there}
 use Rattle.rl_machine.specs.Start.{start_of}
@@ -38,9 +38,9 @@ steps_append : (xs ys : List Turn) → steps_in (xs ++ ys) ≡ steps_in xs + ste
 steps_append [] ys = omega arith
 steps_append (x ∷ xs) ys = let h = steps_append xs ys in omega (arith, h)
 
-ranks_append : (xs ys : List Turn) → ranks_of (xs ++ ys) ≡ ranks_of xs ++ ranks_of ys
+ranks_append : (xs ys : List Turn) → ranks_of_turns (xs ++ ys) ≡ ranks_of_turns xs ++ ranks_of_turns ys
 ranks_append [] ys = refl
-ranks_append (x ∷ xs) ys = ap (λ z. turn_ranks x ++ z) (ranks_append xs ys) ∙ sym (append_assoc (turn_ranks x) (ranks_of xs) (ranks_of ys))
+ranks_append (x ∷ xs) ys = ap (λ z. turn_ranks x ++ z) (ranks_append xs ys) ∙ sym (append_assoc (turn_ranks x) (ranks_of_turns xs) (ranks_of_turns ys))
 
 many_ranks : (n k : ℕ) → length (replicate n k) ≡ n
 many_ranks zero k = refl
@@ -51,9 +51,9 @@ turn_length (turn.Steps rank count) = many_ranks count rank
 turn_length (turn.Stop rank) = refl
 
 -- a step of each rank of the turns
-pub length_ranks : (ts : List Turn) → length (ranks_of ts) ≡ steps_in ts
+pub length_ranks : (ts : List Turn) → length (ranks_of_turns ts) ≡ steps_in ts
 length_ranks [] = refl
-length_ranks (t ∷ ts) = length-append (turn_ranks t) (ranks_of ts) ∙ ap (λ n. n + length (ranks_of ts)) (turn_length t) ∙ ap (λ n. steps_of t + n) (length_ranks ts)
+length_ranks (t ∷ ts) = length-append (turn_ranks t) (ranks_of_turns ts) ∙ ap (λ n. n + length (ranks_of_turns ts)) (turn_length t) ∙ ap (λ n. steps_of t + n) (length_ranks ts)
 
 -- a run counts its steps, and leaves the calls
 pub run_counts : {V : Type 0} (m : Running V) (ks : List ℕ) → (steps_made (run_of m ks).steps ≡ steps_made m.steps + length ks) × ((run_of m ks).calls ≡ m.calls)
@@ -110,22 +110,22 @@ start_is defined place inside ops shape knobs homes same shape_is knobs_is homes
 
 -- the machine that has taken the given turns, from the parts of the placement
 pub ran : {V : Type 0} (defined : Defined V) (place inside : ThePlace) (ops : Ops) (shape : TheShape) (knobs : Knobs) (homes : List ℕ) (turns given : List Turn) (m : Running V) → inside ≡ place → shape ≡ shape_of place → knobs ≡ knobs_of place.lock → homes ≡ inside.homes →
-    turns ≡ given → m ≡ run_of (start_of defined shape knobs inside.geom homes ops) (ranks_of turns) → m ≡ machine_after defined place ops given
+    turns ≡ given → m ≡ run_of (start_of defined shape knobs inside.geom homes ops) (ranks_of_turns turns) → m ≡ machine_after defined place ops given
 ran defined place inside ops shape knobs homes turns given m same shape_is knobs_is homes_are turns_are run =
-    run ∙ ap (λ z. run_of z (ranks_of turns)) (start_is defined place inside ops shape knobs homes same shape_is knobs_is homes_are) ∙ ap (machine_after defined place ops) turns_are
+    run ∙ ap (λ z. run_of z (ranks_of_turns turns)) (start_is defined place inside ops shape knobs homes same shape_is knobs_is homes_are) ∙ ap (machine_after defined place ops) turns_are
 
 -- it has made their steps, and has the placement's ranks
 pub reached : {V : Type 0} (defined : Defined V) (place : ThePlace) (ops : Ops) (given : List Turn) (m : Running V) → m ≡ machine_after defined place ops given → length ops.by_rank ≡ length place.paths →
     (steps_made m.steps ≡ sum_by steps_of given) × (length m.calls ≡ length place.paths)
 reached defined place ops given m run there =
     let start = start_of defined (shape_of place) (knobs_of place.lock) place.geom place.homes ops in
-    let counts = run_counts start (ranks_of given) in
+    let counts = run_counts start (ranks_of_turns given) in
     let many = length_ranks given ∙ steps_are given in
     let none : steps_made start.steps ≡ 0 = refl in
     let made = counts.0 in
     (ap (λ z. steps_made z.steps) run ∙ omega (arith, made, none, many), ap (λ z. length z.calls) run ∙ ap length counts.1 ∙ there)
 
-module _ {V : Type 0} (defined : Defined V) (place : ThePlace) (ops : Ops) (given : Schedule) (more : List Turn) (m : Running V) (unstopped : AllByRecursion MakesSteps given.turns) (run : m ≡ run_of (machine_after defined place ops given.turns) (ranks_of more)) where
+module _ {V : Type 0} (defined : Defined V) (place : ThePlace) (ops : Ops) (given : Schedule) (more : List Turn) (m : Running V) (unstopped : AllByRecursion MakesSteps given.turns) (run : m ≡ run_of (machine_after defined place ops given.turns) (ranks_of_turns more)) where
   -- turns that end all calls make a schedule complete
   pub completes : ScheduleFits (length place.paths) given → AreWhole more → AllByRecursion (TurnFits (length place.paths)) more → steps_in given.turns + steps_in more ≤ MOST_STEPS → AllDone m →
       Completes defined place ops given (record { turns = given.turns ++ more })
@@ -138,7 +138,7 @@ module _ {V : Type 0} (defined : Defined V) (place : ThePlace) (ops : Ops) (give
         behind = refl;
         unstopped = all;
         fits = record { fit = AllByRecursion-append (TurnFits (length place.paths)) given.turns more fits.fit there; few = steps; stopped = stay_stopped (given.turns ++ more) all };
-        done = subst (λ z. AllDone z) (run ∙ sym (ap (run_of start) (ranks_append given.turns more) ∙ run_append start (ranks_of given.turns) (ranks_of more))) done;
+        done = subst (λ z. AllDone z) (run ∙ sym (ap (run_of start) (ranks_append given.turns more) ∙ run_append start (ranks_of_turns given.turns) (ranks_of_turns more))) done;
       }
 
   -- turns that take all the steps that there may be, and don't end all calls, are too few
@@ -146,7 +146,7 @@ module _ {V : Type 0} (defined : Defined V) (place : ThePlace) (ops : Ops) (give
   too_long there full undone =
       record {
         unstopped = unstopped;
-        more = ranks_of more;
+        more = ranks_of_turns more;
         there = ranks_there (length place.paths) more there;
         full = ap (λ n. steps_in given.turns + n) (length_ranks more) ∙ full;
         undone = λ done. undone (subst (λ z. AllDone z) (sym run) done);

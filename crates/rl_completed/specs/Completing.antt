@@ -12,7 +12,7 @@ use Rattle.rl_ops.specs.declared.schedule.Schedule.{Schedule}
 use Rattle.rl_ops.specs.declared.schedule.TheConstants.{MOST_STEPS}
 use Rattle.rl_ops.specs.Schedule.{ScheduleFits, schedule_spelling}
 use Rattle.rl_machine.specs.Running.{Running}
-use Rattle.rl_machine.specs.Run.{run_of, ranks_of, steps_in, AreThere}
+use Rattle.rl_machine.specs.Run.{run_of, ranks_of_turns, steps_in, AreThere}
 use Rattle.rl_machine.specs.MachineEnding.{AllDone}
 use Rattle.rl_machine.specs.Start.{start_of}
 use Rattle.rl_cores.specs.Kinds.{Defined}
@@ -39,7 +39,7 @@ MakesSteps (turn.Stop rank) = ⊥
 module _ {V : Type 0} (defined : Defined V) (place : ThePlace) (ops : Ops) where
   -- the machine after these turns, for a rank's machine as it is defined
   abbrev pub machine_after : List Turn → Running V
-  machine_after turns = run_of (start_of defined (shape_of place) (knobs_of place.lock) place.geom place.homes ops) (ranks_of turns)
+  machine_after turns = run_of (start_of defined (shape_of place) (knobs_of place.lock) place.geom place.homes ops) (ranks_of_turns turns)
 
   -- A schedule is another one made complete: the given turns stand in front as they were, no rank is stopped, all is as in any schedule of the
   -- placement, and after it all calls of all ranks are done.

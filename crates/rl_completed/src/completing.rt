@@ -9,7 +9,7 @@ ghost use Rattle.rl_ops.specs.Ops.{OpsFit};
 ghost use Rattle.rl_ops.specs.Schedule.{ScheduleFits, schedule_spelling, steps_of};
 ghost use Rattle.rl_ops.specs.ScheduleReading.{IsReadAsSchedule};
 ghost use Rattle.rl_replay.specs.Reading.{SuitsLock};
-ghost use Rattle.rl_cores.specs.Kinds.{kind_of};
+ghost use Rattle.rl_cores.specs.Kinds.{lock_kind_of};
 ghost use Rattle.rl_completed.specs.Completing.{MakesSteps, IsComplete, IsWayOn, IsWhyNot, IsLong};
 
 use crate::stops::first_stop;
@@ -126,8 +126,8 @@ pub fn completed(
     requires calls { OpsFit (length place.now.paths) place.now.geom.shards ops }
     requires suits { SuitsLock place.now ops }
     requires schedule { ScheduleFits (length place.now.paths) schedule }
-    ensures complete { IfOk result (λ text. IsComplete (kind_of place.now.lock).defined place.now ops schedule text.items) }
-    ensures why_not { IfErr result (IsWhyNot (kind_of place.now.lock).defined place.now ops schedule) }
+    ensures complete { IfOk result (λ text. IsComplete (lock_kind_of place.now.lock).defined place.now ops schedule text.items) }
+    ensures why_not { IfErr result (IsWhyNot (lock_kind_of place.now.lock).defined place.now ops schedule) }
 {
     if let Some(line) = first_stop(schedule.turns.as_slice()) {
         return Err(Uncompleted::Refused(Reason::Stopped { line }));

@@ -28,10 +28,10 @@ use Rattle.rl_work.specs.Ways.{IsSide}
 use Rattle.rl_work.specs.Work.{TheWork, WorkTurned, stage_atom as block_atom, stage_after as block_after, with_seen, write_atom, left_of, at_rest}
 use Rattle.rl_work.specs.WorkGood.{WorkSide as Seat, FitsAt as BlockFits, IsReading as SeatReading}
 use Rattle.rl_asks.specs.ShardTables.{ShardTable}
-use Rattle.rl_combine.specs.declared.stage.Stage.{Stage}
-use Rattle.rl_combine.specs.declared.stage.Stage.TheVariants.{Sweep, Copy, Read, Journal, Volume, Answer, Mark, Rest, Post, Raise, Look, Count, Collect, Lower}
-use Rattle.rl_combine.specs.Posts.{CombineSite, ThePost, ranks_of, post_of, post_word, flag_word}
-use Rattle.rl_combine.specs.Combine.{TheCombineSide, Opened, opened_of, combine_table, early, is_open, stage_atom, stage_after, read_next, sweep_on, to_collect, to_stage, with_nothing, with_posted, with_copied, with_word, found}
+use Rattle.rl_combine.specs.declared.stage.CombineStage.{CombineStage}
+use Rattle.rl_combine.specs.declared.stage.CombineStage.TheVariants.{Sweep, Copy, Read, Journal, Volume, Answer, Mark, Rest, Post, Raise, Look, Count, Collect, Lower}
+use Rattle.rl_combine.specs.Posts.{CombineSite, ThePost, combine_ranks, post_of, post_word, flag_word}
+use Rattle.rl_combine.specs.Combine.{TheCombineSide, Opened, opened_of, combine_table, early, combine_is_open, combine_stage_atom, combine_stage_after, combine_read_next, sweep_on, to_collect, combine_to_stage, with_nothing, with_posted, with_copied, combine_with_word, found}
 use Rattle.rl_combine.specs.CombineGood.{RankSide, CombineGood, OwnAt, SweepAt, Progress, waits, handled, counted, answered, IsPosted, IsCounted, IsLeft, IsToEnd, IsAnswering, IsReading, reading, front_of}
 use Rattle.rl_combine.specs.Sweep.{IsLate, IsLateAt, FlagSays, MayWrite, FlagMoves, passes, raises, lowers, marks}
 use Rattle.rl_combine.specs.laws.PostLaws.{front_get}
@@ -56,7 +56,7 @@ use Rattle.rl_cores.specs.Combining.{answers, rank_side, EndsVisit, ReadsFor, Ke
 use Rattle.rl_cores.proofs.DecidedLaws.{read_at}
 
 -- a rank whose sweep has found a flag combines
-found_combines : (st : Stage) (owner : ℕ) → found st ≡ Some owner → Combines st
+found_combines : (st : CombineStage) (owner : ℕ) → found st ≡ Some owner → Combines st
 found_combines Rest owner e = absurd (cc)
 found_combines (Post made) owner e = absurd (cc)
 found_combines Raise owner e = absurd (cc)
@@ -73,7 +73,7 @@ found_combines (Collect made) owner e = absurd (cc)
 found_combines Lower owner e = absurd (cc)
 
 -- and so does one that is late
-late_combines : (st : Stage) (k : ℕ) → IsLateAt st k → Combines st
+late_combines : (st : CombineStage) (k : ℕ) → IsLateAt st k → Combines st
 late_combines Rest k l = absurd l
 late_combines (Post made) k l = absurd l
 late_combines Raise k l = absurd l
@@ -90,7 +90,7 @@ late_combines (Collect made) k l = absurd l
 late_combines Lower k l = absurd l
 
 -- a load for a call changes what was seen by that load alone
-reads_keep : (S : CombineSite) (x : TheCombineSide) (owner : ℕ) (o : Option ℕ) → (read_next S x owner o).work.seen ≡ x.seen
+reads_keep : (S : CombineSite) (x : TheCombineSide) (owner : ℕ) (o : Option ℕ) → (combine_read_next S x owner o).work.seen ≡ x.seen
 reads_keep S x owner (Some word) = refl
 reads_keep S x owner None = refl
 
@@ -105,13 +105,13 @@ differs : (a b : ℕ) → a ≢ b → (a == b) ≡ false
 differs a b ne = elim (a == b) as (λ c. (a == b) ≡ c → c ≡ false) [ true ↦ λ q. absurd (ne (same_number a b q)) | false ↦ λ q. refl ] refl
 
 -- a sweep goes on with a rank that there is, and behind the last one it is over
-sweeps_on : (S : CombineSite) (x : TheCombineSide) (owner : ℕ) → owner < ranks_of S → (sweep_on S x owner).work.stage ≡ Sweep owner
-sweeps_on S x owner low = ap (λ b. (cond b (to_collect x) (to_stage x (Sweep owner))).work.stage) (less_differs owner (ranks_of S) low)
+sweeps_on : (S : CombineSite) (x : TheCombineSide) (owner : ℕ) → owner < combine_ranks S → (sweep_on S x owner).work.stage ≡ Sweep owner
+sweeps_on S x owner low = ap (λ b. (cond b (to_collect x) (combine_to_stage x (Sweep owner))).work.stage) (less_differs owner (combine_ranks S) low)
 
-sweep_over : (S : CombineSite) (x : TheCombineSide) (owner : ℕ) → (sweep_on S x owner).work.stage ≡ Collect 0 → owner ≡ ranks_of S
+sweep_over : (S : CombineSite) (x : TheCombineSide) (owner : ℕ) → (sweep_on S x owner).work.stage ≡ Collect 0 → owner ≡ combine_ranks S
 sweep_over S x owner e =
-    elim (owner == ranks_of S) as (λ b. (owner == ranks_of S) ≡ b → (cond b (to_collect x) (to_stage x (Sweep owner))).work.stage ≡ Collect 0 → owner ≡ ranks_of S) [
-      | true ↦ λ q over. same_number owner (ranks_of S) q
+    elim (owner == combine_ranks S) as (λ b. (owner == combine_ranks S) ≡ b → (cond b (to_collect x) (combine_to_stage x (Sweep owner))).work.stage ≡ Collect 0 → owner ≡ combine_ranks S) [
+      | true ↦ λ q over. same_number owner (combine_ranks S) q
       | false ↦ λ q over. absurd (cc)
     ] refl e
 
@@ -124,7 +124,7 @@ not_posted S p r o y is zero = by_case is.progress where
   by_case (counted c) = let one = c.flag in absurd (omega arith)
   by_case (answered a) = let two = a.flag in absurd (omega arith)
 
-none_early : (S : CombineSite) (p : ThePost) (r : ℕ) (z : RankSide) (y : Seat) (st : Stage) → OwnAt S p r z y st → p.flag ≡ 0 → y.work.transcript ≡ z.work.kept
+none_early : (S : CombineSite) (p : ThePost) (r : ℕ) (z : RankSide) (y : Seat) (st : CombineStage) → OwnAt S p r z y st → p.flag ≡ 0 → y.work.transcript ≡ z.work.kept
 none_early S p r z y Rest o e = o.2.has
 none_early S p r z y (Post made) o e = o.2.free.has
 none_early S p r z y Raise o e = o.1.free.has
@@ -174,7 +174,7 @@ module _ (V : Type 0) (base : ℕ) (table : LockTable V) (S : CombineSite) (node
 
     -- a writer at the lock stands so on the shard
     writes_on : (x : WholeView V TheCombineSide) → stand table x ≡ Writer → T.standing x ≡ Writer
-    writes_on x e = ap (λ st. standing_while st (is_open x.work.stage)) e
+    writes_on x e = ap (λ st. standing_while st (combine_is_open x.work.stage)) e
 
     -- who combines writes
     combiner_writes : (r : ℕ) (x : WholeView V TheCombineSide) → slice_get vs r ≡ Some x → Combines x.work.stage → stand table x ≡ Writer
@@ -265,7 +265,7 @@ module _ (V : Type 0) (base : ℕ) (table : LockTable V) (S : CombineSite) (node
         (shown S h.words sides s.is_good r (work_side table x) y.0 y.1 s.there)
 
     -- the next load of who combines is one of its work
-    combines_on : (r w got : ℕ) (x : WholeView V TheCombineSide) → slice_get vs r ≡ Some x → Combines x.work.stage → next_of L x ≡ Some (Load w) → after_of L x got ≡ work_turned L x (stage_after S r x.work got x.work.stage)
+    combines_on : (r w got : ℕ) (x : WholeView V TheCombineSide) → slice_get vs r ≡ Some x → Combines x.work.stage → next_of L x ≡ Some (Load w) → after_of L x got ≡ work_turned L x (combine_stage_after S r x.work got x.work.stage)
     combines_on r w got x has c next =
         ⊎_elim
         (λ none. after_none V TheCombineSide L good further layout laws home h vs t ds g r x has none got)
@@ -273,20 +273,20 @@ module _ (V : Type 0) (base : ℕ) (table : LockTable V) (S : CombineSite) (node
         (resting V TheCombineSide L good further layout laws home h vs t ds g r x has (subst Rests (sym (combiner_writes r x has c)) tt))
 
     -- so is its next store
-    marks_on : (r w v got : ℕ) (x : WholeView V TheCombineSide) → slice_get vs r ≡ Some x → Combines x.work.stage → next_of L x ≡ Some (atom.Store w v) → after_of L x got ≡ work_turned L x (stage_after S r x.work got x.work.stage)
+    marks_on : (r w v got : ℕ) (x : WholeView V TheCombineSide) → slice_get vs r ≡ Some x → Combines x.work.stage → next_of L x ≡ Some (atom.Store w v) → after_of L x got ≡ work_turned L x (combine_stage_after S r x.work got x.work.stage)
     marks_on r w v got x has c next =
         ⊎_elim
         (λ none. after_none V TheCombineSide L good further layout laws home h vs t ds g r x has none got)
         (λ q. let clash = q.1 in absurd (cc))
         (resting V TheCombineSide L good further layout laws home h vs t ds g r x has (subst Rests (sym (combiner_writes r x has c)) tt))
 
-    many : length vs ≡ ranks_of S
+    many : length vs ≡ combine_ranks S
     many = sym (length-map vs (work_side table)) ∙ rule.ranks
 
     begins_on : (r got : ℕ) (x : WholeView V TheCombineSide) → slice_get vs r ≡ Some x → x.work.stage ≡ Count → next_of L x ≡ Some (Load count_word) → (after_of L x got).view.work.stage ≡ Sweep 0
     begins_on r got x has e next =
         ap (λ (z : Turned (WholeView V TheCombineSide)). z.view.work.stage) (combines_on r count_word got x has (subst Combines (sym e) tt) next)
-        ∙ ap (λ st. (stage_after S r x.work got st).work.stage) e ∙ sweeps_on S (record x.work { count = got }) 0 (let low = slice_get_within vs r x has in let n = many in omega arith)
+        ∙ ap (λ st. (combine_stage_after S r x.work got st).work.stage) e ∙ sweeps_on S (record x.work { count = got }) 0 (let low = slice_get_within vs r x has in let n = many in omega arith)
 
     -- where a visit ends the sweep goes on with the next rank, or is over
     visited : (r owner got : ℕ) (x : WholeView V TheCombineSide) → slice_get vs r ≡ Some x → EndsVisit T owner got x → (after_of L x got).view.work.stage ≡ (sweep_on S x.work (owner + 1)).work.stage
@@ -294,10 +294,10 @@ module _ (V : Type 0) (base : ℕ) (table : LockTable V) (S : CombineSite) (node
         ⊎_elim
         (λ (p : (x.work.stage ≡ Sweep owner) × (next_of L x ≡ Some (Load (flag_word S owner))) × (got ≢ 1)).
         ap (λ (z : Turned (WholeView V TheCombineSide)). z.view.work.stage) (combines_on r (flag_word S owner) got x has (subst Combines (sym p.0) tt) p.1)
-        ∙ ap (λ st. (stage_after S r x.work got st).work.stage) p.0
-        ∙ ap (λ b. (cond b (to_stage (with_nothing x.work) (Copy owner 0)) (sweep_on S x.work (owner + 1))).work.stage) (differs got 1 p.2))
+        ∙ ap (λ st. (combine_stage_after S r x.work got st).work.stage) p.0
+        ∙ ap (λ b. (cond b (combine_to_stage (with_nothing x.work) (Copy owner 0)) (sweep_on S x.work (owner + 1))).work.stage) (differs got 1 p.2))
         (λ (p : (x.work.stage ≡ Mark owner) × (next_of L x ≡ Some (atom.Store (flag_word S owner) 2))).
-        ap (λ (z : Turned (WholeView V TheCombineSide)). z.view.work.stage) (marks_on r (flag_word S owner) 2 got x has (subst Combines (sym p.0) tt) p.1) ∙ ap (λ st. (stage_after S r x.work got st).work.stage) p.0)
+        ap (λ (z : Turned (WholeView V TheCombineSide)). z.view.work.stage) (marks_on r (flag_word S owner) 2 got x has (subst Combines (sym p.0) tt) p.1) ∙ ap (λ st. (combine_stage_after S r x.work got st).work.stage) p.0)
         q
 
     goes_on : (r owner got : ℕ) (x : WholeView V TheCombineSide) → slice_get vs r ≡ Some x → EndsVisit T owner got x → owner + 1 < length vs → (after_of L x got).view.work.stage ≡ Sweep (owner + 1)
@@ -362,10 +362,10 @@ module _ (V : Type 0) (base : ℕ) (table : LockTable V) (S : CombineSite) (node
 
     now_on : (r owner : ℕ) (x : WholeView V TheCombineSide) → slice_get vs r ≡ Some x → answers x.work.stage ≡ Some owner → is_update x.work.posted ≡ false → x.work.entry.at ≡ slice_index h.words count_word
     now_on r owner x has e read = by_stage x.work.stage refl e where
-      sweep : (st : Stage) → x.work.stage ≡ st → SweepAt S h.words rule.seats r x.work st
+      sweep : (st : CombineStage) → x.work.stage ≡ st → SweepAt S h.words rule.seats r x.work st
       sweep st is = subst (SweepAt S h.words rule.seats r x.work) is (rule.sweeps r (work_side table x) (side r x has).there)
 
-      by_stage : (st : Stage) → x.work.stage ≡ st → answers st ≡ Some owner → x.work.entry.at ≡ slice_index h.words count_word
+      by_stage : (st : CombineStage) → x.work.stage ≡ st → answers st ≡ Some owner → x.work.entry.at ≡ slice_index h.words count_word
       by_stage Rest is a = absurd (cc)
       by_stage (Post made) is a = absurd (cc)
       by_stage Raise is a = absurd (cc)
@@ -383,7 +383,7 @@ module _ (V : Type 0) (base : ℕ) (table : LockTable V) (S : CombineSite) (node
 
     finds_on : (r owner : ℕ) (x : WholeView V TheCombineSide) → slice_get vs r ≡ Some x → x.work.stage ≡ Sweep owner → next_of L x ≡ Some (Load (flag_word S owner)) → found (after_of L x 1).view.work.stage ≡ Some owner
     finds_on r owner x has e next =
-        ap (λ (z : Turned (WholeView V TheCombineSide)). found z.view.work.stage) (combines_on r (flag_word S owner) 1 x has (subst Combines (sym e) tt) next) ∙ ap (λ st. found (stage_after S r x.work 1 st).work.stage) e
+        ap (λ (z : Turned (WholeView V TheCombineSide)). found z.view.work.stage) (combines_on r (flag_word S owner) 1 x has (subst Combines (sym e) tt) next) ∙ ap (λ st. found (combine_stage_after S r x.work 1 st).work.stage) e
 
     -- what a rank that reads for a posted call knows
     reads_for : (r owner word : ℕ) (x : WholeView V TheCombineSide) → ReadsFor T h vs r owner word x → IsReading rule.seats x.work owner word
@@ -405,14 +405,14 @@ module _ (V : Type 0) (base : ℕ) (table : LockTable V) (S : CombineSite) (node
     fresh_on r owner got x has e next =
         let w : TheCombineSide = with_posted S (with_copied x.work got) in
         ap (λ (z : Turned (WholeView V TheCombineSide)). z.view.work.seen.pairs) (combines_on r (post_word S owner 5) got x has (subst Combines (sym e) tt) next)
-        ∙ ap (λ st. (stage_after S r x.work got st).work.seen.pairs) e
+        ∙ ap (λ st. (combine_stage_after S r x.work got st).work.seen.pairs) e
         ∙ ap (λ (z : SeenWords). z.pairs) (reads_keep S w owner (next_word S.site.geom w.posted w.seen.pairs))
 
     more_on : (r owner word got : ℕ) (x : WholeView V TheCombineSide) → ReadsFor T h vs r owner word x → next_of L x ≡ Some (Load (volume_base + word)) → (after_of L x got).view.work.seen.pairs ≡ x.work.seen.pairs ++ (word, got) ∷ []
     more_on r owner word got x q next =
-        let w : TheCombineSide = with_word x.work word got in
+        let w : TheCombineSide = combine_with_word x.work word got in
         ap (λ (z : Turned (WholeView V TheCombineSide)). z.view.work.seen.pairs) (combines_on r (volume_base + word) got x q.there (subst Combines (sym q.reads) tt) next)
-        ∙ ap (λ st. (stage_after S r x.work got st).work.seen.pairs) q.reads
+        ∙ ap (λ st. (combine_stage_after S r x.work got st).work.seen.pairs) q.reads
         ∙ ap (λ (z : SeenWords). z.pairs) (reads_keep S w owner (next_word S.site.geom w.posted w.seen.pairs))
 
     few_on : (r owner word : ℕ) (x : WholeView V TheCombineSide) → ReadsFor T h vs r owner word x → length x.work.seen.pairs < most_reads S.site.geom x.work.posted
@@ -439,7 +439,7 @@ module _ (V : Type 0) (base : ℕ) (table : LockTable V) (S : CombineSite) (node
 
     -- whoever loads a word of the volume reads it for a posted call: neither words of the lock nor post words lie there, and no other stage
     -- loads one
-    reads_there : (rank : ℕ) (w : TheCombineSide) (word : ℕ) (st : Stage) → w.stage ≡ st → word < volume_words S.site.geom → stage_atom S rank w st ≡ Some (Load (volume_base + word)) → (owner : ℕ) × (w.stage ≡ Read owner word)
+    reads_there : (rank : ℕ) (w : TheCombineSide) (word : ℕ) (st : CombineStage) → w.stage ≡ st → word < volume_words S.site.geom → combine_stage_atom S rank w st ≡ Some (Load (volume_base + word)) → (owner : ℕ) × (w.stage ≡ Read owner word)
     reads_there rank w word Rest e low is = absurd (cc)
     reads_there rank w word (Post made) e low is = absurd (cc)
     reads_there rank w word Raise e low is = absurd (cc)
@@ -472,7 +472,7 @@ module _ (V : Type 0) (base : ℕ) (table : LockTable V) (S : CombineSite) (node
         (λ (o : IsOfWork V TheCombineSide L good further layout laws home h vs t ds g r x q.there at).
         let k : ℕ = do_got at h.words h.cards in
         ⊎_elim
-        (λ (e : x.work.stage ≡ Mark owner). inl (same_Some _ _ (sym o.works.planned ∙ ap (stage_atom S r x.work) e)))
+        (λ (e : x.work.stage ≡ Mark owner). inl (same_Some _ _ (sym o.works.planned ∙ ap (combine_stage_atom S r x.work) e)))
         (λ still. inr (
           ap (λ (z : Turned (WholeView V TheCombineSide)). found z.view.work.stage) o.after ∙ still,
           ap (λ (z : Turned (WholeView V TheCombineSide)). z.view.work.kept) o.after ∙ found_keeps S r x.work k owner x.work.stage q.found_it,

@@ -5,7 +5,7 @@ use Rattle.std.proofs.lemmas.Option.{same_Some}
 use Rattle.rl_word.specs.laws.Places.{get_map, get_map_back}
 use Rattle.rl_word.specs.Acts.{Layout}
 use Rattle.rl_model.specs.declared.geom.Geom.{Geom}
-use Rattle.rl_asks.specs.Desks.{entries_of}
+use Rattle.rl_asks.specs.Desks.{desk_entries}
 use Rattle.rl_asks.specs.ShardTables.{ShardTable, site_with, first_views}
 use Rattle.rl_asks.specs.ShardLaws.{GoodOf, IsNewDesk}
 use Rattle.rl_shard.specs.declared.shard.Shard.{Shard}
@@ -48,7 +48,7 @@ module _ {C V : Type 0} (table : C → ShardTable V) (good : GoodOf C V) (layout
         closed = closed r s get;
         geom_is = ap (λ z. z.geom) site_is;
         number_is = ap (λ z. z.shard) site_is;
-        nothing = ap (λ z. entries_of (T.own z)) whole ∙ new.nothing;
+        nothing = ap (λ z. desk_entries (T.own z)) whole ∙ new.nothing;
         room = let n = ap (λ z. (T.own z).kept.room) whole ∙ new.room_is in omega arith;
         place = let n = ap (λ z. slice_index z.rooms (rank_at s)) site_is ∙ ap (slice_index updates) mine ∙ many in omega arith;
       }

@@ -13,7 +13,7 @@ use Rattle.rl_step.specs.declared.events.Standing.TheVariants.{Out, Asking, Writ
 use Rattle.rl_step.specs.Core.{Turned}
 use Rattle.rl_step.specs.Do.{TheWindow}
 use Rattle.rl_step.specs.Lock.{LockTable, LockState, Deed, IsHolder, Rests}
-use Rattle.rl_volume.specs.Decision.{written}
+use Rattle.rl_volume.specs.Decision.{words_written}
 use Rattle.rl_volume.specs.Seen.{SeenWords, AgreesWith}
 use Rattle.rl_volume.specs.Walk.{most_reads}
 use Rattle.rl_volume.specs.Words.{volume_words}
@@ -189,7 +189,7 @@ module _ (V : Type 0) (base : ℕ) (table : LockTable V) (site : Site) (behind :
         record {
           holds = λ r count word x q. holds_on (stand table x) (L.work.is_open x.work) (reading r count word x q).holds;
           same_count = λ r count word x q. rule.count ∙ sym (reading r count word x q).found;
-          same_words = λ r count word x q. subst (λ v. AgreesWith x.work.seen.pairs (written v x.work.writes)) (sym (unwritten r count word x q)) (reading r count word x q).partly.agrees;
+          same_words = λ r count word x q. subst (λ v. AgreesWith x.work.seen.pairs (words_written v x.work.writes)) (sym (unwritten r count word x q)) (reading r count word x q).partly.agrees;
           fresh = fresh_on;
           one_more = one_more_on;
           few = λ r count word x call q. few_loads site front sides rule r (work_side table x) (there r x q.is.there) call count word q.alone q.is.reads;

@@ -29,8 +29,8 @@ use Rattle.rl_work.specs.Ways.{Worked}
 use Rattle.rl_asks.specs.ShardTables.{ShardTable}
 use Rattle.rl_seq.specs.declared.stage.SeqStage.{SeqStage}
 use Rattle.rl_seq.specs.declared.stage.SeqStage.TheVariants as stage
-use Rattle.rl_seq.specs.Site.{SeqSite, version_word, version_in, front}
-use Rattle.rl_seq.specs.SeqWork.{TheSeqWork, seq_table, seq_after, seq_stage_after, seq_stage_atom, touch_at, is_open_at, owes_at, is_over, looked_by, read_by, checked_by}
+use Rattle.rl_seq.specs.Site.{SeqSite, seq_version_word, version_in, front}
+use Rattle.rl_seq.specs.SeqWork.{TheSeqWork, seq_table, seq_after, seq_stage_after, seq_stage_atom, seq_touch_at, is_open_at, owes_at, is_over, looked_by, read_by, checked_by}
 use Rattle.rl_seq.specs.SeqGood.{SeqRank, SeqGood, IsGetting, is_between, as_locked, locked_at}
 use Rattle.rl_seq.specs.Rule.{is_getting, found_count}
 use Rattle.rl_seq.specs.laws.CheckLaws.{get_alone}
@@ -56,7 +56,7 @@ out_departs rank (Ask m) = refl
 out_departs rank Over = refl
 
 -- of a get at each stage: its block is open, its atom is no touch, and its entry is owed
-gets_open : (w : TheWork) (st : SeqStage) → is_getting st ≡ true → (is_open_at w st ≡ true) × (touch_at w st ≡ None) × ((is_open_at w st && owes_at w st) ≡ true)
+gets_open : (w : TheWork) (st : SeqStage) → is_getting st ≡ true → (is_open_at w st ≡ true) × (seq_touch_at w st ≡ None) × ((is_open_at w st && owes_at w st) ≡ true)
 gets_open w stage.Locked e = absurd (cc)
 gets_open w stage.Look e = (refl, refl, refl)
 gets_open w (stage.Count v) e = (refl, refl, refl)
@@ -216,9 +216,9 @@ module _ (V : Type 0) (base : ℕ) (table : LockTable V) (at : SeqSite) (node : 
     answer_is r x by q = ap (λ (z : Turned (WholeView V TheSeqWork)). z.stepped) ((is_outside r x q.gets).after (do_got by h.words h.cards))
 
     -- and a load of the version finds the version
-    finds_version : (r : ℕ) (x : WholeView V TheSeqWork) (by : Atom) → GetsBy T h vs r x by → (st : SeqStage) → x.work.stage ≡ st → seq_stage_atom at x.work.work st ≡ Some (Load (version_word at)) → do_got by h.words h.cards ≡ version_in at h.words
+    finds_version : (r : ℕ) (x : WholeView V TheSeqWork) (by : Atom) → GetsBy T h vs r x by → (st : SeqStage) → x.work.stage ≡ st → seq_stage_atom at x.work.work st ≡ Some (Load (seq_version_word at)) → do_got by h.words h.cards ≡ version_in at h.words
     finds_version r x by q st e loads =
-        let same : by ≡ Load (version_word at) = same_Some _ _ (sym q.next ∙ (is_outside r x q.gets).next ∙ ap (seq_stage_atom at x.work.work) e ∙ loads) in
+        let same : by ≡ Load (seq_version_word at) = same_Some _ _ (sym q.next ∙ (is_outside r x q.gets).next ∙ ap (seq_stage_atom at x.work.work) e ∙ loads) in
         ap (λ z. do_got z h.words h.cards) same
 
     answers_gets : AnswersGets T h vs

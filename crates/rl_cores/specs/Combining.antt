@@ -10,8 +10,8 @@ use Rattle.rl_volume.specs.Words.{volume_words}
 use Rattle.rl_site.specs.Site.{count_word, volume_base}
 use Rattle.rl_asks.specs.ShardTables.{ShardTable}
 use Rattle.rl_model.specs.Call.{is_update}
-use Rattle.rl_combine.specs.declared.stage.Stage.{Stage}
-use Rattle.rl_combine.specs.declared.stage.Stage.TheVariants.{Count, Sweep, Copy, Read, Answer, Mark, Collect}
+use Rattle.rl_combine.specs.declared.stage.CombineStage.{CombineStage}
+use Rattle.rl_combine.specs.declared.stage.CombineStage.TheVariants.{Count, Sweep, Copy, Read, Answer, Mark, Collect}
 use Rattle.rl_combine.specs.Posts.{CombineSite, post_word, flag_word}
 use Rattle.rl_combine.specs.Combine.{TheCombineSide, early, found}
 use Rattle.rl_combine.specs.CombineGood.{RankSide}
@@ -19,7 +19,7 @@ use Rattle.rl_combine.specs.Sweep.{FlagSays, FlagMoves}
 use Rattle.rl_whole.specs.declared.whole.WholeView.{WholeView}
 
 -- the rank whose answer is stored or marked at this stage
-abbrev pub answers : Stage → Option ℕ
+abbrev pub answers : CombineStage → Option ℕ
 answers (Answer owner made) = Some owner
 answers (Mark owner) = Some owner
 answers _ = None
@@ -34,8 +34,8 @@ module _ {V : Type 0} (T : ShardTable (WholeView V TheCombineSide)) where
   rank_side x = record { standing = T.standing x; work = x.work }
 
   -- the words of the volume that a rank has loaded for the posted call that it does, with what it found there
-  abbrev pub loaded : WholeView V TheCombineSide → List (ℕ × ℕ)
-  loaded x = x.work.seen.pairs
+  abbrev pub loaded_for_post : WholeView V TheCombineSide → List (ℕ × ℕ)
+  loaded_for_post x = x.work.seen.pairs
 
   -- the flag of a rank
   abbrev pub flag_now : TheWindow → ℕ → ℕ
@@ -97,11 +97,11 @@ module _ {V : Type 0} (T : ShardTable (WholeView V TheCombineSide)) where
       pub whose : (r owner word : ℕ) (x y : WholeView V TheCombineSide) → ReadsFor r owner word x → slice_get vs owner ≡ Some y → x.work.posted ≡ y.work.call
       -- it has loaded nothing for it when it has copied the last word of the post
       pub fresh : (r owner got : ℕ) (x : WholeView V TheCombineSide) → slice_get vs r ≡ Some x → x.work.stage ≡ Copy owner 4 → T.core.next x ≡ Some (Load (post_word posts owner 5)) →
-          loaded (T.core.after x got).view ≡ []
+          loaded_for_post (T.core.after x got).view ≡ []
       -- with each load it has loaded one word more
-      pub one_more : (r owner word got : ℕ) (x : WholeView V TheCombineSide) → ReadsFor r owner word x → T.core.next x ≡ Some (Load (volume_base + word)) → loaded (T.core.after x got).view ≡ loaded x ++ (word, got) ∷ []
+      pub one_more : (r owner word got : ℕ) (x : WholeView V TheCombineSide) → ReadsFor r owner word x → T.core.next x ≡ Some (Load (volume_base + word)) → loaded_for_post (T.core.after x got).view ≡ loaded_for_post x ++ (word, got) ∷ []
       -- and before each it has loaded fewer than the call can want: of a get fewer than 3 + 2 * overflow. So it loads no more for it
-      pub few : (r owner word : ℕ) (x : WholeView V TheCombineSide) → ReadsFor r owner word x → length (loaded x) < most_reads T.site.geom x.work.posted
+      pub few : (r owner word : ℕ) (x : WholeView V TheCombineSide) → ReadsFor r owner word x → length (loaded_for_post x) < most_reads T.site.geom x.work.posted
       -- and these are all its loads of the volume: whoever loads a word of it next reads so
       pub loads : (r word : ℕ) (x : WholeView V TheCombineSide) → slice_get vs r ≡ Some x → T.core.next x ≡ Some (Load (volume_base + word)) → word < volume_words T.site.geom → (owner : ℕ) × ReadsFor r owner word x
 

@@ -5,7 +5,7 @@ use Rattle.rl_word.specs.declared.acts.Atom.TheVariants.{Load}
 use Rattle.rl_model.specs.declared.call.Call.{Call}
 use Rattle.rl_step.specs.Do.{TheWindow}
 use Rattle.rl_step.specs.Lock.{IsHolder}
-use Rattle.rl_volume.specs.Decision.{written}
+use Rattle.rl_volume.specs.Decision.{words_written}
 use Rattle.rl_volume.specs.Seen.{AgreesWith}
 use Rattle.rl_volume.specs.Walk.{most_reads}
 use Rattle.rl_volume.specs.Words.{volume_words}
@@ -39,7 +39,7 @@ module _ {V : Type 0} (T : ShardTable (WholeView V TheWork)) (h : TheWindow) (vs
     pub holds : (r count word : ℕ) (x : WholeView V TheWork) → Reads r count word x → IsHolder (T.standing x)
     -- what it has found still stands: the count, and each word that it has loaded, with the writes that it keeps to make later applied
     pub same_count : (r count word : ℕ) (x : WholeView V TheWork) → Reads r count word x → slice_index front_now count_word ≡ count
-    pub same_words : (r count word : ℕ) (x : WholeView V TheWork) → Reads r count word x → AgreesWith (loaded x) (written (volume_of T.site.geom front_now) x.work.writes)
+    pub same_words : (r count word : ℕ) (x : WholeView V TheWork) → Reads r count word x → AgreesWith (loaded x) (words_written (volume_of T.site.geom front_now) x.work.writes)
     -- a call alone that has just found the count has loaded nothing, and keeps no write;
     pub fresh : (r count word got : ℕ) (x : WholeView V TheWork) (call : Call) → slice_get vs r ≡ Some x → IsHolder (T.standing x) → x.work.stage ≡ Begin → x.work.calls ≡ call ∷ [] → T.core.next x ≡ Some (Load count_word) →
         (T.core.after x got).view.work.stage ≡ Read count word → (loaded (T.core.after x got).view ≡ []) × ((T.core.after x got).view.work.writes ≡ [])

@@ -1,5 +1,5 @@
 -- The kinds of locks, each with the way in which blocks are done under it. One place says which kind guards the shards of a placement
--- (`kind_of`): for a replay and for a run by threads, for their reports and for what is promised.
+-- (`lock_kind_of`): for a replay and for a run by threads, for their reports and for what is promised.
 use Rattle.std.specs.Prelude.{ℕ, List}
 use Rattle.rl_word.specs.Shapes.{TheShape}
 use Rattle.rl_word.specs.declared.shapes.Knobs.{Knobs}
@@ -44,7 +44,7 @@ Promised = TheShape → ℕ → Knobs → List Event → List Transition → Typ
 
 -- A kind of lock: what a rank knows on one shard; the rank's machine there; what the kind promises of events and acts beyond what every lock
 -- promises; and what its way of doing blocks promises of a shard's words and of its ranks' views.
-pub record Kind : Type 1 where
+pub record LockKind : Type 1 where
   pub View : Type 0
   pub defined : Defined View
   pub promised : Promised
@@ -72,7 +72,7 @@ combining shape home site behind =
 abbrev pub under : {V K : Type 0} → (TheShape → ℕ → Knobs → LockTable V) → Way K → Defined (WholeView V K)
 under lock way shape home knobs site = whole_shard (lock_with (kinds lock way shape home knobs) site) home
 
-abbrev pub spin : Kind
+abbrev pub spin : LockKind
 spin =
     record {
       View = WholeView SpinView TheWork;
@@ -81,7 +81,7 @@ spin =
       ways = KeepsReads;
     }
 
-abbrev pub dmcs : Kind
+abbrev pub dmcs : LockKind
 dmcs =
     record {
       View = WholeView QueueView TheWork;
@@ -100,7 +100,7 @@ cohort_lock shape home knobs = alock_table (cohorts shape home knobs)
 abbrev pub bounds_cohorts : Promised
 bounds_cohorts shape home knobs = BoundsOvertaking (cohorts shape home knobs)
 
-abbrev pub alock : Kind
+abbrev pub alock : LockKind
 alock =
     record {
       View = WholeView AlockView TheWork;
@@ -109,7 +109,7 @@ alock =
       ways = KeepsReads;
     }
 
-abbrev pub mcs : Kind
+abbrev pub mcs : LockKind
 mcs =
     record {
       View = WholeView TreeView TheWork;
@@ -119,7 +119,7 @@ mcs =
     }
 
 -- while no atom lowers the arrive word of a group at most as many readers of the group enter as the settings say
-abbrev pub rw : Kind
+abbrev pub rw : LockKind
 rw =
     record {
       View = WholeView RwView TheWork;
@@ -129,7 +129,7 @@ rw =
     }
 
 -- these two stand on ALock, and promise what it does
-abbrev pub seq : Kind
+abbrev pub seq : LockKind
 seq =
     record {
       View = WholeView AlockView TheSeqWork;
@@ -138,7 +138,7 @@ seq =
       ways = KeepsGets;
     }
 
-abbrev pub combine : Kind
+abbrev pub combine : LockKind
 combine =
     record {
       View = WholeView AlockView TheCombineSide;
@@ -148,11 +148,11 @@ combine =
     }
 
 -- the kind of a placement's lock
-abbrev pub kind_of : Lock → Kind
-kind_of lock.Spin = spin
-kind_of lock.Dmcs = dmcs
-kind_of (lock.Alock local remote) = alock
-kind_of (lock.Mcs budgets) = mcs
-kind_of (lock.Rw budgets writers readers group) = rw
-kind_of (lock.Seq local remote) = seq
-kind_of (lock.Combine local remote) = combine
+abbrev pub lock_kind_of : Lock → LockKind
+lock_kind_of lock.Spin = spin
+lock_kind_of lock.Dmcs = dmcs
+lock_kind_of (lock.Alock local remote) = alock
+lock_kind_of (lock.Mcs budgets) = mcs
+lock_kind_of (lock.Rw budgets writers readers group) = rw
+lock_kind_of (lock.Seq local remote) = seq
+lock_kind_of (lock.Combine local remote) = combine

@@ -22,8 +22,8 @@ module _ {V : Type 0} (T : ShardTable (WholeView V TheSeqWork)) (h : TheWindow) 
   version_now = slice_index h.words T.own_at
 
   -- the words of the volume that a rank has loaded in this try, with what it found there
-  abbrev pub loaded : WholeView V TheSeqWork → List (ℕ × ℕ)
-  loaded x = x.work.work.seen.pairs
+  abbrev pub loaded_in_try : WholeView V TheSeqWork → List (ℕ × ℕ)
+  loaded_in_try x = x.work.work.seen.pairs
 
   -- this rank is at work on a get alone
   pub record Gets (r : ℕ) (x : WholeView V TheSeqWork) : Type 0 where
@@ -65,13 +65,13 @@ module _ {V : Type 0} (T : ShardTable (WholeView V TheSeqWork)) (h : TheWindow) 
   -- what a get knows, and how much it loads in each of its tries: a try begins with the look at the version
   pub record KeepsTries : Type 0 where
     -- until it has found the count it has loaded nothing
-    pub fresh : (r : ℕ) (x : WholeView V TheSeqWork) → Gets r x → found_count x.work.stage ≡ None → loaded x ≡ []
-    pub one_more : (r : ℕ) (x : WholeView V TheSeqWork) (at : Atom) (found count word : ℕ) → GetsBy r x at → x.work.stage ≡ stage.Read found count word → loaded (got_by x at).view ≡ loaded x ++ (word, do_got at h.words h.cards) ∷ []
-    pub few : (r : ℕ) (x : WholeView V TheSeqWork) → Gets r x → length (loaded x) ≤ 3 + 2 * T.site.geom.overflow
+    pub fresh : (r : ℕ) (x : WholeView V TheSeqWork) → Gets r x → found_count x.work.stage ≡ None → loaded_in_try x ≡ []
+    pub one_more : (r : ℕ) (x : WholeView V TheSeqWork) (at : Atom) (found count word : ℕ) → GetsBy r x at → x.work.stage ≡ stage.Read found count word → loaded_in_try (got_by x at).view ≡ loaded_in_try x ++ (word, do_got at h.words h.cards) ∷ []
+    pub few : (r : ℕ) (x : WholeView V TheSeqWork) → Gets r x → length (loaded_in_try x) ≤ 3 + 2 * T.site.geom.overflow
     -- the version is no lower than the one that the try has found
     pub found : (r : ℕ) (x : WholeView V TheSeqWork) (version : ℕ) → Gets r x → found_version x.work.stage ≡ Some version → (version % 2 ≡ 0) × (version ≤ version_now)
     -- while it is still that one, the count and all words loaded are as they were found
-    pub same_words : (r : ℕ) (x : WholeView V TheSeqWork) → Gets r x → found_version x.work.stage ≡ Some version_now → AgreesWith (loaded x) (volume_of T.site.geom (take (lock_base T.site) h.words))
+    pub same_words : (r : ℕ) (x : WholeView V TheSeqWork) → Gets r x → found_version x.work.stage ≡ Some version_now → AgreesWith (loaded_in_try x) (volume_of T.site.geom (take (lock_base T.site) h.words))
     pub same_count : (r : ℕ) (x : WholeView V TheSeqWork) (count : ℕ) → Gets r x → found_version x.work.stage ≡ Some version_now → found_count x.work.stage ≡ Some count → slice_index (take (lock_base T.site) h.words) count_word ≡ count
 
   -- the version is odd exactly while a writer is between its two stores to it, and no atom of any rank lowers it

@@ -5,7 +5,7 @@ ghost use Rattle.rl_step.specs.LockQueues.{lock_under, does_batches};
 ghost use Rattle.rl_place.specs.LockWords.{name_of};
 ghost use Rattle.rl_place.specs.Places.{ThePlace, IsProper};
 ghost use Rattle.rl_place.specs.Shapes.{shape_of, knobs_of};
-ghost use Rattle.rl_cores.specs.Kinds.{Kind, kind_of};
+ghost use Rattle.rl_cores.specs.Kinds.{LockKind, lock_kind_of};
 
 use crate::ways::Promising;
 use crate::{AlockCore, CombineCore, DmcsCore, McsCore, RwCore, SeqCore, SpinCore};
@@ -21,7 +21,7 @@ pub trait CoreTask {
     ghost takes: { Self → ThePlace → Type 0 };
 
     /// What holds of what comes of it, by the placement and the kind of its lock.
-    ghost gives: { Self → ThePlace → Kind → Self.Out → Type 0 };
+    ghost gives: { Self → ThePlace → LockKind → Self.Out → Type 0 };
 
     /// Does it with this core, which is that of the placement's lock: the settings suit it, it asks for the lock on which that one
     /// stands, and it does batches where that one does them.
@@ -38,7 +38,7 @@ pub trait CoreTask {
 pub fn over_lock<T: CoreTask>(place: &Place, task: T) -> T::Out
     requires proper { IsProper place.now }
     requires takes { T.takes task place.now }
-    ensures { T.gives task place.now (kind_of place.now.lock) result }
+    ensures { T.gives task place.now (lock_kind_of place.now.lock) result }
 {
     match &place.lock {
         Lock::Spin => task.over::<SpinCore>(place),

@@ -56,11 +56,11 @@ counter_act C g (TakeOut i) = Some (CardSwap (depart_word C i) 0)
 counter_act C g (TakeOff i x) = Some (CardAdd (arrive_word C i) (off ((2 ^ 32 + x) % 2 ^ 64)))
 
 -- what a rank does next, and whether it has to make a round again
-pub record Turn : Type 0 where
+pub record CounterTurn : Type 0 where
   pub doing : Doing
   pub waits : Bool
 
-abbrev pub to : Doing → Turn
+abbrev pub to : Doing → CounterTurn
 to p = record { doing = p; waits = false }
 
 -- a reader that found so many in arrive, and this in the root's tail, has seen no writer
@@ -69,7 +69,7 @@ unseen a tail = (tail == 0) && nat_lt a (2 ^ 32)
 
 -- What a rank learns where its act told got. Of what was counted under a mark 2^32 are the mark: the counter is clear where the rest
 -- has departed.
-abbrev pub counter_turn : TheCounters → Doing → ℕ → Turn
+abbrev pub counter_turn : TheCounters → Doing → ℕ → CounterTurn
 counter_turn C Nothing got = to Nothing
 counter_turn C Arrive got = if nat_lt got C.readers then to Inside else to (Refused got)
 counter_turn C (Refused a) got = to (SeeTail a)

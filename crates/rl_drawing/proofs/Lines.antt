@@ -8,7 +8,7 @@ use Rattle.rl_ops.specs.declared.ops.Ops.{Ops}
 use Rattle.rl_ops.specs.declared.schedule.Turn.{Turn}
 use Rattle.rl_ops.specs.Schedule.{TurnFits, ScheduleFits}
 use Rattle.rl_machine.specs.Running.{Running}
-use Rattle.rl_machine.specs.Run.{run_of, ranks_of, steps_in}
+use Rattle.rl_machine.specs.Run.{run_of, ranks_of_turns, steps_in}
 use Rattle.rl_cores.specs.Kinds.{Defined}
 use Rattle.rl_sketch.specs.declared.sketch.Ranks.{Ranks}
 use Rattle.rl_sketch.specs.declared.sketch.Ranks.TheVariants.{All, These}
@@ -75,8 +75,8 @@ module _ {V : Type 0} (defined : Defined V) (place : ThePlace) (ops : Ops) (line
       let n = length place.paths in
       let first = machine_of defined place ops in
       let whole = leads_whole (AreOfLine place n m stopped next) x z l in
-      let there : AreOfLine place n (run_of first (ranks_of x)) (stopped_by n [] (take i lines)) next l.turns =
-      subst (λ s. AreOfLine place n (run_of first (ranks_of x)) s next l.turns) are (subst (λ r. AreOfLine place n r stopped next l.turns) on.machine whole) in
+      let there : AreOfLine place n (run_of first (ranks_of_turns x)) (stopped_by n [] (take i lines)) next l.turns =
+      subst (λ s. AreOfLine place n (run_of first (ranks_of_turns x)) s next l.turns) are (subst (λ r. AreOfLine place n r stopped next l.turns) on.machine whole) in
       subst (λ t. AreOfLines place n first [] (take (i + 1) lines) t) (sym l.are)
       (subst (λ ls. AreOfLines place n first [] ls (x ++ l.turns)) (sym (taken_more lines i next low is)) (lines_more place n first [] (take i lines) next x l.turns before there))
 
@@ -103,7 +103,7 @@ module _ {V : Type 0} (defined : Defined V) (place : ThePlace) (ops : Ops) (line
         drawn = before;
         few = omega (arith, all);
         never = λ more w.
-            let here = subst (λ r. AreOfLine place n r stopped next more) (sym on.machine) (subst (λ s. AreOfLine place n (run_of first (ranks_of x)) s next more) (sym are) w) in
+            let here = subst (λ r. AreOfLine place n r stopped next more) (sym on.machine) (subst (λ s. AreOfLine place n (run_of first (ranks_of_turns x)) s next more) (sym are) w) in
             let fewer : left < steps_in more = none more here in
             omega (arith, fewer, all);
       }

@@ -9,7 +9,7 @@ use Rattle.rl_ops.specs.Ops.{OpsFit}
 use Rattle.rl_ops.specs.declared.schedule.Turn.{Turn}
 use Rattle.rl_ops.specs.Schedule.{TurnFits, steps_of}
 use Rattle.rl_machine.specs.Running.{Running}
-use Rattle.rl_machine.specs.Run.{stepped, run_of, turn_ranks, ranks_of, steps_in}
+use Rattle.rl_machine.specs.Run.{stepped, run_of, turn_ranks, ranks_of_turns, steps_in}
 use Rattle.rl_machine.specs.laws.ReplayLaws.{stepped_one, run_append}
 use Rattle.rl_cores.specs.Kinds.{Defined}
 use Rattle.rl_shown.proofs.FrontLaws.{ranks_append, ranks_long}
@@ -32,25 +32,25 @@ module _ {V : Type 0} (defined : Defined V) (place : ThePlace) (ops : Ops) where
   -- so many steps were made as the turns have
   pub steps_at : (m : Running V) (x : List Turn) (left : ℕ) → OnStage defined place ops m x left → steps_made m.steps ≡ steps_in x
   steps_at m x left on =
-      let are : steps_made m.steps ≡ steps_made (run_of (machine_of defined place ops) (ranks_of x)).steps = ap (λ (n : Running V). steps_made n.steps) on.machine in
-      let made : steps_made (run_of (machine_of defined place ops) (ranks_of x)).steps ≡ 0 + length (ranks_of x) = (run_counts (machine_of defined place ops) (ranks_of x)).0 in
+      let are : steps_made m.steps ≡ steps_made (run_of (machine_of defined place ops) (ranks_of_turns x)).steps = ap (λ (n : Running V). steps_made n.steps) on.machine in
+      let made : steps_made (run_of (machine_of defined place ops) (ranks_of_turns x)).steps ≡ 0 + length (ranks_of_turns x) = (run_counts (machine_of defined place ops) (ranks_of_turns x)).0 in
       let long = ranks_long x in
       omega (arith, are, made, long)
 
   -- and the ranks are the placement's
   pub ranks_at : (m : Running V) (x : List Turn) (left : ℕ) → OpsFit (length place.paths) place.geom.shards ops → OnStage defined place ops m x left → length m.calls ≡ length place.paths
   ranks_at m x left fit on =
-      ap (λ (n : Running V). length n.calls) on.machine ∙ ap length (run_counts (machine_of defined place ops) (ranks_of x)).1 ∙ fit.ranks_there
+      ap (λ (n : Running V). length n.calls) on.machine ∙ ap length (run_counts (machine_of defined place ops) (ranks_of_turns x)).1 ∙ fit.ranks_there
 
   pub there_at : (m : Running V) (x : List Turn) (left k : ℕ) → OpsFit (length place.paths) place.geom.shards ops → OnStage defined place ops m x left → k < length place.paths → k < length m.calls
   there_at m x left k fit on there = subst (λ n. k < n) (sym (ranks_at m x left fit on)) there
 
   -- the machine goes on by the steps of the turns that were added
-  pub moved : (m now : Running V) (x y ts : List Turn) (left rest : ℕ) → OnStage defined place ops m x left → OnStage defined place ops now y rest → y ≡ x ++ ts → now ≡ run_of m (ranks_of ts)
+  pub moved : (m now : Running V) (x y ts : List Turn) (left rest : ℕ) → OnStage defined place ops m x left → OnStage defined place ops now y rest → y ≡ x ++ ts → now ≡ run_of m (ranks_of_turns ts)
   moved m now x y ts left rest old new are =
       let first = machine_of defined place ops in
-      new.machine ∙ ap (λ z. run_of first (ranks_of z)) are ∙ ap (run_of first) (ranks_append x ts) ∙ run_append first (ranks_of x) (ranks_of ts)
-      ∙ ap (λ n. run_of n (ranks_of ts)) (sym old.machine)
+      new.machine ∙ ap (λ z. run_of first (ranks_of_turns z)) are ∙ ap (run_of first) (ranks_append x ts) ∙ run_append first (ranks_of_turns x) (ranks_of_turns ts)
+      ∙ ap (λ n. run_of n (ranks_of_turns ts)) (sym old.machine)
 
   pub moved_by : (m now : Running V) (x y : List Turn) (t : Turn) (left rest : ℕ) → OnStage defined place ops m x left → OnStage defined place ops now y rest → y ≡ x ++ t ∷ [] → now ≡ run_of m (turn_ranks t)
   moved_by m now x y t left rest old new are = moved m now x y (t ∷ []) left rest old new are ∙ ap (run_of m) (append-nil (turn_ranks t))
@@ -63,20 +63,20 @@ module _ {V : Type 0} (defined : Defined V) (place : ThePlace) (ops : Ops) where
       let long : steps_in y ≡ steps_in x + (steps_of t + 0) = ap steps_in are ∙ steps_append x (t ∷ []) in
       let left_is = old.left_is in
       record {
-        machine = run ∙ ap (λ n. run_of n (turn_ranks t)) old.machine ∙ sym (run_append first (ranks_of x) (turn_ranks t))
-            ∙ ap (λ ks. run_of first (ranks_of x ++ ks)) (sym (append-nil (turn_ranks t))) ∙ ap (run_of first) (sym (ranks_append x (t ∷ []))) ∙ ap (λ z. run_of first (ranks_of z)) (sym are);
+        machine = run ∙ ap (λ n. run_of n (turn_ranks t)) old.machine ∙ sym (run_append first (ranks_of_turns x) (turn_ranks t))
+            ∙ ap (λ ks. run_of first (ranks_of_turns x ++ ks)) (sym (append-nil (turn_ranks t))) ∙ ap (run_of first) (sym (ranks_append x (t ∷ []))) ∙ ap (λ z. run_of first (ranks_of_turns z)) (sym are);
         fit = subst (AllByRecursion (TurnFits (length place.paths))) (sym are) (all_append (TurnFits (length place.paths)) x (t ∷ []) old.fit (fits, tt));
         left_is = omega (arith, long, fewer, left_is);
       }
 
   -- the machine is made anew from its turns
-  pub stage_anew : (m now : Running V) (x y : List Turn) (t : Turn) (left rest : ℕ) → OnStage defined place ops m x left → now ≡ run_of (machine_of defined place ops) (ranks_of y) → y ≡ x ++ t ∷ [] → rest + steps_of t ≡ left → TurnFits (length place.paths) t →
+  pub stage_anew : (m now : Running V) (x y : List Turn) (t : Turn) (left rest : ℕ) → OnStage defined place ops m x left → now ≡ run_of (machine_of defined place ops) (ranks_of_turns y) → y ≡ x ++ t ∷ [] → rest + steps_of t ≡ left → TurnFits (length place.paths) t →
       OnStage defined place ops now y rest
   stage_anew m now x y t left rest old run are fewer fits =
       let first = machine_of defined place ops in
       stage_on m now x y t left rest old
-      (run ∙ ap (λ z. run_of first (ranks_of z)) are ∙ ap (run_of first) (ranks_append x (t ∷ [])) ∙ ap (λ ks. run_of first (ranks_of x ++ ks)) (append-nil (turn_ranks t))
-      ∙ run_append first (ranks_of x) (turn_ranks t) ∙ ap (λ n. run_of n (turn_ranks t)) (sym old.machine))
+      (run ∙ ap (λ z. run_of first (ranks_of_turns z)) are ∙ ap (run_of first) (ranks_append x (t ∷ [])) ∙ ap (λ ks. run_of first (ranks_of_turns x ++ ks)) (append-nil (turn_ranks t))
+      ∙ run_append first (ranks_of_turns x) (turn_ranks t) ∙ ap (λ n. run_of n (turn_ranks t)) (sym old.machine))
       are fewer fits
 
   -- so many steps are left as there were, but for those of the turns that were added

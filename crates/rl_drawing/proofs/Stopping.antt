@@ -9,7 +9,7 @@ use Rattle.rl_ops.specs.declared.schedule.Turn.{Turn}
 use Rattle.rl_ops.specs.declared.schedule.Turn.TheVariants as turn
 use Rattle.rl_ops.specs.Schedule.{rank_of, StayStopped}
 use Rattle.rl_machine.specs.Running.{Running}
-use Rattle.rl_machine.specs.Run.{stepped, run_of, turn_ranks, ranks_of}
+use Rattle.rl_machine.specs.Run.{stepped, run_of, turn_ranks, ranks_of_turns}
 use Rattle.rl_machine.specs.laws.ReplayLaws.{run_append}
 use Rattle.rl_shown.proofs.FrontLaws.{ranks_append}
 use Rattle.rl_sketch.specs.declared.sketch.Ranks.{Ranks}
@@ -214,18 +214,18 @@ module _ {V : Type 0} (place : ThePlace) (n : ℕ) where
   pub lines_stay : (m : Running V) (stopped : List ℕ) (lines : List SketchLine) (ts : List Turn) → LinesFit n stopped lines → AreOfLines place n m stopped lines ts → NotOf stopped ts × StayStopped ts
   lines_stay m stopped [] ts fits none = (subst (NotOf stopped) (sym none) tt, subst StayStopped (sym none) tt)
   lines_stay m stopped (line.Note text ∷ lines) ts fits w =
-      let rest = lines_stay (run_of m (ranks_of w.0)) stopped lines w.1 fits.1 w.4 in
+      let rest = lines_stay (run_of m (ranks_of_turns w.0)) stopped lines w.1 fits.1 w.4 in
       let same : ts ≡ w.1 = w.2 ∙ ap (λ f. f ++ w.1) w.3 in
       (subst (NotOf stopped) (sym same) rest.0, subst StayStopped (sym same) rest.1)
   lines_stay m stopped (line.Goes which c ∷ lines) ts fits w =
-      let rest = lines_stay (run_of m (ranks_of w.0)) stopped lines w.1 fits.1 w.4 in
+      let rest = lines_stay (run_of m (ranks_of_turns w.0)) stopped lines w.1 fits.1 w.4 in
       let first = goes_by m stopped which c w.0 fits.0 w.3 in (
         subst (NotOf stopped) (sym w.2) (all_append (λ t. is_among stopped (rank_of t) ≡ false) w.0 w.1 (goes_not_of stopped w.0 first) rest.0),
         subst StayStopped (sym w.2) (goes_stay (λ k. is_among stopped k ≡ false) w.0 w.1 first rest.1),
       )
   lines_stay m stopped (line.Stops which ∷ lines) ts fits w =
       let ks = named_ranks n stopped which in
-      let rest = lines_stay (run_of m (ranks_of w.0)) (stopped ++ ks) lines w.1 fits.1 w.4 in
+      let rest = lines_stay (run_of m (ranks_of_turns w.0)) (stopped ++ ks) lines w.1 fits.1 w.4 in
       let both = not_of_first stopped ks w.1 rest.0 in
       let are : ts ≡ stops_each ks ++ w.1 = w.2 ∙ ap (λ f. f ++ w.1) w.3 in (
         subst (NotOf stopped) (sym are) (all_append (λ t. is_among stopped (rank_of t) ≡ false) (stops_each ks) w.1 (stops_not_of stopped ks (named_going n stopped which fits.0)) both.0),
@@ -235,14 +235,14 @@ module _ {V : Type 0} (place : ThePlace) (n : ℕ) where
   -- ---- lines are added one by one
 
   pub lines_more : (m : Running V) (stopped : List ℕ) (lines : List SketchLine) (next : SketchLine) (ts more : List Turn) → AreOfLines place n m stopped lines ts →
-      AreOfLine place n (run_of m (ranks_of ts)) (stopped_by n stopped lines) next more → AreOfLines place n m stopped (lines ++ next ∷ []) (ts ++ more)
+      AreOfLine place n (run_of m (ranks_of_turns ts)) (stopped_by n stopped lines) next more → AreOfLines place n m stopped (lines ++ next ∷ []) (ts ++ more)
   lines_more m stopped [] next ts more none w =
-      (more, [], ap (λ z. z ++ more) none ∙ sym (append-nil more), subst (λ z. AreOfLine place n (run_of m (ranks_of z)) stopped next more) none w, refl)
+      (more, [], ap (λ z. z ++ more) none ∙ sym (append-nil more), subst (λ z. AreOfLine place n (run_of m (ranks_of_turns z)) stopped next more) none w, refl)
   lines_more m stopped (l ∷ lines) next ts more all w =
-      let ran : run_of m (ranks_of ts) ≡ run_of (run_of m (ranks_of all.0)) (ranks_of all.1) = ap (λ z. run_of m (ranks_of z)) all.2 ∙ ap (run_of m) (ranks_append all.0 all.1) ∙ run_append m (ranks_of all.0) (ranks_of all.1) in (
+      let ran : run_of m (ranks_of_turns ts) ≡ run_of (run_of m (ranks_of_turns all.0)) (ranks_of_turns all.1) = ap (λ z. run_of m (ranks_of_turns z)) all.2 ∙ ap (run_of m) (ranks_append all.0 all.1) ∙ run_append m (ranks_of_turns all.0) (ranks_of_turns all.1) in (
         all.0,
         all.1 ++ more,
         ap (λ z. z ++ more) all.2 ∙ append_assoc all.0 all.1 more,
         all.3,
-        lines_more (run_of m (ranks_of all.0)) (stopped_after n stopped l) lines next all.1 more all.4 (subst (λ z. AreOfLine place n z (stopped_by n (stopped_after n stopped l) lines) next more) ran w),
+        lines_more (run_of m (ranks_of_turns all.0)) (stopped_after n stopped l) lines next all.1 more all.4 (subst (λ z. AreOfLine place n z (stopped_by n (stopped_after n stopped l) lines) next more) ran w),
       )

@@ -10,7 +10,7 @@ use Rattle.rl_ops.specs.declared.schedule.Schedule.{Schedule}
 use Rattle.rl_ops.specs.declared.schedule.TheConstants.{MOST_STEPS}
 use Rattle.rl_ops.specs.Schedule.{ScheduleFits}
 use Rattle.rl_machine.specs.Running.{Running}
-use Rattle.rl_machine.specs.Run.{stepped, run_of, turn_ranks, ranks_of, steps_in}
+use Rattle.rl_machine.specs.Run.{stepped, run_of, turn_ranks, ranks_of_turns, steps_in}
 use Rattle.rl_machine.specs.Start.{start_of}
 use Rattle.rl_cores.specs.Kinds.{Defined}
 use Rattle.rl_sketch.specs.declared.sketch.Ranks.TheVariants.{All}
@@ -103,7 +103,7 @@ module _ {V : Type 0} (place : ThePlace) where
   AreOfLines ranks m stopped [] turns = turns ≡ []
   AreOfLines ranks m stopped (line ∷ lines) turns =
       (first rest : List Turn) × (turns ≡ first ++ rest) × AreOfLine ranks m stopped line first
-      × AreOfLines ranks (run_of m (ranks_of first)) (stopped_after ranks stopped line) lines rest
+      × AreOfLines ranks (run_of m (ranks_of_turns first)) (stopped_after ranks stopped line) lines rest
 
   -- a line is reached with these turns, and no turns of its own come to its end with at most the most steps of a schedule
   pub record IsNever (ranks : ℕ) (m : Running V) (lines : List SketchLine) (number : ℕ) : Type 0 where
@@ -116,7 +116,7 @@ module _ {V : Type 0} (place : ThePlace) where
     pub turns : List Turn
     pub drawn : AreOfLines ranks m [] before turns
     pub few : steps_in turns ≤ MOST_STEPS
-    pub never : (more : List Turn) → AreOfLine ranks (run_of m (ranks_of turns)) (stopped_by ranks [] before) line more → MOST_STEPS < steps_in turns + steps_in more
+    pub never : (more : List Turn) → AreOfLine ranks (run_of m (ranks_of_turns turns)) (stopped_by ranks [] before) line more → MOST_STEPS < steps_in turns + steps_in more
 
 -- the machine of a placement and calls, which has made no step
 abbrev pub machine_of : {V : Type 0} → Defined V → ThePlace → Ops → Running V

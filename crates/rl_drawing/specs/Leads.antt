@@ -13,7 +13,7 @@ use Rattle.rl_ops.specs.Schedule.{TurnFits, steps_of}
 use Rattle.rl_history.specs.Naming.{TheNaming, naming_of}
 use Rattle.rl_replay.specs.Reading.{SuitsLock}
 use Rattle.rl_machine.specs.Running.{Running}
-use Rattle.rl_machine.specs.Run.{run_of, ranks_of, steps_in}
+use Rattle.rl_machine.specs.Run.{run_of, ranks_of_turns, steps_in}
 use Rattle.rl_cores.specs.Kinds.{Defined}
 use Rattle.rl_drawing.specs.declared.stage.Halt.{Halt}
 use Rattle.rl_drawing.specs.declared.stage.Halt.TheVariants.{Never, Memory}
@@ -41,7 +41,7 @@ pub record SceneFits (batches : Bool) (place : ThePlace) (naming : TheNaming) (o
 
 -- a drawing has come so far: the machine has made the steps of its turns, which are of ranks that are there, and so many are left
 pub record OnStage {V : Type 0} (defined : Defined V) (place : ThePlace) (ops : Ops) (m : Running V) (turns : List Turn) (left : ℕ) : Type 0 where
-  pub machine : m ≡ run_of (machine_of defined place ops) (ranks_of turns)
+  pub machine : m ≡ run_of (machine_of defined place ops) (ranks_of_turns turns)
   pub fit : AllByRecursion (TurnFits (length place.paths)) turns
   pub left_is : left + steps_in turns ≡ MOST_STEPS
 

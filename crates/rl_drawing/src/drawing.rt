@@ -9,7 +9,7 @@ ghost use Rattle.rl_place.specs.Shapes.{shape_of, knobs_of};
 ghost use Rattle.rl_ops.specs.Ops.{OpsFit};
 ghost use Rattle.rl_replay.specs.Reading.{SuitsLock};
 ghost use Rattle.rl_machine.specs.Running.{running};
-ghost use Rattle.rl_cores.specs.Kinds.{kind_of};
+ghost use Rattle.rl_cores.specs.Kinds.{lock_kind_of};
 ghost use Rattle.rl_sketch.specs.Sketch.{named_ranks, RanksFit, LineFits, LinesFit, SketchFits};
 ghost use Rattle.rl_drawing.specs.Drawing.{machine_of, AreOfCourse, AreOfLine, ComesTo, FitsWhole};
 ghost use Rattle.rl_drawing.specs.Leads.{SceneFits, OnStage, Draws, LinesCome, is_done, is_until_done, is_to_the_end};
@@ -257,7 +257,7 @@ pub fn drawn(alloc: Global, place: &Place, ops: &Ops, sketch: &Sketch) -> Result
     requires calls { OpsFit (length place.now.paths) place.now.geom.shards ops.now }
     requires suits { SuitsLock place.now ops.now }
     requires sketch { SketchFits (length place.now.paths) sketch.now }
-    ensures drawn { IfOk result (ComesTo (kind_of place.now.lock).defined place.now ops.now sketch.now) }
+    ensures drawn { IfOk result (ComesTo (lock_kind_of place.now.lock).defined place.now ops.now sketch.now) }
     ensures fits { IfOk result (FitsWhole (length place.now.paths)) }
 {
     over_lock(place, DrawTask { alloc, ops, sketch })

@@ -5,7 +5,7 @@ use Rattle.rl_ops.specs.declared.schedule.Turn.TheVariants.{Steps, Stop}
 use Rattle.rl_ops.specs.Schedule.{rank_of, TurnFits}
 use Rattle.rl_asks.specs.ShardGuiding.{UrgentOf}
 use Rattle.rl_machine.specs.Running.{Running}
-use Rattle.rl_machine.specs.Run.{stepped, ranks_of, steps_in}
+use Rattle.rl_machine.specs.Run.{stepped, ranks_of_turns, steps_in}
 use Rattle.rl_machine.specs.GoesNext.{GoesNext}
 use Rattle.std.specs.List.{AllByRecursion}
 
@@ -28,7 +28,7 @@ AreWhole (t ∷ u ∷ ts) = HasSteps t × (rank_of t ≢ rank_of u) × AreWhole 
 
 -- these turns have one step more, of this rank
 pub record HaveOneMore (ts : List Turn) (rank : ℕ) (us : List Turn) : Type 0 where
-  pub ranks : ranks_of us ≡ ranks_of ts ++ rank ∷ []
+  pub ranks : ranks_of_turns us ≡ ranks_of_turns ts ++ rank ∷ []
   pub steps : steps_in us ≡ steps_in ts + 1
   pub fit : (n : ℕ) → rank < n → AllByRecursion (TurnFits n) ts → AllByRecursion (TurnFits n) us
   pub whole : AreWhole us

@@ -5,7 +5,7 @@ ghost use Rattle.std.specs.List.{AllByRecursion};
 ghost use Rattle.rl_step.specs.Answers.{steps_made};
 ghost use Rattle.rl_ops.specs.Schedule.{TurnFits};
 ghost use Rattle.rl_machine.specs.MachineEnding.{AllDone, machine_left};
-ghost use Rattle.rl_machine.specs.Run.{run_of, ranks_of, steps_in};
+ghost use Rattle.rl_machine.specs.Run.{run_of, ranks_of_turns, steps_in};
 ghost use Rattle.rl_machine.specs.Running.{running, cores_of};
 ghost use Rattle.rl_finish.specs.WayOn.{IsWayOn, AreWhole, HaveOneMore};
 
@@ -58,8 +58,8 @@ pub fn finish<C: ShardGuiding>(
     requires ranks { length machine.old.calls ≤ 2 ^ 8 }
     ensures cores { cores_of machine.new ≡ cores_of machine.old }
     ensures calls { machine.new.calls ≡ machine.old.calls }
-    ensures run { IfOk result (λ on. running C.shard_table machine.new ≡ run_of (running C.shard_table machine.old) (ranks_of on.turns)) }
-    ensures way { IfOk result (λ on. IsWayOn C.urgent (cores_of machine.old) (running C.shard_table machine.old) (ranks_of on.turns)) }
+    ensures run { IfOk result (λ on. running C.shard_table machine.new ≡ run_of (running C.shard_table machine.old) (ranks_of_turns on.turns)) }
+    ensures way { IfOk result (λ on. IsWayOn C.urgent (cores_of machine.old) (running C.shard_table machine.old) (ranks_of_turns on.turns)) }
     ensures there { IfOk result (λ on. AllByRecursion (TurnFits (length machine.old.calls)) on.turns) }
     ensures whole { IfOk result (λ on. AreWhole on.turns) }
     ensures steps { IfOk result (λ on. steps_made machine.new.steps ≡ steps_made machine.old.steps + steps_in on.turns) }

@@ -15,10 +15,10 @@ use Rattle.rl_text.proofs.TextLaws.{is_plain, IsPlain}
 use Rattle.rl_text.proofs.WordLaws.{ok_is, chosen, needed-takes, needed-again, fixed-takes, fixed-again, below-takes, below-again as below_limit-again, no_word-takes, no_word-again, plain-decimal}
 use Rattle.rl_step.specs.declared.events.Event.{Event}
 use Rattle.rl_step.specs.declared.events.Event.TheVariants.{Join, Announce, Pass, Settle, Touch, EnterW, EnterR, LeaveW, LeaveR}
-use Rattle.rl_history.specs.Naming.{TheNaming, TheQueueName, word_of, queue_word, member_in, member_word, cohort_word, is_at, is_below, may_be_in, is_member, EventFits}
+use Rattle.rl_history.specs.Naming.{TheNaming, TheQueueName, queue_name_word, queue_word, member_in, member_word, cohort_word, parent_is_at, is_below, may_be_in, is_member, EventFits}
 use Rattle.rl_history.specs.Reports.{StepFits}
 use Rattle.rl_history.specs.Spelling.{event_words, event_line}
-use Rattle.rl_history.specs.Reading.{or_refused, or_no_name, queue_at, below_queue_at, member_of, member_at, cohort_named, in_queue_at, cohort_at, rank_at, event_named, event_at}
+use Rattle.rl_history.specs.Reading.{or_refused, or_no_name, queue_at, below_queue_at, member_of, member_in_row, cohort_named, in_queue_at, cohort_at, rank_at, event_named, event_at}
 use Rattle.rl_history.proofs.WordsLaws.{test-takes, refused_ok, named, AreAt, all_words}
 
 -- The names are plain words and no two queues have the same, so that a name can be read; and there are few ranks and shards.
@@ -72,12 +72,12 @@ module _ (naming : TheNaming) where
       from_bind (needed_at row n) _ q e (λ word there e1.
       let f = found-is (λ queue. bytes_eq word queue.word) naming.queues q (no_name-is row n _ q e1) in
       let same : word ≡ f.0.word = (bytes_eq-Decides word f.0.word).0 f.2 in
-      (needed-takes row n word there ∙ ap (λ (w : List ℕ). Some w) (same ∙ ap word_of (sym f.1)), (f.0, f.1)))
+      (needed-takes row n word there ∙ ap (λ (w : List ℕ). Some w) (same ∙ ap queue_name_word (sym f.1)), (f.0, f.1)))
 
   queue-again : IsNaming naming → (row : Row) (n q : ℕ) (queue : TheQueueName) → slice_get naming.queues q ≡ Some queue → word_at row n ≡ Some (queue_word naming q) → queue_at naming row n ≡ Ok q
   unfolding queue_at
   queue-again ok row n q queue there e =
-      let word : word_at row n ≡ Some queue.word = e ∙ ap (λ (o : Option TheQueueName). Some (word_of o)) there in
+      let word : word_at row n ≡ Some queue.word = e ∙ ap (λ (o : Option TheQueueName). Some (queue_name_word o)) there in
       let found : position (λ other. bytes_eq queue.word other.word) naming.queues ≡ Some q = is-found (λ other. bytes_eq queue.word other.word) naming.queues q queue there
       ((bytes_eq-Decides queue.word queue.word).1 refl)
       (λ k other at yes. ok.apart k q other queue at there (sym ((bytes_eq-Decides queue.word other.word).0 yes))) in
@@ -100,16 +100,16 @@ module _ (naming : TheNaming) where
   unfolding below_queue_at
   below_is q m queue row n elements e =
       from_bind (needed_at row n) _ m e (λ word there e1.
-      let f = found-is (λ other. is_at q other.parent && bytes_eq word other.word) naming.queues m (no_name-is row n _ m e1) in
-      let t = both (is_at q f.0.parent) (bytes_eq word f.0.word) f.2 in
+      let f = found-is (λ other. parent_is_at q other.parent && bytes_eq word other.word) naming.queues m (no_name-is row n _ m e1) in
+      let t = both (parent_is_at q f.0.parent) (bytes_eq word f.0.word) f.2 in
       let same : word ≡ f.0.word = (bytes_eq-Decides word f.0.word).0 t.1 in
       record {
-        word = needed-takes row n word there ∙ ap (λ (w : List ℕ). Some w) (same ∙ ap word_of (sym f.1) ∙ ap (λ c. cond c (decimal m) (queue_word naming m)) (sym elements));
+        word = needed-takes row n word there ∙ ap (λ (w : List ℕ). Some w) (same ∙ ap queue_name_word (sym f.1) ∙ ap (λ c. cond c (decimal m) (queue_word naming m)) (sym elements));
         fits = ap (λ c. cond c (ltb m naming.ranks) (is_below q (slice_get naming.queues m))) elements ∙ ap (is_below q) f.1 ∙ t.0;
       })
 
-  member-takes : (q m : ℕ) (queue : TheQueueName) (row : Row) (n : ℕ) → slice_get naming.queues q ≡ Some queue → member_at naming q row n ≡ Ok m → (word_at row n ≡ Some (member_word naming q m)) × (is_member naming q m ≡ true)
-  unfolding member_at
+  member-takes : (q m : ℕ) (queue : TheQueueName) (row : Row) (n : ℕ) → slice_get naming.queues q ≡ Some queue → member_in_row naming q row n ≡ Ok m → (word_at row n ≡ Some (member_word naming q m)) × (is_member naming q m ≡ true)
+  unfolding member_in_row
   member-takes q m queue row n there e =
       let read : cond queue.of_ranks (below_at row n naming.ranks) (below_queue_at naming q row n) ≡ Ok m = ap (member_of naming q row n) (sym there) ∙ e in
       let t : MemberTaken q queue row n m = elim (chosen queue.of_ranks _ _ (Ok m) read) [
@@ -124,15 +124,15 @@ module _ (naming : TheNaming) where
     by : (o : Option TheQueueName) → slice_get naming.queues m ≡ o → is_below q o ≡ true → below_queue_at naming q row n ≡ Ok m
     by None is under = absurd (cc)
     by (Some queue) is under =
-        let word : word_at row n ≡ Some queue.word = e ∙ ap (λ (o : Option TheQueueName). Some (word_of o)) is in
+        let word : word_at row n ≡ Some queue.word = e ∙ ap (λ (o : Option TheQueueName). Some (queue_name_word o)) is in
         let same : bytes_eq queue.word queue.word ≡ true = (bytes_eq-Decides queue.word queue.word).1 refl in
-        let found : position (λ other. is_at q other.parent && bytes_eq queue.word other.word) naming.queues ≡ Some m = is-found (λ other. is_at q other.parent && bytes_eq queue.word other.word) naming.queues m queue is
+        let found : position (λ other. parent_is_at q other.parent && bytes_eq queue.word other.word) naming.queues ≡ Some m = is-found (λ other. parent_is_at q other.parent && bytes_eq queue.word other.word) naming.queues m queue is
         (rw (under, same) refl)
-        (λ k other at yes. ok.apart k m other queue at is (sym ((bytes_eq-Decides queue.word other.word).0 (both (is_at q other.parent) (bytes_eq queue.word other.word) yes).1))) in
+        (λ k other at yes. ok.apart k m other queue at is (sym ((bytes_eq-Decides queue.word other.word).0 (both (parent_is_at q other.parent) (bytes_eq queue.word other.word) yes).1))) in
         rw (needed-again row n queue.word word, found) refl
 
-  member-again : IsNaming naming → (q m : ℕ) (row : Row) (n : ℕ) (queue : TheQueueName) → slice_get naming.queues q ≡ Some queue → is_member naming q m ≡ true → word_at row n ≡ Some (member_word naming q m) → member_at naming q row n ≡ Ok m
-  unfolding member_at
+  member-again : IsNaming naming → (q m : ℕ) (row : Row) (n : ℕ) (queue : TheQueueName) → slice_get naming.queues q ≡ Some queue → is_member naming q m ≡ true → word_at row n ≡ Some (member_word naming q m) → member_in_row naming q row n ≡ Ok m
+  unfolding member_in_row
   member-again ok q m row n queue there fits e =
       ap (member_of naming q row n) there
       ∙ by queue.of_ranks refl (ap (may_be_in naming q m) (sym there) ∙ fits) (e ∙ ap (λ (o : Option TheQueueName). Some (member_in naming m o)) there)
@@ -167,7 +167,7 @@ module _ (naming : TheNaming) where
   in_queue-takes make row name event words fits first e =
       from_bind (in_queue_at naming row) _ event e (λ both read made.
       from_bind (queue_at naming row 4) _ both read (λ q queue_read e1.
-      from_bind (member_at naming q row 5) _ both e1 (λ m member_read e2.
+      from_bind (member_in_row naming q row 5) _ both e1 (λ m member_read e2.
       from_bind (no_word_at row 6) _ both e2 (λ u alone e3.
       let same = ok_is (q, m) both e3 in
       let a = queue-takes row 4 q queue_read in
@@ -313,7 +313,7 @@ module _ (naming : TheNaming) where
 
   word-plain : IsNaming naming → (q : ℕ) → is_plain (queue_word naming q) ≡ true
   word-plain ok q = by naming.queues q ok.plain where
-    by : (qs : List TheQueueName) (q : ℕ) → AllByRecursion (λ queue. is_plain queue.word ≡ true) qs → is_plain (word_of (slice_get qs q)) ≡ true
+    by : (qs : List TheQueueName) (q : ℕ) → AllByRecursion (λ queue. is_plain queue.word ≡ true) qs → is_plain (queue_name_word (slice_get qs q)) ≡ true
     by [] q all = refl
     by (queue ∷ qs) zero all = all.0
     by (queue ∷ qs) (suc q) all = by qs q all.1

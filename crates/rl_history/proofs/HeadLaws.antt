@@ -17,8 +17,8 @@ use Rattle.rl_history.specs.declared.version.Version.{Version as TheVersion}
 use Rattle.rl_history.specs.declared.version.Version.TheVariants.{First, Second}
 use Rattle.rl_history.specs.Naming.{TheNaming, TheQueueName}
 use Rattle.rl_history.specs.Reports.{TallyFits, IsBeyond, PairFits, DoneFits}
-use Rattle.rl_history.specs.Spelling.{queue_words, pair_words, rank_words, steps_words, sizes_words}
-use Rattle.rl_history.specs.Reading.{or_refused, version_named, version_at, mode_named, mode_at, sizes_at, counted_at, tally_at, rising_at, pair_at, shard_at, done_at, count_at, steps_at}
+use Rattle.rl_history.specs.Spelling.{queue_words, pair_words, rank_done_words, steps_words, sizes_words}
+use Rattle.rl_history.specs.Reading.{or_refused, version_named, version_at, mode_named, mode_at, sizes_at, counted_at, tally_in_row, rising_at, pair_at, shard_at, done_at, count_at, steps_at}
 use Rattle.rl_history.proofs.WordsLaws.{test-takes, refused_ok, named, all_words}
 
 -- ---- the first line
@@ -129,8 +129,8 @@ pub record TallyTaken (queue : TheQueueName) (row : Row) (t : Tally) : Type 0 wh
   pub are : words row ≡ queue_words queue t
   pub fits : TallyFits t
 
-pub tally-takes : (queue : TheQueueName) (row : Row) (t : Tally) → tally_at queue row ≡ Ok t → TallyTaken queue row t
-unfolding tally_at
+pub tally-takes : (queue : TheQueueName) (row : Row) (t : Tally) → tally_in_row queue row ≡ Ok t → TallyTaken queue row t
+unfolding tally_in_row
 tally-takes queue row t e =
     from_bind (fixed_at row 1 (codes "queue") Word) _ t e (λ u1 w1 e1.
     from_bind (fixed_at row 2 queue.word Word) _ t e1 (λ u2 w2 e2.
@@ -156,8 +156,8 @@ tally-takes queue row t e =
       fits = (a.fits, b.fits);
     }))))))))
 
-pub tally-again : (queue : TheQueueName) (row : Row) (t : Tally) → TallyFits t → words row ≡ queue_words queue t → tally_at queue row ≡ Ok t
-unfolding tally_at
+pub tally-again : (queue : TheQueueName) (row : Row) (t : Tally) → TallyFits t → words row ≡ queue_words queue t → tally_in_row queue row ≡ Ok t
+unfolding tally_in_row
 tally-again queue row t fits e =
     rw (
       fixed-again row 1 (codes "queue") Word (rw e refl),
@@ -310,7 +310,7 @@ shard-plain number updates entries fits few_updates few_entries =
     (omega arith, (refl, (plain-decimal number (omega arith), (refl, (plain-decimal updates (omega arith), (refl, (plain-decimal entries (omega arith), tt)))))))
 
 pub record DoneTaken (rank : ℕ) (row : Row) (d : Done) : Type 0 where
-  pub are : words row ≡ rank_words rank d
+  pub are : words row ≡ rank_done_words rank d
   pub fits : DoneFits d
 
 -- how many calls are done, of how many
@@ -323,11 +323,11 @@ done-takes rank row d e =
     let t = counts-takes row rank (codes "rank") (codes "done") (codes "of") done_of d e in
     subst (λ (y : Done). DoneTaken rank row y) t.is (record { are = t.are; fits = (t.few, t.few_more) })
 
-pub done-again : (rank : ℕ) (row : Row) (d : Done) → rank < 2 ^ 32 → DoneFits d → words row ≡ rank_words rank d → done_at rank row ≡ Ok d
+pub done-again : (rank : ℕ) (row : Row) (d : Done) → rank < 2 ^ 32 → DoneFits d → words row ≡ rank_done_words rank d → done_at rank row ≡ Ok d
 unfolding done_at counts_at
 done-again rank row d fits few e = counts-again row rank (codes "rank") (codes "done") (codes "of") done_of d.done d.given fits few.0 few.1 e
 
-pub done-plain : (rank : ℕ) (d : Done) → rank < 2 ^ 32 → DoneFits d → IsPlain (rank_words rank d)
+pub done-plain : (rank : ℕ) (d : Done) → rank < 2 ^ 32 → DoneFits d → IsPlain (rank_done_words rank d)
 done-plain rank d fits few = (omega arith, (refl, (plain-decimal rank (omega arith), (refl, (plain-decimal d.done (omega (arith, few.0)), (refl, (plain-decimal d.given (omega (arith, few.1)), tt)))))))
 
 -- ---- steps

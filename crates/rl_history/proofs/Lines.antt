@@ -11,7 +11,7 @@ use Rattle.rl_step.specs.declared.tallies.Tally.{Tally}
 use Rattle.rl_history.specs.declared.report.Done.{Done}
 use Rattle.rl_history.specs.Naming.{TheNaming, TheQueueName}
 use Rattle.rl_history.specs.Reports.{TheShard}
-use Rattle.rl_history.specs.Spelling.{answer_words, entry_words, queue_words, queue_line, queue_lines, rank_words, rank_lines, shard_lines, shards_lines}
+use Rattle.rl_history.specs.Spelling.{answer_words, entry_words, queue_words, queue_line, queue_lines, rank_done_words, rank_done_lines, shard_lines, shards_lines}
 
 -- words after the first one
 pub join-spaced : (w : List ℕ) (ws : List (List ℕ)) → join_with_byte 32 (w ∷ ws) ≡ w ++ spaced ws
@@ -30,16 +30,16 @@ text-append xs ys = flat_map-append line_text xs ys
 one_line : (ws : List (List ℕ)) → text_of (ws ∷ []) ≡ line_text ws
 one_line ws = append-nil (line_text ws)
 
-ranks-more : (k : ℕ) (ds : List Done) (d : Done) → rank_lines k (ds ++ d ∷ []) ≡ rank_lines k ds ++ rank_words (k + length ds) d ∷ []
-ranks-more k [] d = ap (λ n. rank_words n d ∷ []) (omega arith)
-ranks-more k (e ∷ ds) d = ap (λ z. rank_words k e ∷ z) (ranks-more (k + 1) ds d ∙ ap (λ n. rank_lines (k + 1) ds ++ rank_words n d ∷ []) (omega arith))
+ranks-more : (k : ℕ) (ds : List Done) (d : Done) → rank_done_lines k (ds ++ d ∷ []) ≡ rank_done_lines k ds ++ rank_done_words (k + length ds) d ∷ []
+ranks-more k [] d = ap (λ n. rank_done_words n d ∷ []) (omega arith)
+ranks-more k (e ∷ ds) d = ap (λ z. rank_done_words k e ∷ z) (ranks-more (k + 1) ds d ∙ ap (λ n. rank_done_lines (k + 1) ds ++ rank_done_words n d ∷ []) (omega arith))
 
-pub next_rank : (ds : List Done) (rank : ℕ) (d : Done) → rank < length ds → text_of (rank_lines 0 (take (rank + 1) ds)) ≡ text_of (rank_lines 0 (take rank ds)) ++ line_text (rank_words rank (get_or ds rank d))
+pub next_rank : (ds : List Done) (rank : ℕ) (d : Done) → rank < length ds → text_of (rank_done_lines 0 (take (rank + 1) ds)) ≡ text_of (rank_done_lines 0 (take rank ds)) ++ line_text (rank_done_words rank (get_or ds rank d))
 next_rank ds rank d there =
     let n : 0 + length (take rank ds) ≡ rank = omega (arith, length-take rank ds) in
-    ap (λ n. text_of (rank_lines 0 (take n ds))) (add-one rank) ∙ ap (λ z. text_of (rank_lines 0 z)) (take-suc ds rank d there)
-    ∙ ap text_of (ranks-more 0 (take rank ds) (get_or ds rank d)) ∙ text-append (rank_lines 0 (take rank ds)) _
-    ∙ ap (λ z. text_of (rank_lines 0 (take rank ds)) ++ z) (one_line (rank_words (0 + length (take rank ds)) (get_or ds rank d)) ∙ ap (λ k. line_text (rank_words k (get_or ds rank d))) n)
+    ap (λ n. text_of (rank_done_lines 0 (take n ds))) (add-one rank) ∙ ap (λ z. text_of (rank_done_lines 0 z)) (take-suc ds rank d there)
+    ∙ ap text_of (ranks-more 0 (take rank ds) (get_or ds rank d)) ∙ text-append (rank_done_lines 0 (take rank ds)) _
+    ∙ ap (λ z. text_of (rank_done_lines 0 (take rank ds)) ++ z) (one_line (rank_done_words (0 + length (take rank ds)) (get_or ds rank d)) ∙ ap (λ k. line_text (rank_done_words k (get_or ds rank d))) n)
 
 shards-more : (naming : TheNaming) (k : ℕ) (ss : List TheShard) (s : TheShard) → shards_lines naming k (ss ++ s ∷ []) ≡ shards_lines naming k ss ++ shard_lines naming (k + length ss) s
 shards-more naming k [] s = append-nil (shard_lines naming k s) ∙ ap (λ n. shard_lines naming n s) (omega arith)

@@ -13,8 +13,8 @@ use Rattle.rl_history.specs.declared.report.Done.{Done}
 use Rattle.rl_history.specs.declared.version.Version.{Version}
 use Rattle.rl_history.specs.Naming.{TheNaming, TheQueueName}
 use Rattle.rl_step.specs.declared.events.Event.{Event}
-use Rattle.rl_history.specs.Reports.{TheShard, key_of, step_of}
-use Rattle.rl_history.specs.Reading.{entry_at, entries_next, tally_at, tallies_next, done_at, dones_next, pair_at, pairs_next, event_at, events_next, shard_next, shards_next, lines_while}
+use Rattle.rl_history.specs.Reports.{TheShard, pair_key, step_of}
+use Rattle.rl_history.specs.Reading.{entry_at, entries_next, tally_in_row, tallies_next, done_at, dones_next, pair_at, pairs_next, event_at, events_next, shard_next, shards_next, lines_while}
 
 -- ---- a line, and what comes after it
 
@@ -54,7 +54,7 @@ entries_end naming version shard count i left front total so_far most =
     sym so_far ∙ rw (none, append-nil front) refl
 
 pub tallies_step : (queues : List TheQueueName) (i : ℕ) (queue : TheQueueName) (left : Left) → i < length queues → queue ≡ get_or queues i queue
-    → tallies_next (drop i queues) left ≡ (next_left left >>= from_line (tally_at queue) (λ x. tallies_next (drop (i + 1) queues)))
+    → tallies_next (drop i queues) left ≡ (next_left left >>= from_line (tally_in_row queue) (λ x. tallies_next (drop (i + 1) queues)))
 unfolding tallies_next from_line
 tallies_step queues i queue left more this = rw (drop_more queues i queue more, sym this) refl
 
@@ -149,7 +149,7 @@ pub replay-pairs : (replay : Bool) (left : Left) (none : List (ℕ × ℕ)) → 
 unfolding pairs_next
 replay-pairs replay left none is empty = rw (is, empty) refl
 
-pub run-pairs : (replay : Bool) (left : Left) → replay ≡ false → pairs_next replay left ≡ lines_while (codes "pair") pair_at key_of None left.read left.rows
+pub run-pairs : (replay : Bool) (left : Left) → replay ≡ false → pairs_next replay left ≡ lines_while (codes "pair") pair_at pair_key None left.read left.rows
 unfolding pairs_next
 run-pairs replay left is = rw is refl
 

@@ -23,7 +23,7 @@ use Rattle.rl_place.specs.Shapes.{shape_of, knobs_of, number_in, parent_in, elem
 use Rattle.rl_place.proofs.PrefixLaws.{trim-path, prefix-whole, prefix-prefix}
 use Rattle.rl_place.proofs.SeenLaws.{number_is}
 use Rattle.rl_place.proofs.NumberingLaws.{nodes-are, ElementsAre, elements-are}
-use Rattle.rl_history.specs.Naming.{TheNaming, has_cohorts, cohort_names, element_queue, element_queues, queue_names, is_at, is_below, may_be_in, is_member, naming_of}
+use Rattle.rl_history.specs.Naming.{TheNaming, has_cohorts, cohort_queue_names, element_queue_name, element_queue_names, queue_names, parent_is_at, is_below, may_be_in, is_member, naming_of}
 use Rattle.rl_history.specs.Lawful.{queues_at}
 use Rattle.rl_history.proofs.NamingLaws.{all_paths, all_trim}
 
@@ -154,9 +154,9 @@ module _ (place : ThePlace) (proper : IsProper place) where
       above q m x.0 x.1 x.2
 
   -- the queues of a tree, by a naming of them
-  module _ (N : TheNaming) (ranks : N.ranks ≡ length place.paths) (queues : N.queues ≡ element_queues place.levels names) where
-    named_at : (q : ℕ) (p : Path) → slice_get names q ≡ Some p → slice_get N.queues q ≡ Some (element_queue place.levels names p)
-    named_at q p get = ap (λ z. slice_get z q) queues ∙ get_map (element_queue place.levels names) names q p get
+  module _ (N : TheNaming) (ranks : N.ranks ≡ length place.paths) (queues : N.queues ≡ element_queue_names place.levels names) where
+    named_at : (q : ℕ) (p : Path) → slice_get names q ≡ Some p → slice_get N.queues q ≡ Some (element_queue_name place.levels names p)
+    named_at q p get = ap (λ z. slice_get z q) queues ∙ get_map (element_queue_name place.levels names) names q p get
 
     may_be : (q m : ℕ) (p : Path) → slice_get names q ≡ Some p → is_in shape q m ≡ true → (b : Bool) → is_node shape q ≡ b → cond (p.len == place.levels) (nat_lt m N.ranks) (is_below q (slice_get N.queues m)) ≡ true
     may_be q m p get member true node =
@@ -167,7 +167,7 @@ module _ (place : ThePlace) (proper : IsProper place) where
         let low : p.len < place.levels = a.up p get in
         let short : (p.len == place.levels) ≡ false = ne_eqb p.len place.levels (λ e. absurd (omega (arith, low, e))) in
         ap (λ b. cond b (nat_lt m N.ranks) (is_below q (slice_get N.queues m))) short
-        ∙ ap (is_below q) (named_at m a.name a.at) ∙ ap (is_at q) a.parent ∙ eq-eqb q q refl
+        ∙ ap (is_below q) (named_at m a.name a.at) ∙ ap (parent_is_at q) a.parent ∙ eq-eqb q q refl
 
     pub in_tree : (root : Option ℕ) (q m : ℕ) → IsMember (queues_in shape root 0 (length shape.elements)) q m → is_member N q m ≡ true
     in_tree root q m is =
@@ -182,7 +182,7 @@ module _ (place : ThePlace) (proper : IsProper place) where
   first_rank : (b : Bool) (m : ℕ) → (nat_lt m (length shape.node_of) && b) ≡ true → nat_lt m (length place.paths) ≡ true
   first_rank b m h = rank_there m (left_true (nat_lt m (length shape.node_of)) b h)
 
-  in_cohorts : (N : TheNaming) (home q m : ℕ) (knobs : Knobs) → N.ranks ≡ length place.paths → N.queues ≡ cohort_names → IsMember (cohort_queues shape home knobs) q m → is_member N q m ≡ true
+  in_cohorts : (N : TheNaming) (home q m : ℕ) (knobs : Knobs) → N.ranks ≡ length place.paths → N.queues ≡ cohort_queue_names → IsMember (cohort_queues shape home knobs) q m → is_member N q m ≡ true
   in_cohorts N home zero m knobs ranks queues is =
       let d : cohort_queue home shape.node_of true knobs.local ≡ is.queue = same_Some _ _ is.is_queue in
       ap (λ z. may_be_in N 0 m (slice_get z 0)) queues ∙ ap (nat_lt m) ranks ∙ first_rank (same true (sits_at home shape.node_of m)) m (ap (λ (z : QueueOf). z.members m) d ∙ is.is_member)

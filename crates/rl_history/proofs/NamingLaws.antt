@@ -22,7 +22,7 @@ use Rattle.rl_place.specs.Places.{ThePlace, IsProper}
 use Rattle.rl_place.proofs.PathLaws.{all-fit, no_dots, numbers_in-path, plain-path}
 use Rattle.rl_place.proofs.PrefixLaws.{IsTrim, front_path, trim-path}
 use Rattle.rl_place.proofs.NumberingLaws.{IsFrom, ElementsAre, elements-are}
-use Rattle.rl_history.specs.Naming.{TheQueueName, element_word, element_queue, element_queues, lone_queue, queue_names, cohort_names, naming_of}
+use Rattle.rl_history.specs.Naming.{TheQueueName, element_word, element_queue_name, element_queue_names, lone_queue, queue_names, cohort_queue_names, naming_of}
 use Rattle.rl_history.proofs.EventLaws.{IsNaming}
 
 -- ---- how many queues there are
@@ -48,10 +48,10 @@ few-elements levels seen (p ∷ ps) most proper =
 pub few_queues : (place : ThePlace) → IsProper place → length (queue_names place.lock place.levels place.paths) < 2 ^ 32
 unfolding element_paths
 few_queues place proper = by place.lock where
-  few : length (element_queues place.levels (element_paths place.paths)) < 2 ^ 32
+  few : length (element_queue_names place.levels (element_paths place.paths)) < 2 ^ 32
   few =
       let most : length (element_paths place.paths) ≤ 1 + 3 * length place.paths = few-elements place.levels (root_path ∷ []) place.paths proper.most_levels proper.paths in
-      omega (arith, most, proper.most_ranks, length-map (element_paths place.paths) (element_queue place.levels (element_paths place.paths)))
+      omega (arith, most, proper.most_ranks, length-map (element_paths place.paths) (element_queue_name place.levels (element_paths place.paths)))
 
   by : (l : Lock) → length (queue_names l place.levels place.paths) < 2 ^ 32
   by lock.Spin = omega arith
@@ -168,16 +168,16 @@ module _ (place : ThePlace) (proper : IsProper place) where
   element_plain : (p : Path) → IsPath p.len p → is_plain (element_word p) ≡ true
   element_plain p path = ⊎_elim (λ x. ap is_plain x.1) (λ x. ap is_plain x.1 ∙ plain-path p.len p path) (word_cases p path)
 
-  elements_apart : (i j : ℕ) (a b : TheQueueName) → slice_get (element_queues place.levels names) i ≡ Some a → slice_get (element_queues place.levels names) j ≡ Some b → a.word ≡ b.word → i ≡ j
+  elements_apart : (i j : ℕ) (a b : TheQueueName) → slice_get (element_queue_names place.levels names) i ≡ Some a → slice_get (element_queue_names place.levels names) j ≡ Some b → a.word ≡ b.word → i ≡ j
   elements_apart i j a b get other same =
-      let x = get_map_back (element_queue place.levels names) names i a get in
-      let y = get_map_back (element_queue place.levels names) names j b other in
+      let x = get_map_back (element_queue_name place.levels names) names i a get in
+      let y = get_map_back (element_queue_name place.levels names) names j b other in
       let paths : x.0 ≡ y.0 = same_element x.0 y.0 (element_path i x.0 x.1) (element_path j y.0 y.1) (ap (λ (q : TheQueueName). q.word) x.2 ∙ same ∙ sym (ap (λ (q : TheQueueName). q.word) y.2)) in
       are.are.once i j y.0 (x.1 ∙ ap (λ (p : Path). Some p) paths) y.1
 
-  elements_plain : AllByRecursion (λ queue. is_plain queue.word ≡ true) (element_queues place.levels names)
+  elements_plain : AllByRecursion (λ queue. is_plain queue.word ≡ true) (element_queue_names place.levels names)
   elements_plain = by names (λ i p get. element_plain p (element_path i p get)) where
-    by : (ps : List Path) → ((i : ℕ) (p : Path) → slice_get ps i ≡ Some p → is_plain (element_word p) ≡ true) → AllByRecursion (λ queue. is_plain queue.word ≡ true) (map (element_queue place.levels names) ps)
+    by : (ps : List Path) → ((i : ℕ) (p : Path) → slice_get ps i ≡ Some p → is_plain (element_word p) ≡ true) → AllByRecursion (λ queue. is_plain queue.word ≡ true) (map (element_queue_name place.levels names) ps)
     by [] all = tt
     by (p ∷ ps) all = (all 0 p refl, by ps (λ i q get. all (suc i) q get))
 
@@ -193,7 +193,7 @@ module _ (place : ThePlace) (proper : IsProper place) where
   word : (q a : TheQueueName) → Some q ≡ Some a → q.word ≡ a.word
   word q a e = ap (λ (z : TheQueueName). z.word) (same_Some q a e)
 
-  cohorts_apart : (i j : ℕ) (a b : TheQueueName) → slice_get cohort_names i ≡ Some a → slice_get cohort_names j ≡ Some b → a.word ≡ b.word → i ≡ j
+  cohorts_apart : (i j : ℕ) (a b : TheQueueName) → slice_get cohort_queue_names i ≡ Some a → slice_get cohort_queue_names j ≡ Some b → a.word ≡ b.word → i ≡ j
   cohorts_apart zero zero a b get other same = refl
   cohorts_apart zero (suc zero) a b get other same = absurd (unlike (word (lone_queue (codes "local")) a get ∙ same ∙ sym (word (lone_queue (codes "remote")) b other)))
   cohorts_apart zero (suc (suc j)) a b get other same = absurd (cc)

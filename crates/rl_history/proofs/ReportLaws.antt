@@ -17,7 +17,7 @@ use Rattle.rl_history.specs.declared.version.Version.{Version}
 use Rattle.rl_history.specs.declared.version.Version.TheVariants.{First, Second}
 use Rattle.rl_history.specs.Naming.{TheNaming}
 use Rattle.rl_history.specs.Reports.{TheReport, ShardsFit, ReportFits, IsOld}
-use Rattle.rl_history.specs.Spelling.{shards_lines, rank_lines, steps_lines, mode_word, sizes_words, body_lines, report_lines, report_spelling, SpellsReport, IsTextOf}
+use Rattle.rl_history.specs.Spelling.{shards_lines, rank_done_lines, steps_lines, mode_word, sizes_words, report_body_lines, report_lines, report_spelling, SpellsReport, IsTextOf}
 use Rattle.rl_history.specs.Reading.{version_at, mode_at, sizes_at, shards_next, dones_next, steps_next, closing_at, body_next, report_at, report_fault}
 use Rattle.rl_history.proofs.HeadLaws.{version_word, first_words, version-takes, version-again, mode_of, mode-takes, mode-again, sizes-takes, sizes-again}
 use Rattle.rl_history.proofs.SectionLaws.{DonesTaken, dones-take, dones-again, dones-plain, HasSteps, StepsRead, steps_next-takes, steps_next-again, steps_next-plain}
@@ -42,7 +42,7 @@ module _ (naming : TheNaming) (ok : IsNaming naming) where
   -- ---- the lines after the first
 
   record BodyTaken (version : Version) (left : Left) (r : TheReport) : Type 0 where
-    lines : Followed left.rows (body_lines naming r) []
+    lines : Followed left.rows (report_body_lines naming r) []
     fit : ReportFits naming r
     old : version ≡ First → IsOld r
 
@@ -68,12 +68,12 @@ module _ (naming : TheNaming) (ok : IsNaming naming) where
       let first : begins last.0 (codes "end") ≡ true = begins-is last.0 (codes "end") (codes "end") (fixed-takes last.0 1 (codes "end") Word u2 named) in
       let f0 : Followed steps.1.rows closing_lines [] = subst (λ (rows : List Row). Followed rows closing_lines []) (sym t.rows) (Lines-followed (last.0 ∷ last.1.rows) closing_lines (end-takes last.0 last.1.rows u3 t.ended first alone)) in
       let f1 : Followed dones.1.rows (steps_lines steps.0 ++ closing_lines) [] = Followed-then dones.1.rows steps.1.rows [] (steps_lines steps.0) closing_lines c.lines f0 in
-      let f2 : Followed shards.1.rows (rank_lines 0 dones.0 ++ (steps_lines steps.0 ++ closing_lines)) [] = Followed-then shards.1.rows dones.1.rows [] (rank_lines 0 dones.0) _ b.lines f1 in
-      let f3 : Followed sizes.1.rows (shards_lines naming 0 shards.0 ++ (rank_lines 0 dones.0 ++ (steps_lines steps.0 ++ closing_lines))) [] = Followed-then sizes.1.rows shards.1.rows [] (shards_lines naming 0 shards.0) _ a.lines f2 in
-      let f4 : Followed mode.1.rows (sizes_words naming ∷ (shards_lines naming 0 shards.0 ++ (rank_lines 0 dones.0 ++ (steps_lines steps.0 ++ closing_lines)))) [] = line_then mode.1 sizes (sizes_words naming) (shards_lines naming 0 shards.0 ++ (rank_lines 0 dones.0 ++ (steps_lines steps.0 ++ closing_lines))) [] (line-takes mode.1 sizes sizes_line) (sizes-takes naming sizes.0 u1 sizes_read) f3 in
+      let f2 : Followed shards.1.rows (rank_done_lines 0 dones.0 ++ (steps_lines steps.0 ++ closing_lines)) [] = Followed-then shards.1.rows dones.1.rows [] (rank_done_lines 0 dones.0) _ b.lines f1 in
+      let f3 : Followed sizes.1.rows (shards_lines naming 0 shards.0 ++ (rank_done_lines 0 dones.0 ++ (steps_lines steps.0 ++ closing_lines))) [] = Followed-then sizes.1.rows shards.1.rows [] (shards_lines naming 0 shards.0) _ a.lines f2 in
+      let f4 : Followed mode.1.rows (sizes_words naming ∷ (shards_lines naming 0 shards.0 ++ (rank_done_lines 0 dones.0 ++ (steps_lines steps.0 ++ closing_lines)))) [] = line_then mode.1 sizes (sizes_words naming) (shards_lines naming 0 shards.0 ++ (rank_done_lines 0 dones.0 ++ (steps_lines steps.0 ++ closing_lines))) [] (line-takes mode.1 sizes sizes_line) (sizes-takes naming sizes.0 u1 sizes_read) f3 in
       let first_line : words mode.0 ≡ mode_word steps.0 ∷ naming.lock ∷ [] = mode-takes naming mode.0 replay mode_read ∙ ap (λ w. w ∷ naming.lock ∷ []) (sym m.1) in
       subst (λ (q : TheReport). BodyTaken version left q) (ok_is made r e10) (record {
-        lines = line_then left mode (mode_word steps.0 ∷ naming.lock ∷ []) (sizes_words naming ∷ (shards_lines naming 0 shards.0 ++ (rank_lines 0 dones.0 ++ (steps_lines steps.0 ++ closing_lines)))) [] (line-takes left mode mode_line) first_line f4;
+        lines = line_then left mode (mode_word steps.0 ∷ naming.lock ∷ []) (sizes_words naming ∷ (shards_lines naming 0 shards.0 ++ (rank_done_lines 0 dones.0 ++ (steps_lines steps.0 ++ closing_lines)))) [] (line-takes left mode mode_line) first_line f4;
         fit = record {
           each_shard = a.each;
           shards = subst (λ b. ShardsFit naming b 0 shards.0) (sym m.0) a.fit;
@@ -85,7 +85,7 @@ module _ (naming : TheNaming) (ok : IsNaming naming) where
       })))))))))))
 
   -- after the shards comes no pair and no event
-  ends_shards : (rank : ℕ) (ds : List Done) (o : Option Steps) (rows : List Row) → Followed rows (rank_lines rank ds ++ (steps_lines o ++ closing_lines)) [] → EndsShard naming ok rows
+  ends_shards : (rank : ℕ) (ds : List Done) (o : Option Steps) (rows : List Row) → Followed rows (rank_done_lines rank ds ++ (steps_lines o ++ closing_lines)) [] → EndsShard naming ok rows
   ends_shards rank [] None [] f = absurd f
   ends_shards rank [] None (row ∷ rows) f = record {
     no_pair = begins-is row (codes "end") (codes "pair") (rw f.0.words refl);
@@ -102,19 +102,19 @@ module _ (naming : TheNaming) (ok : IsNaming naming) where
     no_event = begins-is row (codes "rank") (codes "event") (rw f.0.words refl);
   }
 
-  body-again : (version : Version) (left : Left) (r : TheReport) → ReportFits naming r → (version ≡ First → IsOld r) → Followed left.rows (body_lines naming r) [] → body_next naming version left ≡ Ok r
+  body-again : (version : Version) (left : Left) (r : TheReport) → ReportFits naming r → (version ≡ First → IsOld r) → Followed left.rows (report_body_lines naming r) [] → body_next naming version left ≡ Ok r
   unfolding body_next closing_at
   body-again version left r fit old f =
       let few_ranks = ok.few_ranks in
       let few_shards = ok.few_shards in
       let replay : Bool = is_some r.steps in
       let steps_on = steps_lines r.steps ++ closing_lines in
-      let ranks_on = rank_lines 0 r.done ++ steps_on in
+      let ranks_on = rank_done_lines 0 r.done ++ steps_on in
       let shards_on = shards_lines naming 0 r.shards ++ ranks_on in
       let mode = Followed-head left.rows (mode_word r.steps ∷ naming.lock ∷ []) (sizes_words naming ∷ shards_on) [] f in
       let sizes = Followed-head mode.more (sizes_words naming) shards_on [] mode.others in
       let f1 = Followed-split sizes.more [] (shards_lines naming 0 r.shards) ranks_on sizes.others in
-      let f2 = Followed-split f1.0 [] (rank_lines 0 r.done) steps_on f1.2 in
+      let f2 = Followed-split f1.0 [] (rank_done_lines 0 r.done) steps_on f1.2 in
       let f3 = Followed-split f2.0 [] (steps_lines r.steps) closing_lines f2.2 in
       let last = Followed-head f3.0 (codes "end" ∷ []) [] [] f3.2 in
       let first_line : words mode.row ≡ mode_of replay ∷ naming.lock ∷ [] = mode.line.words ∙ ap (λ w. w ∷ naming.lock ∷ []) (mode_is replay r.steps (has_steps r.steps)).1 in
@@ -152,7 +152,7 @@ module _ (naming : TheNaming) (ok : IsNaming naming) where
       from_bind (next_left start) _ r e (λ first first_line e1.
       from_bind (version_at first.0) _ r e1 (λ version version_read e2.
       let b : BodyTaken version first.1 r = body-takes version first.1 r e2 in
-      let all : Followed (rows_from 1 text) (report_lines (version_word version) naming r) [] = line_then start first (first_words version) (body_lines naming r) [] (line-takes start first first_line) (version-takes first.0 version version_read) b.lines in
+      let all : Followed (rows_from 1 text) (report_lines (version_word version) naming r) [] = line_then start first (first_words version) (report_body_lines naming r) [] (line-takes start first first_line) (version-takes first.0 version version_read) b.lines in
       record { fit = b.fit; spelled = spells version text r b.old (text-lines 1 text (report_lines (version_word version) naming r) (Followed-lines (rows_from 1 text) (report_lines (version_word version) naming r) all)) }))
 
   -- ---- and back
@@ -161,7 +161,7 @@ module _ (naming : TheNaming) (ok : IsNaming naming) where
   are-made n [] plain = tt
   are-made n (ws ∷ lines) plain = (record { ended = refl; words = words-made n ws plain.0 }, are-made (n + 1) lines plain.1)
 
-  body-plain : (r : TheReport) → ReportFits naming r → AllByRecursion IsPlain (body_lines naming r)
+  body-plain : (r : TheReport) → ReportFits naming r → AllByRecursion IsPlain (report_body_lines naming r)
   body-plain r fit =
       let few_ranks = ok.few_ranks in
       let few_shards = ok.few_shards in
@@ -171,7 +171,7 @@ module _ (naming : TheNaming) (ok : IsNaming naming) where
         (
           (omega arith, (refl, (plain-decimal naming.ranks (omega arith), (refl, (plain-decimal naming.shards (omega arith), tt))))),
           AllByRecursion-append IsPlain (shards_lines naming 0 r.shards) _ (shards-plain naming ok (is_some r.steps) 0 r.shards (omega arith) fit.shards)
-              (AllByRecursion-append IsPlain (rank_lines 0 r.done) _ (dones-plain 0 r.done (omega arith) fit.done)
+              (AllByRecursion-append IsPlain (rank_done_lines 0 r.done) _ (dones-plain 0 r.done (omega arith) fit.done)
               (AllByRecursion-append IsPlain (steps_lines r.steps) closing_lines (steps_next-plain r.steps fit.steps) ((omega arith, (refl, tt)), tt))),
         ),
       )
@@ -188,7 +188,7 @@ module _ (naming : TheNaming) (ok : IsNaming naming) where
       let plain : AllByRecursion IsPlain lines = ((omega arith, (refl, (version-plain version, tt))), body-plain r fit) in
       let rows : rows_from 1 text ≡ rows_of_lines 1 lines = rows-text 1 lines plain in
       let all : Followed (rows_from 1 text) lines [] = subst (λ (rs : List Row). Followed rs lines []) (sym rows) (Lines-followed (rows_of_lines 1 lines) lines (are-made 1 lines plain)) in
-      let h = Followed-head (rows_from 1 text) (first_words version) (body_lines naming r) [] all in
+      let h = Followed-head (rows_from 1 text) (first_words version) (report_body_lines naming r) [] all in
       let body = body-again version (left_of h.more 1) r fit old h.others in
       rw (line-again (left_of (rows_from 1 text) 0) h.row h.more h.are h.line.ended, version-again h.row version h.line.words, body) refl
     where

@@ -15,8 +15,8 @@ use Rattle.rl_history.specs.declared.report.Done.{Done}
 use Rattle.rl_text.proofs.TextLaws.{is_plain}
 use Rattle.rl_history.specs.Naming.{TheQueueName}
 use Rattle.rl_history.specs.Reports.{EachAfter, TallyFits, DoneFits, StepsFit}
-use Rattle.rl_history.specs.Spelling.{queue_words, queue_lines, rank_words, rank_lines, steps_words, steps_lines}
-use Rattle.rl_history.specs.Reading.{lines_while, tally_at, tallies_next, done_at, dones_next, steps_at, steps_next}
+use Rattle.rl_history.specs.Spelling.{queue_words, queue_lines, rank_done_words, rank_done_lines, steps_words, steps_lines}
+use Rattle.rl_history.specs.Reading.{lines_while, tally_in_row, tallies_next, done_at, dones_next, steps_at, steps_next}
 use Rattle.rl_history.proofs.HeadLaws.{TallyTaken, tally-takes, tally-again, tally-plain, DoneTaken, done-takes, done-again, done-plain, StepsTaken, steps-takes, steps-again, steps-plain}
 
 -- ---- lines as long as they begin with a word
@@ -81,7 +81,7 @@ unfolding tallies_next
 tallies-take [] left p e = subst (λ (q : List Tally × Left). TalliesTaken [] left q) (ok_is ([], left) p e) (record { lines = refl; each = refl; fit = tt })
 tallies-take (queue ∷ queues) left p e =
     from_bind (next_left left) _ p e (λ line taken e1.
-    from_bind (tally_at queue line.0) _ p e1 (λ tally read e2.
+    from_bind (tally_in_row queue line.0) _ p e1 (λ tally read e2.
     from_bind (tallies_next queues line.1) _ p e2 (λ others more e3.
     let t : TallyTaken queue line.0 tally = tally-takes queue line.0 tally read in
     let m : TalliesTaken queues line.1 others = tallies-take queues line.1 others more in
@@ -109,7 +109,7 @@ tallies-plain (queue ∷ queues) (t ∷ ts) plain fit = (tally-plain queue t pla
 -- ---- a line for each rank
 
 pub record DonesTaken (rank n : ℕ) (left : Left) (p : List Done × Left) : Type 0 where
-  pub lines : Followed left.rows (rank_lines rank p.0) p.1.rows
+  pub lines : Followed left.rows (rank_done_lines rank p.0) p.1.rows
   pub each : length p.0 ≡ n
   pub fit : AllByRecursion DoneFits p.0
 
@@ -123,22 +123,22 @@ dones-take rank (suc n) left p e =
     let t : DoneTaken rank line.0 done = done-takes rank line.0 done read in
     let m : DonesTaken (rank + 1) n line.1 others = dones-take (rank + 1) n line.1 others more in
     subst (λ (q : List Done × Left). DonesTaken rank (suc n) left q) (ok_is (done ∷ others.0, others.1) p e3) (record {
-      lines = line_then left line (rank_words rank done) (rank_lines (rank + 1) others.0) others.1.rows (line-takes left line taken) t.are m.lines;
+      lines = line_then left line (rank_done_words rank done) (rank_done_lines (rank + 1) others.0) others.1.rows (line-takes left line taken) t.are m.lines;
       each = ap suc m.each;
       fit = (t.fits, m.fit);
     }))))
 
-pub dones-again : (rank n : ℕ) (ds : List Done) (left : Left) (rest : List Row) → rank + n ≤ 32 → length ds ≡ n → AllByRecursion DoneFits ds → Followed left.rows (rank_lines rank ds) rest → ReadsTo (dones_next rank n left) ds rest
+pub dones-again : (rank n : ℕ) (ds : List Done) (left : Left) (rest : List Row) → rank + n ≤ 32 → length ds ≡ n → AllByRecursion DoneFits ds → Followed left.rows (rank_done_lines rank ds) rest → ReadsTo (dones_next rank n left) ds rest
 unfolding dones_next
 dones-again rank zero [] left rest few each fit f = (left.read, ap (λ (rows : List Row). Ok ([], left_of rows left.read)) f)
 dones-again rank zero (d ∷ ds) left rest few each fit f = absurd (omega (arith, each))
 dones-again rank (suc n) [] left rest few each fit f = absurd (omega (arith, each))
 dones-again rank (suc n) (d ∷ ds) left rest few each fit f =
-    let h = Followed-head left.rows (rank_words rank d) (rank_lines (rank + 1) ds) rest f in
+    let h = Followed-head left.rows (rank_done_words rank d) (rank_done_lines (rank + 1) ds) rest f in
     let more = dones-again (rank + 1) n ds (left_of h.more (left.read + 1)) rest (omega arith) (omega (arith, each)) fit.1 h.others in
     (more.0, rw (line-again left h.row h.more h.are h.line.ended, done-again rank h.row d (omega arith) fit.0 h.line.words, more.1) refl)
 
-pub dones-plain : (rank : ℕ) (ds : List Done) → rank + length ds ≤ 32 → AllByRecursion DoneFits ds → AllByRecursion IsPlain (rank_lines rank ds)
+pub dones-plain : (rank : ℕ) (ds : List Done) → rank + length ds ≤ 32 → AllByRecursion DoneFits ds → AllByRecursion IsPlain (rank_done_lines rank ds)
 dones-plain rank [] few fit = tt
 dones-plain rank (d ∷ ds) few fit = (done-plain rank d (omega (arith, few)) fit.0, dones-plain (rank + 1) ds (omega (arith, few)) fit.1)
 

@@ -13,7 +13,7 @@ use Rattle.rl_step.specs.declared.events.Event.TheVariants.{Join, Announce, Pass
 use Rattle.rl_history.specs.declared.version.Version.{Version}
 use Rattle.rl_history.specs.declared.version.Version.TheVariants.{First}
 use Rattle.rl_history.specs.Naming.{TheNaming, EventFits}
-use Rattle.rl_history.specs.Reports.{TheShard, EachAfter, PairFits, key_of, StepFits, step_of, OnlyWhere, ShardFits, ShardsFit, IsOldShard}
+use Rattle.rl_history.specs.Reports.{TheShard, EachAfter, PairFits, pair_key, StepFits, step_of, OnlyWhere, ShardFits, ShardsFit, IsOldShard}
 use Rattle.rl_history.specs.Spelling.{entry_words, queue_lines, pair_words, event_line, is_printed, event_lines, shard_words, shard_lines, shards_lines}
 use Rattle.rl_history.specs.Reading.{entries_next, tallies_next, pair_at, event_at, pairs_next, events_next, shard_at, shard_next, shards_next}
 use Rattle.rl_history.proofs.HeadLaws.{pair-takes, pair-again, pair-plain, ShardTaken, shard-takes, shard-again, shard-plain}
@@ -33,23 +33,23 @@ pair_laws = record {
 
 record PairsTaken (replay : Bool) (left : Left) (p : List (ℕ × ℕ) × Left) : Type 0 where
   lines : Followed left.rows (map pair_words p.0) p.1.rows
-  fit : OnlyWhere (not replay) (EachAfter PairFits key_of None) p.0
+  fit : OnlyWhere (not replay) (EachAfter PairFits pair_key None) p.0
 
 pairs-take : (replay : Bool) (left : Left) (p : List (ℕ × ℕ) × Left) → pairs_next replay left ≡ Ok p → PairsTaken replay left p
 unfolding pairs_next
 pairs-take true left p e = subst (λ (q : List (ℕ × ℕ) × Left). PairsTaken true left q) (ok_is ([], left) p e) (record { lines = refl; fit = refl })
-pairs-take false left p e = let t = while-takes pair_laws key_of None left.read left.rows p e in record { lines = t.lines; fit = t.fit }
+pairs-take false left p e = let t = while-takes pair_laws pair_key None left.read left.rows p e in record { lines = t.lines; fit = t.fit }
 
-pairs-again : (replay : Bool) (ps : List (ℕ × ℕ)) (left : Left) (rest : List Row) → OnlyWhere (not replay) (EachAfter PairFits key_of None) ps → next_begins rest (codes "pair") ≡ false → Followed left.rows (map pair_words ps) rest → ReadsTo (pairs_next replay left) ps rest
+pairs-again : (replay : Bool) (ps : List (ℕ × ℕ)) (left : Left) (rest : List Row) → OnlyWhere (not replay) (EachAfter PairFits pair_key None) ps → next_begins rest (codes "pair") ≡ false → Followed left.rows (map pair_words ps) rest → ReadsTo (pairs_next replay left) ps rest
 unfolding pairs_next
 pairs-again true [] left rest fit none f = (left.read, ap (λ (rows : List Row). Ok ([], left_of rows left.read)) f)
 pairs-again true (p ∷ ps) left rest fit none f = absurd (cc)
-pairs-again false ps left rest fit none f = while-again pair_laws key_of None left.read left.rows ps rest fit none f
+pairs-again false ps left rest fit none f = while-again pair_laws pair_key None left.read left.rows ps rest fit none f
 
-pairs-plain : (replay : Bool) (ps : List (ℕ × ℕ)) → OnlyWhere (not replay) (EachAfter PairFits key_of None) ps → AllByRecursion IsPlain (map pair_words ps)
+pairs-plain : (replay : Bool) (ps : List (ℕ × ℕ)) → OnlyWhere (not replay) (EachAfter PairFits pair_key None) ps → AllByRecursion IsPlain (map pair_words ps)
 pairs-plain true [] fit = tt
 pairs-plain true (p ∷ ps) fit = absurd (cc)
-pairs-plain false ps fit = while-plain pair_laws key_of None ps fit
+pairs-plain false ps fit = while-plain pair_laws pair_key None ps fit
 
 module _ (naming : TheNaming) (ok : IsNaming naming) where
   -- ---- events

@@ -20,8 +20,8 @@ use Rattle.rl_history.specs.Reports.{TheShard, TheReport, ReportFits}
 -- ---- what a shard's entries tell
 
 -- the journal: the updates, in their order
-abbrev pub journal_in : List Entry → List Entry
-journal_in entries = filter updates entries
+abbrev pub journal_among : List Entry → List Entry
+journal_among entries = filter updates entries
 
 -- the transcript of a rank: its entries, in their order
 abbrev pub transcript_in : List Entry → ℕ → List Entry
@@ -45,12 +45,12 @@ queues_under place home = queues_of (lock_under (name_of place.lock)) (shape_of 
 -- the part of a shard with this home
 pub record IsLawfulShard (place : ThePlace) (home : ℕ) (s : TheShard) : Type 0 where
   -- journal and transcripts are legal, and the entries are their history
-  pub legal : IsLegal place.geom (journal_in s.entries) (transcripts_in s.entries 0 (length place.paths))
-  pub in_order : s.entries ≡ history (journal_in s.entries) (transcripts_in s.entries 0 (length place.paths))
+  pub legal : IsLegal place.geom (journal_among s.entries) (transcripts_in s.entries 0 (length place.paths))
+  pub in_order : s.entries ≡ history (journal_among s.entries) (transcripts_in s.entries 0 (length place.paths))
   -- as many updates are told as there are
-  pub told : s.updates ≡ length (journal_in s.entries)
+  pub told : s.updates ≡ length (journal_among s.entries)
   -- the pairs are the table after the journal, by rising key
-  pub table : s.pairs ≡ finite.entries (table_after place.geom finite.empty (journal_in s.entries))
+  pub table : s.pairs ≡ finite.entries (table_after place.geom finite.empty (journal_among s.entries))
   -- the tallies of the queues keep the budgets in all, and are counted
   pub tallied : AreTallied (queues_at place home) (spares_gets (name_of place.lock)) s.entries s.queues
 

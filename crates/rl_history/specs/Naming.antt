@@ -45,26 +45,26 @@ abbrev pub element_word : Path → List ℕ
 element_word path = if path.len == 0 then codes "root" else path_word path
 
 -- the queue of an element: the root's is `root`, any other has its path; the ranks of a node are its members
-abbrev pub element_queue : ℕ → List Path → Path → TheQueueName
-element_queue levels elements path =
+abbrev pub element_queue_name : ℕ → List Path → Path → TheQueueName
+element_queue_name levels elements path =
     record { word = element_word path; parent = parent_in elements path; of_ranks = path.len == levels }
 
-abbrev pub element_queues : ℕ → List Path → List TheQueueName
-element_queues levels elements = map (element_queue levels elements) elements
+abbrev pub element_queue_names : ℕ → List Path → List TheQueueName
+element_queue_names levels elements = map (element_queue_name levels elements) elements
 
 -- the queues of two cohorts
-abbrev pub cohort_names : List TheQueueName
-cohort_names = lone_queue (codes "local") ∷ lone_queue (codes "remote") ∷ []
+abbrev pub cohort_queue_names : List TheQueueName
+cohort_queue_names = lone_queue (codes "local") ∷ lone_queue (codes "remote") ∷ []
 
 -- the queues of a lock
 abbrev pub queue_names : Lock → ℕ → List Path → List TheQueueName
 queue_names lock.Spin levels paths = []
 queue_names lock.Dmcs levels paths = lone_queue (codes "all") ∷ []
-queue_names (lock.Alock local remote) levels paths = cohort_names
-queue_names (lock.Seq local remote) levels paths = cohort_names
-queue_names (lock.Combine local remote) levels paths = cohort_names
-queue_names (lock.Mcs budgets) levels paths = element_queues levels (element_paths paths)
-queue_names (lock.Rw budgets writers readers group) levels paths = element_queues levels (element_paths paths)
+queue_names (lock.Alock local remote) levels paths = cohort_queue_names
+queue_names (lock.Seq local remote) levels paths = cohort_queue_names
+queue_names (lock.Combine local remote) levels paths = cohort_queue_names
+queue_names (lock.Mcs budgets) levels paths = element_queue_names levels (element_paths paths)
+queue_names (lock.Rw budgets writers readers group) levels paths = element_queue_names levels (element_paths paths)
 
 abbrev pub naming_of : ThePlace → TheNaming
 naming_of place =
@@ -78,13 +78,13 @@ naming_of place =
 
 -- ---- the words of a number
 
-abbrev pub word_of : Option TheQueueName → List ℕ
-word_of None = []
-word_of (Some queue) = queue.word
+abbrev pub queue_name_word : Option TheQueueName → List ℕ
+queue_name_word None = []
+queue_name_word (Some queue) = queue.word
 
 -- the word of a queue by number
 abbrev pub queue_word : TheNaming → ℕ → List ℕ
-queue_word naming q = word_of (slice_get naming.queues q)
+queue_word naming q = queue_name_word (slice_get naming.queues q)
 
 abbrev pub member_in : TheNaming → ℕ → Option TheQueueName → List ℕ
 member_in naming m None = []
@@ -100,14 +100,14 @@ cohort_word cohort = if cohort == 1 then codes "local" else codes "remote"
 
 -- ---- what an event may name
 
-abbrev pub is_at : ℕ → Option ℕ → Bool
-is_at q None = false
-is_at q (Some p) = p == q
+abbrev pub parent_is_at : ℕ → Option ℕ → Bool
+parent_is_at q None = false
+parent_is_at q (Some p) = p == q
 
 -- the queue stands right below queue q
 abbrev pub is_below : ℕ → Option TheQueueName → Bool
 is_below q None = false
-is_below q (Some queue) = is_at q queue.parent
+is_below q (Some queue) = parent_is_at q queue.parent
 
 abbrev pub may_be_in : TheNaming → ℕ → ℕ → Option TheQueueName → Bool
 may_be_in naming q m None = false

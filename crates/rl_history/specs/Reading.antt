@@ -18,8 +18,8 @@ use Rattle.rl_ops.specs.CallReading.{call_at}
 use Rattle.rl_history.specs.declared.report.Done.{Done}
 use Rattle.rl_history.specs.declared.version.Version.{Version as TheVersion}
 use Rattle.rl_history.specs.declared.version.Version.TheVariants.{First, Second}
-use Rattle.rl_history.specs.Naming.{TheNaming, TheQueueName, is_at}
-use Rattle.rl_history.specs.Reports.{TheShard, TheReport, key_of, step_of}
+use Rattle.rl_history.specs.Naming.{TheNaming, TheQueueName, parent_is_at}
+use Rattle.rl_history.specs.Reports.{TheShard, TheReport, pair_key, step_of}
 
 -- a test that has to hold
 abbrev pub or_refused : Bool → Refusal → Result (Unit {0}) Refusal
@@ -151,8 +151,8 @@ entries_next naming version shard (suc more) left = do
 -- ---- queues, pairs and events
 
 -- queue NAME settled X passed Y, of this queue
-unfoldable pub tally_at : TheQueueName → Row → Result Tally Refusal
-tally_at queue row = do
+unfoldable pub tally_in_row : TheQueueName → Row → Result Tally Refusal
+tally_in_row queue row = do
   named ← fixed_at row 1 (codes "queue") Word
   name_there ← fixed_at row 2 queue.word Word
   settled_named ← fixed_at row 3 (codes "settled") Word
@@ -167,7 +167,7 @@ unfoldable pub tallies_next : List TheQueueName → Left → Result (List Tally 
 tallies_next [] left = Ok ([], left)
 tallies_next (queue ∷ queues) left = do
   line ← next_left left
-  tally ← tally_at queue line.0
+  tally ← tally_in_row queue line.0
   others ← tallies_next queues line.1
   Ok (tally ∷ others.0, others.1)
 
@@ -209,15 +209,15 @@ queue_at naming row n = do
 unfoldable pub below_queue_at : TheNaming → ℕ → Row → ℕ → Result ℕ Refusal
 below_queue_at naming q row n = do
   word ← needed_at row n
-  or_no_name row n (position (λ queue. is_at q queue.parent && bytes_eq word queue.word) naming.queues)
+  or_no_name row n (position (λ queue. parent_is_at q queue.parent && bytes_eq word queue.word) naming.queues)
 
 abbrev pub member_of : TheNaming → ℕ → Row → ℕ → Option TheQueueName → Result ℕ Refusal
 member_of naming q row n None = Err (refusal_at row n Word)
 member_of naming q row n (Some queue) = if queue.of_ranks then below_at row n naming.ranks else below_queue_at naming q row n
 
 -- word n is a member of the queue
-unfoldable pub member_at : TheNaming → ℕ → Row → ℕ → Result ℕ Refusal
-member_at naming q row n = member_of naming q row n (slice_get naming.queues q)
+unfoldable pub member_in_row : TheNaming → ℕ → Row → ℕ → Result ℕ Refusal
+member_in_row naming q row n = member_of naming q row n (slice_get naming.queues q)
 
 -- the cohort of a name, under a lock that has cohorts
 abbrev pub cohort_named : Bool → Row → ℕ → List ℕ → Result ℕ Refusal
@@ -229,7 +229,7 @@ cohort_named true row n word =
 unfoldable pub in_queue_at : TheNaming → Row → Result (ℕ × ℕ) Refusal
 in_queue_at naming row = do
   queue ← queue_at naming row 4
-  member ← member_at naming queue row 5
+  member ← member_in_row naming queue row 5
   alone ← no_word_at row 6
   Ok (queue, member)
 
@@ -274,7 +274,7 @@ event_at naming least row = do
 -- a run has the pairs of the table
 unfoldable pub pairs_next : Bool → Left → Result (List (ℕ × ℕ) × Left) Refusal
 pairs_next true left = Ok ([], left)
-pairs_next false left = lines_while (codes "pair") pair_at key_of None left.read left.rows
+pairs_next false left = lines_while (codes "pair") pair_at pair_key None left.read left.rows
 
 -- a replay has events
 unfoldable pub events_next : TheNaming → Bool → Left → Result (List (ℕ × Event) × Left) Refusal

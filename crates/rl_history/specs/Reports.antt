@@ -77,8 +77,8 @@ IsBeyond (Some last) key = last < key
 abbrev pub PairFits : Option ℕ → ℕ × ℕ → Type 0
 PairFits last p = IsBeyond last p.0 × (p.0 < 2 ^ 64) × (p.1 < 2 ^ 64)
 
-abbrev pub key_of : ℕ × ℕ → Option ℕ
-key_of pair = Some pair.0
+abbrev pub pair_key : ℕ × ℕ → Option ℕ
+pair_key pair = Some pair.0
 
 -- the numbers of steps don't fall
 abbrev pub StepFits : TheNaming → ℕ → ℕ × Event → Type 0
@@ -99,7 +99,7 @@ pub record ShardFits (naming : TheNaming) (replay : Bool) (number : ℕ) (s : Th
   pub entries : AllByRecursion (EntryFits naming number) s.entries
   pub each_queue : length s.queues ≡ length naming.queues
   pub queues : AllByRecursion TallyFits s.queues
-  pub pairs : OnlyWhere (not replay) (EachAfter PairFits key_of None) s.pairs
+  pub pairs : OnlyWhere (not replay) (EachAfter PairFits pair_key None) s.pairs
   pub events : OnlyWhere replay (EachAfter (StepFits naming) step_of 0) s.events
 
 -- the shards from one on

@@ -102,13 +102,13 @@ shards_lines naming number (s ∷ ss) = shard_lines naming number s ++ shards_li
 -- ---- ranks and steps
 
 -- `rank K done D of C`
-abbrev pub rank_words : ℕ → Done → List (List ℕ)
-rank_words rank d = codes "rank" ∷ decimal rank ∷ codes "done" ∷ decimal d.done ∷ codes "of" ∷ decimal d.given ∷ []
+abbrev pub rank_done_words : ℕ → Done → List (List ℕ)
+rank_done_words rank d = codes "rank" ∷ decimal rank ∷ codes "done" ∷ decimal d.done ∷ codes "of" ∷ decimal d.given ∷ []
 
 -- the ranks from one on
-abbrev pub rank_lines : ℕ → List Done → List (List (List ℕ))
-rank_lines rank [] = []
-rank_lines rank (d ∷ ds) = rank_words rank d ∷ rank_lines (rank + 1) ds
+abbrev pub rank_done_lines : ℕ → List Done → List (List (List ℕ))
+rank_done_lines rank [] = []
+rank_done_lines rank (d ∷ ds) = rank_done_words rank d ∷ rank_done_lines (rank + 1) ds
 
 -- `lost L busy Z finished F`
 abbrev pub last_steps_words : Steps → List (List ℕ)
@@ -135,13 +135,13 @@ abbrev pub sizes_words : TheNaming → List (List ℕ)
 sizes_words naming = codes "ranks" ∷ decimal naming.ranks ∷ codes "shards" ∷ decimal naming.shards ∷ []
 
 -- the lines after the first
-abbrev pub body_lines : TheNaming → TheReport → List (List (List ℕ))
-body_lines naming r =
+abbrev pub report_body_lines : TheNaming → TheReport → List (List (List ℕ))
+report_body_lines naming r =
     (mode_word r.steps ∷ naming.lock ∷ []) ∷ sizes_words naming
-    ∷ (shards_lines naming 0 r.shards ++ (rank_lines 0 r.done ++ (steps_lines r.steps ++ (codes "end" ∷ []) ∷ [])))
+    ∷ (shards_lines naming 0 r.shards ++ (rank_done_lines 0 r.done ++ (steps_lines r.steps ++ (codes "end" ∷ []) ∷ [])))
 
 abbrev pub report_lines : List ℕ → TheNaming → TheReport → List (List (List ℕ))
-report_lines version naming r = (codes "rmalock-report" ∷ version ∷ []) ∷ body_lines naming r
+report_lines version naming r = (codes "rmalock-report" ∷ version ∷ []) ∷ report_body_lines naming r
 
 -- the text that is printed
 abbrev pub report_spelling : TheNaming → TheReport → List ℕ

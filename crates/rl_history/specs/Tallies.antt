@@ -11,8 +11,8 @@ tallies_from q zero trace = []
 tallies_from q (suc n) trace = tally_of q trace ∷ tallies_from (q + 1) n trace
 
 -- the trace of events that have the numbers of their steps
-abbrev pub trace_of : List (ℕ × Event) → List Event
-trace_of events = map (λ e. e.1) events
+abbrev pub trace_of_report : List (ℕ × Event) → List Event
+trace_of_report events = map (λ e. e.1) events
 
 -- the queue that an event counts for, and what it counts
 abbrev pub counts_for : Event → Option (ℕ × Tally)

@@ -2,8 +2,8 @@
 ghost use Rattle.std.specs.Prelude.{◌≡◌, ◌+◌, ◌≤◌, ◌<◌, ◌&&◌, ◌^◌, length, position, IfOk, IfSome};
 ghost use Rattle.std.specs.Str.{bytes_eq};
 ghost use Rattle.rl_text.specs.Rows.{row_of};
-ghost use Rattle.rl_history.specs.Naming.{is_at};
-ghost use Rattle.rl_history.specs.Reading.{queue_at, below_queue_at, member_at, cohort_named, in_queue_at, cohort_at, rank_at, event_named, event_at};
+ghost use Rattle.rl_history.specs.Naming.{parent_is_at};
+ghost use Rattle.rl_history.specs.Reading.{queue_at, below_queue_at, member_in_row, cohort_named, in_queue_at, cohort_at, rank_at, event_named, event_at};
 
 use crate::line_reader::is;
 use crate::naming::{Naming, QueueName};
@@ -39,14 +39,14 @@ fn queue_of(words: &mut LineWords<'_>, naming: &Naming) -> Result<u32, Refusal>
 }
 
 fn is_under(queue: &QueueName, q: u32) -> bool
-    ensures { result ≡ is_at q queue.now.parent }
+    ensures { result ≡ parent_is_at q queue.now.parent }
 {
     queue.parent == Some(q)
 }
 
 // The place of the queue of this name right below queue q.
 fn place_below(naming: &Naming, q: u32, word: &[u8]) -> Option<usize>
-    ensures value { result ≡ position (λ queue. is_at q queue.parent && bytes_eq word.now queue.word) naming.now.queues }
+    ensures value { result ≡ position (λ queue. parent_is_at q queue.parent && bytes_eq word.now queue.word) naming.now.queues }
     ensures there { IfSome result (λ m. m < 2 ^ 32) }
 {
     naming.queues.iter().position(|queue| is_under(queue, q) && word == queue.word.as_slice())
@@ -68,11 +68,11 @@ fn below_queue_of(words: &mut LineWords<'_>, naming: &Naming, q: u32) -> Result<
 }
 
 // The member of queue q that the next word names.
-#[tactic(auto, unfolding(crate::specs::Reading::member_at))]
+#[tactic(auto, unfolding(crate::specs::Reading::member_in_row))]
 fn member_of(words: &mut LineWords<'_>, naming: &Naming, q: u32) -> Result<u32, Refusal>
     requires place { words.old.next ≤ 16 }
     requires queue { q < length naming.now.queues }
-    ensures value { result ≡ member_at naming.now q words.old.row words.old.next }
+    ensures value { result ≡ member_in_row naming.now q words.old.row words.old.next }
     ensures row { words.new.row ≡ words.old.row }
     ensures next { words.new.next ≡ words.old.next + 1 }
 {

@@ -2,7 +2,7 @@
 ghost use Rattle.std.specs.Prelude.{◌≡◌, ◌+◌, ◌≤◌, IfOk};
 ghost use Rattle.std.specs.Str.{bytes_eq};
 ghost use Rattle.rl_text.specs.Rows.{row_of};
-ghost use Rattle.rl_history.specs.Reading.{version_named, version_at, mode_named, mode_at, sizes_at, counted_at, tally_at, rising_at, pair_at, shard_at, done_at, count_at, steps_at};
+ghost use Rattle.rl_history.specs.Reading.{version_named, version_at, mode_named, mode_at, sizes_at, counted_at, tally_in_row, rising_at, pair_at, shard_at, done_at, count_at, steps_at};
 
 use crate::naming::{Naming, QueueName};
 use crate::report::Done;
@@ -102,9 +102,9 @@ fn counted(words: &mut LineWords<'_>, next: u64) -> Result<(), Refusal>
 }
 
 /// `queue NAME settled X passed Y`, of this queue.
-#[tactic(auto, unfolding(crate::specs::Reading::tally_at))]
+#[tactic(auto, unfolding(crate::specs::Reading::tally_in_row))]
 pub fn tally_of(line: &Line<'_>, queue: &QueueName) -> Result<Tally, Refusal>
-    ensures { result ≡ tally_at queue.now (row_of line.now) }
+    ensures { result ≡ tally_in_row queue.now (row_of line.now) }
 {
     let mut words = line.words();
     words.fixed(b"queue", Why::Word)?;

@@ -2,7 +2,7 @@
 ghost use Rattle.std.specs.Prelude.{◌≡◌, ◌++◌, ◌∷◌, ℕ, [], length, IfOk, OnOk};
 ghost use Rattle.rl_place.specs.Numbering.{element_paths};
 ghost use Rattle.rl_place.specs.Places.{IsProper};
-ghost use Rattle.rl_history.specs.Naming.{has_cohorts, element_word, element_queues, queue_names, naming_of, lone_queue};
+ghost use Rattle.rl_history.specs.Naming.{has_cohorts, element_word, element_queue_names, queue_names, naming_of, lone_queue};
 ghost use Rattle.rl_history.specs.Lawful.{queues_at, queues_under};
 
 use rl_place::{Lock, Path, Place, lock_word, path_text};
@@ -82,7 +82,7 @@ fn element_word(alloc: Global, path: Path) -> Result<Vec<u8>, OutOfMemory>
 // The queues of all elements.
 fn element_queues(alloc: Global, place: &Place) -> Result<Vec<QueueName>, OutOfMemory>
     requires { IsProper place.now }
-    ensures { IfOk result (λ queues. queues.items ≡ element_queues place.now.levels (element_paths place.now.paths)) }
+    ensures { IfOk result (λ queues. queues.items ≡ element_queue_names place.now.levels (element_paths place.now.paths)) }
 {
     let names = place.names(alloc)?;
     let shape = place.shape(alloc)?;

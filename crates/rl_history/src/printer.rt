@@ -4,7 +4,7 @@ ghost use Rattle.rl_text.specs.Spelling.{line_text, text_of};
 ghost use Rattle.rl_place.specs.Places.{IsProper};
 ghost use Rattle.rl_history.specs.Naming.{naming_of, queue_word, member_word, cohort_word};
 ghost use Rattle.rl_history.specs.Reports.{ReportFits};
-ghost use Rattle.rl_history.specs.Spelling.{queue_words, queue_line, queue_lines, pair_words, event_words, event_line, event_lines, is_printed, shard_words, shard_lines, shards_lines, rank_words, rank_lines, last_steps_words, steps_words, steps_lines, mode_word, sizes_words, body_lines, report_spelling};
+ghost use Rattle.rl_history.specs.Spelling.{queue_words, queue_line, queue_lines, pair_words, event_words, event_line, event_lines, is_printed, shard_words, shard_lines, shards_lines, rank_done_words, rank_done_lines, last_steps_words, steps_words, steps_lines, mode_word, sizes_words, report_body_lines, report_spelling};
 ghost use Rattle.rl_history.specs.Reading.{report_at};
 ghost use Rattle.rl_history.specs.Printing.{spaced};
 
@@ -220,7 +220,7 @@ fn put_shards(out: &mut Vec<u8>, naming: &Naming, shards: &[ShardReport]) -> Res
 
 // `rank K done D of C`.
 fn put_rank(out: &mut Vec<u8>, rank: u64, done: Done) -> Result<(), OutOfMemory>
-    ensures { OnOk result (out.new.items ≡ out.old.items ++ line_text (rank_words rank done)) }
+    ensures { OnOk result (out.new.items ≡ out.old.items ++ line_text (rank_done_words rank done)) }
 {
     put_first(out, b"rank", rank)?;
     put_named(out, b"done", u64::from(done.done))?;
@@ -230,7 +230,7 @@ fn put_rank(out: &mut Vec<u8>, rank: u64, done: Done) -> Result<(), OutOfMemory>
 }
 
 fn put_ranks(out: &mut Vec<u8>, ranks: &[Done]) -> Result<(), OutOfMemory>
-    ensures { OnOk result (out.new.items ≡ out.old.items ++ text_of (rank_lines 0 ranks.now)) }
+    ensures { OnOk result (out.new.items ≡ out.old.items ++ text_of (rank_done_lines 0 ranks.now)) }
 {
     for (rank, done) in ranks.iter().enumerate() {
         put_rank(out, rank as u64, *done)?;
@@ -304,7 +304,7 @@ fn put_sizes(out: &mut Vec<u8>, naming: &Naming) -> Result<(), OutOfMemory>
 
 // The lines after the first.
 fn put_body(out: &mut Vec<u8>, naming: &Naming, report: &Report) -> Result<(), OutOfMemory>
-    ensures { OnOk result (out.new.items ≡ out.old.items ++ text_of (body_lines naming.now report.now)) }
+    ensures { OnOk result (out.new.items ≡ out.old.items ++ text_of (report_body_lines naming.now report.now)) }
 {
     put_mode(out, naming, report.steps)?;
     put_sizes(out, naming)?;

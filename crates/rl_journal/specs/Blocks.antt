@@ -55,8 +55,8 @@ size_of zero = 1
 size_of (suc n) = suc n
 
 -- and the batch number of so many calls
-abbrev pub batch_of : ℕ → ℕ
-batch_of size = if size == 1 then 0 else size
+abbrev pub batch_number : ℕ → ℕ
+batch_number size = if size == 1 then 0 else size
 
 -- no part of the block comes after this one
 abbrev pub is_last : Entry → Bool

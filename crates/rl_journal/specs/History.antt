@@ -3,7 +3,7 @@ use Rattle.std.specs.Prelude.{◌≡◌, ◌⊎◌, ℕ, ◌+◌, ◌<◌, ◌==
 use Rattle.rl_model.specs.declared.entry.Entry.{Entry}
 use Rattle.rl_model.specs.declared.geom.Geom.{Geom}
 use Rattle.rl_model.specs.Table.{Table, apply}
-use Rattle.rl_journal.specs.Legal.{updates, table_after, joined, IsLegalBlock}
+use Rattle.rl_journal.specs.Legal.{updates, table_after, blocks_joined, IsLegalBlock}
 use Rattle.rl_journal.specs.Ranks.{IsInOrder}
 
 -- the entry is no update, and looked at this count
@@ -40,7 +40,7 @@ IsReplayed geom t n (b ∷ bs) =
 -- entries split wholly into such blocks
 pub record IsReplayedByOneThread (geom : Geom) (t : Table) (n : ℕ) (es : List Entry) : Type 0 where
   pub blocks : List (List Entry)
-  pub split : joined blocks ≡ es
+  pub split : blocks_joined blocks ≡ es
   pub replayed : IsReplayed geom t n blocks
 
 -- each entry's place is the number of updates before it
@@ -48,12 +48,12 @@ abbrev pub TellsUpdatesBefore : List Entry → Type 0
 TellsUpdatesBefore es = (i : ℕ) (e : Entry) → slice_get es i ≡ Some e → e.at ≡ count_by updates (take i es)
 
 -- of two gets or holds that looked at the same count
-abbrev pub ByRank : Entry → Entry → Type 0
-ByRank e f = (e.rank < f.rank) ⊎ ((e.rank ≡ f.rank) × (e.seq < f.seq))
+abbrev pub IsBeforeByRank : Entry → Entry → Type 0
+IsBeforeByRank e f = (e.rank < f.rank) ⊎ ((e.rank ≡ f.rank) × (e.seq < f.seq))
 
 -- e stands before f
 abbrev pub Precedes : Entry → Entry → Type 0
-Precedes e f = (e.at < f.at) ⊎ ((e.at ≡ f.at) × (updates e ≡ false) × ((updates f ≡ true) ⊎ ((updates f ≡ false) × ByRank e f)))
+Precedes e f = (e.at < f.at) ⊎ ((e.at ≡ f.at) × (updates e ≡ false) × ((updates f ≡ true) ⊎ ((updates f ≡ false) × IsBeforeByRank e f)))
 
 -- what holds of each entry of a list
 abbrev pub Each : (Entry → Type 0) → List Entry → Type 0

@@ -44,14 +44,14 @@ abbrev pub AreLegalFrom : Geom → Table → ℕ → List (List Entry) → Type 
 AreLegalFrom geom t n [] = Unit {0}
 AreLegalFrom geom t n (b ∷ bs) = IsLegalBlock geom t n b × AreLegalFrom geom (table_after geom t b) (n + length b) bs
 
-abbrev pub joined : List (List Entry) → List Entry
-joined [] = []
-joined (b ∷ bs) = b ++ joined bs
+abbrev pub blocks_joined : List (List Entry) → List Entry
+blocks_joined [] = []
+blocks_joined (b ∷ bs) = b ++ blocks_joined bs
 
 -- a journal splits wholly into blocks that are legal
 pub record IsLegalJournal (geom : Geom) (journal : List Entry) : Type 0 where
   pub blocks : List (List Entry)
-  pub split : joined blocks ≡ journal
+  pub split : blocks_joined blocks ≡ journal
   pub legal : AreLegalFrom geom map.empty 0 blocks
 
 -- no block of the journal holds both the place before p and the place p

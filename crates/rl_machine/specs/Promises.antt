@@ -33,14 +33,14 @@ use Rattle.rl_machine.specs.Run.{calls_by, sizes_by, trace_of, kept_by, done_of,
 
 module _ {V : Type 0} where
   -- the journal of a shard, as its words say, and the history that it and the ranks' transcripts make
-  abbrev pub journal_on : ShardRun V → List Entry
-  journal_on S = journal_at S.table S.held.words
+  abbrev pub shard_journal : ShardRun V → List Entry
+  shard_journal S = journal_at S.table S.held.words
 
   abbrev pub transcripts_on : ShardRun V → List (List Entry)
   transcripts_on S = kept_in S.table S.held.words 0 S.views
 
   abbrev pub history_on : ShardRun V → List Entry
-  history_on S = history (journal_on S) (transcripts_on S)
+  history_on S = history (shard_journal S) (transcripts_on S)
 
   -- whichever atom a rank comes to make on a shard: it is one of a card, or a local compare-and-swap, only where the lock lets it make one
   pub record KeepsDomains (S : ShardRun V) : Type 0 where
@@ -74,7 +74,7 @@ module _ {V : Type 0} where
     -- a rank makes atoms of cards, and local compare-and-swaps, only where its lock lets it
     pub domains : KeepsDomains S
     -- journal and transcripts are legal: a batch all or nothing, each reply that of a one-thread table at its place
-    pub legal : IsLegal geom (journal_on S) (transcripts_on S)
+    pub legal : IsLegal geom (shard_journal S) (transcripts_on S)
     -- so from the empty table the calls of the history, in order, give every entry its reply, and `full` exactly where a new key
     -- finds its bucket taken and no overflow cell left
     pub replayed : IsReplayedByOneThread geom map.empty 0 (history_on S)

@@ -125,9 +125,9 @@ turn_ranks (turn.Steps rank count) = replicate count rank
 turn_ranks (turn.Stop rank) = []
 
 -- the ranks of a schedule's turns: so many steps of a rank, then the next turn's
-abbrev pub ranks_of : List Turn → List ℕ
-ranks_of [] = []
-ranks_of (t ∷ ts) = turn_ranks t ++ ranks_of ts
+abbrev pub ranks_of_turns : List Turn → List ℕ
+ranks_of_turns [] = []
+ranks_of_turns (t ∷ ts) = turn_ranks t ++ ranks_of_turns ts
 
 -- no call of any rank is open; and none on this shard
 abbrev pub IsAllClosed : {V : Type 0} → Running V → Type 0

@@ -11,7 +11,7 @@ use Rattle.rl_step.specs.Transitions.{Transition}
 use Rattle.rl_step.specs.Do.{TheWindow, do_atom, do_got}
 use Rattle.rl_machine.specs.Running.{ShardRun}
 use Rattle.rl_asks.specs.ShardTables.{ShardTable, transition_by}
-use Rattle.rl_asks.specs.Desks.{Desk, entries_of, no_desk}
+use Rattle.rl_asks.specs.Desks.{Desk, desk_entries, no_desk}
 
 -- the events without their numbers
 abbrev pub events_of : List (ℕ × Event) → List Event
@@ -94,7 +94,7 @@ module _ {V : Type 0} where
   desk_on k S = desk_at S.table S.held.words k (slice_get S.views k)
 
   abbrev pub kept_on : ℕ → ShardRun V → List Entry
-  kept_on k S = entries_of (desk_on k S)
+  kept_on k S = desk_entries (desk_on k S)
 
   -- whether a call of rank k is open on the shard: it is until its last atom was made, the Leave of a card among them
   abbrev pub open_at : ShardTable V → Option V → Bool

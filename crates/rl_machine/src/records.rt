@@ -2,7 +2,7 @@
 
 ghost use Rattle.std.specs.Prelude.{◌≡◌, ◌+◌, ◌*◌, ◌<◌, length, map, slice_get, slice_index, Some, IfOk};
 ghost use Rattle.rl_site.specs.Site.{journal_base};
-ghost use Rattle.rl_machine.specs.Promises.{journal_on, transcripts_on};
+ghost use Rattle.rl_machine.specs.Promises.{shard_journal, transcripts_on};
 ghost use Rattle.rl_machine.specs.ShardSteps.{kept_on};
 ghost use Rattle.rl_machine.specs.State.{running_shard, IsGood};
 
@@ -16,7 +16,7 @@ use std::alloc::{AllocError as OutOfMemory, Global};
 /// How many updates were done on the shard.
 pub fn updates<C: ShardCore>(shard: &ShardState<C>) -> u32
     requires { IsGood C.good shard.now }
-    ensures { result ≡ length (journal_on (running_shard C.shard_table shard.now)) }
+    ensures { result ≡ length (shard_journal (running_shard C.shard_table shard.now)) }
 {
     shard.flat.words().value(COUNT_WORD) as u32
 }
@@ -24,7 +24,7 @@ pub fn updates<C: ShardCore>(shard: &ShardState<C>) -> u32
 /// One of the six words that the journal has for the update at a place.
 fn journal_word<C: ShardCore>(shard: &ShardState<C>, at: u32, word: u32) -> u64
     requires good { IsGood C.good shard.now }
-    requires there { at < length (journal_on (running_shard C.shard_table shard.now)) }
+    requires there { at < length (shard_journal (running_shard C.shard_table shard.now)) }
     requires word { word < 6 }
     ensures { result ≡ slice_index shard.now.flat.words.words (journal_base (C.shard_table shard.now.core).site.geom + 6 * at + word) }
 {
@@ -35,8 +35,8 @@ fn journal_word<C: ShardCore>(shard: &ShardState<C>, at: u32, word: u32) -> u64
 /// The entry of the update at a place of the journal.
 fn update_at<C: ShardCore>(shard: &ShardState<C>, at: u32) -> Entry
     requires good { IsGood C.good shard.now }
-    requires there { at < length (journal_on (running_shard C.shard_table shard.now)) }
-    ensures { slice_get (journal_on (running_shard C.shard_table shard.now)) at ≡ Some result }
+    requires there { at < length (shard_journal (running_shard C.shard_table shard.now)) }
+    ensures { slice_get (shard_journal (running_shard C.shard_table shard.now)) at ≡ Some result }
 {
     let spelled = [
         journal_word(shard, at, 0),
@@ -55,7 +55,7 @@ pub fn journal<C: ShardCore>(
     shard: &ShardState<C>,
 ) -> Result<Vec<Entry>, OutOfMemory>
     requires { IsGood C.good shard.now }
-    ensures { IfOk result (λ entries. entries.items ≡ journal_on (running_shard C.shard_table shard.now)) }
+    ensures { IfOk result (λ entries. entries.items ≡ shard_journal (running_shard C.shard_table shard.now)) }
 {
     let count = updates(shard);
     let mut entries = Vec::with_capacity(alloc, count as usize)?;
@@ -73,7 +73,7 @@ fn transcript_by<C: ShardCore>(
     rank: u32,
 ) -> Result<Vec<Entry>, OutOfMemory>
     requires good { IsGood C.good shard.now }
-    requires journal { journal.now ≡ journal_on (running_shard C.shard_table shard.now) }
+    requires journal { journal.now ≡ shard_journal (running_shard C.shard_table shard.now) }
     requires there { rank < length shard.now.flat.views.items }
     ensures { IfOk result (λ told. told.items ≡ kept_on rank (running_shard C.shard_table shard.now)) }
 {

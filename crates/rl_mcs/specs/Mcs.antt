@@ -7,7 +7,7 @@ use Rattle.rl_queue.specs.Queue.{leave_at}
 use Rattle.rl_tree.specs.declared.rooted.Rooted.{Rooted}
 use Rattle.rl_tree.specs.declared.view.TreeView.{TreeView}
 use Rattle.rl_tree.specs.Tree.{TheTree, at_level, tree_plan, tree_learn, at_hook, resume_by, tree_standing, with_entry}
-use Rattle.rl_tree.specs.Elements.{how_many, ranks_in, leaf_of, of_tree, tree_of, queues_from, tree_spot, out_at}
+use Rattle.rl_tree.specs.Elements.{how_many, ranks_in, leaf_of_rank, of_tree, tree_of, queues_from, tree_spot, out_at}
 use Rattle.rl_tree.specs.TreeGood.{GoodAt}
 
 -- the tree of a shape whose root has no limit
@@ -29,7 +29,7 @@ mcs_table K =
     record {
       size = of_tree K;
       spot = tree_spot K;
-      first = λ r. out_at r (leaf_of K r);
+      first = λ r. out_at r (leaf_of_rank K r);
       ask = λ v m. at_level v 0 Clear;
       plan = tree_plan (tree_of K);
       learn = mcs_learn K;

@@ -12,8 +12,8 @@ use Rattle.rl_ops.specs.Ops.{ops_spelling}
 use Rattle.rl_ops.specs.Schedule.{steps_of}
 use Rattle.rl_history.specs.Naming.{naming_of}
 use Rattle.rl_history.specs.Spelling.{report_spelling}
-use Rattle.rl_cores.specs.Kinds.{kind_of}
-use Rattle.rl_program.specs.Replay.{report_of}
+use Rattle.rl_cores.specs.Kinds.{lock_kind_of}
+use Rattle.rl_program.specs.Replay.{report_of_replay}
 use Rattle.rl_replay.specs.declared.replay.Replay.{Replay}
 use Rattle.rl_viewer.specs.declared.asking.Window.{Window}
 use Rattle.rl_viewer.specs.Asking.{window_at}
@@ -53,8 +53,8 @@ files_text place ops = place_spelling place ++ (shape_spelling place ++ ops_spel
 -- what the replay comes to: its report, the state before the first step that is shown, and the list of the steps
 abbrev pub replay_text : ThePlace → Ops → Schedule → Window → List ℕ
 replay_text place ops schedule window =
-    report_spelling (naming_of place) (report_of place ops schedule)
-    ++ (state_with (kind_of place.lock).defined place ops schedule window.from ++ listing_with (kind_of place.lock).defined place ops schedule (shown_of window))
+    report_spelling (naming_of place) (report_of_replay place ops schedule)
+    ++ (state_with (lock_kind_of place.lock).defined place ops schedule window.from ++ listing_with (lock_kind_of place.lock).defined place ops schedule (shown_of window))
 
 abbrev pub page_data : ThePlace → Ops → Schedule → Window → List ℕ
 page_data place ops schedule window = text_of (own_lines window schedule.turns) ++ (files_text place ops ++ replay_text place ops schedule window)

@@ -7,8 +7,8 @@ ghost use Rattle.rl_ops.specs.Schedule.{ScheduleFits};
 ghost use Rattle.rl_replay.specs.Reading.{SuitsLock};
 ghost use Rattle.rl_history.specs.Naming.{naming_of};
 ghost use Rattle.rl_history.specs.Spelling.{report_spelling};
-ghost use Rattle.rl_cores.specs.Kinds.{kind_of};
-ghost use Rattle.rl_program.specs.Replay.{report_of};
+ghost use Rattle.rl_cores.specs.Kinds.{lock_kind_of};
+ghost use Rattle.rl_program.specs.Replay.{report_of_replay};
 ghost use Rattle.rl_shown.specs.State.{state_with};
 ghost use Rattle.rl_shown.specs.Listing.{listing_with};
 ghost use Rattle.rl_page.specs.PageData.{files_text, replay_text, page_data, IsPageData};
@@ -45,7 +45,7 @@ fn report_part(
     requires calls { OpsFit (length place.now.paths) place.now.geom.shards ops }
     requires suits { SuitsLock place.now ops }
     requires schedule { ScheduleFits (length place.now.paths) schedule.now }
-    ensures { IfOk result (λ text. text.items ≡ report_spelling (naming_of place.now) (report_of place.now ops schedule.now)) }
+    ensures { IfOk result (λ text. text.items ≡ report_spelling (naming_of place.now) (report_of_replay place.now ops schedule.now)) }
 {
     let report = replay_report(alloc, place, ops, schedule)?;
     report_text(alloc, place, &report)

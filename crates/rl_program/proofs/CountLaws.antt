@@ -15,7 +15,7 @@ use Rattle.rl_step.specs.declared.events.Event.{Event}
 use Rattle.rl_step.specs.declared.events.Event.TheVariants.{Join, Announce, Pass, Settle, Touch, EnterW, EnterR, LeaveW, LeaveR}
 use Rattle.rl_step.specs.declared.tallies.Steps.{Steps}
 use Rattle.rl_history.specs.Spelling.{is_printed}
-use Rattle.rl_asks.specs.Desks.{entries_of}
+use Rattle.rl_asks.specs.Desks.{desk_entries}
 use Rattle.rl_asks.specs.ShardTables.{ShardTable, kept_in}
 use Rattle.rl_machine.specs.Running.{ShardRun, Running}
 use Rattle.rl_machine.specs.ShardSteps.{desk_at, kept_on}
@@ -24,9 +24,9 @@ use Rattle.rl_machine.specs.Run.{on_shard, kept_by, trace_of}
 use Rattle.rl_machine.specs.Records.{journal_at, transcripts_at}
 use Rattle.rl_machine.specs.laws.RecordLaws.{kept_long}
 use Rattle.rl_asks.specs.laws.AskLaws.{few_calls}
-use Rattle.rl_machine.specs.Promises.{journal_on, transcripts_on, history_on, IsSound}
+use Rattle.rl_machine.specs.Promises.{shard_journal, transcripts_on, history_on, IsSound}
 use Rattle.rl_program.specs.declared.counts.ShardCounts.{ShardCounts}
-use Rattle.rl_program.specs.Replay.{part_of, dones_from, report_in}
+use Rattle.rl_program.specs.Replay.{part_of_replay, dones_from, report_in}
 use Rattle.rl_program.specs.Summary.{TheCounts, is_get, is_settle, is_pass, counts_of, counts_in, all_done}
 use Rattle.rl_program.specs.Counting.{counts_on, IsSmall}
 
@@ -65,26 +65,26 @@ same_counts u v r q s t p o a b c d = ap (λ (n : ℕ). tells n r s p) a ∙ ap 
 
 module _ {V : Type 0} where
   -- what a summary tells of a shard is what is counted of it
-  counted : (geom : Geom) (queues : ℕ) (S : ShardRun V) → IsLegal geom (journal_on S) (transcripts_on S) → counts_on S ≡ counts_of (part_of queues S)
+  counted : (geom : Geom) (queues : ℕ) (S : ShardRun V) → IsLegal geom (shard_journal S) (transcripts_on S) → counts_on S ≡ counts_of (part_of_replay queues S)
   counted geom queues S legal =
       let is_read : Entry → Bool = λ entry. is_get entry.call in
       let settles : ℕ × Event → Bool = λ event. is_settle event.1 in
       let passes : ℕ × Event → Bool = λ event. is_pass event.1 in
       let printed : ℕ × Event → Bool = λ event. is_printed event.1 in
       let reads : length (filter is_read (history_on S)) ≡ count_in is_read (transcripts_on S) =
-      length-filter is_read (history_on S) ∙ same_entries is_read geom (journal_on S) (transcripts_on S) legal in
+      length-filter is_read (history_on S) ∙ same_entries is_read geom (shard_journal S) (transcripts_on S) legal in
       let settled : length (filter settles (filter printed S.trace)) ≡ count_by settles S.trace =
       length-filter settles (filter printed S.trace) ∙ all_kept settles printed (λ e touch. (unprinted e.1 touch).0) S.trace in
       let passed : length (filter passes (filter printed S.trace)) ≡ count_by passes S.trace =
       length-filter passes (filter printed S.trace) ∙ all_kept passes printed (λ e touch. (unprinted e.1 touch).1) S.trace in
-      same_counts (length (journal_on S)) (length (journal_on S)) _ _ _ _ _ _ refl (sym reads) (sym settled) (sym passed)
+      same_counts (length (shard_journal S)) (length (shard_journal S)) _ _ _ _ _ _ refl (sym reads) (sym settled) (sym passed)
 
   -- and so of all shards
-  pub all_counted : (geom : Geom) (queues : ℕ) (shards : List (ShardRun V)) → ((s : ℕ) (S : ShardRun V) → slice_get shards s ≡ Some S → IsLegal geom (journal_on S) (transcripts_on S)) →
-      map counts_on shards ≡ map counts_of (map (part_of queues) shards)
+  pub all_counted : (geom : Geom) (queues : ℕ) (shards : List (ShardRun V)) → ((s : ℕ) (S : ShardRun V) → slice_get shards s ≡ Some S → IsLegal geom (shard_journal S) (transcripts_on S)) →
+      map counts_on shards ≡ map counts_of (map (part_of_replay queues) shards)
   all_counted geom queues [] legal = refl
   all_counted geom queues (S ∷ shards) legal =
-      ap (λ c. c ∷ map counts_on shards) (counted geom queues S (legal 0 S refl)) ∙ ap (λ cs. counts_of (part_of queues S) ∷ cs) (all_counted geom queues shards (λ s T has. legal (suc s) T has))
+      ap (λ c. c ∷ map counts_on shards) (counted geom queues S (legal 0 S refl)) ∙ ap (λ cs. counts_of (part_of_replay queues S) ∷ cs) (all_counted geom queues shards (λ s T has. legal (suc s) T has))
 
 -- ---- gets, rank by rank
 
@@ -104,18 +104,18 @@ among (t ∷ ts) zero = omega arith
 among (t ∷ ts) (suc k) = omega (arith, among ts k)
 
 module _ {V : Type 0} where
-  kept_is : (T : ShardTable V) (words : List ℕ) (from : ℕ) (views : List V) (k : ℕ) → entries_of (desk_at T words (from + k) (slice_get views k)) ≡ get_or (kept_in T words from views) k []
+  kept_is : (T : ShardTable V) (words : List ℕ) (from : ℕ) (views : List V) (k : ℕ) → desk_entries (desk_at T words (from + k) (slice_get views k)) ≡ get_or (kept_in T words from views) k []
   kept_is T words from [] k = refl
   kept_is T words from (x ∷ views) zero =
       let at : from + 0 ≡ from = omega arith in
-      ap (λ n. entries_of (T.desk words n x)) at
+      ap (λ n. desk_entries (T.desk words n x)) at
   kept_is T words from (x ∷ views) (suc k) =
       let at : from + suc k ≡ (from + 1) + k = omega arith in
-      ap (λ n. entries_of (desk_at T words n (slice_get views k))) at ∙ kept_is T words (from + 1) views k
+      ap (λ n. desk_entries (desk_at T words n (slice_get views k))) at ∙ kept_is T words (from + 1) views k
 
   -- what a rank did on a shard, among the shard's transcripts
   pub kept_told : (S : ShardRun V) (k : ℕ) → kept_on k S ≡ get_or (transcripts_on S) k []
-  kept_told S k = (let at : k ≡ 0 + k = omega arith in ap (λ n. entries_of (desk_at S.table S.held.words n (slice_get S.views k))) at) ∙ kept_is S.table S.held.words 0 S.views k
+  kept_told S k = (let at : k ≡ 0 + k = omega arith in ap (λ n. desk_entries (desk_at S.table S.held.words n (slice_get S.views k))) at) ∙ kept_is S.table S.held.words 0 S.views k
 
   module _ (m : Running V) (s : ℕ) where
     -- what a rank did on a shard is among the shard's transcripts
@@ -156,7 +156,7 @@ module _ {V : Type 0} where
       counts_there updates reads settled passed u r t p =
           let S = there.0 in
           let has = there.1 in
-          let us : updates ≡ length (journal_on S) = u ∙ ap (λ found. length (on_shard [] journal_on found)) has in
+          let us : updates ≡ length (shard_journal S) = u ∙ ap (λ found. length (on_shard [] shard_journal found)) has in
           let rs : reads ≡ count_in (λ entry. is_get entry.call) (transcripts_on S) = r ∙ ap (λ found. count_in (λ entry. is_get entry.call) (on_shard [] transcripts_on found)) has in
           let ts : settled ≡ count_by (λ event. is_settle event.1) S.trace = t ∙ ap (λ found. count_by (λ event. is_settle event.1) (on_shard [] (λ T. T.trace) found)) has in
           let ps : passed ≡ count_by (λ event. is_pass event.1) S.trace = p ∙ ap (λ found. count_by (λ event. is_pass event.1) (on_shard [] (λ T. T.trace) found)) has in
@@ -175,5 +175,5 @@ pub counts_are : {V : Type 0} (m : Running V) (queues : ℕ) → IsSound m → (
 counts_are m queues sound shards done steps s d t =
     let counts : List ShardCounts → ℕ → Steps → TheCounts = λ x n z. record { shards = x; done = n; steps = Some z } in
     ap (λ x. counts x done steps) (s ∙ all_counted m.geom queues m.shards (λ i S has. (sound.shards i S has).legal))
-    ∙ ap (λ n. counts (map counts_of (map (part_of queues) m.shards)) n steps) d
-    ∙ ap (counts (map counts_of (map (part_of queues) m.shards)) (all_done (dones_from m 0 m.calls))) t
+    ∙ ap (λ n. counts (map counts_of (map (part_of_replay queues) m.shards)) n steps) d
+    ∙ ap (counts (map counts_of (map (part_of_replay queues) m.shards)) (all_done (dones_from m 0 m.calls))) t

@@ -12,7 +12,7 @@ use Rattle.rl_io.specs.Outside.{Appends}
 use Rattle.rl_replay.specs.declared.complaint.Complaint.{Complaint}
 use Rattle.rl_replay.specs.declared.complaint.Which.{Which}
 use Rattle.rl_program.specs.Command.{Asked, Replay, Make, Show}
-use Rattle.rl_program.specs.Replay.{report_of}
+use Rattle.rl_program.specs.Replay.{report_of_replay}
 use Rattle.rl_replay.specs.Files.{Texts, name_of}
 use Rattle.rl_program.specs.Headline.{KeepsPromises, IsReplay}
 use Rattle.rl_replay.specs.Reading.{placed, called, scheduled}
@@ -21,8 +21,8 @@ use Rattle.rl_program.proofs.SpelledLaws.{PlaceRead, place_read, calls_read, sch
 
 -- texts that are replayed
 pub is_replay : (texts : Texts) (place : ThePlace) (ops : Ops) (schedule : Schedule) (text : List ℕ) → placed texts.place ≡ Ok place → called place texts.calls ≡ Ok ops → scheduled place texts.schedule ≡ Ok schedule →
-    text ≡ report_spelling (naming_of place) (report_of place ops schedule) → KeepsPromises place ops schedule → IsLawfulReplay place ops (report_of place ops schedule) → IsLegalReport place ops (report_of place ops schedule) →
-    report_at (naming_of place) text ≡ Ok (report_of place ops schedule) → IsReplay texts text
+    text ≡ report_spelling (naming_of place) (report_of_replay place ops schedule) → KeepsPromises place ops schedule → IsLawfulReplay place ops (report_of_replay place ops schedule) → IsLegalReport place ops (report_of_replay place ops schedule) →
+    report_at (naming_of place) text ≡ Ok (report_of_replay place ops schedule) → IsReplay texts text
 is_replay texts place ops schedule text p c s is kept lawful legal again =
     let read : PlaceRead texts.place place = place_read texts.place place p in
     let most = read.proper.most_ranks in

@@ -23,9 +23,9 @@ use Rattle.rl_machine.specs.Running.{Running}
 use Rattle.rl_asks.specs.Asks.{asked_of}
 use Rattle.rl_machine.specs.Start.{start_of}
 use Rattle.rl_machine.specs.laws.StartLaws.{shards_length}
-use Rattle.rl_machine.specs.Run.{calls_by, run_of, ranks_of, done_of, kept_by}
+use Rattle.rl_machine.specs.Run.{calls_by, run_of, ranks_of_turns, done_of, kept_by}
 use Rattle.rl_machine.specs.RunTransitions.{EachSays}
-use Rattle.rl_machine.specs.Promises.{journal_on, transcripts_on, history_on, IsSound, KeepsQueues, EachKeepsQueues}
+use Rattle.rl_machine.specs.Promises.{shard_journal, transcripts_on, history_on, IsSound, KeepsQueues, EachKeepsQueues}
 use Rattle.rl_cores.specs.Kinds.{Defined, Promised}
 use Rattle.rl_cores.specs.OnShards.{OfShard, EachShard}
 use Rattle.rl_program.specs.Replay.{start_with, run_with}
@@ -36,17 +36,17 @@ use Rattle.rl_program.proofs.RunLaws.{table_in, IsAlike, run_alike}
 module _ {V : Type 0} (defined : Defined V) (place : ThePlace) (ops : Ops) (schedule : Schedule) (shape : TheShape) (knobs : Knobs) (geom : Geom) (homes : List ℕ) (turns : List Turn)
     (shape_is : shape ≡ shape_of place) (knobs_is : knobs ≡ knobs_of place.lock) (geom_is : geom ≡ place.geom) (homes_are : homes ≡ place.homes) (turns_are : turns ≡ schedule.turns) where
   -- the run is that of the placement and the schedule
-  pub run_is : run_of (start_of defined shape knobs geom homes ops) (ranks_of turns) ≡ run_with defined place ops schedule
+  pub run_is : run_of (start_of defined shape knobs geom homes ops) (ranks_of_turns turns) ≡ run_with defined place ops schedule
   run_is =
-      let at : TheShape → Knobs → Geom → List ℕ → List Turn → Running V = λ s k g hs ts. run_of (start_of defined s k g hs ops) (ranks_of ts) in
+      let at : TheShape → Knobs → Geom → List ℕ → List Turn → Running V = λ s k g hs ts. run_of (start_of defined s k g hs ops) (ranks_of_turns ts) in
       ap (λ s. at s knobs geom homes turns) shape_is ∙ ap (λ k. at (shape_of place) k geom homes turns) knobs_is ∙ ap (λ g. at (shape_of place) (knobs_of place.lock) g homes turns) geom_is
       ∙ ap (λ hs. at (shape_of place) (knobs_of place.lock) place.geom hs turns) homes_are ∙ ap (λ ts. at (shape_of place) (knobs_of place.lock) place.geom place.homes ts) turns_are
 
   -- and what a kind of lock says of it
-  pub says_is : (promised : Promised) → EachSays promised shape knobs homes (start_of defined shape knobs geom homes ops) (ranks_of turns) →
-      EachSays promised (shape_of place) (knobs_of place.lock) place.homes (start_with defined place ops) (ranks_of schedule.turns)
+  pub says_is : (promised : Promised) → EachSays promised shape knobs homes (start_of defined shape knobs geom homes ops) (ranks_of_turns turns) →
+      EachSays promised (shape_of place) (knobs_of place.lock) place.homes (start_with defined place ops) (ranks_of_turns schedule.turns)
   says_is promised says =
-      let at : TheShape → Knobs → Geom → List ℕ → List Turn → Type 0 = λ s k g hs ts. EachSays promised s k hs (start_of defined s k g hs ops) (ranks_of ts) in
+      let at : TheShape → Knobs → Geom → List ℕ → List Turn → Type 0 = λ s k g hs ts. EachSays promised s k hs (start_of defined s k g hs ops) (ranks_of_turns ts) in
       subst (λ ts. at (shape_of place) (knobs_of place.lock) place.geom place.homes ts) turns_are
       (subst (λ hs. at (shape_of place) (knobs_of place.lock) place.geom hs turns) homes_are
       (subst (λ g. at (shape_of place) (knobs_of place.lock) g homes turns) geom_is
@@ -54,7 +54,7 @@ module _ {V : Type 0} (defined : Defined V) (place : ThePlace) (ops : Ops) (sche
 
 -- A run of a machine that was made from the parts of a placement and a schedule.
 pub ran : {V : Type 0} (defined : Defined V) (place : ThePlace) (ops : Ops) (schedule : Schedule) (inside : ThePlace) (shape : TheShape) (knobs : Knobs) (homes : List ℕ) (turns : List Turn) (end : Running V) →
-    inside ≡ place → shape ≡ shape_of place → knobs ≡ knobs_of place.lock → homes ≡ inside.homes → turns ≡ schedule.turns → end ≡ run_of (start_of defined shape knobs inside.geom homes ops) (ranks_of turns) → end ≡ run_with defined place ops schedule
+    inside ≡ place → shape ≡ shape_of place → knobs ≡ knobs_of place.lock → homes ≡ inside.homes → turns ≡ schedule.turns → end ≡ run_of (start_of defined shape knobs inside.geom homes ops) (ranks_of_turns turns) → end ≡ run_with defined place ops schedule
 ran defined place ops schedule inside shape knobs homes turns end same shape_is knobs_is homes_are turns_are run =
     run ∙ run_is defined place ops schedule shape knobs inside.geom homes turns shape_is knobs_is (ap (λ (p : ThePlace). p.geom) same) (homes_are ∙ ap (λ (p : ThePlace). p.homes) same) turns_are
 
@@ -81,7 +81,7 @@ module _ {V : Type 0} (defined : Defined V) (place : ThePlace) (ops : Ops) (sche
   table_of home = defined (shape_of place) home (knobs_of place.lock)
 
   alike : IsAlike last first
-  alike = run_alike first (ranks_of schedule.turns)
+  alike = run_alike first (ranks_of_turns schedule.turns)
 
   -- the ranks' calls are those that were given
   pub same_calls : last.calls ≡ ops.by_rank
@@ -93,7 +93,7 @@ module _ {V : Type 0} (defined : Defined V) (place : ThePlace) (ops : Ops) (sche
       sym (length-map last.shards table_in) ∙ ap length alike.tables ∙ length-map first.shards table_in ∙ shards_length table_of (shape_of place).nodes place.geom ops.by_rank 0 place.homes
 
   pub is_kept : (promised : Promised) (ways : OfShard V) → IsSound last → EachKeepsQueues (name_of place.lock) (shape_of place) (knobs_of place.lock) place.homes last →
-      EachSays promised (shape_of place) (knobs_of place.lock) place.homes first (ranks_of schedule.turns) → EachShard ways last → IsKept defined promised ways place ops schedule
+      EachSays promised (shape_of place) (knobs_of place.lock) place.homes first (ranks_of_turns schedule.turns) → EachShard ways last → IsKept defined promised ways place ops schedule
   is_kept promised ways sound queues further kept =
       let in_order : (k : ℕ) → k < length ops.by_rank → IsRankInOrder place.geom k (asked_of (get_or ops.by_rank k []) (get_or ops.sizes k [])) (done_of last k) (kept_by last k) = λ k low.
       let there : k < length last.calls = subst (λ l. k < length l) (sym alike.calls) low in
@@ -108,7 +108,7 @@ module _ {V : Type 0} (defined : Defined V) (place : ThePlace) (ops : Ops) (sche
         further = further;
         ways = kept;
         replies = λ s S has. subst (λ geom. IsReplayedByOneThread geom finite.empty 0 (history_on S)) alike.geom (sound.shards s S has).replayed;
-        legal = λ s S has. subst (λ geom. IsLegal geom (journal_on S) (transcripts_on S)) alike.geom (sound.shards s S has).legal;
+        legal = λ s S has. subst (λ geom. IsLegal geom (shard_journal S) (transcripts_on S)) alike.geom (sound.shards s S has).legal;
         sorted = λ s S has. (sound.shards s S has).sorted;
         calls = in_order;
       }

@@ -21,7 +21,7 @@ use Rattle.rl_site.specs.Site.{Site}
 use Rattle.rl_asks.specs.ShardTables.{ShardTable}
 use Rattle.rl_history.proofs.QueueLaws.{under_queues}
 use Rattle.rl_machine.specs.Running.{ShardRun, Running}
-use Rattle.rl_machine.specs.Run.{stepped, run_of, ranks_of, turn_ranks, steps_in}
+use Rattle.rl_machine.specs.Run.{stepped, run_of, ranks_of_turns, turn_ranks, steps_in}
 use Rattle.rl_machine.specs.Start.{site_of, start_of}
 use Rattle.rl_machine.specs.laws.StartLaws.{shard_first}
 use Rattle.rl_machine.specs.laws.ReplayLaws.{stepped_one}
@@ -39,9 +39,9 @@ turn_long : (t : Turn) → length (turn_ranks t) ≡ steps_of t
 turn_long (turn.Steps rank count) = length-replicate count rank
 turn_long (turn.Stop rank) = refl
 
-ranks_long : (turns : List Turn) → length (ranks_of turns) ≡ steps_in turns
+ranks_long : (turns : List Turn) → length (ranks_of_turns turns) ≡ steps_in turns
 ranks_long [] = refl
-ranks_long (t ∷ ts) = let one = turn_long t in let on = ranks_long ts in let both = length-append (turn_ranks t) (ranks_of ts) in omega arith
+ranks_long (t ∷ ts) = let one = turn_long t in let on = ranks_long ts in let both = length-append (turn_ranks t) (ranks_of_turns ts) in omega arith
 
 module _ {V : Type 0} (defined : TheShape → ℕ → Knobs → Site → ShardTable V) (name : LockName) (has_queues : (shape : TheShape) (home : ℕ) (knobs : Knobs) (site : Site) → (defined shape home knobs site).queues ≡ queues_of name shape home knobs)
     (place : ThePlace) (ops : Ops) (schedule : Schedule) (kind : name ≡ lock_under (name_of place.lock)) (has_cohorts : (shape : TheShape) (home : ℕ) (knobs : Knobs) (site : Site) → (defined shape home knobs site).cohort ≡ cohorts_of name) (fits : ScheduleFits (length place.paths) schedule) where
@@ -49,10 +49,10 @@ module _ {V : Type 0} (defined : TheShape → ℕ → Knobs → Site → ShardTa
   first = start_of defined (shape_of place) (knobs_of place.lock) place.geom place.homes ops
 
   abbrev last : Running V
-  last = run_of first (ranks_of schedule.turns)
+  last = run_of first (ranks_of_turns schedule.turns)
 
   alike : IsAlike last first
-  alike = run_alike first (ranks_of schedule.turns)
+  alike = run_alike first (ranks_of_turns schedule.turns)
 
   abbrev table_on : ℕ → Site → ShardTable V
   table_on home site = defined (shape_of place) home (knobs_of place.lock) site
@@ -71,7 +71,7 @@ module _ {V : Type 0} (defined : TheShape → ℕ → Knobs → Site → ShardTa
 
   few : steps_made last.steps ≤ 2000000
   few =
-      let counts = run_counts first (ranks_of schedule.turns) in
+      let counts = run_counts first (ranks_of_turns schedule.turns) in
       let long = ranks_long schedule.turns in
       let steps = steps_are schedule.turns in
       let most : sum_by steps_of schedule.turns ≤ 2000000 = fits.few in

@@ -9,7 +9,7 @@ use Rattle.rl_history.specs.Spelling.{report_spelling}
 use Rattle.rl_history.specs.Reading.{report_at}
 use Rattle.rl_check.specs.LawfulReplays.{IsLawfulReplay}
 use Rattle.rl_check.specs.Legal.{IsLegalReport}
-use Rattle.rl_program.specs.Replay.{report_of}
+use Rattle.rl_program.specs.Replay.{report_of_replay}
 use Rattle.rl_program.specs.Headline.{IsReplay, KeepsPromises}
 use Rattle.rl_replay.specs.declared.complaint.Complaint.{Complaint}
 use Rattle.rl_replay.specs.declared.complaint.Stop.{Stop}
@@ -73,8 +73,8 @@ module _ (file : List ℕ → Option (List ℕ)) (names : Names) where
   pub all_read : (place : ThePlace) (ops : Ops) (schedule : Schedule) (text : Vec ℕ Global) → WasRead {X = ThePlace} (file names.place) (λ place. place) placed (Ok place) →
       WasRead {X = Ops} (file names.calls) (λ ops. ops) (called place) (Ok ops) →
       WasRead {X = Schedule} (file names.schedule) (λ schedule. schedule) (scheduled place) (Ok schedule) →
-      text.items ≡ report_spelling (naming_of place) (report_of place ops schedule) → KeepsPromises place ops schedule → IsLawfulReplay place ops (report_of place ops schedule) → IsLegalReport place ops (report_of place ops schedule) →
-      report_at (naming_of place) text.items ≡ Ok (report_of place ops schedule) → WasReplayed file names (Ok text)
+      text.items ≡ report_spelling (naming_of place) (report_of_replay place ops schedule) → KeepsPromises place ops schedule → IsLawfulReplay place ops (report_of_replay place ops schedule) → IsLegalReport place ops (report_of_replay place ops schedule) →
+      report_at (naming_of place) text.items ≡ Ok (report_of_replay place ops schedule) → WasReplayed file names (Ok text)
   unfolding replayed
   all_read place ops schedule text r c s is kept lawful legal again =
       replay_was r.bytes c.bytes s.bytes (Ok text) r.fits c.fits s.fits (rw (r.ends, c.ends, s.ends) (ap (λ t. Ok t) (sym is)))

@@ -20,19 +20,19 @@ use Rattle.rl_ops.specs.Asked.{BeginsAt}
 use Rattle.rl_ops.specs.Ops.{OpsFit}
 use Rattle.rl_asks.specs.EventRanks.{AreByRanks}
 use Rattle.rl_asks.specs.Asks.{asked_of}
-use Rattle.rl_asks.specs.Desks.{entries_of}
+use Rattle.rl_asks.specs.Desks.{desk_entries}
 use Rattle.rl_asks.specs.RankGood.{entries_in}
 use Rattle.rl_asks.specs.ShardTables.{ShardTable, kept_in}
 use Rattle.rl_history.specs.declared.report.Done.{Done}
 use Rattle.rl_history.specs.Naming.{naming_of}
 use Rattle.rl_history.specs.Reports.{TheShard, TheReport, EntryFits, TallyFits, ShardFits, ShardsFit, DoneFits, ReportFits}
-use Rattle.rl_history.specs.Tallies.{tallies_from, trace_of}
-use Rattle.rl_history.specs.Lawful.{journal_in, transcript_in, transcripts_in, queues_at}
+use Rattle.rl_history.specs.Tallies.{tallies_from, trace_of_report}
+use Rattle.rl_history.specs.Lawful.{journal_among, transcript_in, transcripts_in, queues_at}
 use Rattle.rl_machine.specs.Running.{ShardRun, Running}
 use Rattle.rl_machine.specs.ShardSteps.{events_of, desk_at, kept_on}
 use Rattle.rl_machine.specs.laws.RecordLaws.{kept_long}
 use Rattle.rl_machine.specs.Run.{calls_by, done_of, kept_by}
-use Rattle.rl_machine.specs.Promises.{journal_on, transcripts_on, history_on, IsShardSound, IsSound}
+use Rattle.rl_machine.specs.Promises.{shard_journal, transcripts_on, history_on, IsShardSound, IsSound}
 use Rattle.rl_check.specs.LawfulReplays.{IsReplayedShard, IsLawfulReplay, done_by}
 use Rattle.rl_check.specs.Legal.{IsLegalReport, LegalIsLawfulReplay}
 use Rattle.rl_run.specs.Told.{ToldShard, told_of}
@@ -40,24 +40,24 @@ use Rattle.rl_run.specs.laws.ToldLaws.{all_by_place}
 use Rattle.rl_run.specs.laws.RowLaws.{same_maps}
 use Rattle.rl_run.specs.laws.EndLaws.{own_all}
 use Rattle.rl_run.specs.laws.EntriesFit.{HasTranscripts, HasDone, some_calls, same_journal, same_transcripts, rank_of_it, few_here, few_updates, entry_fits}
-use Rattle.rl_program.specs.Replay.{queue_count, part_of, dones_from, report_in, NumbersFit, IsMachineOf}
+use Rattle.rl_program.specs.Replay.{queue_count, part_of_replay, dones_from, report_in, NumbersFit, IsMachineOf}
 use Rattle.rl_program.proofs.ReplayEvents.{untouched, BeginsFrom, rules_still, tallies_still, tallies_long, events_fit}
 
 -- ---- what a machine tells
 
 module _ {V : Type 0} where
   -- the transcripts of a shard, rank by rank
-  kept_get : (T : ShardTable V) (words : List ℕ) (r : ℕ) (vs : List V) (k : ℕ) → get_or (kept_in T words r vs) k [] ≡ entries_of (desk_at T words (r + k) (slice_get vs k))
+  kept_get : (T : ShardTable V) (words : List ℕ) (r : ℕ) (vs : List V) (k : ℕ) → get_or (kept_in T words r vs) k [] ≡ desk_entries (desk_at T words (r + k) (slice_get vs k))
   kept_get T words r [] k = refl
-  kept_get T words r (v ∷ vs) zero = let at : r ≡ r + 0 = omega arith in ap (λ n. entries_of (T.desk words n v)) at
-  kept_get T words r (v ∷ vs) (suc k) = let at : r + 1 + k ≡ r + suc k = omega arith in kept_get T words (r + 1) vs k ∙ ap (λ n. entries_of (desk_at T words n (slice_get vs k))) at
+  kept_get T words r (v ∷ vs) zero = let at : r ≡ r + 0 = omega arith in ap (λ n. desk_entries (T.desk words n v)) at
+  kept_get T words r (v ∷ vs) (suc k) = let at : r + 1 + k ≡ r + suc k = omega arith in kept_get T words (r + 1) vs k ∙ ap (λ n. desk_entries (desk_at T words n (slice_get vs k))) at
 
   -- what a shard tells, as a closed one does
   abbrev told_on : ℕ → ShardRun V → ToldShard
-  told_on queues S = record { journal = journal_on S; transcripts = transcripts_on S; pairs = []; queues = tallies_from 0 queues (events_of S.trace) }
+  told_on queues S = record { journal = shard_journal S; transcripts = transcripts_on S; pairs = []; queues = tallies_from 0 queues (events_of S.trace) }
 
   told_same : (queues k : ℕ) (S : ShardRun V) → told_of k (told_on queues S) ≡ kept_on k S
-  told_same queues k S = let none : 0 + k ≡ k = omega arith in kept_get S.table S.held.words 0 S.views k ∙ ap (λ n. entries_of (desk_at S.table S.held.words n (slice_get S.views k))) none
+  told_same queues k S = let none : 0 + k ≡ k = omega arith in kept_get S.table S.held.words 0 S.views k ∙ ap (λ n. desk_entries (desk_at S.table S.held.words n (slice_get S.views k))) none
 
   told_all : (queues k : ℕ) (shards : List (ShardRun V)) → map (told_of k) (map (told_on queues) shards) ≡ map (kept_on k) shards
   told_all queues k [] = refl
@@ -75,7 +75,7 @@ module _ {V : Type 0} where
       let at : rank + 1 + k ≡ rank + suc k = omega arith in dones_at m (rank + 1) lists k d get ∙ ap (λ n. record { done = done_of m n; given = length (get_or lists k []) }) at
 
   module _ (place : ThePlace) (ops : Ops) (proper : IsProper place) (fit : OpsFit (length place.paths) place.geom.shards ops) (m : Running V) (sound : IsSound m) (of : IsMachineOf place ops m)
-      (numbers : (s : ℕ) (S : ShardRun V) → slice_get m.shards s ≡ Some S → NumbersFit (part_of (queue_count place) S)) where
+      (numbers : (s : ℕ) (S : ShardRun V) → slice_get m.shards s ≡ Some S → NumbersFit (part_of_replay (queue_count place) S)) where
     abbrev queues : ℕ
     queues = queue_count place
 
@@ -131,11 +131,11 @@ module _ {V : Type 0} where
       tells =
           record {
             ranks = long ∙ fit.ranks_there;
-            legal = subst (λ geom. IsLegal geom (journal_on S) (transcripts_on S)) of.geom is.legal;
+            legal = subst (λ geom. IsLegal geom (shard_journal S) (transcripts_on S)) of.geom is.legal;
             own = own_all s 0 (transcripts_on S) own_at;
           }
 
-      fits_shard : (home : ℕ) → slice_get place.homes s ≡ Some home → ShardFits (naming_of place) true s (part_of queues S)
+      fits_shard : (home : ℕ) → slice_get place.homes s ≡ Some home → ShardFits (naming_of place) true s (part_of_replay queues S)
       fits_shard home has_home =
           let n = numbers s S get in
           record {
@@ -153,18 +153,18 @@ module _ {V : Type 0} where
             begins [] = tt
             begins (e ∷ t) = omega arith
 
-      replayed : (home : ℕ) → slice_get place.homes s ≡ Some home → IsReplayedShard place home (part_of queues S)
+      replayed : (home : ℕ) → slice_get place.homes s ≡ Some home → IsReplayedShard place home (part_of_replay queues S)
       replayed home has_home =
-          let journal : journal_in (history_on S) ≡ journal_on S = same_journal place ops fit es done has_done s (told_on queues S) has tells in
+          let journal : journal_among (history_on S) ≡ shard_journal S = same_journal place ops fit es done has_done s (told_on queues S) has tells in
           let transcripts : transcripts_in (history_on S) 0 (length place.paths) ≡ transcripts_on S = same_transcripts place ops fit es done has_done s (told_on queues S) has tells in
           let all : length (tallies_from 0 queues (events_of S.trace)) ≡ queues = tallies_long 0 queues (events_of S.trace) in
           record {
             history_told = record {
-              legal = subst (λ j. IsLegal place.geom j (transcripts_in (history_on S) 0 (length place.paths))) (sym journal) (subst (IsLegal place.geom (journal_on S)) (sym transcripts) tells.legal);
-              in_order = ap (λ ts. history (journal_on S) ts) (sym transcripts) ∙ ap (λ j. history j (transcripts_in (history_on S) 0 (length place.paths))) (sym journal);
+              legal = subst (λ j. IsLegal place.geom j (transcripts_in (history_on S) 0 (length place.paths))) (sym journal) (subst (IsLegal place.geom (shard_journal S)) (sym transcripts) tells.legal);
+              in_order = ap (λ ts. history (shard_journal S) ts) (sym transcripts) ∙ ap (λ j. history j (transcripts_in (history_on S) 0 (length place.paths))) (sym journal);
               told = ap length (sym journal);
             };
-            tallied = tallies_still 0 queues S.trace ∙ ap (λ n. tallies_from 0 n (trace_of (untouched S.trace))) (sym all);
+            tallied = tallies_still 0 queues S.trace ∙ ap (λ n. tallies_from 0 n (trace_of_report (untouched S.trace))) (sym all);
             rules = rules_still (queues_at place home) S.trace is.exclusive (subst (λ qs. KeepBudgets qs (events_of S.trace)) (of.queues s home S has_home get) is.queues.budgets);
           }
 
@@ -176,7 +176,7 @@ module _ {V : Type 0} where
     home_at : (s : ℕ) (S : ShardRun V) → slice_get m.shards s ≡ Some S → (home : ℕ) × (slice_get place.homes s ≡ Some home)
     home_at s S get = some_at place.homes s (let h = slice_get_within m.shards s S get in let a = of.all in omega arith)
 
-    shards_fit : (from : ℕ) (rest : List (ShardRun V)) → ((i : ℕ) (S : ShardRun V) → slice_get rest i ≡ Some S → slice_get m.shards (from + i) ≡ Some S) → ShardsFit (naming_of place) true from (map (part_of queues) rest)
+    shards_fit : (from : ℕ) (rest : List (ShardRun V)) → ((i : ℕ) (S : ShardRun V) → slice_get rest i ≡ Some S → slice_get m.shards (from + i) ≡ Some S) → ShardsFit (naming_of place) true from (map (part_of_replay queues) rest)
     shards_fit from [] at = tt
     shards_fit from (S ∷ rest) at =
         let none : from + 0 ≡ from = omega arith in
@@ -209,7 +209,7 @@ module _ {V : Type 0} where
     pub fits : ReportFits (naming_of place) report
     fits =
         record {
-          each_shard = length-map m.shards (part_of queues) ∙ of.all ∙ proper.each_shard;
+          each_shard = length-map m.shards (part_of_replay queues) ∙ of.all ∙ proper.each_shard;
           shards = shards_fit 0 m.shards (λ i S get. let none : 0 + i ≡ i = omega arith in ap (slice_get m.shards) none ∙ get);
           each_rank = all_long ∙ fit.ranks_there;
           done = all_by_place DoneFits (dones_from m 0 m.calls) done_fits;
@@ -221,12 +221,12 @@ module _ {V : Type 0} where
         let d = some_at (dones_from m 0 m.calls) k (let a = all_long in omega arith) in
         ap (λ (z : Done). z.done) (get_or_from_slice_get (dones_from m 0 m.calls) k d.0 (record { done = 0; given = 0 }) d.1) ∙ (done_is k d.0 d.1).0
 
-    told_by : (k : ℕ) → k < length ops.by_rank → map (told_of k) es ≡ map (λ (P : TheShard). transcript_in P.entries k) (map (part_of queues) m.shards)
+    told_by : (k : ℕ) → k < length ops.by_rank → map (told_of k) es ≡ map (λ (P : TheShard). transcript_in P.entries k) (map (part_of_replay queues) m.shards)
     told_by k low =
-        same_maps (told_of k) (λ (P : TheShard). transcript_in P.entries k) es (map (part_of queues) m.shards) (length-map m.shards (told_on queues) ∙ sym (length-map m.shards (part_of queues)))
+        same_maps (told_of k) (λ (P : TheShard). transcript_in P.entries k) es (map (part_of_replay queues) m.shards) (length-map m.shards (told_on queues) ∙ sym (length-map m.shards (part_of_replay queues)))
         (λ s e P get gP.
         let q = get_map_back (told_on queues) m.shards s e get in
-        let p = get_map_back (part_of queues) m.shards s P gP in
+        let p = get_map_back (part_of_replay queues) m.shards s P gP in
         let same : q.0 ≡ p.0 = same_Some _ _ (sym q.1 ∙ p.1) in
         let inside : k < length (transcripts_on q.0) = let a = long s q.0 q.1 in omega arith in
         ap (told_of k) (sym q.2)
@@ -238,7 +238,7 @@ module _ {V : Type 0} where
         record {
           fits = fits;
           of_replay = refl;
-          shards = λ s home P gh gP. let q = get_map_back (part_of queues) m.shards s P gP in subst (IsReplayedShard place home) q.2 (replayed s q.0 q.1 home gh);
+          shards = λ s home P gh gP. let q = get_map_back (part_of_replay queues) m.shards s P gP in subst (IsReplayedShard place home) q.2 (replayed s q.0 q.1 home gh);
           calls = λ k low. subst (IsRankInOrder place.geom k (asked_of (get_or ops.by_rank k []) (get_or ops.sizes k [])) (done_by report k)) (told_by k low)
               (subst (λ n. IsRankInOrder place.geom k (asked_of (get_or ops.by_rank k []) (get_or ops.sizes k [])) n (map (told_of k) es)) (sym (told_done k low)) (has_done k low).order);
           whole = λ k low. subst (BeginsAt (get_or ops.by_rank k []) (get_or ops.sizes k [])) (sym (told_done k low))
@@ -249,10 +249,10 @@ module _ {V : Type 0} where
 
 -- where the report of such a machine was made
 pub lawful_ok : {V E : Type 0} (place : ThePlace) (ops : Ops) (m : Running V) (result : Result TheReport E) → IfOk result (λ report. report ≡ report_in (queue_count place) m) → IfOk result (λ report. All NumbersFit report.shards) →
-    (((s : ℕ) (S : ShardRun V) → slice_get m.shards s ≡ Some S → NumbersFit (part_of (queue_count place) S)) → IsLawfulReplay place ops (report_in (queue_count place) m)) → IfOk result (λ report. IsLawfulReplay place ops report)
+    (((s : ℕ) (S : ShardRun V) → slice_get m.shards s ≡ Some S → NumbersFit (part_of_replay (queue_count place) S)) → IsLawfulReplay place ops (report_in (queue_count place) m)) → IfOk result (λ report. IsLawfulReplay place ops report)
 lawful_ok place ops m (Ok made) same numbers law =
     subst (IsLawfulReplay place ops) (sym same)
-    (law (λ s S get. all_at NumbersFit (map (part_of (queue_count place)) m.shards) s (part_of (queue_count place) S) (subst (λ (r : TheReport). All NumbersFit r.shards) same numbers) (get_map (part_of (queue_count place)) m.shards s S get)))
+    (law (λ s S get. all_at NumbersFit (map (part_of_replay (queue_count place)) m.shards) s (part_of_replay (queue_count place) S) (subst (λ (r : TheReport). All NumbersFit r.shards) same numbers) (get_map (part_of_replay (queue_count place)) m.shards s S get)))
 lawful_ok place ops m (Err e) same numbers law = tt
 
 -- and a lawful one is legal

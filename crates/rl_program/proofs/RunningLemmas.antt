@@ -13,9 +13,9 @@ use Rattle.rl_history.specs.Naming.{naming_of}
 use Rattle.rl_history.specs.Reports.{TheShard, TheReport}
 use Rattle.rl_history.specs.Spelling.{report_spelling}
 use Rattle.rl_history.specs.Reading.{report_at}
-use Rattle.rl_history.specs.Lawful.{IsLawful, journal_in, transcripts_in}
+use Rattle.rl_history.specs.Lawful.{IsLawful, journal_among, transcripts_in}
 use Rattle.rl_run.specs.Made.{IsRunBy}
-use Rattle.rl_cores.specs.Kinds.{kind_of}
+use Rattle.rl_cores.specs.Kinds.{lock_kind_of}
 use Rattle.rl_check.specs.Legal.{LegalIsLawful}
 use Rattle.rl_replay.specs.declared.complaint.Stop.{Stop}
 use Rattle.rl_replay.specs.declared.complaint.Stop.TheVariants as stop
@@ -36,9 +36,9 @@ replies_are place ops report proper lawful s S has =
     let shards = lawful.fits.each_shard in
     let home = some_at place.homes s (omega (arith, within, homes, shards)) in
     let part = lawful.shards s home.0 S home.1 has in
-    subst (λ es. IsReplayedByOneThread place.geom map.empty 0 es) (sym part.in_order) (replayed place.geom (journal_in S.entries) (transcripts_in S.entries 0 (length place.paths)) part.legal)
+    subst (λ es. IsReplayedByOneThread place.geom map.empty 0 es) (sym part.in_order) (replayed place.geom (journal_among S.entries) (transcripts_in S.entries 0 (length place.paths)) part.legal)
 
-is_run : LegalIsLawful → (texts : Texts) (place : ThePlace) (ops : Ops) (report : TheReport) (text : List ℕ) → OpsFit (length place.paths) place.geom.shards ops → placed texts.place ≡ Ok place → called place texts.calls ≡ Ok ops → text ≡ report_spelling (naming_of place) report → IsLawful place ops report → IsRunBy (kind_of place.lock).defined place ops report → report_at (naming_of place) text ≡ Ok report → IsRun texts text
+is_run : LegalIsLawful → (texts : Texts) (place : ThePlace) (ops : Ops) (report : TheReport) (text : List ℕ) → OpsFit (length place.paths) place.geom.shards ops → placed texts.place ≡ Ok place → called place texts.calls ≡ Ok ops → text ≡ report_spelling (naming_of place) report → IsLawful place ops report → IsRunBy (lock_kind_of place.lock).defined place ops report → report_at (naming_of place) text ≡ Ok report → IsRun texts text
 is_run laws texts place ops report text fit p c is lawful made again =
     let read : PlaceRead texts.place place = place_read texts.place place p in
     let most = read.proper.most_ranks in
@@ -82,7 +82,7 @@ module _ (file : List ℕ → Option (List ℕ)) (names : RunNames) where
   -- both files were read, and this is the text of a report
   pub was_run : LegalIsLawful → (place : ThePlace) (ops : Ops) (report : TheReport) (text : Vec ℕ Global) → OpsFit (length place.paths) place.geom.shards ops → WasRead {X = ThePlace} (file names.place) (λ place. place) placed (Ok place) →
       WasRead {X = Ops} (file names.calls) (λ ops. ops) (called place) (Ok ops) →
-      text.items ≡ report_spelling (naming_of place) report → IsLawful place ops report → IsRunBy (kind_of place.lock).defined place ops report →
+      text.items ≡ report_spelling (naming_of place) report → IsLawful place ops report → IsRunBy (lock_kind_of place.lock).defined place ops report →
       report_at (naming_of place) text.items ≡ Ok report → WasRun file names (Ok text)
   unfolding run_read
   was_run laws place ops report text fit r c is lawful made again =

@@ -3,7 +3,7 @@ use Rattle.std.specs.Prelude.{◌≡◌, ◌≢◌, ◌≤◌, ◌<◌, ◌⊎�
 use Rattle.rl_place.specs.ShapeText.{shape_spelling}
 use Rattle.rl_history.specs.Naming.{naming_of}
 use Rattle.rl_history.specs.Spelling.{report_spelling}
-use Rattle.rl_program.specs.Replay.{report_of}
+use Rattle.rl_program.specs.Replay.{report_of_replay}
 use Rattle.rl_replay.specs.Files.{Names, Texts, name_of, refused_line}
 use Rattle.rl_program.specs.Headline.{IsReplay}
 use Rattle.std.specs.Global.{Vec}
@@ -28,7 +28,7 @@ replayed texts = do
   place ← placed texts.place
   ops ← called place texts.calls
   schedule ← scheduled place texts.schedule
-  Ok (report_spelling (naming_of place) (report_of place ops schedule))
+  Ok (report_spelling (naming_of place) (report_of_replay place ops schedule))
 
 -- the text of the shape of the placement in a file, or why there is none
 unfoldable pub shown : List ℕ → Result (List ℕ) Complaint

@@ -5,7 +5,7 @@ use Rattle.rl_ops.specs.declared.ops.TheConstants.{MOST_CALLS}
 use Rattle.rl_ops.specs.Ops.{total_calls}
 use Rattle.rl_journal.specs.Ranks.{count_in}
 use Rattle.rl_machine.specs.Running.{ShardRun, Running}
-use Rattle.rl_machine.specs.Promises.{journal_on, transcripts_on}
+use Rattle.rl_machine.specs.Promises.{shard_journal, transcripts_on}
 use Rattle.rl_program.specs.declared.counts.ShardCounts.{ShardCounts}
 use Rattle.rl_program.specs.Summary.{is_get, is_settle, is_pass}
 
@@ -18,7 +18,7 @@ module _ {V : Type 0} where
   abbrev pub counts_on : ShardRun V → ShardCounts
   counts_on S =
       record {
-        updates = length (journal_on S);
+        updates = length (shard_journal S);
         reads = count_in (λ entry. is_get entry.call) (transcripts_on S);
         settled = count_by (λ event. is_settle event.1) S.trace;
         passed = count_by (λ event. is_pass event.1) S.trace;

@@ -22,13 +22,13 @@ use Rattle.rl_check.specs.Legal.{IsLegalReport}
 use Rattle.rl_machine.specs.Running.{ShardRun, Running}
 use Rattle.rl_machine.specs.ShardSteps.{events_of}
 use Rattle.rl_asks.specs.Asks.{asked_of}
-use Rattle.rl_machine.specs.Run.{ranks_of, done_of, kept_by}
+use Rattle.rl_machine.specs.Run.{ranks_of_turns, done_of, kept_by}
 use Rattle.rl_machine.specs.RunTransitions.{EachSays}
-use Rattle.rl_machine.specs.Promises.{journal_on, transcripts_on, history_on, EachKeepsQueues, KeepsGuarded}
+use Rattle.rl_machine.specs.Promises.{shard_journal, transcripts_on, history_on, EachKeepsQueues, KeepsGuarded}
 use Rattle.rl_machine.specs.Changes.{OnlyWritersChange}
-use Rattle.rl_cores.specs.Kinds.{Defined, Promised, kind_of}
+use Rattle.rl_cores.specs.Kinds.{Defined, Promised, lock_kind_of}
 use Rattle.rl_cores.specs.OnShards.{OfShard}
-use Rattle.rl_program.specs.Replay.{start_with, run_with, report_of}
+use Rattle.rl_program.specs.Replay.{start_with, run_with, report_of_replay}
 
 -- of each shard of a machine
 abbrev pub OnShards : {V : Type 0} → Running V → (ShardRun V → Type 0) → Type 0
@@ -56,7 +56,7 @@ module _ {V : Type 0} (defined : Defined V) (promised : Promised) (way : OfShard
     -- and beyond that, on each shard: under ALock, `seq` and `combine` a cohort that has announced itself is overtaken at most so often, by the
     -- events; under RMA-RW, while no step lowers the arrive word of a group at most so many of its readers enter, by the lock's words before
     -- and after each step and by the events; under the other locks nothing
-    pub further : EachSays promised (shape_of place) (knobs_of place.lock) place.homes (start_with defined place ops) (ranks_of schedule.turns)
+    pub further : EachSays promised (shape_of place) (knobs_of place.lock) place.homes (start_with defined place ops) (ranks_of_turns schedule.turns)
     -- and what its way of doing blocks promises of each shard's words and of its ranks' views: under the five locks that a rank which reads for
     -- its block holds the lock, and what it has found still stands; under `seq` how a get alone goes without the lock; and under `combine`
     -- that each posted call is done once at most, and by a writer
@@ -66,7 +66,7 @@ module _ {V : Type 0} (defined : Defined V) (promised : Promised) (way : OfShard
     pub replies : OnShards m (λ S. IsReplayedByOneThread place.geom map.empty 0 (history_on S))
     -- journal and transcripts: a batch is done as a whole or undone as a whole, nothing stands within it, and each rank's updates are
     -- those that the journal has of it
-    pub legal : OnShards m (λ S. IsLegal place.geom (journal_on S) (transcripts_on S))
+    pub legal : OnShards m (λ S. IsLegal place.geom (shard_journal S) (transcripts_on S))
     -- the history is in order: by place, gets and holds before the update, and of these by rank and number
     pub sorted : OnShards m (λ S. IsSorted (history_on S))
     -- each rank's entries on all shards are its first n calls, each once and in its order, and n is told as what it has done
@@ -74,7 +74,7 @@ module _ {V : Type 0} (defined : Defined V) (promised : Promised) (way : OfShard
 
 -- of the kind of the placement's lock
 abbrev pub KeepsPromises : ThePlace → Ops → Schedule → Type 0
-KeepsPromises place ops schedule = IsKept (kind_of place.lock).defined (kind_of place.lock).promised (kind_of place.lock).ways place ops schedule
+KeepsPromises place ops schedule = IsKept (lock_kind_of place.lock).defined (lock_kind_of place.lock).promised (lock_kind_of place.lock).ways place ops schedule
 
 -- These texts are replayed: they spell a placement, calls and a schedule, and this text is the report of their run, which keeps its
 -- promises. It is a report that is read again, and a check finds it legal.
@@ -88,13 +88,13 @@ pub record IsReplay (texts : Texts) (text : List ℕ) : Type 0 where
   pub place_spelled : texts.place ≡ place_spelling place
   pub calls_spelled : SpellsOps (length place.paths) place.geom.shards ops texts.calls
   pub schedule_spelled : texts.schedule ≡ schedule_spelling schedule
-  pub bytes : text ≡ report_spelling (naming_of place) (report_of place ops schedule)
+  pub bytes : text ≡ report_spelling (naming_of place) (report_of_replay place ops schedule)
   pub kept : KeepsPromises place ops schedule
   -- the report keeps its limits; its entries are the history of a legal journal and legal transcripts, and hold so many of each rank's calls
   -- as are told as done, whole blocks, each call once and in its order; its tallies count its events; and by these no writer was ever
   -- beside another holder, and each queue with a budget kept it
-  pub lawful : IsLawfulReplay place ops (report_of place ops schedule)
+  pub lawful : IsLawfulReplay place ops (report_of_replay place ops schedule)
   -- so a check finds it legal
-  pub legal : IsLegalReport place ops (report_of place ops schedule)
+  pub legal : IsLegalReport place ops (report_of_replay place ops schedule)
   -- and this text is read as this report
-  pub read : report_at (naming_of place) text ≡ Ok (report_of place ops schedule)
+  pub read : report_at (naming_of place) text ≡ Ok (report_of_replay place ops schedule)

@@ -17,9 +17,9 @@ use Rattle.rl_history.specs.Tallies.{tallies_from}
 use Rattle.rl_machine.specs.Running.{ShardRun, Running}
 use Rattle.rl_machine.specs.ShardSteps.{events_of}
 use Rattle.rl_machine.specs.Start.{start_of}
-use Rattle.rl_machine.specs.Run.{done_of, run_of, ranks_of}
-use Rattle.rl_machine.specs.Promises.{journal_on, history_on}
-use Rattle.rl_cores.specs.Kinds.{Defined, kind_of}
+use Rattle.rl_machine.specs.Run.{done_of, run_of, ranks_of_turns}
+use Rattle.rl_machine.specs.Promises.{shard_journal, history_on}
+use Rattle.rl_cores.specs.Kinds.{Defined, lock_kind_of}
 
 -- ---- the run
 
@@ -29,11 +29,11 @@ module _ {V : Type 0} where
   start_with defined place ops = start_of defined (shape_of place) (knobs_of place.lock) place.geom place.homes ops
 
   abbrev pub run_with : Defined V → ThePlace → Ops → Schedule → Running V
-  run_with defined place ops schedule = run_of (start_with defined place ops) (ranks_of schedule.turns)
+  run_with defined place ops schedule = run_of (start_with defined place ops) (ranks_of_turns schedule.turns)
 
 -- for the kind of the placement's lock
-abbrev pub replay_of : (place : ThePlace) → Ops → Schedule → Running (kind_of place.lock).View
-replay_of place ops schedule = run_with (kind_of place.lock).defined place ops schedule
+abbrev pub replay_of : (place : ThePlace) → Ops → Schedule → Running (lock_kind_of place.lock).View
+replay_of place ops schedule = run_with (lock_kind_of place.lock).defined place ops schedule
 
 -- ---- its report
 
@@ -43,10 +43,10 @@ queue_count place = length (naming_of place).queues
 
 module _ {V : Type 0} where
   -- the part of a shard: its history, the tally of each of its queues, and what happened on it but for touches
-  abbrev pub part_of : ℕ → ShardRun V → TheShard
-  part_of queues S =
+  abbrev pub part_of_replay : ℕ → ShardRun V → TheShard
+  part_of_replay queues S =
       record {
-        updates = length (journal_on S);
+        updates = length (shard_journal S);
         entries = history_on S;
         queues = tallies_from 0 queues (events_of S.trace);
         pairs = [];
@@ -60,11 +60,11 @@ module _ {V : Type 0} where
 
   -- what is reported of a machine whose locks have so many queues
   abbrev pub report_in : ℕ → Running V → TheReport
-  report_in queues m = record { shards = map (part_of queues) m.shards; done = dones_from m 0 m.calls; steps = Some m.steps }
+  report_in queues m = record { shards = map (part_of_replay queues) m.shards; done = dones_from m 0 m.calls; steps = Some m.steps }
 
 -- the report of a replay
-abbrev pub report_of : ThePlace → Ops → Schedule → TheReport
-report_of place ops schedule = report_in (queue_count place) (replay_of place ops schedule)
+abbrev pub report_of_replay : ThePlace → Ops → Schedule → TheReport
+report_of_replay place ops schedule = report_in (queue_count place) (replay_of place ops schedule)
 
 -- ---- when it fits
 

@@ -13,7 +13,7 @@ use Rattle.rl_history.specs.Reading.{report_at}
 use Rattle.rl_history.specs.Lawful.{IsLawful}
 use Rattle.rl_check.specs.Legal.{IsLegalReport}
 use Rattle.rl_run.specs.Made.{IsRunBy}
-use Rattle.rl_cores.specs.Kinds.{kind_of}
+use Rattle.rl_cores.specs.Kinds.{lock_kind_of}
 use Rattle.rl_replay.specs.Files.{Texts}
 
 -- These texts are run: they spell a placement and calls, and this text is a report of all these calls that is lawful for them. It is a
@@ -32,7 +32,7 @@ pub record IsRun (texts : Texts) (text : List ℕ) : Type 0 where
   pub lawful : IsLawful place ops report
   -- and it tells of each shard what some order of the ranks' openings and atoms leaves there, each of the machine that a replay has under the
   -- placement's lock
-  pub made : IsRunBy (kind_of place.lock).defined place ops report
+  pub made : IsRunBy (lock_kind_of place.lock).defined place ops report
   -- so a check finds the report legal
   pub legal : IsLegalReport place ops report
   -- and this text is read as this report

@@ -10,7 +10,7 @@ ghost use Rattle.rl_check.specs.LawfulReplays.{IsLawfulReplay};
 ghost use Rattle.rl_check.specs.Legal.{IsLegalReport};
 ghost use Rattle.rl_replay.specs.Files.{named};
 ghost use Rattle.rl_program.specs.Command.{Replay};
-ghost use Rattle.rl_program.specs.Replay.{run_with, report_in, queue_count, report_of};
+ghost use Rattle.rl_program.specs.Replay.{run_with, report_in, queue_count, report_of_replay};
 ghost use Rattle.rl_program.specs.Headline.{IsKept, KeepsPromises};
 ghost use Rattle.rl_replay.specs.Reading.{RisesWithFault, SuitsLock};
 ghost use Rattle.rl_program.specs.Answer.{MayRead, WasReplayed};
@@ -92,7 +92,7 @@ pub fn replay_report(
     requires calls { OpsFit (length place.now.paths) place.now.geom.shards ops }
     requires suits { SuitsLock place.now ops }
     requires schedule { ScheduleFits (length place.now.paths) schedule.now }
-    ensures report { IfOk result (λ report. report ≡ report_of place.now ops schedule.now) }
+    ensures report { IfOk result (λ report. report ≡ report_of_replay place.now ops schedule.now) }
     ensures kept { IfOk result (λ _. KeepsPromises place.now ops schedule.now) }
     ensures lawful { IfOk result (λ report. IsLawfulReplay place.now ops report) }
     // So a check finds it legal.

@@ -7,7 +7,7 @@ ghost use Rattle.rl_machine.specs.Running.{running};
 ghost use Rattle.rl_machine.specs.Promises.{transcripts_on};
 ghost use Rattle.rl_machine.specs.Records.{transcripts_at};
 ghost use Rattle.rl_program.specs.Counting.{lists_in};
-ghost use Rattle.rl_program.specs.Replay.{queue_count, part_of, dones_from, report_in, NumbersFit};
+ghost use Rattle.rl_program.specs.Replay.{queue_count, part_of_replay, dones_from, report_in, NumbersFit};
 
 use rl_asks::ShardCore;
 use rl_history::{Done, Report, ShardReport, merge, tallies};
@@ -80,7 +80,7 @@ fn part_of<C: ShardCore>(
 ) -> Result<ShardReport, OutOfMemory>
     requires there { shard < length machine.now.shards }
     requires told { map (λ t. t.items) transcripts.now ≡ transcripts_at (running C.shard_table machine.now) shard }
-    ensures { IfOk result (λ part. slice_get (map (part_of queues) (running C.shard_table machine.now).shards) shard ≡ Some part) }
+    ensures { IfOk result (λ part. slice_get (map (part_of_replay queues) (running C.shard_table machine.now).shards) shard ≡ Some part) }
 {
     let journal = machine.journal(alloc, shard)?;
     let events = machine.events(shard);
@@ -103,7 +103,7 @@ fn parts_of<C: ShardCore>(
 ) -> Result<Vec<ShardReport>, OutOfMemory>
     requires shards { shards ≡ length machine.now.shards }
     requires told { map lists_in told.now ≡ map transcripts_on (running C.shard_table machine.now).shards }
-    ensures { IfOk result (λ parts. parts.items ≡ map (part_of queues) (running C.shard_table machine.now).shards) }
+    ensures { IfOk result (λ parts. parts.items ≡ map (part_of_replay queues) (running C.shard_table machine.now).shards) }
 {
     let mut parts = Vec::with_capacity(alloc, told.len())?;
     for shard in 0..shards {

@@ -4,7 +4,7 @@ ghost use Rattle.rl_place.specs.Places.{IsProper};
 ghost use Rattle.rl_ops.specs.Ops.{OpsFit};
 ghost use Rattle.rl_history.specs.Lawful.{IsLawful};
 ghost use Rattle.rl_run.specs.Made.{IsRunBy};
-ghost use Rattle.rl_cores.specs.Kinds.{kind_of};
+ghost use Rattle.rl_cores.specs.Kinds.{lock_kind_of};
 ghost use Rattle.rl_replay.specs.Reading.{RisesWithFault, SuitsLock};
 ghost use Rattle.rl_program.specs.Command.{run_named};
 ghost use Rattle.rl_program.specs.RunAnswer.{MayReadRun, WasRun};
@@ -38,7 +38,7 @@ pub fn run_report<G: Gate, R: Threads + Wait + Sync>(
     requires calls { OpsFit (length place.now.paths) place.now.geom.shards ops }
     requires suits { SuitsLock place.now ops }
     ensures lawful { IfOk result (λ report. IsLawful place.now ops report) }
-    ensures made { IfOk result (λ report. IsRunBy (kind_of place.now.lock).defined place.now ops report) }
+    ensures made { IfOk result (λ report. IsRunBy (lock_kind_of place.now.lock).defined place.now ops report) }
 {
     settings_suit();
     match &place.lock {

@@ -10,7 +10,7 @@ use Rattle.rl_step.specs.Queues.{QueueOf, tenures}
 use Rattle.rl_queue.specs.declared.view.Phase.{Phase}
 use Rattle.rl_queue.specs.declared.view.Phase.TheVariants.{Idle, Clear, Settle, Granted, Look, Above}
 use Rattle.rl_queue.specs.declared.view.QueueView.{QueueView}
-use Rattle.rl_queue.specs.Queue.{TheNames, Turn, at_phase, plan_at, turn_at, settled_at, leave_at}
+use Rattle.rl_queue.specs.Queue.{TheNames, QueueTurn, at_phase, plan_at, turn_at, settled_at, leave_at}
 use Rattle.rl_queue.specs.QueueGood.{QueueGood}
 use Rattle.rl_queue.specs.RankWords.{every_second}
 use Rattle.rl_queue.specs.RankViews.{of_rank}
@@ -31,7 +31,7 @@ dmcs_enter m Settle es w = record { view = at_phase m (settled_at None); events 
 dmcs_enter m (Granted left) es w = record { view = at_phase m (Granted left); events = es ++ event.EnterW m ∷ []; waits = w }
 dmcs_enter m p es w = record { view = at_phase m p; events = es; waits = w }
 
-abbrev pub dmcs_turn : ℕ → Turn → Told QueueView
+abbrev pub dmcs_turn : ℕ → QueueTurn → Told QueueView
 dmcs_turn m t = dmcs_enter m t.phase t.events t.waits
 
 -- what rank m of n learns where its act told got

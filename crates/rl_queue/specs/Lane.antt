@@ -4,7 +4,7 @@ use Rattle.rl_step.specs.declared.events.Event.{Event}
 use Rattle.rl_step.specs.Queues.{count, joined, given, settled, passed, WithinFrom, room_of}
 use Rattle.rl_queue.specs.declared.view.Phase.{Phase}
 use Rattle.rl_queue.specs.declared.view.Phase.TheVariants.{Idle, Clear, Reset, Swing, Link, Wait, Settle, Granted, Look, Close, Await, Hand, Above}
-use Rattle.rl_queue.specs.Queue.{TheNames, next_word, status_word, full_budget}
+use Rattle.rl_queue.specs.Queue.{TheNames, queue_next_word, status_word, full_budget}
 
 -- a queue as it stands: its tail, and by member the next word, the status word and the phase
 pub record Lane : Type 0 where
@@ -16,7 +16,7 @@ pub record Lane : Type 0 where
 -- the lane of a queue with these names, in these words, with these phases of its members
 abbrev pub lane_of : TheNames → List ℕ → (ℕ → Phase) → Lane
 lane_of n ws ph =
-    record { tail = slice_index ws n.tail; next = λ m. slice_index ws (next_word n m); status = λ m. slice_index ws (status_word n m); phase = ph }
+    record { tail = slice_index ws n.tail; next = λ m. slice_index ws (queue_next_word n m); status = λ m. slice_index ws (status_word n m); phase = ph }
 
 -- a number stands in a list; a list has no number twice
 abbrev pub Has : ℕ → List ℕ → Type 0

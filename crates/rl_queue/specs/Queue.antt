@@ -23,8 +23,8 @@ pub record TheNames : Type 0 where
   pub budget : Option ℕ
 
 -- the next word and the status word of member m
-abbrev pub next_word : TheNames → ℕ → ℕ
-next_word n m = slice_index n.next m
+abbrev pub queue_next_word : TheNames → ℕ → ℕ
+queue_next_word n m = slice_index n.next m
 
 abbrev pub status_word : TheNames → ℕ → ℕ
 status_word n m = slice_index n.status m
@@ -36,9 +36,9 @@ full_budget (Some b) = b
 
 -- The code that a member with so many passes left stores to its successor's status: 1 is "settle first", 2 + b is "you have
 -- the queue, and b passes are left". Without limit it is always 2.
-abbrev pub code_of : Option ℕ → ℕ → ℕ
-code_of None left = 2
-code_of (Some b) left = if left == 0 then 1 else left + 1
+abbrev pub status_code : Option ℕ → ℕ → ℕ
+status_code None left = 2
+status_code (Some b) left = if left == 0 then 1 else left + 1
 
 -- how many passes such a code of 2 or more leaves
 abbrev pub code_left : Option ℕ → ℕ → ℕ
@@ -57,33 +57,33 @@ swap_act class.Fixed w old new = CardCas w old new
 -- next word again where that fails, and stores the code to its successor's status.
 abbrev pub plan_at : TheNames → ℕ → Phase → Option Act
 plan_at n m Idle = None
-plan_at n m Clear = Some (Store (next_word n m) 0)
+plan_at n m Clear = Some (Store (queue_next_word n m) 0)
 plan_at n m Reset = Some (Store (status_word n m) 0)
 plan_at n m (Swing guess) = Some (swap_act n.tail_class n.tail guess (m + 1))
-plan_at n m (Link guess) = Some (Store (next_word n (guess - 1)) (m + 1))
+plan_at n m (Link guess) = Some (Store (queue_next_word n (guess - 1)) (m + 1))
 plan_at n m Wait = Some (Load (status_word n m))
 plan_at n m Settle = None
 plan_at n m (Granted left) = None
-plan_at n m (Look left upper) = Some (Load (next_word n m))
+plan_at n m (Look left upper) = Some (Load (queue_next_word n m))
 plan_at n m (Close left) = Some (swap_act n.tail_class n.tail (m + 1) 0)
-plan_at n m (Await left) = Some (Load (next_word n m))
-plan_at n m (Hand succ left) = Some (Store (status_word n succ) (code_of n.budget left))
+plan_at n m (Await left) = Some (Load (queue_next_word n m))
+plan_at n m (Hand succ left) = Some (Store (status_word n succ) (status_code n.budget left))
 plan_at n m (Above succ) = None
 
 -- what an act leaves of a member: its phase, what happened with the act, and whether it has to be made again
-pub record Turn : Type 0 where
+pub record QueueTurn : Type 0 where
   pub phase : Phase
   pub events : List Event
   pub waits : Bool
 
 -- a turn to a phase: with no event, with one, and to the same load once more
-abbrev pub moves_to : Phase → Turn
+abbrev pub moves_to : Phase → QueueTurn
 moves_to p = record { phase = p; events = []; waits = false }
 
-abbrev pub moves_with : Phase → Event → Turn
+abbrev pub moves_with : Phase → Event → QueueTurn
 moves_with p e = record { phase = p; events = e ∷ []; waits = false }
 
-abbrev pub waits_at : Phase → Turn
+abbrev pub waits_at : Phase → QueueTurn
 waits_at p = record { phase = p; events = []; waits = true }
 
 -- where a successful swing leads: a guess of 0 makes a head that must settle, another names the one before
@@ -97,12 +97,12 @@ look_at left false got = if got == 0 then Close left else Hand (got - 1) left
 look_at left true got = if got == 0 then Above None else if left == 0 then Above (Some (got - 1)) else Hand (got - 1) left
 
 -- handing the queue over ends the leave; it is a pass, but for the code 1
-abbrev pub hand_turn : ℕ → Option ℕ → ℕ → ℕ → Turn
+abbrev pub hand_turn : ℕ → Option ℕ → ℕ → ℕ → QueueTurn
 hand_turn q None succ left = moves_with Idle (event.Pass q succ)
 hand_turn q (Some b) succ left = if left == 0 then moves_to Idle else moves_with Idle (event.Pass q succ)
 
 -- what member m learns where its act told got
-abbrev pub turn_at : TheNames → ℕ → Phase → ℕ → Turn
+abbrev pub turn_at : TheNames → ℕ → Phase → ℕ → QueueTurn
 turn_at n m Idle got = moves_to Idle
 turn_at n m Clear got = moves_to Reset
 turn_at n m Reset got = moves_to (Swing 0)
@@ -155,7 +155,7 @@ abbrev pub at_phase : ℕ → Phase → QueueView
 at_phase m p = record { member = m; phase = p }
 
 -- what a member learns by a turn
-abbrev pub told_by : ℕ → Turn → Told QueueView
+abbrev pub told_by : ℕ → QueueTurn → Told QueueView
 told_by m t = record { view = at_phase m t.phase; events = t.events; waits = t.waits }
 
 -- the other member that a phase's act speaks of is one of the first n numbers

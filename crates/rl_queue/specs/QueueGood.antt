@@ -2,7 +2,7 @@
 use Rattle.std.specs.Prelude.{◌≡◌, ◌≢◌, ℕ, ◌<◌, List, ◌+◌, ◌++◌, slice_index, slice_set}
 use Rattle.rl_step.specs.declared.events.Event.{Event}
 use Rattle.rl_queue.specs.declared.view.Phase.{Phase}
-use Rattle.rl_queue.specs.Queue.{TheNames, next_word, status_word, turn_at}
+use Rattle.rl_queue.specs.Queue.{TheNames, queue_next_word, status_word, turn_at}
 use Rattle.rl_queue.specs.Lane.{lane_of, LaneGood, LineStep}
 use Rattle.rl_word.specs.Acts.{word_of, written, told}
 use Rattle.rl_word.specs.declared.acts.Act.{Act}
@@ -10,13 +10,13 @@ use Rattle.rl_word.specs.declared.acts.Act.{Act}
 -- the words of a queue's members are there, and no two of them are one
 pub record IsNaming (n : TheNames) (In : ℕ → Type 0) (size : ℕ) : Type 0 where
   pub tail_there : n.tail < size
-  pub next_there : (m : ℕ) → In m → next_word n m < size
+  pub next_there : (m : ℕ) → In m → queue_next_word n m < size
   pub status_there : (m : ℕ) → In m → status_word n m < size
-  pub next_tail : (m : ℕ) → In m → next_word n m ≢ n.tail
+  pub next_tail : (m : ℕ) → In m → queue_next_word n m ≢ n.tail
   pub status_tail : (m : ℕ) → In m → status_word n m ≢ n.tail
-  pub next_once : (m k : ℕ) → In m → In k → next_word n m ≡ next_word n k → m ≡ k
+  pub next_once : (m k : ℕ) → In m → In k → queue_next_word n m ≡ queue_next_word n k → m ≡ k
   pub status_once : (m k : ℕ) → In m → In k → status_word n m ≡ status_word n k → m ≡ k
-  pub next_status : (m k : ℕ) → In m → In k → next_word n m ≢ status_word n k
+  pub next_status : (m k : ℕ) → In m → In k → queue_next_word n m ≢ status_word n k
 
 -- member m goes from phase p to phase p', and no other member moves
 pub record Moves (ph ph' : ℕ → Phase) (m : ℕ) (p p' : Phase) : Type 0 where

@@ -2,7 +2,7 @@
 use Rattle.std.specs.Prelude.{◌≢◌, ℕ, Option, ◌≡◌, ◌⊎◌, List, [], ◌∷◌}
 use Rattle.rl_step.specs.declared.events.Event.{Event}
 use Rattle.rl_step.specs.declared.events.Event.TheVariants.{Join, Announce, Pass, Settle, Touch, EnterW, EnterR, LeaveW, LeaveR}
-use Rattle.rl_queue.specs.Queue.{TheNames, next_word, status_word}
+use Rattle.rl_queue.specs.Queue.{TheNames, queue_next_word, status_word}
 
 module _ (q : ℕ) (B : Option ℕ) where
   -- an event that isn't of the queue
@@ -19,7 +19,7 @@ module _ (q : ℕ) (B : Option ℕ) where
 
 -- a word of the queue
 abbrev pub Place : TheNames → (ℕ → Type 0) → ℕ → Type 0
-Place n In w = (w ≡ n.tail) ⊎ (((k : ℕ) × (In k × (w ≡ next_word n k))) ⊎ ((k : ℕ) × (In k × (w ≡ status_word n k))))
+Place n In w = (w ≡ n.tail) ⊎ (((k : ℕ) × (In k × (w ≡ queue_next_word n k))) ⊎ ((k : ℕ) × (In k × (w ≡ status_word n k))))
 
 -- these events are all of other queues
 abbrev pub AllApart : ℕ → Option ℕ → List Event → Type 0

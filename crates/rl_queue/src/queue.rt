@@ -2,7 +2,7 @@
 
 ghost use Rattle.std.specs.Prelude.{◌≡◌, ◌↔◌, ℕ, ◌+◌, ◌-◌, ◌<◌, ◌^◌, [], Some, None, length, drop};
 ghost use Rattle.rl_word.specs.declared.acts.Act.{Act as TheAct};
-ghost use Rattle.rl_queue.specs.Queue.{MakesActs, PlanFits, GotFits, swap_act, code_of, code_left, look_at, plan_at, turn_at, told_by, at_phase, IsGranted, settled_at, leave_at, resume_at, stage_at, TheNames as TheQueueNames};
+ghost use Rattle.rl_queue.specs.Queue.{MakesActs, PlanFits, GotFits, swap_act, status_code, code_left, look_at, plan_at, turn_at, told_by, at_phase, IsGranted, settled_at, leave_at, resume_at, stage_at, TheNames as TheQueueNames};
 ghost use Rattle.rl_step.specs.Lock.{told_with};
 ghost use Rattle.rl_queue.specs.Standings.{standing_of};
 ghost use Rattle.rl_queue.specs.Urgency.{loaded, urgent_at};
@@ -57,7 +57,7 @@ fn swap(class: Class, word: u32, old: u64, new: u64) -> Act
 
 /// The code that a member with so many passes left hands to its successor.
 fn code(budget: Option<u32>, left: u32) -> u64
-    ensures { result ≡ code_of budget left }
+    ensures { result ≡ status_code budget left }
 {
     match budget {
         None => 2,

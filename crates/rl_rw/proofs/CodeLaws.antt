@@ -16,7 +16,7 @@ use Rattle.rl_counter.specs.declared.view.Doing.TheVariants.{Nothing, Arrive, Re
 use Rattle.rl_counter.specs.Counter.{to, busy, counter_turn, counter_at, NamesCounters}
 use Rattle.rl_counter.specs.CounterGood.{IsMark}
 use Rattle.rl_rw.specs.declared.view.RwView.{RwView}
-use Rattle.rl_rw.specs.Rw.{Shared, groups, of_tree, counters_of, plan_of, rw_table}
+use Rattle.rl_rw.specs.Rw.{Shared, groups, behind_tree, counters_of, plan_of, rw_table}
 use Rattle.rl_rw.specs.Fits.{MayLeaveHook, Ends}
 use Rattle.rl_rw.specs.RwGood.{Place, trees, RwGood}
 use Rattle.rl_rw.specs.laws.RwRows.{marks_hook, out_away}
@@ -63,16 +63,16 @@ module _ (K : Shared) (levels : ℕ) (S : IsWellShaped K.rooted levels) (limited
 
   -- there are few counters
   pub counters_few : (length (counters_of K).arrive ≡ groups K) × (groups K ≤ 32)
-  counters_few = (length-every_second (of_tree K) (groups K), groups_low (ranks_in K.rooted) K.group S.ranks grouped)
+  counters_few = (length-every_second (behind_tree K) (groups K), groups_low (ranks_in K.rooted) K.group S.ranks grouped)
 
   -- the first rank of a counter's group is there
-  pub first_there : (w : ℕ) → of_tree K ≤ w → w < of_tree K + 2 * groups K → (w - of_tree K) / 2 * K.group < ranks_in K.rooted
-  first_there w high low = group_first K ((w - of_tree K) / 2) d (omega arith)
+  pub first_there : (w : ℕ) → behind_tree K ≤ w → w < behind_tree K + 2 * groups K → (w - behind_tree K) / 2 * K.group < ranks_in K.rooted
+  first_there w high low = group_first K ((w - behind_tree K) / 2) d (omega arith)
 
   pub names_it : (s : LockState RwView) (r : ℕ) (v : RwView) → RwGood K levels s → slice_get s.views r ≡ Some v → NamesCounters (counters_of K) v.counter.counter v.counter.doing
   names_it s r v g has =
       let many : length (counters_of K).arrive ≡ groups K = counters_few.0 in
-      let much : length (counters_of K).depart ≡ groups K = length-every_second (of_tree K + 1) (groups K) in
+      let much : length (counters_of K).depart ≡ groups K = length-every_second (behind_tree K + 1) (groups K) in
       let low : groups K ≤ 32 = counters_few.1 in
       let own : v.counter.counter < groups K = subst (λ z. z < groups K) (sym (g.own r v has)) (group_there K r d (is_there K levels F d s r v g has)) in
       let here : counter_at v.counter.counter v.counter.doing < groups K = place_at (groups K) v.counter.counter v.counter.doing v.tree own (g.place r v has) in

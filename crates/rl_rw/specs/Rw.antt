@@ -21,7 +21,7 @@ use Rattle.rl_queue.specs.RankWords.{every_second}
 use Rattle.rl_tree.specs.declared.rooted.Rooted.{Rooted}
 use Rattle.rl_tree.specs.declared.view.TreeView.{TreeView}
 use Rattle.rl_tree.specs.Tree.{at_level, tree_plan, tree_learn, at_hook, tree_resume, tree_standing, with_entry}
-use Rattle.rl_tree.specs.Elements.{how_many, ranks_in, leaf_of, of_tree as of_queues, tree_of, tree_spot, queues_from, out_at}
+use Rattle.rl_tree.specs.Elements.{how_many, ranks_in, leaf_of_rank, of_tree as of_queues, tree_of, tree_spot, queues_from, out_at}
 use Rattle.rl_tree.specs.TreeShape.{IsBudgeted}
 use Rattle.rl_counter.specs.declared.view.Doing.{Doing}
 use Rattle.rl_counter.specs.declared.view.Doing.TheVariants.{Nothing, Arrive, Inside, Depart, Put, TakeOut, TakeOff}
@@ -59,17 +59,17 @@ abbrev pub mine_of : Shared → ℕ → ℕ → Bool
 mine_of K g r = r / K.group == g
 
 -- the words of the counters stand behind those of the tree, arrive and depart of each side by side
-abbrev pub of_tree : Shared → ℕ
-of_tree K = of_queues K.rooted
+abbrev pub behind_tree : Shared → ℕ
+behind_tree K = of_queues K.rooted
 
 abbrev pub counters_of : Shared → TheCounters
-counters_of K = record { arrive = every_second (of_tree K) (groups K); depart = every_second (of_tree K + 1) (groups K); root_tail = 0; readers = K.readers }
+counters_of K = record { arrive = every_second (behind_tree K) (groups K); depart = every_second (behind_tree K + 1) (groups K); root_tail = 0; readers = K.readers }
 
 -- they live on the node of the group's first rank
 abbrev pub rw_spot : Shared → ℕ → Spot
 rw_spot K w =
-    if nat_lt w (of_tree K) then tree_spot K.rooted w
-    else record { class = class.Card; home = slice_index K.rooted.shape.node_of (((w - of_tree K) / 2) * K.group) }
+    if nat_lt w (behind_tree K) then tree_spot K.rooted w
+    else record { class = class.Card; home = slice_index K.rooted.shape.node_of (((w - behind_tree K) / 2) * K.group) }
 
 abbrev pub rw_view : TreeView → ℕ → Doing → RwView
 rw_view t g p = record { tree = t; counter = record { counter = g; doing = p } }
@@ -123,9 +123,9 @@ rw_standing p t = standing.Asking
 abbrev pub rw_table : Shared → LockTable RwView
 rw_table K =
     record {
-      size = of_tree K + 2 * groups K;
+      size = behind_tree K + 2 * groups K;
       spot = rw_spot K;
-      first = λ r. rw_view (out_at r (leaf_of K.rooted r)) (r / K.group) Nothing;
+      first = λ r. rw_view (out_at r (leaf_of_rank K.rooted r)) (r / K.group) Nothing;
       ask = asks_for;
       plan = λ v. plan_of K v (busy v.counter.doing);
       learn = λ v got. rw_learn K v (busy v.counter.doing) got;
@@ -139,8 +139,8 @@ rw_table K =
 
 -- What is promised of it beyond: while no atom lowers the arrive word of a group at most so many readers of the group enter.
 abbrev pub BoundsBatches : Shared → List Event → List Transition → Type 0
-BoundsBatches K t ts = (g : ℕ) → g < groups K → IsBatchedAtMost (mine_of K g) (of_tree K + 2 * g) K.readers ts
+BoundsBatches K t ts = (g : ℕ) → g < groups K → IsBatchedAtMost (mine_of K g) (behind_tree K + 2 * g) K.readers ts
 
 -- what the lock says of its acts, from which that comes
 abbrev pub KeepsBatches : Shared → List Event → List Deed → Type 0
-KeepsBatches K t ds = (g : ℕ) → g < groups K → BatchedFrom (mine_of K g) (of_tree K + 2 * g) K.readers 0 ds
+KeepsBatches K t ds = (g : ℕ) → g < groups K → BatchedFrom (mine_of K g) (behind_tree K + 2 * g) K.readers 0 ds

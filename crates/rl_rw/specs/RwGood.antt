@@ -16,7 +16,7 @@ use Rattle.rl_counter.specs.declared.view.Doing.TheVariants.{Nothing, Refused, S
 use Rattle.rl_counter.specs.CounterGood.{AllGood, IsMark, mark_by}
 use Rattle.rl_counter.specs.Counter.{arrive_word}
 use Rattle.rl_rw.specs.declared.view.RwView.{RwView}
-use Rattle.rl_rw.specs.Rw.{Shared, groups, mine_of, of_tree, counters_of}
+use Rattle.rl_rw.specs.Rw.{Shared, groups, mine_of, behind_tree, counters_of}
 
 abbrev pub trees : List RwView → List TreeView
 trees vs = map (λ v. v.tree) vs
@@ -69,7 +69,7 @@ pub record Hooked (vs : List RwView) (p : Doing) : Type 0 where
 
 -- a state is good
 pub record RwGood (K : Shared) (levels : ℕ) (s : LockState RwView) : Type 0 where
-  pub all_words : length s.words ≡ of_tree K + 2 * groups K
+  pub all_words : length s.words ≡ behind_tree K + 2 * groups K
   pub all_views : length s.views ≡ ranks_in K.rooted
   pub all_modes : length s.modes ≡ ranks_in K.rooted
   -- the tree, and whether the root's gate is open
@@ -85,5 +85,5 @@ pub record RwGood (K : Shared) (levels : ℕ) (s : LockState RwView) : Type 0 wh
   pub place : (r : ℕ) (v : RwView) → slice_get s.views r ≡ Some v → Place (groups K) v.counter.doing v.tree
   pub moded : (r : ℕ) (v : RwView) (m : Mode) → slice_get s.views r ≡ Some v → slice_get s.modes r ≡ Some m → Moded v.counter.doing v.tree m
   -- what a reader's batch and one rank alone add
-  pub batches : (g : ℕ) → g < groups K → Batched (mine_of K g) (of_tree K + 2 * g) K.readers s.words s.deeds
+  pub batches : (g : ℕ) → g < groups K → Batched (mine_of K g) (behind_tree K + 2 * g) K.readers s.words s.deeds
   pub lonely : ranks_in K.rooted ≡ 1 → (r : ℕ) (v : RwView) → slice_get s.views r ≡ Some v → Lonely K s.words v.counter.doing

@@ -16,7 +16,7 @@ use Rattle.rl_step.specs.declared.events.Standing.{Standing}
 use Rattle.rl_step.specs.declared.events.Standing.TheVariants.{Out, Asking, Writer, Reader, Leaving}
 use Rattle.rl_step.specs.Do.{CanDo, do_got, do_words}
 use Rattle.rl_step.specs.Lock.{IsHolder, Rests, Shift}
-use Rattle.rl_work.specs.EndLaws.{IsPlain}
+use Rattle.rl_work.specs.PlainWork.{IsPlain}
 use Rattle.rl_word.specs.declared.classes.Mode.TheVariants as mode
 use Rattle.rl_site.specs.Opens.{places_needed, IsOpen, opening_words}
 use Rattle.rl_site.specs.laws.OpeningLaws.{opening_size}
@@ -25,7 +25,7 @@ use Rattle.rl_work.specs.Ways.{IsApart, IsFirst, IsLaid, IsSide, IsWorkAtom, Wor
 use Rattle.rl_seq.specs.laws.SeqLaws.{seq_laws}
 use Rattle.rl_seq.specs.Site.{SeqSite, place_of}
 use Rattle.rl_seq.specs.SeqGood.{SeqRank, SeqGood}
-use Rattle.rl_seq.specs.SeqWork.{TheSeqWork, asks, is_open, seq_block, seq_atom, seq_after, seq_table}
+use Rattle.rl_seq.specs.SeqWork.{TheSeqWork, asks, seq_is_open, seq_block, seq_atom, seq_after, seq_table}
 use Rattle.rl_seq.specs.TwoRanks.{WorksBeside, IsOfTwo, new_rank, pair, number, two_place}
 use Rattle.rl_seq.specs.declared.way.SeqWork.{SeqWork}
 
@@ -161,7 +161,7 @@ opened geom behind home first words mover other good laid call fresh asked here 
     }) in
     subst (SeqGood (two_place geom behind) words) (moved first mover other _)
     (laws.opens words (pair first mover other) (number first) mover (call ∷ []) 0 (record { is_good = good; laid = laid; there = there first mover other })
-    (ap (λ (z : SeqRank). z.standing) fresh) (ap (λ (z : SeqRank). is_open z.work) fresh) is (λ none. refl))
+    (ap (λ (z : SeqRank). z.standing) fresh) (ap (λ (z : SeqRank). seq_is_open z.work) fresh) is (λ none. refl))
   where
     place : (b f : Bool) → 0 + places_needed b 1 ≤ slice_index (1 ∷ 1 ∷ []) (number f)
     place true true = omega arith

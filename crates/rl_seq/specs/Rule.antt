@@ -10,7 +10,7 @@ use Rattle.rl_site.specs.Site.{count_word, lock_base, volume_of}
 use Rattle.rl_work.specs.Ways.{WorkLaws, Works}
 use Rattle.rl_seq.specs.declared.stage.SeqStage.{SeqStage}
 use Rattle.rl_seq.specs.declared.stage.SeqStage.TheVariants as stage
-use Rattle.rl_seq.specs.Site.{SeqSite, version_word, version_in, front}
+use Rattle.rl_seq.specs.Site.{SeqSite, seq_version_word, version_in, front}
 use Rattle.rl_seq.specs.SeqGood.{SeqRank, SeqGood, IsQuiet, is_between}
 use Rattle.rl_seq.specs.SeqWork.{TheSeqWork, seq_atom, seq_after, seq_table}
 
@@ -70,7 +70,7 @@ NeverLowers =
 abbrev pub GetsLoad : Type 0
 GetsLoad =
     (at : SeqSite) (words : List ℕ) (sides : List SeqRank) → SeqGood at words sides → (r : ℕ) (x : SeqRank) → slice_get sides r ≡ Some x → is_getting x.work.stage ≡ true
-    → (w : ℕ) × (seq_atom at x.work ≡ Some (atom.Load w)) × ((w ≡ version_word at) ⊎ (w < lock_base at.site))
+    → (w : ℕ) × (seq_atom at x.work ≡ Some (atom.Load w)) × ((w ≡ seq_version_word at) ⊎ (w < lock_base at.site))
 
 -- and in each try it loads no more words of the volume than a bucket's chain has
 abbrev pub ReadsFew : Type 0
@@ -82,7 +82,7 @@ ReadsFew =
 abbrev pub WaitsWhereOdd : Type 0
 WaitsWhereOdd =
     (at : SeqSite) (r : ℕ) (x : TheSeqWork) (got word value : ℕ)
-    → ((seq_after at r x got).stepped ≡ Waiting word value) ↔ ((x.stage ≡ stage.Look) × (got % 2 ≢ 0) × (word ≡ version_word at) × (value ≡ got))
+    → ((seq_after at r x got).stepped ≡ Waiting word value) ↔ ((x.stage ≡ stage.Look) × (got % 2 ≢ 0) × (word ≡ seq_version_word at) × (value ≡ got))
 
 -- and has lost exactly where it is a get that found another version than the first
 abbrev pub LosesWhereOther : Type 0

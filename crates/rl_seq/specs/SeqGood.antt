@@ -14,7 +14,7 @@ use Rattle.rl_work.specs.Locked.{first_reads}
 use Rattle.rl_site.specs.Site.{Site, count_word, volume_of}
 use Rattle.rl_work.specs.Work.{TheWork, at_stage as at_work_stage, has_work, stores}
 use Rattle.rl_work.specs.Ways.{WorkSide as SideOf}
-use Rattle.rl_work.specs.EndLaws.{Rises}
+use Rattle.rl_work.specs.PlainWork.{Rises}
 use Rattle.rl_work.specs.WorkGood.{WorkSide, WorkGood, HasOpen}
 use Rattle.rl_work.specs.Unlocked.{wanted, wanted_by}
 use Rattle.rl_seq.specs.declared.stage.SeqStage.{SeqStage}

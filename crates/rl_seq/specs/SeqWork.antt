@@ -16,19 +16,19 @@ use Rattle.rl_work.specs.Work.{TheWork, WorkTurned, first_work, work_atom, work_
 use Rattle.rl_work.specs.Unlocked.{wanted, with_word}
 use Rattle.rl_seq.specs.declared.stage.SeqStage.{SeqStage}
 use Rattle.rl_seq.specs.declared.stage.SeqStage.TheVariants as stage
-use Rattle.rl_seq.specs.Site.{SeqSite, version_word}
+use Rattle.rl_seq.specs.Site.{SeqSite, seq_version_word}
 
 -- a rank's side: that of the work inside the lock, and where it stands between the versions
 pub record TheSeqWork : Type 0 where
   pub work : TheWork
   pub stage : SeqStage
 
-abbrev pub at_stage : TheWork → SeqStage → TheSeqWork
-at_stage w st = record { work = w; stage = st }
+abbrev pub seq_at_stage : TheWork → SeqStage → TheSeqWork
+seq_at_stage w st = record { work = w; stage = st }
 
 -- before the first block, with room for so many entries
 abbrev pub first_seq : Geom → ℕ → TheSeqWork
-first_seq geom room = at_stage (first_work geom room) stage.Locked
+first_seq geom room = seq_at_stage (first_work geom room) stage.Locked
 
 -- a block is opened: a get alone begins with the version, and any other inside the lock
 abbrev pub stage_of : Bool → SeqStage
@@ -36,7 +36,7 @@ stage_of true = stage.Look
 stage_of false = stage.Locked
 
 abbrev pub seq_block : TheSeqWork → List Call → ℕ → TheSeqWork
-seq_block x calls seq = at_stage (with_block x.work calls seq) (stage_of (first_reads calls))
+seq_block x calls seq = seq_at_stage (with_block x.work calls seq) (stage_of (first_reads calls))
 
 -- the mode in which the lock is asked for with the opening, if it is asked for
 abbrev pub asks_by : Bool → Option Mode
@@ -49,14 +49,14 @@ asks calls = asks_by (first_reads calls)
 -- the atom of a stage
 abbrev pub seq_stage_atom : SeqSite → TheWork → SeqStage → Option Atom
 seq_stage_atom at w stage.Locked = work_atom at.site.geom w
-seq_stage_atom at w stage.Look = Some (Load (version_word at))
+seq_stage_atom at w stage.Look = Some (Load (seq_version_word at))
 seq_stage_atom at w (stage.Count version) = Some (Load count_word)
 seq_stage_atom at w (stage.Read version count word) = Some (Load (volume_base + word))
-seq_stage_atom at w (stage.Again version count) = Some (Load (version_word at))
-seq_stage_atom at w stage.Decided = Some (Load (version_word at))
-seq_stage_atom at w (stage.Open version) = Some (Store (version_word at) (version + 1))
+seq_stage_atom at w (stage.Again version count) = Some (Load (seq_version_word at))
+seq_stage_atom at w stage.Decided = Some (Load (seq_version_word at))
+seq_stage_atom at w (stage.Open version) = Some (Store (seq_version_word at) (version + 1))
 seq_stage_atom at w (stage.Write version) = work_atom at.site.geom w
-seq_stage_atom at w (stage.Close version) = Some (Store (version_word at) (version + 2))
+seq_stage_atom at w (stage.Close version) = Some (Store (seq_version_word at) (version + 2))
 
 -- the next atom
 abbrev pub seq_atom : SeqSite → TheSeqWork → Option Atom
@@ -64,17 +64,17 @@ seq_atom at x = seq_stage_atom at x.work x.stage
 
 -- the block goes on at a stage, or is over
 abbrev pub goes_to : TheWork → SeqStage → Worked TheSeqWork
-goes_to w st = record { work = at_stage w st; follow = On; stepped = Moved }
+goes_to w st = record { work = seq_at_stage w st; follow = On; stepped = Moved }
 
 abbrev pub is_over : TheWork → Worked TheSeqWork
-is_over w = record { work = at_stage w stage.Locked; follow = Over; stepped = Moved }
+is_over w = record { work = seq_at_stage w stage.Locked; follow = Over; stepped = Moved }
 
 -- it waits, or has lost and begins anew
 abbrev pub waits : TheWork → ℕ → ℕ → Worked TheSeqWork
-waits w word got = record { work = at_stage w stage.Look; follow = On; stepped = Waiting word got }
+waits w word got = record { work = seq_at_stage w stage.Look; follow = On; stepped = Waiting word got }
 
 abbrev pub lost : TheWork → ℕ → ℕ → Worked TheSeqWork
-lost w version got = record { work = at_stage (with_seen w []) stage.Look; follow = On; stepped = Lost version got }
+lost w version got = record { work = seq_at_stage (with_seen w []) stage.Look; follow = On; stepped = Lost version got }
 
 -- after a load inside the lock: the block is over, or decided, or reads on
 abbrev pub loaded_by : TheWork → Bool → Bool → Worked TheSeqWork
@@ -102,7 +102,7 @@ after_store at rank w version got = stored_on version (work_after at.site.geom a
 -- a get that found this version: it goes on where that is even, and waits where it is odd
 abbrev pub looked_by : SeqSite → TheWork → ℕ → Bool → Worked TheSeqWork
 looked_by at w got true = goes_to w (stage.Count got)
-looked_by at w got false = waits w (version_word at) got
+looked_by at w got false = waits w (seq_version_word at) got
 
 abbrev pub looked_on : SeqSite → TheWork → ℕ → Worked TheSeqWork
 looked_on at w got = looked_by at w got (got % 2 == 0)
@@ -112,8 +112,8 @@ abbrev pub read_by : TheWork → ℕ → ℕ → Option ℕ → Worked TheSeqWor
 read_by w version count (Some word) = goes_to w (stage.Read version count word)
 read_by w version count None = goes_to w (stage.Again version count)
 
-abbrev pub read_on : SeqSite → TheWork → ℕ → ℕ → Worked TheSeqWork
-read_on at w version count = read_by w version count (wanted at.site.geom w)
+abbrev pub seq_read_on : SeqSite → TheWork → ℕ → ℕ → Worked TheSeqWork
+seq_read_on at w version count = read_by w version count (wanted at.site.geom w)
 
 -- it found the version again: the same, and it is decided; or another, and it begins anew
 abbrev pub checked_by : SeqSite → ℕ → TheWork → ℕ → ℕ → ℕ → Bool → Worked TheSeqWork
@@ -127,8 +127,8 @@ checked_on at rank w version count got = checked_by at rank w version count got 
 abbrev pub seq_stage_after : SeqSite → ℕ → TheWork → ℕ → SeqStage → Worked TheSeqWork
 seq_stage_after at rank w got stage.Locked = after_load at rank w got
 seq_stage_after at rank w got stage.Look = looked_on at w got
-seq_stage_after at rank w got (stage.Count version) = read_on at w version got
-seq_stage_after at rank w got (stage.Read version count word) = read_on at (with_word w word got) version count
+seq_stage_after at rank w got (stage.Count version) = seq_read_on at w version got
+seq_stage_after at rank w got (stage.Read version count word) = seq_read_on at (with_word w word got) version count
 seq_stage_after at rank w got (stage.Again version count) = checked_on at rank w version count got
 seq_stage_after at rank w got stage.Decided = goes_to w (stage.Open got)
 seq_stage_after at rank w got (stage.Open version) = goes_to w (stage.Write version)
@@ -141,29 +141,29 @@ seq_after at rank x got = seq_stage_after at rank x.work got x.stage
 
 -- whether the atom of a stage is told as a touch of what the lock guards, and if so whether it writes: the loads of a get alone aren't, which holds
 -- nothing, nor is the version, which stands behind the lock's words
-abbrev pub touch_at : TheWork → SeqStage → Option Bool
-touch_at w stage.Locked = Some (stores w.stage)
-touch_at w (stage.Write version) = Some (stores w.stage)
-touch_at w st = None
+abbrev pub seq_touch_at : TheWork → SeqStage → Option Bool
+seq_touch_at w stage.Locked = Some (stores w.stage)
+seq_touch_at w (stage.Write version) = Some (stores w.stage)
+seq_touch_at w st = None
 
 abbrev pub touch : TheSeqWork → Option Bool
-touch x = touch_at x.work x.stage
+touch x = seq_touch_at x.work x.stage
 
 -- a block is open, as far as the work goes
 abbrev pub is_open_at : TheWork → SeqStage → Bool
 is_open_at w stage.Locked = has_work w.stage
 is_open_at w st = true
 
-abbrev pub is_open : TheSeqWork → Bool
-is_open x = is_open_at x.work x.stage
+abbrev pub seq_is_open : TheSeqWork → Bool
+seq_is_open x = is_open_at x.work x.stage
 
 -- a block is open whose entries haven't joined the transcript yet: they join with the store of the count, one atom before its end
 abbrev pub owes_at : TheWork → SeqStage → Bool
 owes_at w (stage.Close version) = false
 owes_at w st = is_open_at w st
 
-abbrev pub owes : TheSeqWork → Bool
-owes x = owes_at x.work x.stage
+abbrev pub seq_owes : TheSeqWork → Bool
+seq_owes x = owes_at x.work x.stage
 
 -- the entries of the blocks that are over: without those of a block that has stored the count and is still open
 abbrev pub before_last : List Entry → ℕ → List Entry
@@ -197,15 +197,15 @@ seq_table at home =
       next = λ r x. seq_atom at x;
       after = λ r x got. seq_after at r x got;
       touch = touch;
-      is_open = is_open;
+      is_open = seq_is_open;
       calls = λ x. x.work.calls;
       seq = λ x. x.work.seq;
       mode = λ x. mode.Write;
       kept = λ x. x.work.transcript;
-      pends = owes;
+      pends = seq_owes;
       ended = ended;
       transcript = λ words r x. x.work.transcript.items;
-      owes = λ words r x. owes x;
+      owes = λ words r x. seq_owes x;
       spares = λ shares. true;
       batches = true;
     }

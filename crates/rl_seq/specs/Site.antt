@@ -9,11 +9,11 @@ pub record SeqSite : Type 0 where
   pub behind : ℕ
 
 -- the version is the one word there
-abbrev pub version_word : SeqSite → ℕ
-version_word at = at.behind
+abbrev pub seq_version_word : SeqSite → ℕ
+seq_version_word at = at.behind
 
 abbrev pub version_in : SeqSite → List ℕ → ℕ
-version_in at words = slice_index words (version_word at)
+version_in at words = slice_index words (seq_version_word at)
 
 -- the words before the lock's
 abbrev pub front : SeqSite → List ℕ → List ℕ

@@ -46,7 +46,7 @@ impl SeqSide {
 
     /// Whether a block is open, as far as the work goes.
     pub(crate) fn is_open(&self) -> bool
-        ensures { result ≡ model.is_open self.now }
+        ensures { result ≡ model.seq_is_open self.now }
     {
         match self.stage {
             SeqStage::Locked => self.work.is_open(),

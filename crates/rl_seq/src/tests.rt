@@ -6,7 +6,7 @@ ghost use Rattle.rl_model.specs.Call.{shard_of};
 ghost use Rattle.rl_model.specs.declared.call.Call.TheVariants.{Put, Get};
 ghost use Rattle.rl_step.specs.Do.{CanDo, do_got, do_words};
 ghost use Rattle.rl_step.specs.declared.events.Standing.TheVariants.{Out, Asking, Writer};
-ghost use Rattle.rl_work.specs.EndLaws.{IsPlain};
+ghost use Rattle.rl_work.specs.PlainWork.{IsPlain};
 ghost use Rattle.rl_site.specs.Opens.{opening_words};
 ghost use Rattle.rl_work.specs.Ways.{IsLaid, standing_after, standing_done, opened_standing};
 ghost use Rattle.rl_seq.specs.SeqWork as model;

@@ -149,7 +149,7 @@ impl SeqWork {
     // It reads the next word, or the version again.
     fn read_on(&self, side: &mut SeqSide, version: u64, count: u32) -> WorkStep
         requires { GeomFits self.now.geom }
-        ensures { worked_with side.new result ≡ model.read_on (at_of self.now) side.old.work version count }
+        ensures { worked_with side.new result ≡ model.seq_read_on (at_of self.now) side.old.work version count }
     {
         match side.work.wanted(self.geom) {
             Some(word) => side.goes_to(SeqStage::Read {

@@ -23,7 +23,7 @@ use Rattle.rl_journal.specs.History.{history, IsSorted}
 use Rattle.rl_journal.specs.laws.HistoryCounts.{same_entries}
 use Rattle.rl_journal.specs.Ranks.{IsOwn}
 use Rattle.rl_site.specs.Opens.{IsOwnTranscript}
-use Rattle.rl_asks.specs.Desks.{entries_of}
+use Rattle.rl_asks.specs.Desks.{desk_entries}
 use Rattle.rl_asks.specs.Standings.{leaves}
 use Rattle.rl_asks.specs.ShardTables.{ShardTable, journal_at, kept_in}
 use Rattle.rl_asks.specs.ShardLaws.{ShardCoreLaws, IsSeated, AllShut}
@@ -59,11 +59,11 @@ kept_same T words from [] same = refl
 kept_same T words from (x ∷ vs) same =
     let here : from + 0 ≡ from = omega arith in
     let first : T.desk words from x.whole ≡ T.own x.whole = subst (λ n. T.desk words n x.whole ≡ T.own x.whole) here (same 0 x refl) in
-    ap (λ d. entries_of d ∷ kept_in T words (from + 1) (map whole_of vs)) first
+    ap (λ d. desk_entries d ∷ kept_in T words (from + 1) (map whole_of vs)) first
     ∙ ap (λ z. entries_in T x ∷ z) (kept_same T words (from + 1) vs (λ r y e. let at : from + suc r ≡ (from + 1) + r = omega arith in subst (λ n. T.desk words n y.whole ≡ T.own y.whole) at (same (suc r) y e)))
 
 -- the entries of ranks, by their views without tallies
-entries_twice : {V : Type 0} (T : ShardTable V) (vs : List (CountedView V)) → map (entries_in T) vs ≡ map (λ v. entries_of (T.own v)) (map whole_of vs)
+entries_twice : {V : Type 0} (T : ShardTable V) (vs : List (CountedView V)) → map (entries_in T) vs ≡ map (λ v. desk_entries (T.own v)) (map whole_of vs)
 entries_twice T [] = refl
 entries_twice T (x ∷ vs) = ap (λ z. entries_in T x ∷ z) (entries_twice T vs)
 

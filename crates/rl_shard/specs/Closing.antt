@@ -7,7 +7,7 @@ use Rattle.rl_step.specs.declared.tallies.Tally.{Tally}
 use Rattle.rl_step.specs.Lock.{Deed}
 use Rattle.rl_step.specs.Do.{TheWindow}
 use Rattle.rl_journal.specs.Legal.{table_after}
-use Rattle.rl_asks.specs.Desks.{entries_of}
+use Rattle.rl_asks.specs.Desks.{desk_entries}
 use Rattle.rl_asks.specs.ShardTables.{ShardTable, journal_at}
 use Rattle.rl_asks.specs.ShardLaws.{AllShut}
 use Rattle.rl_window.specs.declared.window.WinSeat.{WinSeat}
@@ -21,7 +21,7 @@ use Rattle.rl_shard.specs.Ends.{all_settled, all_passed}
 module _ {V : Type 0} (T : ShardTable V) where
   -- a rank's entries
   abbrev pub entries_in : CountedView V → List Entry
-  entries_in x = entries_of (T.own x.whole)
+  entries_in x = desk_entries (T.own x.whole)
 
   -- all parts but the tallies are empty, and have room for what a shard of so many ranks can leave
   pub record IsEmptyWithRoom (ranks : ℕ) (e : Closed) : Type 0 where

@@ -11,7 +11,7 @@ use Rattle.rl_step.specs.Do.{TheWindow, do_atom, do_got}
 use Rattle.rl_step.specs.Queues.{settled, passed}
 use Rattle.rl_journal.specs.Legal.{table_after}
 use Rattle.rl_journal.specs.Tenures.{tally_at}
-use Rattle.rl_asks.specs.Desks.{entries_of}
+use Rattle.rl_asks.specs.Desks.{desk_entries}
 use Rattle.rl_asks.specs.ShardTables.{ShardTable, opening_held, first_views, journal_at}
 use Rattle.rl_asks.specs.ShardLaws.{MayOpen}
 
@@ -37,7 +37,7 @@ module _ {V : Type 0} (T : ShardTable V) where
     pub reached : IsReached nodes rooms held views trace
     pub closed : (r : ℕ) (v : V) → slice_get views r ≡ Some v → (T.own v).is_open ≡ false
     pub journal_is : journal ≡ journal_at T held.words
-    pub transcripts_are : transcripts ≡ map (λ v. entries_of (T.own v)) views
+    pub transcripts_are : transcripts ≡ map (λ v. desk_entries (T.own v)) views
     pub pairs_are : pairs ≡ finite.entries (table_after T.site.geom finite.empty (journal_at T held.words))
     pub settled_are : (q : ℕ) → q < length T.queues → (tally_at q tallies).settled ≡ settled q trace
     pub passed_are : (q : ℕ) → q < length T.queues → (tally_at q tallies).passed ≡ passed q trace

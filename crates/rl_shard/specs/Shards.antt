@@ -5,7 +5,7 @@ use Rattle.rl_word.specs.declared.acts.Atom.{Atom}
 use Rattle.rl_model.specs.declared.entry.Entry.{Entry}
 use Rattle.rl_model.specs.Geom.{GeomFits}
 use Rattle.rl_step.specs.declared.tallies.Tally.{Tally}
-use Rattle.rl_asks.specs.Desks.{Desk, entries_of}
+use Rattle.rl_asks.specs.Desks.{Desk, desk_entries}
 use Rattle.rl_asks.specs.ShardTables.{ShardTable}
 use Rattle.rl_asks.specs.ShardLaws.{GoodOf}
 use Rattle.rl_window.specs.Seats.{IsSeatOf, IsKept, HasSeats, core_of, view_of, seat_rank, table_steps}
@@ -57,7 +57,7 @@ module _ {C V : Type 0} where
     desk_at shard s = (table_at shard).own (view_at s)
 
     abbrev pub entries_at : Shard C V → Seat C V → List Entry
-    entries_at shard s = entries_of (desk_at shard s)
+    entries_at shard s = desk_entries (desk_at shard s)
 
     -- the next atom of the seat's open block; none where no block is open
     abbrev pub next_at : Shard C V → Seat C V → Option Atom

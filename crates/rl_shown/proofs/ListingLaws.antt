@@ -17,7 +17,7 @@ use Rattle.rl_history.specs.Naming.{TheNaming}
 use Rattle.rl_history.specs.Printing.{spaced}
 use Rattle.rl_history.proofs.Lines.{join-spaced}
 use Rattle.rl_machine.specs.Running.{Running}
-use Rattle.rl_machine.specs.Run.{stepped, run_of, turn_ranks, ranks_of, steps_in}
+use Rattle.rl_machine.specs.Run.{stepped, run_of, turn_ranks, ranks_of_turns, steps_in}
 use Rattle.rl_machine.specs.laws.ReplayLaws.{run_append, replicate-end, ranks-more}
 use Rattle.rl_machine.specs.Start.{start_of}
 use Rattle.rl_cores.specs.Kinds.{Defined}
@@ -53,16 +53,16 @@ module _ {V : Type 0} (place : ThePlace) (naming : TheNaming) (window : Window) 
   step_more before m now n k is = more before m now (replicate n k) (k ∷ []) is ∙ ap (λ ks. before ++ text m ks) (sym (replicate-end n k))
 
   -- one turn more
-  pub turn_more : (before : List ℕ) (m now : Running V) (ts : List Turn) (i : ℕ) (t : Turn) → slice_get ts i ≡ Some t → now ≡ run_of m (ranks_of (take i ts)) →
-      (before ++ text m (ranks_of (take i ts))) ++ text now (turn_ranks t) ≡ before ++ text m (ranks_of (take (i + 1) ts))
-  turn_more before m now ts i t at is = more before m now (ranks_of (take i ts)) (turn_ranks t) is ∙ ap (λ ks. before ++ text m ks) (sym (ranks-more ts i t at))
+  pub turn_more : (before : List ℕ) (m now : Running V) (ts : List Turn) (i : ℕ) (t : Turn) → slice_get ts i ≡ Some t → now ≡ run_of m (ranks_of_turns (take i ts)) →
+      (before ++ text m (ranks_of_turns (take i ts))) ++ text now (turn_ranks t) ≡ before ++ text m (ranks_of_turns (take (i + 1) ts))
+  turn_more before m now ts i t at is = more before m now (ranks_of_turns (take i ts)) (turn_ranks t) is ∙ ap (λ ks. before ++ text m ks) (sym (ranks-more ts i t at))
 
 -- the run goes on
 pub run_more : {V : Type 0} (m mid now : Running V) (n k : ℕ) → mid ≡ run_of m (replicate n k) → now ≡ stepped mid k → now ≡ run_of m (replicate (n + 1) k)
 run_more m mid now n k is step = step ∙ ap (λ z. stepped z k) is ∙ sym (ap (run_of m) (replicate-end n k) ∙ run_append m (replicate n k) (k ∷ []))
 
-pub run_turn : {V : Type 0} (m mid now : Running V) (ts : List Turn) (i : ℕ) (t : Turn) → slice_get ts i ≡ Some t → mid ≡ run_of m (ranks_of (take i ts)) → now ≡ run_of mid (turn_ranks t) → now ≡ run_of m (ranks_of (take (i + 1) ts))
-run_turn m mid now ts i t at is step = step ∙ ap (λ z. run_of z (turn_ranks t)) is ∙ sym (ap (run_of m) (ranks-more ts i t at) ∙ run_append m (ranks_of (take i ts)) (turn_ranks t))
+pub run_turn : {V : Type 0} (m mid now : Running V) (ts : List Turn) (i : ℕ) (t : Turn) → slice_get ts i ≡ Some t → mid ≡ run_of m (ranks_of_turns (take i ts)) → now ≡ run_of mid (turn_ranks t) → now ≡ run_of m (ranks_of_turns (take (i + 1) ts))
+run_turn m mid now ts i t at is step = step ∙ ap (λ z. run_of z (turn_ranks t)) is ∙ sym (ap (run_of m) (ranks-more ts i t at) ∙ run_append m (ranks_of_turns (take i ts)) (turn_ranks t))
 
 -- the start, by the parts of the placement
 pub start_is : {V : Type 0} (defined : Defined V) (place inside : ThePlace) (ops : Ops) (shape : TheShape) (knobs : Knobs) (homes : List ℕ) → inside ≡ place → shape ≡ shape_of place → knobs ≡ knobs_of place.lock → homes ≡ inside.homes →
@@ -75,12 +75,12 @@ start_is defined place inside ops shape knobs homes same shape_is knobs_is homes
 
 -- a run of these first turns from there is a run of the first steps
 pub run_first : {M V E : Type 0} (view : M → Running V) (result : Result M E) (defined : Defined V) (place inside : ThePlace) (ops : Ops) (shape : TheShape) (knobs : Knobs) (homes : List ℕ) (front turns : List Turn) (step : ℕ) →
-    inside ≡ place → shape ≡ shape_of place → knobs ≡ knobs_of place.lock → homes ≡ inside.homes → ranks_of front ≡ take step (ranks_of turns) →
-    IfOk result (λ m. view m ≡ run_of (start_of defined shape knobs inside.geom homes ops) (ranks_of front)) →
-    IfOk result (λ m. view m ≡ run_of (start_of defined (shape_of place) (knobs_of place.lock) place.geom place.homes ops) (take step (ranks_of turns)))
+    inside ≡ place → shape ≡ shape_of place → knobs ≡ knobs_of place.lock → homes ≡ inside.homes → ranks_of_turns front ≡ take step (ranks_of_turns turns) →
+    IfOk result (λ m. view m ≡ run_of (start_of defined shape knobs inside.geom homes ops) (ranks_of_turns front)) →
+    IfOk result (λ m. view m ≡ run_of (start_of defined (shape_of place) (knobs_of place.lock) place.geom place.homes ops) (take step (ranks_of_turns turns)))
 run_first view (Err why) defined place inside ops shape knobs homes front turns step same shape_is knobs_is homes_are first run = tt
 run_first view (Ok m) defined place inside ops shape knobs homes front turns step same shape_is knobs_is homes_are first run =
-    run ∙ ap (λ z. run_of z (ranks_of front)) (start_is defined place inside ops shape knobs homes same shape_is knobs_is homes_are)
+    run ∙ ap (λ z. run_of z (ranks_of_turns front)) (start_is defined place inside ops shape knobs homes same shape_is knobs_is homes_are)
     ∙ ap (run_of (start_of defined (shape_of place) (knobs_of place.lock) place.geom place.homes ops)) first
 
 -- the head, the lines and the end are the listing

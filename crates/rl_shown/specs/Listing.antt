@@ -12,9 +12,9 @@ use Rattle.rl_history.specs.Naming.{TheNaming, naming_of}
 use Rattle.rl_names.specs.StepWords.{step_words}
 use Rattle.rl_machine.specs.Running.{Running}
 use Rattle.rl_machine.specs.Whereabouts.{standing_by}
-use Rattle.rl_machine.specs.Run.{stepped, ranks_of}
+use Rattle.rl_machine.specs.Run.{stepped, ranks_of_turns}
 use Rattle.rl_machine.specs.Start.{start_of}
-use Rattle.rl_cores.specs.Kinds.{Defined, kind_of}
+use Rattle.rl_cores.specs.Kinds.{Defined, lock_kind_of}
 use Rattle.rl_replay.specs.declared.replay.Replay.{Replay}
 use Rattle.rl_viewer.specs.declared.asking.Window.{Window}
 use Rattle.rl_viewer.specs.Asking.{is_in}
@@ -50,7 +50,7 @@ module _ {V : Type 0} where
   -- the lines of a whole replay, for a rank's machine as it is defined
   abbrev pub lines_with : Defined V → ThePlace → Ops → Schedule → Window → List (List (List ℕ))
   lines_with defined place ops schedule window =
-      step_lines place (naming_of place) window (start_of defined (shape_of place) (knobs_of place.lock) place.geom place.homes ops) (ranks_of schedule.turns)
+      step_lines place (naming_of place) window (start_of defined (shape_of place) (knobs_of place.lock) place.geom place.homes ops) (ranks_of_turns schedule.turns)
 
 -- the first lines: the version, and the lock
 abbrev pub head_lines : TheNaming → List (List (List ℕ))
@@ -64,7 +64,7 @@ listing_with defined place ops schedule window = listing_text (naming_of place) 
 
 -- the listing of a replay, whose shards are guarded by the lock of its placement
 abbrev pub listing_of : Replay → Window → List ℕ
-listing_of replay window = listing_with (kind_of replay.place.lock).defined replay.place replay.ops replay.schedule window
+listing_of replay window = listing_with (lock_kind_of replay.place.lock).defined replay.place replay.ops replay.schedule window
 
 -- a text is exactly that listing
 abbrev pub IsListing : Replay → Window → List ℕ → Type 0

@@ -18,10 +18,10 @@ use Rattle.rl_names.specs.Layout.{map_of}
 use Rattle.rl_names.specs.Names.{name_of}
 use Rattle.rl_names.specs.Spelling.{name_words, found_words}
 use Rattle.rl_machine.specs.Running.{ShardRun, Running}
-use Rattle.rl_machine.specs.Run.{on_shard, place_of, done_of, run_of, ranks_of}
+use Rattle.rl_machine.specs.Run.{on_shard, place_of, done_of, run_of, ranks_of_turns}
 use Rattle.rl_machine.specs.Start.{start_of}
 use Rattle.rl_machine.specs.Whereabouts.{standing_by, card_by}
-use Rattle.rl_cores.specs.Kinds.{Defined, kind_of}
+use Rattle.rl_cores.specs.Kinds.{Defined, lock_kind_of}
 use Rattle.rl_replay.specs.declared.replay.Replay.{Replay}
 use Rattle.rl_viewer.specs.declared.asking.Window.{Window}
 use Rattle.rl_shown.specs.Listing.{shown}
@@ -106,14 +106,14 @@ steps_of_all schedule = sum_by steps_of schedule.turns
 -- the machine before a step, for a rank's machine as it is defined: after all steps before it, or after all that there are
 abbrev pub machine_before : {V : Type 0} → Defined V → ThePlace → Ops → Schedule → ℕ → Running V
 machine_before defined place ops schedule step =
-    run_of (start_of defined (shape_of place) (knobs_of place.lock) place.geom place.homes ops) (take step (ranks_of schedule.turns))
+    run_of (start_of defined (shape_of place) (knobs_of place.lock) place.geom place.homes ops) (take step (ranks_of_turns schedule.turns))
 
 abbrev pub state_with : {V : Type 0} → Defined V → ThePlace → Ops → Schedule → ℕ → List ℕ
 state_with defined place ops schedule step = state_spelling place step (steps_of_all schedule) (machine_before defined place ops schedule step)
 
 -- the state before a step of a replay, whose shards are guarded by the lock of its placement
 abbrev pub state_of : Replay → ℕ → List ℕ
-state_of replay step = state_with (kind_of replay.place.lock).defined replay.place replay.ops replay.schedule step
+state_of replay step = state_with (lock_kind_of replay.place.lock).defined replay.place replay.ops replay.schedule step
 
 -- a text is exactly the state before the first step of this window
 abbrev pub IsState : Replay → Window → List ℕ → Type 0

@@ -8,7 +8,7 @@ ghost use Rattle.rl_place.specs.Shapes.{shape_of, knobs_of};
 ghost use Rattle.rl_ops.specs.Ops.{OpsFit};
 ghost use Rattle.rl_ops.specs.Schedule.{ScheduleFits};
 ghost use Rattle.rl_replay.specs.Reading.{SuitsLock};
-ghost use Rattle.rl_cores.specs.Kinds.{kind_of};
+ghost use Rattle.rl_cores.specs.Kinds.{lock_kind_of};
 ghost use Rattle.rl_text.specs.Spelling.{text_of};
 ghost use Rattle.rl_shown.specs.Listing.{head_lines, listing_with, IsListing};
 
@@ -105,7 +105,7 @@ pub fn listing_text(
     requires calls { OpsFit (length place.now.paths) place.now.geom.shards ops }
     requires suits { SuitsLock place.now ops }
     requires schedule { ScheduleFits (length place.now.paths) schedule.now }
-    ensures { IfOk result (λ text. text.items ≡ listing_with (kind_of place.now.lock).defined place.now ops schedule.now window) }
+    ensures { IfOk result (λ text. text.items ≡ listing_with (lock_kind_of place.now.lock).defined place.now ops schedule.now window) }
 {
     over_lock(
         place,

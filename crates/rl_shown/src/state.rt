@@ -12,7 +12,7 @@ ghost use Rattle.rl_ops.specs.Schedule.{ScheduleFits};
 ghost use Rattle.rl_history.specs.Naming.{naming_of};
 ghost use Rattle.rl_machine.specs.Running.{running};
 ghost use Rattle.rl_replay.specs.Reading.{SuitsLock};
-ghost use Rattle.rl_cores.specs.Kinds.{kind_of};
+ghost use Rattle.rl_cores.specs.Kinds.{lock_kind_of};
 ghost use Rattle.rl_shown.specs.Cores.{HaveTables, tables_of};
 ghost use Rattle.rl_shown.specs.State.{head_lines, body_lines, state_spelling, machine_before, state_with, IsState};
 
@@ -174,7 +174,7 @@ pub fn state_text(
     requires calls { OpsFit (length place.now.paths) place.now.geom.shards ops }
     requires suits { SuitsLock place.now ops }
     requires schedule { ScheduleFits (length place.now.paths) schedule.now }
-    ensures { IfOk result (λ text. text.items ≡ state_with (kind_of place.now.lock).defined place.now ops schedule.now step) }
+    ensures { IfOk result (λ text. text.items ≡ state_with (lock_kind_of place.now.lock).defined place.now ops schedule.now step) }
 {
     over_lock(
         place,

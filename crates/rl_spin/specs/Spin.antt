@@ -9,12 +9,12 @@ use Rattle.rl_step.specs.declared.events.Standing.{Standing}
 use Rattle.rl_step.specs.declared.events.Standing.TheVariants as standing
 use Rattle.rl_step.specs.Lock.{LockTable, LockState, Told, no_local}
 use Rattle.rl_spin.specs.declared.view.SpinView.{SpinView}
-use Rattle.rl_spin.specs.declared.view.Phase.{Phase}
-use Rattle.rl_spin.specs.declared.view.Phase.TheVariants.{Out, Trying, Inside, Releasing}
+use Rattle.rl_spin.specs.declared.view.SpinPhase.{SpinPhase}
+use Rattle.rl_spin.specs.declared.view.SpinPhase.TheVariants.{Out, Trying, Inside, Releasing}
 
 -- the view of rank r in phase p
-abbrev pub at_phase : ℕ → Phase → SpinView
-at_phase r p = record { rank = r; phase = p }
+abbrev pub spin_at_phase : ℕ → SpinPhase → SpinView
+spin_at_phase r p = record { rank = r; phase = p }
 
 -- what is learnt where nothing ever waits
 abbrev pub told_as : SpinView → List Event → Told SpinView
@@ -22,21 +22,21 @@ told_as v es = record { view = v; events = es; waits = false }
 
 -- A rank that tries compares the word with 0 and puts in its number and 1; one that releases puts in 0. Both go through the
 -- card of the word's home.
-abbrev pub spin_plan : ℕ → Phase → Option Act
+abbrev pub spin_plan : ℕ → SpinPhase → Option Act
 spin_plan r Out = None
 spin_plan r Trying = Some (CardCas 0 0 (r + 1))
 spin_plan r Inside = None
 spin_plan r Releasing = Some (CardSwap 0 0)
 
 -- A rank that found 0 is inside, and enters with that act; one that found another value tries again.
-abbrev pub spin_learn : ℕ → Phase → ℕ → Told SpinView
-spin_learn r Out got = told_as (at_phase r Out) []
+abbrev pub spin_learn : ℕ → SpinPhase → ℕ → Told SpinView
+spin_learn r Out got = told_as (spin_at_phase r Out) []
 spin_learn r Trying got =
-    if got == 0 then told_as (at_phase r Inside) (EnterW r ∷ []) else told_as (at_phase r Trying) []
-spin_learn r Inside got = told_as (at_phase r Inside) []
-spin_learn r Releasing got = told_as (at_phase r Out) []
+    if got == 0 then told_as (spin_at_phase r Inside) (EnterW r ∷ []) else told_as (spin_at_phase r Trying) []
+spin_learn r Inside got = told_as (spin_at_phase r Inside) []
+spin_learn r Releasing got = told_as (spin_at_phase r Out) []
 
-abbrev pub spin_standing : Phase → Standing
+abbrev pub spin_standing : SpinPhase → Standing
 spin_standing Out = standing.Out
 spin_standing Trying = standing.Asking
 spin_standing Inside = standing.Writer
@@ -49,11 +49,11 @@ spin_table home =
     record {
       size = 1;
       spot = λ w. record { class = class.Card; home = home };
-      first = λ r. at_phase r Out;
-      ask = λ v m. at_phase v.rank Trying;
+      first = λ r. spin_at_phase r Out;
+      ask = λ v m. spin_at_phase v.rank Trying;
       plan = λ v. spin_plan v.rank v.phase;
       learn = λ v got. spin_learn v.rank v.phase got;
-      leave = λ v. at_phase v.rank Releasing;
+      leave = λ v. spin_at_phase v.rank Releasing;
       standing = λ v. spin_standing v.phase;
       queues = [];
       cohort = λ c. false;
@@ -62,7 +62,7 @@ spin_table home =
     }
 
 -- a rank in this phase has its number in the word
-abbrev pub Owns : Phase → Type 0
+abbrev pub Owns : SpinPhase → Type 0
 Owns Out = ⊥
 Owns Trying = ⊥
 Owns Inside = Unit {0}

@@ -1,10 +1,10 @@
 -- What is left to do at the spin lock: of each rank the acts up to its work, or after it.
 use Rattle.std.specs.Prelude.{ℕ, List, sum_by}
 use Rattle.rl_spin.specs.declared.view.SpinView.{SpinView}
-use Rattle.rl_spin.specs.declared.view.Phase.{Phase}
-use Rattle.rl_spin.specs.declared.view.Phase.TheVariants.{Out, Trying, Inside, Releasing}
+use Rattle.rl_spin.specs.declared.view.SpinPhase.{SpinPhase}
+use Rattle.rl_spin.specs.declared.view.SpinPhase.TheVariants.{Out, Trying, Inside, Releasing}
 
-abbrev pub acts_in : Phase → ℕ
+abbrev pub acts_in : SpinPhase → ℕ
 acts_in Out = 0
 acts_in Trying = 1
 acts_in Inside = 0

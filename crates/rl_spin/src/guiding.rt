@@ -5,7 +5,7 @@ ghost use Rattle.rl_spin.specs.SpinUrgency.{spin_urgent};
 ghost use Rattle.rl_spin.specs.laws.SpinGuiding.{spin_guides};
 
 use crate::spin::Spin;
-use crate::view::{Phase, SpinView};
+use crate::view::{SpinPhase, SpinView};
 use rl_ending::Guiding;
 use rl_step::Words;
 
@@ -14,9 +14,9 @@ impl Guiding for Spin {
 
     fn urgency(&self, view: SpinView, words: &Words, base: u32) -> Option<u32> {
         match view.phase {
-            Phase::Out => None,
-            Phase::Trying if words.value(base) != 0 => None,
-            Phase::Trying | Phase::Inside | Phase::Releasing => Some(0),
+            SpinPhase::Out => None,
+            SpinPhase::Trying if words.value(base) != 0 => None,
+            SpinPhase::Trying | SpinPhase::Inside | SpinPhase::Releasing => Some(0),
         }
     }
 

@@ -18,4 +18,4 @@ mod spin;
 mod view;
 
 pub use spin::Spin;
-pub use view::{Phase, SpinView};
+pub use view::{SpinPhase, SpinView};

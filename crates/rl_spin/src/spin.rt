@@ -7,7 +7,7 @@ ghost use Rattle.rl_step.specs.Lock.{no_more};
 ghost use Rattle.rl_spin.specs.Spin.{spin_table, SpinGood};
 ghost use Rattle.rl_spin.specs.laws.SpinLaws.{spin_laws};
 
-use crate::view::{Phase, SpinView};
+use crate::view::{SpinPhase, SpinView};
 use arrayvec::ArrayVec;
 use rl_step::{Algo, Event, Standing};
 use rl_word::{Act, Class, Knobs, LockName, Mode, Shape, Spot};
@@ -23,7 +23,7 @@ pub struct Spin {
 }
 
 /// The view of a rank in a phase.
-fn at(rank: u32, phase: Phase) -> SpinView
+fn at(rank: u32, phase: SpinPhase) -> SpinView
     ensures { result ≡ record { rank = rank; phase = phase } }
 {
     SpinView { rank, phase }
@@ -79,49 +79,49 @@ impl Algo for Spin {
     }
 
     fn first(&self, rank: u32) -> SpinView {
-        at(rank, Phase::Out)
+        at(rank, SpinPhase::Out)
     }
 
     fn ask(&self, view: SpinView, _mode: Mode) -> SpinView {
-        at(view.rank, Phase::Trying)
+        at(view.rank, SpinPhase::Trying)
     }
 
     fn plan(&self, view: SpinView) -> Option<Act> {
         match view.phase {
-            Phase::Trying => Some(Act::CardCas {
+            SpinPhase::Trying => Some(Act::CardCas {
                 word: 0,
                 old: 0,
                 new: view.rank as u64 + 1,
             }),
-            Phase::Releasing => Some(Act::CardSwap { word: 0, value: 0 }),
-            Phase::Out | Phase::Inside => None,
+            SpinPhase::Releasing => Some(Act::CardSwap { word: 0, value: 0 }),
+            SpinPhase::Out | SpinPhase::Inside => None,
         }
     }
 
     fn learn(&self, view: &mut SpinView, got: u64, events: &mut ArrayVec<Event, 8>) -> bool {
         match view.phase {
-            Phase::Trying => {
+            SpinPhase::Trying => {
                 if got == 0 {
                     events.push(Event::EnterW { rank: view.rank });
-                    view.phase = Phase::Inside;
+                    view.phase = SpinPhase::Inside;
                 }
             }
-            Phase::Releasing => view.phase = Phase::Out,
-            Phase::Out | Phase::Inside => {}
+            SpinPhase::Releasing => view.phase = SpinPhase::Out,
+            SpinPhase::Out | SpinPhase::Inside => {}
         }
         false
     }
 
     fn leave(&self, view: SpinView) -> SpinView {
-        at(view.rank, Phase::Releasing)
+        at(view.rank, SpinPhase::Releasing)
     }
 
     fn standing(&self, view: SpinView) -> Standing {
         match view.phase {
-            Phase::Out => Standing::Out,
-            Phase::Trying => Standing::Asking,
-            Phase::Inside => Standing::Writer,
-            Phase::Releasing => Standing::Leaving,
+            SpinPhase::Out => Standing::Out,
+            SpinPhase::Trying => Standing::Asking,
+            SpinPhase::Inside => Standing::Writer,
+            SpinPhase::Releasing => Standing::Leaving,
         }
     }
 

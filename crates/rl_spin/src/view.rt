@@ -2,7 +2,7 @@
 
 /// Where a rank is in its use of the lock.
 #[derive(Clone, Copy, PartialEq, Eq, Debug)]
-pub enum Phase {
+pub enum SpinPhase {
     /// It doesn't use the lock.
     Out,
     /// It makes its compare-and-swap until that succeeds.
@@ -17,5 +17,5 @@ pub enum Phase {
 #[derive(Clone, Copy, PartialEq, Eq, Debug)]
 pub struct SpinView {
     pub rank: u32,
-    pub phase: Phase,
+    pub phase: SpinPhase,
 }

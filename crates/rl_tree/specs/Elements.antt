@@ -27,8 +27,8 @@ first_node_of (Some x) = x.first_node
 abbrev pub is_node : Rooted → ℕ → Bool
 is_node K e = node_in K.shape e
 
-abbrev pub leaf_of : Rooted → ℕ → ℕ
-leaf_of K r = leaf_in K.shape r
+abbrev pub leaf_of_rank : Rooted → ℕ → ℕ
+leaf_of_rank K r = leaf_in K.shape r
 
 -- Words: the tail of each element; then the next word and the status word of each element but the root; then those of each rank.
 abbrev pub words_of_elements : TheShape → ℕ

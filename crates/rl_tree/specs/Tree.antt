@@ -9,7 +9,7 @@ use Rattle.rl_step.specs.declared.events.Standing.TheVariants as standing
 use Rattle.rl_step.specs.Lock.{Told}
 use Rattle.rl_queue.specs.declared.view.Phase.{Phase}
 use Rattle.rl_queue.specs.declared.view.Phase.TheVariants.{Idle, Clear, Settle, Granted, Look, Above}
-use Rattle.rl_queue.specs.Queue.{TheNames, Turn, status_word, full_budget, plan_at, turn_at, settled_at, resume_at}
+use Rattle.rl_queue.specs.Queue.{TheNames, QueueTurn, status_word, full_budget, plan_at, turn_at, settled_at, resume_at}
 use Rattle.rl_queue.specs.Standings.{standing_of}
 use Rattle.rl_queue.specs.Lane.{told_left}
 use Rattle.rl_tree.specs.declared.view.TreeView.{TreeView}
@@ -99,15 +99,15 @@ abbrev pub goes_down : TreeView → ℕ → List Event → Told TreeView
 goes_down v zero es = record { view = at_level v 0 Idle; events = es; waits = false }
 goes_down v (suc j) es = record { view = at_level v j (resume_at (Above (behind_at v.behind j))); events = es; waits = false }
 
-abbrev pub walk : TheTree → TreeView → ℕ → Phase → List Event → Bool → Told TreeView
-walk T v w Settle es b = goes_up (is_none (T.parent (path T v.leaf w))) v w es
-walk T v w (Granted left) es b = comes_in T v w left es
-walk T v w (Above s) es b = gives_up (is_none (T.parent (path T v.leaf w))) v w s es
-walk T v w Idle es b = goes_down v w es
-walk T v w p es b = record { view = at_level v w p; events = es; waits = b }
+abbrev pub tree_walk : TheTree → TreeView → ℕ → Phase → List Event → Bool → Told TreeView
+tree_walk T v w Settle es b = goes_up (is_none (T.parent (path T v.leaf w))) v w es
+tree_walk T v w (Granted left) es b = comes_in T v w left es
+tree_walk T v w (Above s) es b = gives_up (is_none (T.parent (path T v.leaf w))) v w s es
+tree_walk T v w Idle es b = goes_down v w es
+tree_walk T v w p es b = record { view = at_level v w p; events = es; waits = b }
 
-abbrev pub walk_turn : TheTree → TreeView → ℕ → Turn → Told TreeView
-walk_turn T v w t = walk T v w t.phase t.events t.waits
+abbrev pub walk_turn : TheTree → TreeView → ℕ → QueueTurn → Told TreeView
+walk_turn T v w t = tree_walk T v w t.phase t.events t.waits
 
 abbrev pub learn_by : TheTree → TreeView → Bool → ℕ → Told TreeView
 learn_by T v true got = record { view = at_level v v.level (Look (told_left (names_at T v v.level).budget got) (has_above (names_at T v v.level).budget)); events = []; waits = false }

@@ -16,7 +16,7 @@ use Rattle.rl_queue.specs.QueueGood.{QueueGood}
 use Rattle.rl_tree.specs.declared.view.TreeView.{TreeView}
 use Rattle.rl_tree.specs.Tree.{has_above, path, at_level, tree_plan, tree_learn, at_hook, tree_resume, tree_standing, entry_if}
 use Rattle.rl_tree.specs.declared.rooted.Rooted.{Rooted}
-use Rattle.rl_tree.specs.Elements.{how_many, ranks_in, leaf_of, of_tree, names_in, tree_of, tree_spot, queue_at, queues_from, out_at}
+use Rattle.rl_tree.specs.Elements.{how_many, ranks_in, leaf_of_rank, of_tree, names_in, tree_of, tree_spot, queue_at, queues_from, out_at}
 use Rattle.rl_tree.specs.Fits.{IsPlaced, MayPlan, TreeMayLearn}
 use Rattle.rl_tree.specs.TreeGood.{IsGrantedAt, InQueue, GoodAt}
 
@@ -84,7 +84,7 @@ module _ (K : Rooted) (levels : ℕ) where
 
   -- the opening state is good, and the root shut
   abbrev pub Begins : Type 0
-  Begins = (size : ℕ) → of_tree K ≤ size → GoodAt K levels false (replicate size 0) (first_views (λ r. out_at r (leaf_of K r)) 0 (ranks_in K)) []
+  Begins = (size : ℕ) → of_tree K ≤ size → GoodAt K levels false (replicate size 0) (first_views (λ r. out_at r (leaf_of_rank K r)) 0 (ranks_in K)) []
 
   -- a good tree stays good, and its root as open, where a word behind the tree's is written
   abbrev pub BeyondKeeps : Type 0

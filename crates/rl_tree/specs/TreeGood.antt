@@ -14,7 +14,7 @@ use Rattle.rl_queue.specs.Standings.{standing_of}
 use Rattle.rl_tree.specs.declared.view.TreeView.{TreeView}
 use Rattle.rl_tree.specs.Tree.{has_above, hook_by, path, works_for, behind_at}
 use Rattle.rl_tree.specs.declared.rooted.Rooted.{Rooted}
-use Rattle.rl_tree.specs.Elements.{how_many, leaf_of, is_node, is_in, names_in, tree_of, queue_at}
+use Rattle.rl_tree.specs.Elements.{how_many, leaf_of_rank, is_node, is_in, names_in, tree_of, queue_at}
 
 -- How the way to a queue's head stands: nobody has it, a head has to settle, somebody has it, or it is being given up.
 pub data Gate : Type 0 where
@@ -132,7 +132,7 @@ granted_in (Some h) = one_if h.phase
 -- A tree is good by these phases of members, these lines and these counts of ended tenures: each rank has its view, and each queue is
 -- good; a view tells the phases of those for whom it works; and the gate of an element's queue tells how it stands in its parent's.
 pub record IsGoodBy (K : Rooted) (levels : ℕ) (phase : ℕ → ℕ → Phase) (line : ℕ → List ℕ) (ended : ℕ → ℕ) (words : List ℕ) (views : List TreeView) (trace : List Event) : Type 0 where
-  pub own : (r : ℕ) (v : TreeView) → slice_get views r ≡ Some v → (v.rank ≡ r) × (v.leaf ≡ leaf_of K r)
+  pub own : (r : ℕ) (v : TreeView) → slice_get views r ≡ Some v → (v.rank ≡ r) × (v.leaf ≡ leaf_of_rank K r)
   pub shaped : (r : ℕ) (v : TreeView) → slice_get views r ≡ Some v → Shaped levels v
   pub queue : (q : ℕ) → q < how_many K → QueueGood (names_in K q) (InQueue K q) words (phase q) (line q) trace (ended q)
   pub below : (r : ℕ) (v : TreeView) (j : ℕ) → slice_get views r ≡ Some v → j < v.level → phase (path (tree_of K) v.leaf j) (works_for (tree_of K) v j) ≡ below_by (way_of v.query v.phase) (behind_at v.behind j)

@@ -4,7 +4,7 @@ ghost use Rattle.std.specs.Prelude.{◌≡◌, ℕ, ◌+◌, ◌*◌, ◌<◌, �
 ghost use Rattle.rl_word.specs.Shapes.{IsProper};
 ghost use Rattle.rl_step.specs.LockQueues.{stands};
 ghost use Rattle.rl_queue.specs.RankWords.{every_second};
-ghost use Rattle.rl_tree.specs.Elements.{how_many, ranks_in, leaf_of, of_tree, names_by, names_in, all_names, upto, tree_of, tree_spot, out_at};
+ghost use Rattle.rl_tree.specs.Elements.{how_many, ranks_in, leaf_of_rank, of_tree, names_by, names_in, all_names, upto, tree_of, tree_spot, out_at};
 ghost use Rattle.rl_tree.specs.TreeShape.{IsBudgeted, IsTreeLaid, levels_of};
 
 use crate::rooted::Rooted;
@@ -184,7 +184,7 @@ impl Tree {
     /// The view of a rank that is out.
     pub fn first(&self, rank: u32) -> TreeView
         requires { rank < ranks_in self.now.rooted }
-        ensures { result ≡ out_at rank (leaf_of self.now.rooted rank) }
+        ensures { result ≡ out_at rank (leaf_of_rank self.now.rooted rank) }
     {
         let node = self.rooted.shape.node_of[rank as usize];
         TreeView::out(rank, self.rooted.shape.leaf_of[node as usize])

@@ -5,7 +5,7 @@ ghost use Rattle.rl_step.specs.declared.events.Event.{Event as TheEvent};
 ghost use Rattle.rl_step.specs.Lock.{Rests};
 ghost use Rattle.rl_queue.specs.Queue.{full_budget, resume_at};
 ghost use Rattle.rl_queue.specs.Lane.{told_left};
-ghost use Rattle.rl_tree.specs.Tree.{path, is_none, behind_at, leaves_behind, member_at as the_member, inside_from, settles_below, comes_in as the_entry, goes_up as the_rise, gives_up as the_release, goes_down as the_descent, walk as the_walk, tree_plan, tree_standing, tree_learn, at_hook, resume_by, entry_if};
+ghost use Rattle.rl_tree.specs.Tree.{path, is_none, behind_at, leaves_behind, member_at as the_member, inside_from, settles_below, comes_in as the_entry, goes_up as the_rise, gives_up as the_release, goes_down as the_descent, tree_walk as the_walk, tree_plan, tree_standing, tree_learn, at_hook, resume_by, entry_if};
 ghost use Rattle.rl_tree.specs.Elements.{how_many, tree_of};
 ghost use Rattle.rl_tree.specs.Fits.{IsPlaced, MayPlan, TreeMayLearn, StatusFits};
 

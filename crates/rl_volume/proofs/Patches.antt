@@ -7,7 +7,7 @@ use Rattle.std.proofs.lemmas.Iterator.Adapters.{position_from-zero}
 use Rattle.rl_model.proofs.Counts.{count-cons}
 use Rattle.rl_volume.specs.declared.write.Write.{Write}
 use Rattle.rl_volume.specs.Seen.{value_of, AgreesWith, AreApart, with_value, patched}
-use Rattle.rl_volume.specs.Decision.{written}
+use Rattle.rl_volume.specs.Decision.{words_written}
 use Rattle.rl_volume.proofs.Sums.{cond_false}
 use Rattle.rl_volume.proofs.SeenLaws.{value_more}
 
@@ -43,7 +43,7 @@ agrees_one pairs words word value there agrees w =
     ] refl)
 
 -- and after all the writes
-pub agrees_below : (room : ℕ) (ws : List Write) (pairs : List (ℕ × ℕ)) (words : List ℕ) → length words ≡ room → All (λ w. w.word < room) ws → AgreesWith pairs words → AgreesWith (patched pairs ws) (written words ws)
+pub agrees_below : (room : ℕ) (ws : List Write) (pairs : List (ℕ × ℕ)) (words : List ℕ) → length words ≡ room → All (λ w. w.word < room) ws → AgreesWith pairs words → AgreesWith (patched pairs ws) (words_written words ws)
 agrees_below room [] pairs words size all agrees = agrees
 agrees_below room (w ∷ ws) pairs words size all agrees =
     let here : w.word < length words = let h = All-head (λ v. v.word < room) w ws all in omega arith in
@@ -51,12 +51,12 @@ agrees_below room (w ∷ ws) pairs words size all agrees =
     (agrees_one pairs words w.word w.value here agrees)
 
 -- a word that isn't in the patched list was not read, and no write names it
-pub patched_none : (ws : List Write) (pairs : List (ℕ × ℕ)) (w : ℕ) → value_of (patched pairs ws) w ≡ None → (value_of pairs w ≡ None) × ((words : List ℕ) → slice_index (written words ws) w ≡ slice_index words w)
+pub patched_none : (ws : List Write) (pairs : List (ℕ × ℕ)) (w : ℕ) → value_of (patched pairs ws) w ≡ None → (value_of pairs w ≡ None) × ((words : List ℕ) → slice_index (words_written words ws) w ≡ slice_index words w)
 patched_none [] pairs w none = (none, λ words. refl)
 patched_none (v ∷ ws) pairs w none =
     let q = patched_none ws (with_value pairs v.word v.value) w none in
     let here : cond (eqb v.word w) (Some v.value) (value_of pairs w) ≡ None = sym (value_patched pairs v.word v.value w) ∙ q.0 in
-    elim (eqb v.word w) as (λ b. eqb v.word w ≡ b → cond b (Some v.value) (value_of pairs w) ≡ None → (value_of pairs w ≡ None) × ((words : List ℕ) → slice_index (written words (v ∷ ws)) w ≡ slice_index words w)) [
+    elim (eqb v.word w) as (λ b. eqb v.word w ≡ b → cond b (Some v.value) (value_of pairs w) ≡ None → (value_of pairs w ≡ None) × ((words : List ℕ) → slice_index (words_written words (v ∷ ws)) w ≡ slice_index words w)) [
       | true ↦ λ e bad. absurd (cc)
       | false ↦ λ e is.
           let other : w ≢ v.word = grind (arith, nat_tests) in

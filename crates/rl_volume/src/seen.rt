@@ -4,7 +4,7 @@ ghost use Rattle.std.specs.List.{All};
 ghost use Rattle.rl_model.specs.Geom.{GeomFits};
 ghost use Rattle.rl_volume.specs.Words as word;
 ghost use Rattle.rl_volume.specs.Seen.{value_of, value_or_zero, AgreesWith, with_value, patched};
-ghost use Rattle.rl_volume.specs.Decision.{written};
+ghost use Rattle.rl_volume.specs.Decision.{words_written};
 
 use crate::words::volume_words;
 use crate::write::Write;
@@ -77,7 +77,7 @@ impl Seen {
         requires in_volume { All (λ w. w.word < self.old.room) writes.now.items }
         ensures patched { self.new.pairs ≡ patched self.old.pairs writes.now.items }
         ensures room { self.new.room ≡ self.old.room }
-        ensures agrees { (words : List ℕ) → length words ≡ self.old.room → AgreesWith self.old.pairs words → AgreesWith self.new.pairs (written words writes.now.items) }
+        ensures agrees { (words : List ℕ) → length words ≡ self.old.room → AgreesWith self.old.pairs words → AgreesWith self.new.pairs (words_written words writes.now.items) }
     {
         self.write_all(writes.as_slice());
     }

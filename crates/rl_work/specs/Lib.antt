@@ -10,5 +10,5 @@ pub mod WorkEnding
 pub mod LockedLeft
 -- for ways of working that read without a lock
 pub mod Unlocked
-pub mod EndLaws
+pub mod PlainWork
 pub mod laws

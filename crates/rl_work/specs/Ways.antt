@@ -16,7 +16,7 @@ use Rattle.rl_step.specs.declared.events.Stepped.TheVariants.{Moved, Waiting, Lo
 use Rattle.rl_step.specs.Lock.{IsHolder, Rests, Shift, Suits}
 use Rattle.rl_step.specs.Do.{do_got, do_words}
 use Rattle.rl_volume.specs.Volume.{IsVolume}
-use Rattle.rl_journal.specs.Blocks.{batch_of, calls_of, is_tenure}
+use Rattle.rl_journal.specs.Blocks.{batch_number, calls_of, is_tenure}
 use Rattle.rl_journal.specs.Legal.{IsLegal, table_after}
 use Rattle.rl_journal.specs.History.{history, IsSorted}
 use Rattle.rl_work.specs.declared.follow.Follow.{Follow}
@@ -105,7 +105,7 @@ pub record EndsWork (shard rank : ℕ) (a b : Look) : Type 0 where
   pub entries : List Entry
   pub items : b.items ≡ a.items ++ entries
   pub calls_are : calls_of entries ≡ a.calls
-  pub tells : Tells shard rank (batch_of (length a.calls)) a.seq 0 entries
+  pub tells : Tells shard rank (batch_number (length a.calls)) a.seq 0 entries
 
 abbrev pub AtomWork : ℕ → ℕ → Look → Look → Type 0
 AtomWork shard rank a b = BlockGoesOn a b ⊎ EndsWork shard rank a b

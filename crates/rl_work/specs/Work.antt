@@ -14,7 +14,7 @@ use Rattle.rl_volume.specs.Decision.{decision}
 use Rattle.rl_work.specs.declared.stage.Stage.{Stage}
 use Rattle.rl_work.specs.declared.stage.Stage.TheVariants.{Rest, Begin, Read, Journal, Volume}
 use Rattle.rl_journal.specs.Journal.{spelled}
-use Rattle.rl_journal.specs.Blocks.{undone, stops, batch_of}
+use Rattle.rl_journal.specs.Blocks.{undone, stops, batch_number}
 use Rattle.rl_site.specs.Site.{count_word, volume_base, journal_base}
 use Rattle.rl_site.specs.Transcript.{TheTranscript}
 
@@ -104,7 +104,7 @@ with_stop x a rest = record x { replies = undone x.replies ++ a ∷ undone rest;
 
 -- the block's batch number
 abbrev pub batch_in : TheWork → ℕ
-batch_in x = batch_of (length x.calls)
+batch_in x = batch_number (length x.calls)
 
 -- the entries of calls with their replies, from a number, a place and a part on
 abbrev pub entries_of : ℕ → ℕ → ℕ → ℕ → ℕ → ℕ → List Call → List Reply → List Entry

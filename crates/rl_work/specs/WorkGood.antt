@@ -13,7 +13,7 @@ use Rattle.rl_volume.specs.declared.write.Write.{Write}
 use Rattle.rl_volume.specs.Words.{volume_words}
 use Rattle.rl_volume.specs.Volume.{IsVolume}
 use Rattle.rl_volume.specs.Seen.{AgreesWith, AreNamed, value_of, next_word}
-use Rattle.rl_volume.specs.Decision.{written}
+use Rattle.rl_volume.specs.Decision.{words_written}
 use Rattle.rl_work.specs.declared.stage.Stage.{Stage}
 use Rattle.rl_work.specs.declared.stage.Stage.TheVariants.{Rest, Begin, Read, Journal, Volume}
 use Rattle.rl_journal.specs.Journal.{Agrees, spelled}
@@ -67,7 +67,7 @@ pub record IsNext (site : Site) (rank : ℕ) (journal : List Entry) (before : Li
   pub legal : IsLegalBlock site.geom (table_after site.geom finite.empty journal) (length journal) b
   pub mine : legal.rank ≡ rank
   pub inside : All (λ w. w.word < volume_words site.geom) writes
-  pub makes : IsVolume site.geom site.shard (written before writes) (table_after site.geom finite.empty (journal ++ b))
+  pub makes : IsVolume site.geom site.shard (words_written before writes) (table_after site.geom finite.empty (journal ++ b))
 
 -- a rank has decided the first calls of its block and none stopped it, and knows the volume that their writes would make
 pub record IsPartly (site : Site) (journal : List Entry) (before : List ℕ) (calls : List Call) (replies : List Reply) (writes : List Write) (pairs : List (ℕ × ℕ)) (rest : List Call) : Type 0 where
@@ -75,11 +75,11 @@ pub record IsPartly (site : Site) (journal : List Entry) (before : List ℕ) (ca
   pub split : first ++ rest ≡ calls
   pub replies_are : replies ≡ (in_turn site.geom (table_after site.geom finite.empty journal) first).1
   pub none_stops : (length calls ≡ 1 → ⊥) → any_stops replies ≡ false
-  pub makes : IsVolume site.geom site.shard (written before writes) (in_turn site.geom (table_after site.geom finite.empty journal) first).0
+  pub makes : IsVolume site.geom site.shard (words_written before writes) (in_turn site.geom (table_after site.geom finite.empty journal) first).0
   pub inside : All (λ w. w.word < volume_words site.geom) writes
-  pub agrees : AgreesWith pairs (written before writes)
+  pub agrees : AgreesWith pairs (words_written before writes)
   -- the kept writes are all among what was seen, so the words that are still to be read have their values
-  pub elsewhere : (word : ℕ) → value_of pairs word ≡ None → slice_index (written before writes) word ≡ slice_index before word
+  pub elsewhere : (word : ℕ) → value_of pairs word ≡ None → slice_index (words_written before writes) word ≡ slice_index before word
 
 -- of a rank's side
 abbrev pub HasDecided : Site → List Entry → List ℕ → TheWork → List Call → Type 0
@@ -121,7 +121,7 @@ FitsAt site words journal before rank x (Journal made) =
     IsDecided site rank journal before x × (made < 6 * length x.work.entries) × IsSpelled site.geom words journal x.work.entries made
 FitsAt site words journal before rank x (Volume made) =
     IsDecided site rank journal before x × (made ≤ length x.work.writes) × IsSpelled site.geom words journal x.work.entries (6 * length x.work.entries)
-    × (volume_of site.geom words ≡ written before (take made x.work.writes))
+    × (volume_of site.geom words ≡ words_written before (take made x.work.writes))
 
 abbrev pub Fits : Site → List ℕ → List Entry → List ℕ → ℕ → WorkSide → Type 0
 Fits site words journal before rank x = FitsAt site words journal before rank x x.work.stage

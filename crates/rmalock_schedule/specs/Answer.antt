@@ -9,7 +9,7 @@ use Rattle.rl_replay.specs.declared.complaint.Complaint.{Complaint}
 use Rattle.rl_replay.specs.declared.complaint.Stop.{Stop}
 use Rattle.rl_replay.specs.Reading.{◌>>=◌, EndsEarly, Ends, within, refused_in, placed, called}
 use Rattle.rl_replay.specs.Files.{Names, Texts, AreTexts, MayOpenFiles, name_of, refused_line}
-use Rattle.rl_cores.specs.Kinds.{kind_of}
+use Rattle.rl_cores.specs.Kinds.{lock_kind_of}
 use Rattle.rl_sketch.specs.declared.sketch.Sketch.{Sketch}
 use Rattle.rl_drawing.specs.declared.outcome.Drawn.{Drawn}
 use Rattle.rl_drawing.specs.declared.outcome.Drawn.TheVariants.{Whole, Never}
@@ -41,7 +41,7 @@ spelled texts = do
 
 -- a sketch comes to this, over the lock of its placement
 abbrev pub Comes : Sketched → Drawn → Type 0
-Comes s drawn = ComesTo (kind_of s.place.lock).defined s.place s.ops s.sketch drawn
+Comes s drawn = ComesTo (lock_kind_of s.place.lock).defined s.place s.ops s.sketch drawn
 
 -- `refused NAME LINE 0 never`
 abbrev pub never_line : List ℕ → ℕ → List ℕ

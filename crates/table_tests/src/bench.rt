@@ -3,7 +3,7 @@
 ghost use Rattle.std.specs.Prelude.{◌≡◌, ◌++◌, ◌≤◌, [], replicate, IfOk};
 ghost use Rattle.rl_model.specs.Geom.{GeomFits};
 ghost use Rattle.rl_step.specs.Do.{CanDo, do_got, do_words};
-ghost use Rattle.rl_work.specs.EndLaws.{IsPlain};
+ghost use Rattle.rl_work.specs.PlainWork.{IsPlain};
 ghost use Rattle.rl_site.specs.Site.{Site, places};
 ghost use Rattle.rl_site.specs.Opens.{opening_words};
 

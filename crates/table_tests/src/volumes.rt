@@ -8,7 +8,7 @@ ghost use Rattle.rl_volume.specs.Words as place;
 ghost use Rattle.std.specs.List.{All};
 ghost use Rattle.rl_volume.specs.Volume.{IsVolume};
 ghost use Rattle.rl_volume.specs.Seen.{AgreesWith, next_word};
-ghost use Rattle.rl_volume.specs.Decision.{written};
+ghost use Rattle.rl_volume.specs.Decision.{words_written};
 
 use rl_model::{Call, Geom, Plain, Reply};
 use rl_volume::{Seen, Write, content, decide, next_read, start_word, volume_words};
@@ -53,7 +53,7 @@ fn read(rt: &impl Abort, geom: Geom, call: Call, words: &[u64], seen: &mut Seen)
 // Makes the writes in their order.
 fn make(words: &mut [u64], writes: &[Write])
     requires { All (λ w. w.word < length words.old) writes.now }
-    ensures { words.new ≡ written words.old writes.now }
+    ensures { words.new ≡ words_written words.old writes.now }
 {
     for write in writes {
         words[write.word as usize] = write.value;

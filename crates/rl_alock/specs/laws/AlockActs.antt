@@ -10,18 +10,18 @@ use Rattle.rl_step.specs.Queues.{tenures}
 use Rattle.rl_step.specs.laws.QueueLemmas.{tenures-append}
 use Rattle.rl_queue.specs.declared.view.Phase.{Phase}
 use Rattle.rl_queue.specs.declared.view.Phase.TheVariants.{Idle}
-use Rattle.rl_queue.specs.Queue.{TheNames, Turn, status_word, plan_at, turn_at}
+use Rattle.rl_queue.specs.Queue.{TheNames, QueueTurn, status_word, plan_at, turn_at}
 use Rattle.rl_queue.specs.Lane.{served}
 use Rattle.rl_queue.specs.QueueGood.{QueueGood}
 use Rattle.rl_queue.specs.laws.QueueLaws.{still_keeps}
 use Rattle.rl_queue.specs.laws.QueueMoves.{act_keeps}
 use Rattle.rl_queue.specs.QueuesApart.{AllApart}
 use Rattle.rl_queue.specs.laws.QueueFrame.{beside_all_keep, other_queue_keeps}
-use Rattle.rl_alock.specs.declared.view.Entry.{Entry}
-use Rattle.rl_alock.specs.declared.view.Entry.TheVariants.{Announce, Victim}
+use Rattle.rl_alock.specs.declared.view.SettleStage.{SettleStage}
+use Rattle.rl_alock.specs.declared.view.SettleStage.TheVariants.{Announce, Victim}
 use Rattle.rl_alock.specs.declared.view.AlockView.{AlockView}
 use Rattle.rl_alock.specs.declared.cohort.Cohort.{Cohort}
-use Rattle.rl_alock.specs.Alock.{Cohorts, victim_no, cohort_of, ranks_of, names_of, queue_in, at_entry, entry_of, other}
+use Rattle.rl_alock.specs.Alock.{Cohorts, victim_no, cohort_of, ranks_of, names_of, queue_in, at_entry, entry_events, other}
 use Rattle.rl_alock.specs.AlockGood.{InCohort, phase_at, entry_at, phases_of, Flat, Announced, status_at, Entered, AlockGood}
 use Rattle.rl_alock.specs.laws.CohortLaws.{both}
 use Rattle.rl_alock.specs.laws.AlockViews.{phase_get, mine_is, moves_mine, moves_other}
@@ -78,16 +78,16 @@ module _ (K : Cohorts) where
   to_own ws vs c m e h = subst (λ z. served z (status_at K ws m) ≡ true) (sym (mine_is K c vs m e)) h
 
   -- An act of a queue. Rank k, of the cohort b, is in the phase p, and tu is its turn.
-  pub queue_lines : (s : LockState AlockView) (k : ℕ) (p : Phase) (st : Entry) (a : Act) (tu : Turn) → AlockGood K s → slice_get s.views k ≡ Some (at_entry k p st) → plan_at (names_of K (cohort_of K k)) k p ≡ Some a →
+  pub queue_lines : (s : LockState AlockView) (k : ℕ) (p : Phase) (st : SettleStage) (a : Act) (tu : QueueTurn) → AlockGood K s → slice_get s.views k ≡ Some (at_entry k p st) → plan_at (names_of K (cohort_of K k)) k p ≡ Some a →
       tu ≡ turn_at (names_of K (cohort_of K k)) k p (told a (slice_index s.words (word_of a))) →
-      Lines K (slice_set s.words (word_of a) (written a (slice_index s.words (word_of a)))) (slice_set s.views k (at_entry k tu.phase Announce)) (s.trace ++ (tu.events ++ entry_of k tu.phase))
-  queue_lines s k p st a tu0 g has pl et = subst (λ tu. Lines K (slice_set s.words (word_of a) (written a (slice_index s.words (word_of a)))) (slice_set s.views k (at_entry k tu.phase Announce)) (s.trace ++ (tu.events ++ entry_of k tu.phase))) (sym et) go where
+      Lines K (slice_set s.words (word_of a) (written a (slice_index s.words (word_of a)))) (slice_set s.views k (at_entry k tu.phase Announce)) (s.trace ++ (tu.events ++ entry_events k tu.phase))
+  queue_lines s k p st a tu0 g has pl et = subst (λ tu. Lines K (slice_set s.words (word_of a) (written a (slice_index s.words (word_of a)))) (slice_set s.views k (at_entry k tu.phase Announce)) (s.trace ++ (tu.events ++ entry_events k tu.phase))) (sym et) go where
     go : Lines K (slice_set s.words (word_of a) (written a (slice_index s.words (word_of a)))) (slice_set s.views k (at_entry k (turn_at (names_of K (cohort_of K k)) k p (told a (slice_index s.words (word_of a)))).phase Announce))
-        (s.trace ++ ((turn_at (names_of K (cohort_of K k)) k p (told a (slice_index s.words (word_of a)))).events ++ entry_of k (turn_at (names_of K (cohort_of K k)) k p (told a (slice_index s.words (word_of a)))).phase))
+        (s.trace ++ ((turn_at (names_of K (cohort_of K k)) k p (told a (slice_index s.words (word_of a)))).events ++ entry_events k (turn_at (names_of K (cohort_of K k)) k p (told a (slice_index s.words (word_of a)))).phase))
     go =
         let N : TheNames = names_of K (cohort_of K k) in
         let O : TheNames = names_of K (other (cohort_of K k)) in
-        let tu : Turn = turn_at (names_of K (cohort_of K k)) k p (told a (slice_index s.words (word_of a))) in
+        let tu : QueueTurn = turn_at (names_of K (cohort_of K k)) k p (told a (slice_index s.words (word_of a))) in
         let ws : List ℕ = slice_set s.words (word_of a) (written a (slice_index s.words (word_of a))) in
         let w : AlockView = at_entry k tu.phase Announce in
         let vs : List AlockView = slice_set s.views k (at_entry k tu.phase Announce) in
@@ -95,19 +95,19 @@ module _ (K : Cohorts) where
         let f : ℕ = tenures (queue_in K (other (cohort_of K k))) s.trace in
         let mine = act_keeps N (InCohort K (cohort_of K k)) s.words (phases_of K (cohort_of K k) s.views) (phases_of K (cohort_of K k) vs) (g.line (cohort_of K k)) s.trace e k p a
         (named_in K (cohort_of K k) (length s.words) g.all_words) (g.queue (cohort_of K k)) pl (moves_mine K (cohort_of K k) s.views k (at_entry k p st) w refl has) in
-        let mine2 = beside_all_keep N (InCohort K (cohort_of K k)) ws (phases_of K (cohort_of K k) vs) mine.0 (s.trace ++ tu.events) (entry_of k tu.phase) e mine.1 (entry_all (AllApart N.queue N.budget) k tu.phase tt (tt, tt)) in
+        let mine2 = beside_all_keep N (InCohort K (cohort_of K k)) ws (phases_of K (cohort_of K k) vs) mine.0 (s.trace ++ tu.events) (entry_events k tu.phase) e mine.1 (entry_all (AllApart N.queue N.budget) k tu.phase tt (tt, tt)) in
         let theirs = other_queue_keeps N O (InCohort K (cohort_of K k)) (InCohort K (other (cohort_of K k))) (cohorts_apart K (cohort_of K k)) s.words (phases_of K (cohort_of K k) s.views) (phases_of K (other (cohort_of K k)) s.views)
         (g.line (cohort_of K k)) (g.line (other (cohort_of K k))) s.trace e f k p a (g.queue (cohort_of K k)) (g.queue (other (cohort_of K k))) (mine_is K (cohort_of K k) s.views k refl ∙ phase_get s.views k (at_entry k p st) has) pl in
         let theirs1 = still_keeps O (InCohort K (other (cohort_of K k))) ws ws (phases_of K (other (cohort_of K k)) s.views) (phases_of K (other (cohort_of K k)) vs) (g.line (other (cohort_of K k))) (s.trace ++ tu.events) f theirs
         (λ x. moves_other K (cohort_of K k) s.views k w refl x (same_or_not x k)) refl (λ x i. refl) (λ x i. refl) in
-        let theirs2 = beside_all_keep O (InCohort K (other (cohort_of K k))) ws (phases_of K (other (cohort_of K k)) vs) (g.line (other (cohort_of K k))) (s.trace ++ tu.events) (entry_of k tu.phase) f theirs1 (entry_all (AllApart O.queue O.budget) k tu.phase tt (tt, tt)) in
-        let none : (c : Cohort) → tenures (queue_in K c) (tu.events ++ entry_of k tu.phase) ≡ 0 = λ c.
+        let theirs2 = beside_all_keep O (InCohort K (other (cohort_of K k))) ws (phases_of K (other (cohort_of K k)) vs) (g.line (other (cohort_of K k))) (s.trace ++ tu.events) (entry_events k tu.phase) f theirs1 (entry_all (AllApart O.queue O.budget) k tu.phase tt (tt, tt)) in
+        let none : (c : Cohort) → tenures (queue_in K c) (tu.events ++ entry_events k tu.phase) ≡ 0 = λ c.
         let x : tenures (queue_in K c) tu.events ≡ 0 = turn_all (λ z. tenures (queue_in K c) z ≡ 0) N k p (told a (slice_index s.words (word_of a))) refl refl (λ i. refl) in
-        let y : tenures (queue_in K c) (entry_of k tu.phase) ≡ 0 = entry_all (λ z. tenures (queue_in K c) z ≡ 0) k tu.phase refl refl in
-        let z = tenures-append (queue_in K c) tu.events (entry_of k tu.phase) in omega arith in
-        let line : (l : List ℕ) (c : Cohort) → QueueGood (names_of K c) (InCohort K c) ws (phases_of K c vs) l ((s.trace ++ tu.events) ++ entry_of k tu.phase) (tenures (queue_in K c) s.trace) →
-        HasLine K c ws (phases_of K c vs) (s.trace ++ (tu.events ++ entry_of k tu.phase)) (tenures (queue_in K c) (s.trace ++ (tu.events ++ entry_of k tu.phase))) = λ l c h.
-        quiet K c ws (phases_of K c vs) s.trace (tu.events ++ entry_of k tu.phase) (none c)
-        (l, subst (λ z. QueueGood (names_of K c) (InCohort K c) ws (phases_of K c vs) l z (tenures (queue_in K c) s.trace)) (append_assoc s.trace tu.events (entry_of k tu.phase)) h) in
-        both (λ c. HasLine K c ws (phases_of K c vs) (s.trace ++ (tu.events ++ entry_of k tu.phase)) (tenures (queue_in K c) (s.trace ++ (tu.events ++ entry_of k tu.phase))))
+        let y : tenures (queue_in K c) (entry_events k tu.phase) ≡ 0 = entry_all (λ z. tenures (queue_in K c) z ≡ 0) k tu.phase refl refl in
+        let z = tenures-append (queue_in K c) tu.events (entry_events k tu.phase) in omega arith in
+        let line : (l : List ℕ) (c : Cohort) → QueueGood (names_of K c) (InCohort K c) ws (phases_of K c vs) l ((s.trace ++ tu.events) ++ entry_events k tu.phase) (tenures (queue_in K c) s.trace) →
+        HasLine K c ws (phases_of K c vs) (s.trace ++ (tu.events ++ entry_events k tu.phase)) (tenures (queue_in K c) (s.trace ++ (tu.events ++ entry_events k tu.phase))) = λ l c h.
+        quiet K c ws (phases_of K c vs) s.trace (tu.events ++ entry_events k tu.phase) (none c)
+        (l, subst (λ z. QueueGood (names_of K c) (InCohort K c) ws (phases_of K c vs) l z (tenures (queue_in K c) s.trace)) (append_assoc s.trace tu.events (entry_events k tu.phase)) h) in
+        both (λ c. HasLine K c ws (phases_of K c vs) (s.trace ++ (tu.events ++ entry_events k tu.phase)) (tenures (queue_in K c) (s.trace ++ (tu.events ++ entry_events k tu.phase))))
         (cohort_of K k) (line mine.0 (cohort_of K k) mine2) (line (g.line (other (cohort_of K k))) (other (cohort_of K k)) theirs2)

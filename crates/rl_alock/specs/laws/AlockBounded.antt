@@ -17,11 +17,11 @@ use Rattle.rl_queue.specs.laws.QueueMoves.{one_first}
 use Rattle.rl_queue.specs.Standings.{standing_of}
 use Rattle.rl_queue.specs.laws.StandingLaws.{out_idle, no_reader}
 use Rattle.rl_queue.specs.RankWords.{Seated}
-use Rattle.rl_alock.specs.declared.view.Entry.{Entry}
-use Rattle.rl_alock.specs.declared.view.Entry.TheVariants.{Announce, Tail, Victim}
+use Rattle.rl_alock.specs.declared.view.SettleStage.{SettleStage}
+use Rattle.rl_alock.specs.declared.view.SettleStage.TheVariants.{Announce, Tail, Victim}
 use Rattle.rl_alock.specs.declared.view.AlockView.{AlockView}
 use Rattle.rl_alock.specs.declared.cohort.Cohort.{Cohort}
-use Rattle.rl_alock.specs.Alock.{Cohorts, BoundsOvertaking, cohort_of, cohort_no, tail_no, budget_in, names_of, queue_in, alock_plan, at_entry, settles_now, alock_table, other, is_in}
+use Rattle.rl_alock.specs.Alock.{Cohorts, BoundsOvertaking, cohort_of, cohort_no, tail_no, budget_in, names_of, queue_in, alock_plan, at_entry, settles_now, alock_table, other, is_in_cohort}
 use Rattle.rl_alock.specs.AlockGood.{InCohort, phase_at, entry_at, phases_of, Announced, status_at, AlockGood}
 use Rattle.rl_alock.specs.laws.CohortLaws.{other_differs, other_cohort}
 use Rattle.rl_alock.specs.laws.AlockViews.{phase_get, entry_get, mine_is}
@@ -34,7 +34,7 @@ use Rattle.rl_step.specs.laws.OvertakingLaws.{is_overtaken}
 
 module _ (K : Cohorts) where
   -- a head in the entry is the only first of its cohort
-  head_alone : (s : LockState AlockView) (k : ℕ) (st : Entry) → AlockGood K s → slice_get s.views k ≡ Some (at_entry k Settle st) → (m : ℕ) → cohort_of K m ≡ cohort_of K k → IsFirst (phase_at s.views m) (status_at K s.words m) → m ≡ k
+  head_alone : (s : LockState AlockView) (k : ℕ) (st : SettleStage) → AlockGood K s → slice_get s.views k ≡ Some (at_entry k Settle st) → (m : ℕ) → cohort_of K m ≡ cohort_of K k → IsFirst (phase_at s.views m) (status_at K s.words m) → m ≡ k
   head_alone s k st g has m e f =
       one_first (names_of K (cohort_of K k)) (InCohort K (cohort_of K k)) s.words (phases_of K (cohort_of K k) s.views) (g.line (cohort_of K k)) s.trace (tenures (queue_in K (cohort_of K k)) s.trace) m k (g.queue (cohort_of K k))
       (subst (λ z. IsFirst z (status_at K s.words m)) (sym (mine_is K (cohort_of K k) s.views m e)) f)
@@ -43,14 +43,14 @@ module _ (K : Cohorts) where
   abbrev After : LockState AlockView → Cohort → Cohort → ℕ → ℕ → ℕ → Told AlockView → Type 0
   After s c o k w x u = Overtaken K c o (slice_set s.words w x) (slice_set s.views k u.view) (s.trace ++ u.events)
 
-  looked : (s : LockState AlockView) (c o : Cohort) (ne : c ≢ o) (k w : ℕ) (st st' : Entry) (b : Bool) → slice_get s.views k ≡ Some (at_entry k Settle st) → (Announced Settle st → Announced Settle st') → ((B x : ℕ) (y : Bool) → pot B y st' Settle x ≤ pot B y st Settle x) →
+  looked : (s : LockState AlockView) (c o : Cohort) (ne : c ≢ o) (k w : ℕ) (st st' : SettleStage) (b : Bool) → slice_get s.views k ≡ Some (at_entry k Settle st) → (Announced Settle st → Announced Settle st') → ((B x : ℕ) (y : Bool) → pot B y st' Settle x ≤ pot B y st Settle x) →
       Overtaken K c o s.words s.views s.trace → After s c o k w (slice_index s.words w) (record { view = at_entry k Settle st'; events = []; waits = b })
   looked s c o ne k w st st' b has said less ov =
       subst (λ z. Overtaken K c o z (slice_set s.views k (at_entry k Settle st')) (s.trace ++ [])) (sym (load_same K s.words w))
       (still_overtakes K c o ne s.words s.views s.trace [] k (at_entry k Settle st) (at_entry k Settle st') has (λ x. refl) (λ x l. tt) said less ov)
 
-  settled_over : (s : LockState AlockView) (c o : Cohort) (ne : c ≢ o) (k w : ℕ) (st : Entry) → AlockGood K s → slice_get s.views k ≡ Some (at_entry k Settle st) →
-      (cohort_of K k ≡ o → (n : ℕ) → window_of (is_in K c) (cohort_no c) None s.trace ≡ Some n → pot_in K o s.words s.views k ≡ budget_in K o + 1) → Overtaken K c o s.words s.views s.trace → After s c o k w (slice_index s.words w) (settles_now (names_of K (cohort_of K k)) k)
+  settled_over : (s : LockState AlockView) (c o : Cohort) (ne : c ≢ o) (k w : ℕ) (st : SettleStage) → AlockGood K s → slice_get s.views k ≡ Some (at_entry k Settle st) →
+      (cohort_of K k ≡ o → (n : ℕ) → window_of (is_in_cohort K c) (cohort_no c) None s.trace ≡ Some n → pot_in K o s.words s.views k ≡ budget_in K o + 1) → Overtaken K c o s.words s.views s.trace → After s c o k w (slice_index s.words w) (settles_now (names_of K (cohort_of K k)) k)
   settled_over s c o ne k w st g has may ov =
       subst (λ z. Overtaken K c o z (slice_set s.views k (settles_now (names_of K (cohort_of K k)) k).view) (s.trace ++ (settles_now (names_of K (cohort_of K k)) k).events)) (sym (load_same K s.words w))
       (settle_overtakes K c o ne s.words s.views s.trace k st has (head_alone s k st g has) may ov)
@@ -64,7 +64,7 @@ module _ (K : Cohorts) where
   same_pot_back B x false = omega arith
 
   -- each planned act keeps the bound
-  act_over : (s : LockState AlockView) (k : ℕ) (p : Phase) (st : Entry) (a : Act) (c o : Cohort) → c ≢ o → AlockGood K s → slice_get s.views k ≡ Some (at_entry k p st) → alock_plan (names_of K (cohort_of K k)) (cohort_of K k) k p st ≡ Some a → Overtaken K c o s.words s.views s.trace →
+  act_over : (s : LockState AlockView) (k : ℕ) (p : Phase) (st : SettleStage) (a : Act) (c o : Cohort) → c ≢ o → AlockGood K s → slice_get s.views k ≡ Some (at_entry k p st) → alock_plan (names_of K (cohort_of K k)) (cohort_of K k) k p st ≡ Some a → Overtaken K c o s.words s.views s.trace →
       Overtaken K c o (acted (alock_table K) s k (at_entry k p st) a).words (acted (alock_table K) s k (at_entry k p st) a).views (acted (alock_table K) s k (at_entry k p st) a).trace
   act_over s k Idle st a c o ne g has pl ov = cc
   act_over s k Settle Announce a c o ne g has pl ov =
@@ -92,12 +92,12 @@ module _ (K : Cohorts) where
   act_over s k (Above x) st a c o ne g has pl ov = cc
   act_over s k p st a c o ne g has pl ov = queue_overtakes K c o s k p st a ne g has pl ov
 
-  ask_over : (s : LockState AlockView) (k : ℕ) (p : Phase) (st : Entry) (c o : Cohort) (ne : c ≢ o) → slice_get s.views k ≡ Some (at_entry k p st) → p ≡ Idle → Overtaken K c o s.words s.views s.trace → Overtaken K c o s.words (slice_set s.views k (at_entry k Clear Announce)) s.trace
+  ask_over : (s : LockState AlockView) (k : ℕ) (p : Phase) (st : SettleStage) (c o : Cohort) (ne : c ≢ o) → slice_get s.views k ≡ Some (at_entry k p st) → p ≡ Idle → Overtaken K c o s.words s.views s.trace → Overtaken K c o s.words (slice_set s.views k (at_entry k Clear Announce)) s.trace
   ask_over s k p st c o ne has e ov =
       subst (λ z. Overtaken K c o s.words (slice_set s.views k (at_entry k Clear Announce)) z) (append-nil s.trace)
       (still_overtakes K c o ne s.words s.views s.trace [] k (at_entry k Idle st) (at_entry k Clear Announce) (subst (λ z. slice_get s.views k ≡ Some (at_entry k z st)) e has) (λ x. refl) (λ x l. tt) (λ x. x) (λ B x y. omega arith) ov)
 
-  leave_over : (s : LockState AlockView) (k : ℕ) (p : Phase) (st : Entry) (c o : Cohort) (ne : c ≢ o) → slice_get s.views k ≡ Some (at_entry k p st) → standing_of p ≡ standing.Writer → Overtaken K c o s.words s.views s.trace →
+  leave_over : (s : LockState AlockView) (k : ℕ) (p : Phase) (st : SettleStage) (c o : Cohort) (ne : c ≢ o) → slice_get s.views k ≡ Some (at_entry k p st) → standing_of p ≡ standing.Writer → Overtaken K c o s.words s.views s.trace →
       Overtaken K c o s.words (slice_set s.views k (at_entry k (leave_at p false) Announce)) (s.trace ++ event.LeaveW k ∷ [])
   leave_over s k (Granted left) st c o ne has e ov =
       still_overtakes K c o ne s.words s.views s.trace (event.LeaveW k ∷ []) k (at_entry k (Granted left) st) (at_entry k (Look left false) Announce) has (λ x. refl) (λ x l. (l, tt)) (λ x. x) (λ B x y. omega arith) ov
@@ -156,7 +156,7 @@ module _ (K : Cohorts) where
         within = λ s q B d g has eb. laws.within s q B d g.good has eb;
         fifo = λ s q d g has. laws.fifo s q d g.good has;
         counted = λ s q d g out has. laws.counted s q d g.good out has;
-        goes_further = λ s g c. is_overtaken (is_in K c) (cohort_no c) (budget_in K (other c) + 1) s.trace (g.over c (other c) (other_differs c)).so_far;
+        goes_further = λ s g c. is_overtaken (is_in_cohort K c) (cohort_no c) (budget_in K (other c) + 1) s.trace (g.over c (other c) (other_differs c)).so_far;
         finds = λ s r v a one h. laws.finds s r v a one (acts s r v a h);
         moves_on = λ s r v a one h. laws.moves_on s r v a one (acts s r v a h);
       }

@@ -15,7 +15,7 @@ use Rattle.rl_queue.specs.declared.view.Phase.TheVariants.{Idle, Clear, Reset, S
 use Rattle.rl_queue.specs.laws.Choices.{choose, same_test}
 use Rattle.rl_queue.specs.Lane.{Lane, lane_of, Line, Busy, Has}
 use Rattle.rl_queue.specs.laws.LaneLaws.{listed_busy}
-use Rattle.rl_queue.specs.Queue.{TheNames, next_word, status_word, swap_act, turn_at, moves_to, moves_with, joined_at, leave_at}
+use Rattle.rl_queue.specs.Queue.{TheNames, queue_next_word, status_word, swap_act, turn_at, moves_to, moves_with, joined_at, leave_at}
 use Rattle.rl_queue.specs.laws.QueueMoves.{at_swap}
 use Rattle.rl_queue.specs.Standings.{standing_of}
 use Rattle.rl_queue.specs.laws.StandingLaws.{not_out_busy}
@@ -23,8 +23,8 @@ use Rattle.rl_queue.specs.laws.Stuck.{Stuck, Goes, GetsOn, Falls}
 use Rattle.rl_queue.specs.laws.TurnsFall.{turn_falls}
 use Rattle.rl_queue.specs.laws.LineGoes.{busy_goes}
 use Rattle.rl_alock.specs.declared.cohort.Cohort.{Cohort}
-use Rattle.rl_alock.specs.declared.view.Entry.{Entry}
-use Rattle.rl_alock.specs.declared.view.Entry.TheVariants.{Announce, Tail, Victim}
+use Rattle.rl_alock.specs.declared.view.SettleStage.{SettleStage}
+use Rattle.rl_alock.specs.declared.view.SettleStage.TheVariants.{Announce, Tail, Victim}
 use Rattle.rl_alock.specs.declared.view.AlockView.{AlockView}
 use Rattle.rl_alock.specs.Alock.{Cohorts, ranks_of, budget_in, cohort_of, cohort_no, tail_no, tail_class, victim_no, other, names_of, at_entry, settles_now, alock_plan, alock_learn, alock_table}
 use Rattle.rl_alock.specs.AlockGood.{AlockGood, InCohort, Flat, phases_of}
@@ -36,7 +36,7 @@ use Rattle.rl_ending.specs.Ending.{LockEnds, CanGoOn}
 use Rattle.rl_ending.specs.laws.SumLaws.{nearer, less_change, grows}
 use Rattle.rl_ending.specs.laws.EndingLaws.{all_out_or_not, ends_for}
 
-far_falls : (st : Entry) → Falls (λ p. far p st) (λ p. far p Announce)
+far_falls : (st : SettleStage) → Falls (λ p. far p st) (λ p. far p Announce)
 far_falls st =
     record {
       clear = omega arith;
@@ -51,7 +51,7 @@ far_falls st =
       hand = λ succ left. omega arith;
     }
 
-near_few : (tail victim : ℕ) (c : Cohort) (p : Phase) (st : Entry) → near tail victim c p st ≤ 3
+near_few : (tail victim : ℕ) (c : Cohort) (p : Phase) (st : SettleStage) → near tail victim c p st ≤ 3
 near_few tail victim c (Swing g) st = choose (λ k. k ≤ 3) (tail == g) 0 1 (omega arith) (omega arith)
 near_few tail victim c Settle Announce = omega arith
 near_few tail victim c Settle Tail = omega arith
@@ -63,7 +63,7 @@ module _ (K : Cohorts) where
   abbrev T : LockTable AlockView
   T = alock_table K
 
-  abbrev learns : ℕ → Phase → Entry → ℕ → AlockView
+  abbrev learns : ℕ → Phase → SettleStage → ℕ → AlockView
   learns m p st got = (alock_learn (names_of K (cohort_of K m)) (cohort_of K m) m p st got).view
 
   -- a head that hangs: it looks at the other queue's tail, which isn't 0, and is the victim
@@ -85,7 +85,7 @@ module _ (K : Cohorts) where
       (subst (λ z. alock_left K s.words (slice_set s.views m z) < alock_left K s.words s.views) (sym same_view) (less_change 3 far_of (near_of K s.words) s.views m v u has same_far lt))
 
   -- an act that brings its rank nearer, and one that gets its member on
-  by_act : (s : LockState AlockView) (m : ℕ) (p : Phase) (st : Entry) (a : Act) → slice_get s.views m ≡ Some (at_entry m p st) → alock_plan (names_of K (cohort_of K m)) (cohort_of K m) m p st ≡ Some a →
+  by_act : (s : LockState AlockView) (m : ℕ) (p : Phase) (st : SettleStage) (a : Act) → slice_get s.views m ≡ Some (at_entry m p st) → alock_plan (names_of K (cohort_of K m)) (cohort_of K m) m p st ≡ Some a →
       far_of (learns m p st (told a (slice_index s.words (word_of a)))) < far p st → CanGoOn T (alock_left K) s m
   by_act s m p st a has pl lt =
       record {
@@ -98,11 +98,11 @@ module _ (K : Cohorts) where
         });
       }
 
-  abbrev turn_far : (m : ℕ) (p : Phase) (st : Entry) (got : ℕ) → GetsOn p got → far (turn_at (names_of K (cohort_of K m)) m p got).phase Announce < far p st
+  abbrev turn_far : (m : ℕ) (p : Phase) (st : SettleStage) (got : ℕ) → GetsOn p got → far (turn_at (names_of K (cohort_of K m)) m p got).phase Announce < far p st
   turn_far m p st got gets = turn_falls (λ q. far q st) (λ q. far q Announce) (far_falls st) (names_of K (cohort_of K m)) m p got gets
 
   -- a load that brings its rank on by small change
-  by_load : (s : LockState AlockView) (m w : ℕ) (p : Phase) (st : Entry) (u : AlockView) → slice_get s.views m ≡ Some (at_entry m p st) → alock_plan (names_of K (cohort_of K m)) (cohort_of K m) m p st ≡ Some (Load w) →
+  by_load : (s : LockState AlockView) (m w : ℕ) (p : Phase) (st : SettleStage) (u : AlockView) → slice_get s.views m ≡ Some (at_entry m p st) → alock_plan (names_of K (cohort_of K m)) (cohort_of K m) m p st ≡ Some (Load w) →
       learns m p st (slice_index s.words w) ≡ u → far_of u ≡ far p st → near_of K s.words u < near_of K s.words (at_entry m p st) → CanGoOn T (alock_left K) s m
   by_load s m w p st u has pl same_view same_far lt =
       record {
@@ -116,7 +116,7 @@ module _ (K : Cohorts) where
       }
 
   -- a swing is won, or learns the tail
-  swing_goes : (s : LockState AlockView) (m g : ℕ) (st : Entry) → slice_get s.views m ≡ Some (at_entry m (Swing g) st) → CanGoOn T (alock_left K) s m
+  swing_goes : (s : LockState AlockView) (m g : ℕ) (st : SettleStage) → slice_get s.views m ≡ Some (at_entry m (Swing g) st) → CanGoOn T (alock_left K) s m
   swing_goes s m g st has =
       record {
         view = at_entry m (Swing g) st;
@@ -180,14 +180,14 @@ module _ (K : Cohorts) where
       by_act s m Settle Victim (Load victim_no) has refl (subst (λ z. far_of z < 1) (sym view) (omega arith)))
       (eqb_tells (slice_index s.words victim_no) (cohort_no (cohort_of K m)))
 
-  settle_goes : (s : LockState AlockView) (m : ℕ) (st : Entry) → slice_get s.views m ≡ Some (at_entry m Settle st) → CanGoOn T (alock_left K) s m ⊎ Hangs s m
+  settle_goes : (s : LockState AlockView) (m : ℕ) (st : SettleStage) → slice_get s.views m ≡ Some (at_entry m Settle st) → CanGoOn T (alock_left K) s m ⊎ Hangs s m
   settle_goes s m Announce has = inl (by_act s m Settle Announce (Store victim_no (cohort_no (cohort_of K m))) has refl (omega arith))
   settle_goes s m Tail has = tail_goes s m has
   settle_goes s m Victim has = inl (victim_goes s m has)
 
   -- who uses its queue and isn't stuck there
-  pub goes_by : (s : LockState AlockView) (m : ℕ) (p : Phase) (st : Entry) → slice_get s.views m ≡ Some (at_entry m p st) → Busy p → Flat p →
-      (Stuck p (slice_index s.words (next_word (names_of K (cohort_of K m)) m)) (slice_index s.words (status_word (names_of K (cohort_of K m)) m)) → ⊥) → CanGoOn T (alock_left K) s m ⊎ Hangs s m
+  pub goes_by : (s : LockState AlockView) (m : ℕ) (p : Phase) (st : SettleStage) → slice_get s.views m ≡ Some (at_entry m p st) → Busy p → Flat p →
+      (Stuck p (slice_index s.words (queue_next_word (names_of K (cohort_of K m)) m)) (slice_index s.words (status_word (names_of K (cohort_of K m)) m)) → ⊥) → CanGoOn T (alock_left K) s m ⊎ Hangs s m
   goes_by s m Idle st has busy flat free = absurd busy
   goes_by s m Clear st has busy flat free = inl (by_act s m Clear st _ has refl (turn_far m Clear st 0 tt))
   goes_by s m Reset st has busy flat free = inl (by_act s m Reset st _ has refl (turn_far m Reset st 0 tt))
@@ -197,11 +197,11 @@ module _ (K : Cohorts) where
   goes_by s m Settle st has busy flat free = settle_goes s m st has
   goes_by s m (Granted left) st has busy flat free = inl (record { view = at_entry m (Granted left) st; has = has; way = inl tt })
   goes_by s m (Look left true) st has busy flat free = absurd flat
-  goes_by s m (Look left false) st has busy flat free = inl (by_act s m (Look left false) st _ has refl (turn_far m (Look left false) st (slice_index s.words (next_word (names_of K (cohort_of K m)) m)) tt))
+  goes_by s m (Look left false) st has busy flat free = inl (by_act s m (Look left false) st _ has refl (turn_far m (Look left false) st (slice_index s.words (queue_next_word (names_of K (cohort_of K m)) m)) tt))
   goes_by s m (Close left) st has busy flat free =
       let a : Act = swap_act (tail_class (cohort_of K m)) (tail_no (cohort_of K m)) (m + 1) 0 in
       inl (by_act s m (Close left) st a has refl (turn_far m (Close left) st (told a (slice_index s.words (word_of a))) tt))
-  goes_by s m (Await left) st has busy flat free = inl (by_act s m (Await left) st _ has refl (turn_far m (Await left) st (slice_index s.words (next_word (names_of K (cohort_of K m)) m)) free))
+  goes_by s m (Await left) st has busy flat free = inl (by_act s m (Await left) st _ has refl (turn_far m (Await left) st (slice_index s.words (queue_next_word (names_of K (cohort_of K m)) m)) free))
   goes_by s m (Hand succ left) st has busy flat free = inl (by_act s m (Hand succ left) st _ has refl (turn_far m (Hand succ left) st 0 tt))
   goes_by s m (Above succ) st has busy flat free = absurd flat
 
@@ -218,10 +218,10 @@ module _ (K : Cohorts) where
       let v = some_at s.views m there in
       let at : phases_of K c s.views m ≡ v.0.queue.phase = mine_is K c s.views m i.sits ∙ phase_get s.views m v.0 v.1 in
       let has : slice_get s.views m ≡ Some (at_entry m v.0.queue.phase v.0.entry) = v.1 ∙ ap (λ j. Some (at_entry j v.0.queue.phase v.0.entry)) (g.own m v.0 v.1) in
-      let free : Stuck v.0.queue.phase (slice_index s.words (next_word (names_of K c) m)) (slice_index s.words (status_word (names_of K c) m)) → ⊥ =
-      λ z. k.goes (subst (λ p. Stuck p (slice_index s.words (next_word (names_of K c) m)) (slice_index s.words (status_word (names_of K c) m))) (sym at) z) in (
+      let free : Stuck v.0.queue.phase (slice_index s.words (queue_next_word (names_of K c) m)) (slice_index s.words (status_word (names_of K c) m)) → ⊥ =
+      λ z. k.goes (subst (λ p. Stuck p (slice_index s.words (queue_next_word (names_of K c) m)) (slice_index s.words (status_word (names_of K c) m))) (sym at) z) in (
         goes_by s m v.0.queue.phase v.0.entry has (subst Busy at k.busy) (g.flat m v.0 v.1)
-            (subst (λ d. Stuck v.0.queue.phase (slice_index s.words (next_word (names_of K d) m)) (slice_index s.words (status_word (names_of K d) m)) → ⊥) (sym i.sits) free),
+            (subst (λ d. Stuck v.0.queue.phase (slice_index s.words (queue_next_word (names_of K d) m)) (slice_index s.words (status_word (names_of K d) m)) → ⊥) (sym i.sits) free),
         i.sits,
       )
 

@@ -3,13 +3,13 @@ use Rattle.std.specs.Prelude.{◌≡◌, ◌≢◌, ℕ, true}
 use Rattle.std.proofs.Common.{sym, ◌∙◌, ap, ⊎_elim}
 use Rattle.rl_queue.specs.declared.view.Phase.{Phase}
 use Rattle.rl_queue.specs.Lane.{served}
-use Rattle.rl_alock.specs.declared.view.Entry.{Entry}
+use Rattle.rl_alock.specs.declared.view.SettleStage.{SettleStage}
 use Rattle.rl_alock.specs.declared.cohort.Cohort.{Cohort}
 use Rattle.rl_alock.specs.Alock.{cohort_no}
 use Rattle.rl_alock.specs.laws.CohortLaws.{same_cohort, two_same, cohort_named, other_no}
 use Rattle.rl_alock.specs.AlockGood.{Announced, Entered}
 
-module _ (cohort : ℕ → Cohort) (ph ph' : ℕ → Phase) (en en' : ℕ → Entry) (status status' : ℕ → ℕ) (victim : ℕ) where
+module _ (cohort : ℕ → Cohort) (ph ph' : ℕ → Phase) (en en' : ℕ → SettleStage) (status status' : ℕ → ℕ) (victim : ℕ) where
   -- a step that lets nobody be served whose cohort wasn't served, and nobody announce, keeps the entry
   pub entered_back : Entered cohort ph en status victim → ((m : ℕ) → served (ph' m) (status' m) ≡ true → (h : ℕ) × (cohort h ≡ cohort m) × (served (ph h) (status h) ≡ true)) →
       ((k : ℕ) → Announced (ph' k) (en' k) → Announced (ph k) (en k)) → Entered cohort ph' en' status' victim
@@ -50,7 +50,7 @@ module _ (cohort : ℕ → Cohort) (ph ph' : ℕ → Phase) (en en' : ℕ → En
       }
 
 -- a head that has announced and sees another victim may settle
-pub may_settle : (cohort : ℕ → Cohort) (ph : ℕ → Phase) (en : ℕ → Entry) (status : ℕ → ℕ) (victim r : ℕ) → Entered cohort ph en status victim → Announced (ph r) (en r) → victim ≢ cohort_no (cohort r) →
+pub may_settle : (cohort : ℕ → Cohort) (ph : ℕ → Phase) (en : ℕ → SettleStage) (status : ℕ → ℕ) (victim r : ℕ) → Entered cohort ph en status victim → Announced (ph r) (en r) → victim ≢ cohort_no (cohort r) →
     ((i : ℕ) → cohort i ≢ cohort r → served (ph i) (status i) ≡ true → ⊥) × ((k : ℕ) → cohort k ≢ cohort r → Announced (ph k) (en k) → victim ≡ cohort_no (cohort k))
 may_settle cohort ph en status victim r g said ne =
     (λ i far s. ne (g.yields i r far s said), λ k far a. other_no victim (cohort r) (cohort k) (λ q. far (sym q)) (g.named r said) ne)

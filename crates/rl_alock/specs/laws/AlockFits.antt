@@ -17,12 +17,12 @@ use Rattle.rl_queue.specs.Queue.{TheNames, swap_act, code_left, moves_to, moves_
 use Rattle.rl_queue.specs.Standings.{standing_of}
 use Rattle.rl_queue.specs.laws.Choices.{lt_test}
 use Rattle.rl_queue.specs.RankWords.{Seated}
-use Rattle.rl_alock.specs.declared.view.Entry.{Entry}
-use Rattle.rl_alock.specs.declared.view.Entry.TheVariants.{Announce, Tail, Victim}
+use Rattle.rl_alock.specs.declared.view.SettleStage.{SettleStage}
+use Rattle.rl_alock.specs.declared.view.SettleStage.TheVariants.{Announce, Tail, Victim}
 use Rattle.rl_alock.specs.declared.view.AlockView.{AlockView}
 use Rattle.rl_alock.specs.declared.cohort.Cohort.{Cohort}
 use Rattle.rl_alock.specs.declared.cohort.Cohort.TheVariants.{Local, Remote}
-use Rattle.rl_alock.specs.Alock.{Cohorts, cohort_of, ranks_of, cohort_no, tail_no, tail_class, names_of, queue_in, alock_spot, alock_plan, at_entry, entry_of, told_turn, settles_now, entry_told, alock_learn, alock_table, domain, other, is_in}
+use Rattle.rl_alock.specs.Alock.{Cohorts, cohort_of, ranks_of, cohort_no, tail_no, tail_class, names_of, queue_in, alock_spot, alock_plan, at_entry, entry_events, told_turn, settles_now, entry_told, alock_learn, alock_table, domain, other, is_in_cohort}
 use Rattle.rl_alock.specs.AlockGood.{InCohort, Flat}
 use Rattle.rl_alock.specs.laws.CohortLaws.{in_own}
 use Rattle.rl_alock.specs.laws.AlockWords.{next_is, status_is}
@@ -30,7 +30,7 @@ use Rattle.rl_alock.specs.laws.AlockTurns.{entry_all}
 
 -- a rank of a cohort is a member of its queue
 pub member_of : (K : Cohorts) (c : Cohort) (m : ℕ) → InCohort K c m → IsMember (queue_in K Local ∷ queue_in K Remote ∷ []) (tail_no c) m
-member_of K c m i = record { queue = queue_in K c; is_queue = by c; is_member = ap (λ z. z && is_in K c m) (lt_test m (ranks_of K) i.there) ∙ in_own K c m i.sits } where
+member_of K c m i = record { queue = queue_in K c; is_queue = by c; is_member = ap (λ z. z && is_in_cohort K c m) (lt_test m (ranks_of K) i.there) ∙ in_own K c m i.sits } where
   by : (d : Cohort) → slice_get (queue_in K Local ∷ queue_in K Remote ∷ []) (tail_no d) ≡ Some (queue_in K d)
   by Local = refl
   by Remote = refl
@@ -44,7 +44,7 @@ pub record LearnFits (K : Cohorts) (k : ℕ) (p : Phase) (u : Told AlockView) : 
 
 module _ (K : Cohorts) (k : ℕ) where
   -- a turn with no event that leaves its rank asking, or leaving, or out, or inside
-  plain_fits : (p q : Phase) (w : Bool) → Shift k (standing_of p) (standing_of q) (holds_only (entry_of k q)) → LearnFits K k p (told_turn k (record { phase = q; events = []; waits = w }))
+  plain_fits : (p q : Phase) (w : Bool) → Shift k (standing_of p) (standing_of q) (holds_only (entry_events k q)) → LearnFits K k p (told_turn k (record { phase = q; events = []; waits = w }))
   plain_fits p q w s =
       record {
         shift = s;
@@ -53,7 +53,7 @@ module _ (K : Cohorts) (k : ℕ) where
         names = entry_all (AllNamed (queue_in K Local ∷ queue_in K Remote ∷ []) (alock_table K).cohort) k q tt (tt, tt);
       }
 
-  queue_fits : (p : Phase) (st : Entry) (a : Act) (got : ℕ) → plan_at (names_of K (cohort_of K k)) k p ≡ Some a → Flat p → k < ranks_of K → ((s left : ℕ) → p ≡ Hand s left → InCohort K (cohort_of K k) s) →
+  queue_fits : (p : Phase) (st : SettleStage) (a : Act) (got : ℕ) → plan_at (names_of K (cohort_of K k)) k p ≡ Some a → Flat p → k < ranks_of K → ((s left : ℕ) → p ≡ Hand s left → InCohort K (cohort_of K k) s) →
       LearnFits K k p (told_turn k (turn_at (names_of K (cohort_of K k)) k p got))
   queue_fits Clear st a got pl f lt hs = plain_fits Clear Reset false refl
   queue_fits Reset st a got pl f lt hs = plain_fits Reset (Swing 0) false refl
@@ -92,7 +92,7 @@ module _ (K : Cohorts) (k : ℕ) where
       let i : InCohort K (cohort_of K k) k = record { there = lt; sits = refl } in
       record { shift = refl; order = (omega arith, tt); few = omega arith; names = (member_of K (cohort_of K k) k i, (tt, tt)) }
 
-  entry_fits : (st : Entry) (got : ℕ) → k < ranks_of K → LearnFits K k Settle (entry_told (names_of K (cohort_of K k)) (cohort_of K k) k st got)
+  entry_fits : (st : SettleStage) (got : ℕ) → k < ranks_of K → LearnFits K k Settle (entry_told (names_of K (cohort_of K k)) (cohort_of K k) k st got)
   entry_fits Announce got lt = record { shift = refl; order = tt; few = omega arith; names = (cohort_there (cohort_of K k), tt) }
   entry_fits Tail got lt =
       choose (LearnFits K k Settle) (got == 0) (settles_now (names_of K (cohort_of K k)) k) (record { view = at_entry k Settle Victim; events = []; waits = false }) (settles_fits lt)
@@ -102,7 +102,7 @@ module _ (K : Cohorts) (k : ℕ) where
       (record { shift = refl; order = tt; few = omega arith; names = tt }) (settles_fits lt)
 
   -- it is so for each planned act
-  pub learn_fits_at : (p : Phase) (st : Entry) (a : Act) (got : ℕ) → alock_plan (names_of K (cohort_of K k)) (cohort_of K k) k p st ≡ Some a → Flat p → k < ranks_of K → ((s left : ℕ) → p ≡ Hand s left → InCohort K (cohort_of K k) s) →
+  pub learn_fits_at : (p : Phase) (st : SettleStage) (a : Act) (got : ℕ) → alock_plan (names_of K (cohort_of K k)) (cohort_of K k) k p st ≡ Some a → Flat p → k < ranks_of K → ((s left : ℕ) → p ≡ Hand s left → InCohort K (cohort_of K k) s) →
       LearnFits K k p (alock_learn (names_of K (cohort_of K k)) (cohort_of K k) k p st got)
   learn_fits_at Idle st a got pl f lt hs = cc
   learn_fits_at Settle st a got pl f lt hs = entry_fits st got lt
@@ -111,7 +111,7 @@ module _ (K : Cohorts) (k : ℕ) where
   learn_fits_at p st a got pl f lt hs = queue_fits p st a got pl f lt hs
 
 -- no act is planned exactly where a rank is out or inside
-pub plan_rests : (N : TheNames) (c : Cohort) (k : ℕ) (p : Phase) (st : Entry) → Flat p → (alock_plan N c k p st ≡ None) ↔ Rests (standing_of p)
+pub plan_rests : (N : TheNames) (c : Cohort) (k : ℕ) (p : Phase) (st : SettleStage) → Flat p → (alock_plan N c k p st ≡ None) ↔ Rests (standing_of p)
 plan_rests N c k Idle st f = (λ e. tt, λ t. refl)
 plan_rests N c k (Granted left) st f = (λ e. tt, λ t. refl)
 plan_rests N c k (Above succ) st f = absurd f
@@ -157,7 +157,7 @@ module _ (K : Cohorts) (nodes : ℕ) (seated : Seated (record { node_of = K.node
   tail_small Remote = omega arith
 
   -- each planned act is lawful, and in its rank's domain
-  pub lawful_in : (k : ℕ) (p : Phase) (st : Entry) (a : Act) → k < ranks_of K → ((g : ℕ) → p ≡ Link g → g - 1 < ranks_of K) → ((s left : ℕ) → p ≡ Hand s left → s < ranks_of K) →
+  pub lawful_in : (k : ℕ) (p : Phase) (st : SettleStage) (a : Act) → k < ranks_of K → ((g : ℕ) → p ≡ Link g → g - 1 < ranks_of K) → ((s left : ℕ) → p ≡ Hand s left → s < ranks_of K) →
       alock_plan (names_of K (cohort_of K k)) (cohort_of K k) k p st ≡ Some a → MayMake k a
   lawful_in k Clear st a lt gs hs pl = subst (MayMake k) (same_Some _ _ pl) (let e = next_is K (cohort_of K k) k lt in stores k _ _ (omega arith) (omega arith))
   lawful_in k Reset st a lt gs hs pl = subst (MayMake k) (same_Some _ _ pl) (let e = status_is K (cohort_of K k) k lt in stores k _ _ (omega arith) (omega arith))

@@ -9,7 +9,7 @@ use Rattle.rl_queue.specs.declared.view.Phase.{Phase}
 use Rattle.rl_queue.specs.declared.view.Phase.TheVariants.{Idle, Settle}
 use Rattle.rl_queue.specs.Lane.{Busy}
 use Rattle.rl_queue.specs.laws.LaneLaws.{listed_busy}
-use Rattle.rl_queue.specs.Queue.{next_word, status_word, plan_at}
+use Rattle.rl_queue.specs.Queue.{queue_next_word, status_word, plan_at}
 use Rattle.rl_queue.specs.Standings.{standing_of}
 use Rattle.rl_queue.specs.laws.StandingLaws.{not_out_busy}
 use Rattle.rl_queue.specs.laws.Stuck.{Stuck, Goes}
@@ -17,8 +17,8 @@ use Rattle.rl_queue.specs.laws.LineGoes.{busy_goes}
 use Rattle.rl_queue.specs.Urgency.{loaded}
 use Rattle.rl_queue.specs.laws.UrgencyLaws.{few_at, urgent_free, free_urgent}
 use Rattle.rl_alock.specs.declared.cohort.Cohort.{Cohort}
-use Rattle.rl_alock.specs.declared.view.Entry.{Entry}
-use Rattle.rl_alock.specs.declared.view.Entry.TheVariants.{Announce, Tail, Victim}
+use Rattle.rl_alock.specs.declared.view.SettleStage.{SettleStage}
+use Rattle.rl_alock.specs.declared.view.SettleStage.TheVariants.{Announce, Tail, Victim}
 use Rattle.rl_alock.specs.declared.view.AlockView.{AlockView}
 use Rattle.rl_alock.specs.Alock.{Cohorts, ranks_of, budget_in, cohort_of, cohort_no, tail_no, victim_no, other, names_of, at_entry, alock_table}
 use Rattle.rl_alock.specs.AlockGood.{AlockGood, InCohort, phases_of}
@@ -36,24 +36,24 @@ tail_few true yields n e = let z : 0 ≡ n = cc in omega arith
 tail_few false true n e = cc
 tail_few false false n e = let z : 0 ≡ n = cc in omega arith
 
-head_few : (c : Cohort) (st : Entry) (t v n : ℕ) → head_urgent c st t v ≡ Some n → n < 8
+head_few : (c : Cohort) (st : SettleStage) (t v n : ℕ) → head_urgent c st t v ≡ Some n → n < 8
 head_few c Announce t v n e = let z : 0 ≡ n = cc in omega arith
 head_few c Tail t v n e = tail_few (t == 0) (v == cohort_no c) n e
 head_few c Victim t v n e = let z : 0 ≡ n = cc in omega arith
 
 module _ (K : Cohorts) where
-  rank_few : (ws : List ℕ) (m : ℕ) (p : Phase) (st : Entry) (n : ℕ) → rank_urgent K ws m p st ≡ Some n → n < 8
+  rank_few : (ws : List ℕ) (m : ℕ) (p : Phase) (st : SettleStage) (n : ℕ) → rank_urgent K ws m p st ≡ Some n → n < 8
   rank_few ws m Settle st n e = head_few (cohort_of K m) st (slice_index ws (tail_no (other (cohort_of K m)))) (slice_index ws victim_no) n e
   rank_few ws m p st n e = few_at p (loaded ws (plan_at (names_of K (cohort_of K m)) m p)) n e
 
-  rank_busy : (ws : List ℕ) (m : ℕ) (p : Phase) (st : Entry) (n : ℕ) → rank_urgent K ws m p st ≡ Some n → Busy p
+  rank_busy : (ws : List ℕ) (m : ℕ) (p : Phase) (st : SettleStage) (n : ℕ) → rank_urgent K ws m p st ≡ Some n → Busy p
   rank_busy ws m Idle st n e = cc
   rank_busy ws m _ st n e = tt
 
   abbrev StuckAt : List ℕ → ℕ → Phase → Type 0
-  StuckAt ws m p = Stuck p (slice_index ws (next_word (names_of K (cohort_of K m)) m)) (slice_index ws (status_word (names_of K (cohort_of K m)) m))
+  StuckAt ws m p = Stuck p (slice_index ws (queue_next_word (names_of K (cohort_of K m)) m)) (slice_index ws (status_word (names_of K (cohort_of K m)) m))
 
-  rank_free : (ws : List ℕ) (m : ℕ) (p : Phase) (st : Entry) (n : ℕ) → rank_urgent K ws m p st ≡ Some n → StuckAt ws m p → ⊥
+  rank_free : (ws : List ℕ) (m : ℕ) (p : Phase) (st : SettleStage) (n : ℕ) → rank_urgent K ws m p st ≡ Some n → StuckAt ws m p → ⊥
   rank_free ws m Settle st n e k = k
   rank_free ws m p st n e k = urgent_free (names_of K (cohort_of K m)) ws m p n e k
 
@@ -79,7 +79,7 @@ module _ (K : Cohorts) where
       (goes_by K s r p v.entry has (rank_busy s.words r p v.entry c.urgency urgent) (g.flat r v c.has) (rank_free s.words r p v.entry c.urgency urgent))
 
   -- who uses its queue, isn't stuck there and isn't urgent hangs at the entry
-  head_hangs : (s : LockState AlockView) (m : ℕ) (st : Entry) → slice_get s.views m ≡ Some (at_entry m Settle st) → rank_urgent K s.words m Settle st ≡ None → Hangs K s m
+  head_hangs : (s : LockState AlockView) (m : ℕ) (st : SettleStage) → slice_get s.views m ≡ Some (at_entry m Settle st) → rank_urgent K s.words m Settle st ≡ None → Hangs K s m
   head_hangs s m Announce has e = cc
   head_hangs s m Victim has e = cc
   head_hangs s m Tail has e =
@@ -87,7 +87,7 @@ module _ (K : Cohorts) where
       (λ q. ⊎_elim (λ z. record { stands = has; waits = q.1; victim = z.1 }) (λ z. let some = q.0 in let no = z.0 in cc) (eqb_tells (slice_index s.words victim_no) (cohort_no (cohort_of K m))))
       (eqb_tells (slice_index s.words (tail_no (other (cohort_of K m)))) 0)
 
-  rank_hangs : (s : LockState AlockView) (m : ℕ) (p : Phase) (st : Entry) → slice_get s.views m ≡ Some (at_entry m p st) → Busy p → (StuckAt s.words m p → ⊥) → rank_urgent K s.words m p st ≡ None → Hangs K s m
+  rank_hangs : (s : LockState AlockView) (m : ℕ) (p : Phase) (st : SettleStage) → slice_get s.views m ≡ Some (at_entry m p st) → Busy p → (StuckAt s.words m p → ⊥) → rank_urgent K s.words m p st ≡ None → Hangs K s m
   rank_hangs s m Settle st has busy free e = head_hangs s m st has e
   rank_hangs s m p st has busy free e = absurd (free_urgent (names_of K (cohort_of K m)) s.words m p busy free e)
 
@@ -100,10 +100,10 @@ module _ (K : Cohorts) where
       let v = some_at s.views m there in
       let own : v.0.queue.member ≡ m = g.own m v.0 v.1 in
       let at : phases_of K c s.views m ≡ v.0.queue.phase = mine_is K c s.views m i.sits ∙ phase_get s.views m v.0 v.1 in
-      let free : Stuck v.0.queue.phase (slice_index s.words (next_word (names_of K c) m)) (slice_index s.words (status_word (names_of K c) m)) → ⊥ =
-      λ z. k.goes (subst (λ p. Stuck p (slice_index s.words (next_word (names_of K c) m)) (slice_index s.words (status_word (names_of K c) m))) (sym at) z) in (
+      let free : Stuck v.0.queue.phase (slice_index s.words (queue_next_word (names_of K c) m)) (slice_index s.words (status_word (names_of K c) m)) → ⊥ =
+      λ z. k.goes (subst (λ p. Stuck p (slice_index s.words (queue_next_word (names_of K c) m)) (slice_index s.words (status_word (names_of K c) m))) (sym at) z) in (
         rank_hangs s m v.0.queue.phase v.0.entry (v.1 ∙ ap (λ j. Some (at_entry j v.0.queue.phase v.0.entry)) own) (subst Busy at k.busy)
-            (subst (λ d. Stuck v.0.queue.phase (slice_index s.words (next_word (names_of K d) m)) (slice_index s.words (status_word (names_of K d) m)) → ⊥) (sym i.sits) free)
+            (subst (λ d. Stuck v.0.queue.phase (slice_index s.words (queue_next_word (names_of K d) m)) (slice_index s.words (status_word (names_of K d) m)) → ⊥) (sym i.sits) free)
             (subst (λ j. rank_urgent K s.words j v.0.queue.phase v.0.entry ≡ None) own (none m v.0 v.1)),
         i.sits,
       )

@@ -14,7 +14,7 @@ use Rattle.rl_step.specs.Lock.{LockState, acted, Told}
 use Rattle.rl_step.specs.Queues.{tenures}
 use Rattle.rl_queue.specs.declared.view.Phase.{Phase}
 use Rattle.rl_queue.specs.declared.view.Phase.TheVariants.{Idle, Clear, Reset, Swing, Settle, Granted, Above}
-use Rattle.rl_queue.specs.Queue.{TheNames, Turn, status_word, plan_at, turn_at}
+use Rattle.rl_queue.specs.Queue.{TheNames, QueueTurn, status_word, plan_at, turn_at}
 use Rattle.rl_queue.specs.Lane.{Listed, lane_of, served}
 use Rattle.rl_queue.specs.laws.LaneLaws.{in_line}
 use Rattle.rl_queue.specs.QueueGood.{QueueGood}
@@ -26,11 +26,11 @@ use Rattle.rl_queue.specs.laws.QueueFrame.{act_place, elsewhere_keeps, beside_al
 use Rattle.rl_queue.specs.laws.PhaseLaws.{served_busy, served_listed}
 use Rattle.rl_queue.specs.laws.QueueTurns.{empty_unlisted}
 use Rattle.rl_queue.specs.laws.QueueServed.{served_back, settle_unserved}
-use Rattle.rl_alock.specs.declared.view.Entry.{Entry}
-use Rattle.rl_alock.specs.declared.view.Entry.TheVariants.{Announce, Tail, Victim}
+use Rattle.rl_alock.specs.declared.view.SettleStage.{SettleStage}
+use Rattle.rl_alock.specs.declared.view.SettleStage.TheVariants.{Announce, Tail, Victim}
 use Rattle.rl_alock.specs.declared.view.AlockView.{AlockView}
 use Rattle.rl_alock.specs.declared.cohort.Cohort.{Cohort}
-use Rattle.rl_alock.specs.Alock.{Cohorts, cohort_of, ranks_of, cohort_no, tail_no, names_of, queue_in, alock_plan, at_entry, told_turn, settles_now, alock_table, other, is_in}
+use Rattle.rl_alock.specs.Alock.{Cohorts, cohort_of, ranks_of, cohort_no, tail_no, names_of, queue_in, alock_plan, at_entry, told_turn, settles_now, alock_table, other, is_in_cohort}
 use Rattle.rl_alock.specs.AlockGood.{InCohort, phase_at, entry_at, part, phases_of, Flat, Announced, status_at, Entered, AlockGood}
 use Rattle.rl_alock.specs.laws.AlockEntry.{entered_back, announce_keeps, settled_keeps, may_settle}
 use Rattle.rl_alock.specs.laws.CohortLaws.{other_differs, other_cohort, both, same_cohort, two_tails}
@@ -41,16 +41,16 @@ use Rattle.rl_alock.specs.laws.AlockActs.{HasLine, Lines, EntryOf, stays_good, q
 
 module _ (K : Cohorts) where
   -- the entry by another victim that is the same
-  same_victim : (cohort : ℕ → Cohort) (ph : ℕ → Phase) (en : ℕ → Entry) (status : ℕ → ℕ) (v u : ℕ) → v ≡ u → Entered cohort ph en status u → Entered cohort ph en status v
+  same_victim : (cohort : ℕ → Cohort) (ph : ℕ → Phase) (en : ℕ → SettleStage) (status : ℕ → ℕ) (v u : ℕ) → v ≡ u → Entered cohort ph en status u → Entered cohort ph en status v
   same_victim cohort ph en status v u e g = subst (Entered cohort ph en status) (sym e) g
 
   -- An act of a queue doesn't move the entry.
-  queue_entry : (s : LockState AlockView) (k : ℕ) (p : Phase) (st : Entry) (a : Act) → AlockGood K s → slice_get s.views k ≡ Some (at_entry k p st) → plan_at (names_of K (cohort_of K k)) k p ≡ Some a →
+  queue_entry : (s : LockState AlockView) (k : ℕ) (p : Phase) (st : SettleStage) (a : Act) → AlockGood K s → slice_get s.views k ≡ Some (at_entry k p st) → plan_at (names_of K (cohort_of K k)) k p ≡ Some a →
       EntryOf K (slice_set s.words (word_of a) (written a (slice_index s.words (word_of a)))) (slice_set s.views k (at_entry k (turn_at (names_of K (cohort_of K k)) k p (told a (slice_index s.words (word_of a)))).phase Announce))
   queue_entry s k p st a g has pl =
       let N : TheNames = names_of K (cohort_of K k) in
       let O : TheNames = names_of K (other (cohort_of K k)) in
-      let tu : Turn = turn_at N k p (told a (slice_index s.words (word_of a))) in
+      let tu : QueueTurn = turn_at N k p (told a (slice_index s.words (word_of a))) in
       let ws : List ℕ = slice_set s.words (word_of a) (written a (slice_index s.words (word_of a))) in
       let w : AlockView = at_entry k tu.phase Announce in
       let vs : List AlockView = slice_set s.views k (at_entry k tu.phase Announce) in
@@ -87,7 +87,7 @@ module _ (K : Cohorts) where
 
   -- The view of a rank in the entry changes, and its phase stays Settle: its queue and the other stay as they were, after more events
   -- that are of no queue.
-  still_lines : (ws us : List ℕ) (vs : List AlockView) (t : List Event) (k : ℕ) (st st' : Entry) (es : List Event) → Lines K ws vs t → slice_get vs k ≡ Some (at_entry k Settle st) →
+  still_lines : (ws us : List ℕ) (vs : List AlockView) (t : List Event) (k : ℕ) (st st' : SettleStage) (es : List Event) → Lines K ws vs t → slice_get vs k ≡ Some (at_entry k Settle st) →
       ((c : Cohort) → (l : List ℕ) → QueueGood (names_of K c) (InCohort K c) ws (phases_of K c vs) l t (tenures (queue_in K c) t) → QueueGood (names_of K c) (InCohort K c) us (phases_of K c vs) l t (tenures (queue_in K c) t)) →
       ((c : Cohort) → AllApart (names_of K c).queue (names_of K c).budget es) → ((c : Cohort) → tenures (queue_in K c) es ≡ 0) → Lines K us (slice_set vs k (at_entry k Settle st')) (t ++ es)
   still_lines ws us vs t k st st' es q has write apart none c =
@@ -97,11 +97,11 @@ module _ (K : Cohorts) where
       let l : List ℕ = (q c).0 in
       let f : ℕ = tenures (queue_in K c) t in
       let a = write c l (q c).1 in
-      let b = still_keeps (names_of K c) (InCohort K c) us us (phases_of K c vs) (phases_of K c (slice_set vs k w)) l t f a (λ x. ap (part (is_in K c x)) (same_phase x)) refl (λ x i. refl) (λ x i. refl) in
+      let b = still_keeps (names_of K c) (InCohort K c) us us (phases_of K c vs) (phases_of K c (slice_set vs k w)) l t f a (λ x. ap (part (is_in_cohort K c x)) (same_phase x)) refl (λ x i. refl) (λ x i. refl) in
       quiet K c us (phases_of K c (slice_set vs k w)) t es (none c) (l, beside_all_keep (names_of K c) (InCohort K c) us (phases_of K c (slice_set vs k w)) l t es f b (apart c))
 
   -- a rank that settles has the whole budget, and enters
-  settled_lines : (ws : List ℕ) (vs : List AlockView) (t : List Event) (k : ℕ) (st : Entry) → Lines K ws vs t → slice_get vs k ≡ Some (at_entry k Settle st) →
+  settled_lines : (ws : List ℕ) (vs : List AlockView) (t : List Event) (k : ℕ) (st : SettleStage) → Lines K ws vs t → slice_get vs k ≡ Some (at_entry k Settle st) →
       Lines K ws (slice_set vs k (settles_now (names_of K (cohort_of K k)) k).view) (t ++ (settles_now (names_of K (cohort_of K k)) k).events)
   settled_lines ws vs t k st q has =
       let N : TheNames = names_of K (cohort_of K k) in
@@ -130,7 +130,7 @@ module _ (K : Cohorts) where
   others_said vs k w m ne h = subst (λ z. Announced z (entry_at vs m)) (phase_set_other vs k w m ne) (subst (Announced (phase_at (slice_set vs k w) m)) (entry_set_other vs k w m ne) h)
 
   -- a rank in the entry, whose phase stays Settle, isn't served
-  settle_served : (ws : List ℕ) (vs : List AlockView) (k : ℕ) (st st' : Entry) (m : ℕ) → slice_get vs k ≡ Some (at_entry k Settle st) → served (phase_at (slice_set vs k (at_entry k Settle st')) m) (status_at K ws m) ≡ true → served (phase_at vs m) (status_at K ws m) ≡ true
+  settle_served : (ws : List ℕ) (vs : List AlockView) (k : ℕ) (st st' : SettleStage) (m : ℕ) → slice_get vs k ≡ Some (at_entry k Settle st) → served (phase_at (slice_set vs k (at_entry k Settle st')) m) (status_at K ws m) ≡ true → served (phase_at vs m) (status_at K ws m) ≡ true
   settle_served ws vs k st st' m has h =
       let w : AlockView = at_entry k Settle st' in
       ⊎_elim
@@ -138,7 +138,7 @@ module _ (K : Cohorts) where
       (λ q. others_served ws vs k w m q h) (same_or_not m k)
 
   -- while a head must settle nobody of its cohort is served
-  unserved : (ws : List ℕ) (vs : List AlockView) (t : List Event) (k : ℕ) (st : Entry) → Lines K ws vs t → slice_get vs k ≡ Some (at_entry k Settle st) → (i : ℕ) → cohort_of K i ≡ cohort_of K k → served (phase_at vs i) (status_at K ws i) ≡ true → ⊥
+  unserved : (ws : List ℕ) (vs : List AlockView) (t : List Event) (k : ℕ) (st : SettleStage) → Lines K ws vs t → slice_get vs k ≡ Some (at_entry k Settle st) → (i : ℕ) → cohort_of K i ≡ cohort_of K k → served (phase_at vs i) (status_at K ws i) ≡ true → ⊥
   unserved ws vs t k st q has i e h =
       settle_unserved (names_of K (cohort_of K k)) (InCohort K (cohort_of K k)) ws (phases_of K (cohort_of K k) vs) (q (cohort_of K k)).0 t (tenures (queue_in K (cohort_of K k)) t) k i (q (cohort_of K k)).1
       (mine_is K (cohort_of K k) vs k refl ∙ phase_get vs k (at_entry k Settle st) has) (to_own K ws vs (cohort_of K k) i e h)
@@ -148,7 +148,7 @@ module _ (K : Cohorts) where
   none_listed ws vs t c q z i e h =
       empty_unlisted (names_of K c) (InCohort K c) ws (phases_of K c vs) (q c).0 t (tenures (queue_in K c) t) i (q c).1 z (subst Listed (sym (mine_is K c vs i e)) h)
 
-  pub announced_listed : (p : Phase) (st : Entry) → Announced p st → Listed p
+  pub announced_listed : (p : Phase) (st : SettleStage) → Announced p st → Listed p
   announced_listed Idle st h = h
   announced_listed Clear st h = h
   announced_listed Reset st h = h
@@ -156,7 +156,7 @@ module _ (K : Cohorts) where
   announced_listed _ st h = tt
 
   -- the entry once rank k has settled, where it may
-  settled_entry : (ws : List ℕ) (vs : List AlockView) (k : ℕ) (st : Entry) → slice_get vs k ≡ Some (at_entry k Settle st) → EntryOf K ws vs →
+  settled_entry : (ws : List ℕ) (vs : List AlockView) (k : ℕ) (st : SettleStage) → slice_get vs k ≡ Some (at_entry k Settle st) → EntryOf K ws vs →
       ((i : ℕ) → cohort_of K i ≢ cohort_of K k → served (phase_at vs i) (status_at K ws i) ≡ true → ⊥) × ((i : ℕ) → cohort_of K i ≢ cohort_of K k → Announced (phase_at vs i) (entry_at vs i) → slice_index ws 2 ≡ cohort_no (cohort_of K i)) →
       EntryOf K ws (slice_set vs k (settles_now (names_of K (cohort_of K k)) k).view)
   settled_entry ws vs k st has g may =
@@ -166,7 +166,7 @@ module _ (K : Cohorts) where
       (λ m h. ⊎_elim (λ q. absurd (subst (λ z. Announced z (entry_at (slice_set vs k w) m)) (ap (phase_at (slice_set vs k w)) q ∙ phase_set_same vs k (at_entry k Settle st) w has) h)) (λ q. others_said vs k w m q h) (same_or_not m k)) g
 
   -- the entry once rank k looks on
-  looking_entry : (ws : List ℕ) (vs : List AlockView) (k : ℕ) (st st' : Entry) → slice_get vs k ≡ Some (at_entry k Settle st) → Announced Settle st → EntryOf K ws vs → EntryOf K ws (slice_set vs k (at_entry k Settle st'))
+  looking_entry : (ws : List ℕ) (vs : List AlockView) (k : ℕ) (st st' : SettleStage) → slice_get vs k ≡ Some (at_entry k Settle st) → Announced Settle st → EntryOf K ws vs → EntryOf K ws (slice_set vs k (at_entry k Settle st'))
   looking_entry ws vs k st st' has an g =
       let w : AlockView = at_entry k Settle st' in
       entered_back (cohort_of K) (phase_at vs) (phase_at (slice_set vs k w)) (entry_at vs) (entry_at (slice_set vs k w)) (status_at K ws) (status_at K ws) (slice_index ws 2) g
@@ -189,7 +189,7 @@ module _ (K : Cohorts) where
       record { words = slice_set s.words w x; views = slice_set s.views k u.view; modes = s.modes; trace = s.trace ++ u.events; deeds = s.deeds ++ record { rank = k; act = a; got = got; events = u.events } ∷ [] }
 
   -- a load of the entry keeps the state good, where its view and events do
-  loaded_good : (s : LockState AlockView) (k : ℕ) (st : Entry) (w : ℕ) (a : Act) (got : ℕ) (u : Told AlockView) → AlockGood K s → slice_get s.views k ≡ Some (at_entry k Settle st) → u.view.queue.member ≡ k → Flat u.view.queue.phase → (ranks_of K ≡ 1 → u.view.entry ≢ Victim) →
+  loaded_good : (s : LockState AlockView) (k : ℕ) (st : SettleStage) (w : ℕ) (a : Act) (got : ℕ) (u : Told AlockView) → AlockGood K s → slice_get s.views k ≡ Some (at_entry k Settle st) → u.view.queue.member ≡ k → Flat u.view.queue.phase → (ranks_of K ≡ 1 → u.view.entry ≢ Victim) →
       Lines K s.words (slice_set s.views k u.view) (s.trace ++ u.events) → EntryOf K s.words (slice_set s.views k u.view) → AlockGood K (after s k (at_entry k Settle st) w (slice_index s.words w) a got u)
   loaded_good s k st w a got u g has name flat late q en =
       stays_good K s (after s k (at_entry k Settle st) w (slice_index s.words w) a got u) k (at_entry k Settle st) u.view g has (length-set s.words w (slice_index s.words w)) refl refl name flat late
@@ -200,7 +200,7 @@ module _ (K : Cohorts) where
   both_lines s g = λ c. (g.line c, g.queue c)
 
   -- a head that may settle does
-  settle_good : (s : LockState AlockView) (k : ℕ) (st : Entry) (w : ℕ) (a : Act) (got : ℕ) → AlockGood K s → slice_get s.views k ≡ Some (at_entry k Settle st) →
+  settle_good : (s : LockState AlockView) (k : ℕ) (st : SettleStage) (w : ℕ) (a : Act) (got : ℕ) → AlockGood K s → slice_get s.views k ≡ Some (at_entry k Settle st) →
       ((i : ℕ) → cohort_of K i ≢ cohort_of K k → served (phase_at s.views i) (status_at K s.words i) ≡ true → ⊥) × ((i : ℕ) → cohort_of K i ≢ cohort_of K k → Announced (phase_at s.views i) (entry_at s.views i) → slice_index s.words 2 ≡ cohort_no (cohort_of K i)) →
       AlockGood K (after s k (at_entry k Settle st) w (slice_index s.words w) a got (settles_now (names_of K (cohort_of K k)) k))
   settle_good s k st w a got g has may =
@@ -208,14 +208,14 @@ module _ (K : Cohorts) where
       (settled_lines s.words s.views s.trace k st (both_lines s g) has) (settled_entry s.words s.views k st has g.entered may)
 
   -- one that may not looks on
-  look_good : (s : LockState AlockView) (k : ℕ) (st st' : Entry) (w : ℕ) (a : Act) (got : ℕ) (b : Bool) → (ranks_of K ≡ 1 → st' ≢ Victim) → AlockGood K s → slice_get s.views k ≡ Some (at_entry k Settle st) → Announced Settle st →
+  look_good : (s : LockState AlockView) (k : ℕ) (st st' : SettleStage) (w : ℕ) (a : Act) (got : ℕ) (b : Bool) → (ranks_of K ≡ 1 → st' ≢ Victim) → AlockGood K s → slice_get s.views k ≡ Some (at_entry k Settle st) → Announced Settle st →
       AlockGood K (after s k (at_entry k Settle st) w (slice_index s.words w) a got (record { view = at_entry k Settle st'; events = []; waits = b }))
   look_good s k st st' w a got b late g has an =
       loaded_good s k st w a got (record { view = at_entry k Settle st'; events = []; waits = b }) g has refl tt late
       (still_lines s.words s.words s.views s.trace k st st' [] (both_lines s g) has (λ c l h. h) (λ c. tt) (λ c. refl)) (looking_entry s.words s.views k st st' has an g.entered)
 
   -- the other cohort's queue is empty where rank k is alone
-  pub alone_empty : {st : Entry} {p : Phase} (s : LockState AlockView) (k : ℕ) → AlockGood K s → slice_get s.views k ≡ Some (at_entry k p st) → ranks_of K ≡ 1 → slice_index s.words (tail_no (other (cohort_of K k))) ≡ 0
+  pub alone_empty : {st : SettleStage} {p : Phase} (s : LockState AlockView) (k : ℕ) → AlockGood K s → slice_get s.views k ≡ Some (at_entry k p st) → ranks_of K ≡ 1 → slice_index s.words (tail_no (other (cohort_of K k))) ≡ 0
   alone_empty s k g has one = at (slice_index s.words (tail_no (other (cohort_of K k)))) refl where
     at : (z : ℕ) → slice_index s.words (tail_no (other (cohort_of K k))) ≡ z → slice_index s.words (tail_no (other (cohort_of K k))) ≡ 0
     at zero e = e
@@ -250,7 +250,7 @@ module _ (K : Cohorts) where
       (λ m h. settle_served s.words s.views k Announce Tail m has (subst (λ z. served (phase_at vs m) z ≡ true) (same_status m h) h)) g.entered))
 
   -- an act of a queue
-  queue_good : (s : LockState AlockView) (k : ℕ) (p : Phase) (st : Entry) (a : Act) → AlockGood K s → slice_get s.views k ≡ Some (at_entry k p st) → plan_at (names_of K (cohort_of K k)) k p ≡ Some a →
+  queue_good : (s : LockState AlockView) (k : ℕ) (p : Phase) (st : SettleStage) (a : Act) → AlockGood K s → slice_get s.views k ≡ Some (at_entry k p st) → plan_at (names_of K (cohort_of K k)) k p ≡ Some a →
       AlockGood K (after s k (at_entry k p st) (word_of a) (written a (slice_index s.words (word_of a))) a (told a (slice_index s.words (word_of a))) (told_turn k (turn_at (names_of K (cohort_of K k)) k p (told a (slice_index s.words (word_of a))))))
   queue_good s k p st a g has pl =
       stays_good K s _ k (at_entry k p st) (told_turn k (turn_at (names_of K (cohort_of K k)) k p (told a (slice_index s.words (word_of a))))).view g has (length-set s.words (word_of a) _) refl refl refl
@@ -259,7 +259,7 @@ module _ (K : Cohorts) where
       (queue_entry s k p st a g has pl)
 
   -- Each planned act of rank k keeps the state good.
-  pub act_keeps_at : (s : LockState AlockView) (k : ℕ) (p : Phase) (st : Entry) (a : Act) → AlockGood K s → slice_get s.views k ≡ Some (at_entry k p st) → alock_plan (names_of K (cohort_of K k)) (cohort_of K k) k p st ≡ Some a →
+  pub act_keeps_at : (s : LockState AlockView) (k : ℕ) (p : Phase) (st : SettleStage) (a : Act) → AlockGood K s → slice_get s.views k ≡ Some (at_entry k p st) → alock_plan (names_of K (cohort_of K k)) (cohort_of K k) k p st ≡ Some a →
       AlockGood K (acted (alock_table K) s k (at_entry k p st) a)
   act_keeps_at s k Idle st a g has pl = cc
   act_keeps_at s k Settle Announce a g has pl = subst (λ z. AlockGood K (acted (alock_table K) s k (at_entry k Settle Announce) z)) (same_Some _ _ pl) (announce_good s k g has)

@@ -17,7 +17,7 @@ use Rattle.rl_step.specs.laws.QueueLemmas.{tenures-append}
 use Rattle.rl_queue.specs.declared.view.Phase.{Phase}
 use Rattle.rl_queue.specs.declared.view.Phase.TheVariants.{Idle, Clear, Link, Settle, Granted, Look, Hand}
 use Rattle.rl_queue.specs.laws.Choices.{choose}
-use Rattle.rl_queue.specs.Queue.{next_word, status_word, plan_at, turn_at}
+use Rattle.rl_queue.specs.Queue.{queue_next_word, status_word, plan_at, turn_at}
 use Rattle.rl_queue.specs.Lane.{Awaits, SuitsAlone, Listed, Busy, Own, served, IsFirst, lane_of}
 use Rattle.rl_queue.specs.laws.LaneLaws.{in_line}
 use Rattle.rl_queue.specs.laws.LaneMoves.{link_guess}
@@ -30,12 +30,12 @@ use Rattle.rl_queue.specs.Standings.{standing_of}
 use Rattle.rl_queue.specs.laws.StandingLaws.{holder_writes, writer_served, no_reader, writer_first, holder_first, leaving_at, out_idle, suits_at}
 use Rattle.rl_queue.specs.laws.Choices.{lt_test}
 use Rattle.rl_queue.specs.RankWords.{Seated}
-use Rattle.rl_alock.specs.declared.view.Entry.{Entry}
-use Rattle.rl_alock.specs.declared.view.Entry.TheVariants.{Announce, Tail, Victim}
+use Rattle.rl_alock.specs.declared.view.SettleStage.{SettleStage}
+use Rattle.rl_alock.specs.declared.view.SettleStage.TheVariants.{Announce, Tail, Victim}
 use Rattle.rl_alock.specs.declared.view.AlockView.{AlockView}
 use Rattle.rl_alock.specs.declared.cohort.Cohort.{Cohort}
 use Rattle.rl_alock.specs.declared.cohort.Cohort.TheVariants.{Local, Remote}
-use Rattle.rl_alock.specs.Alock.{Cohorts, cohort_of, ranks_of, tail_no, budget_in, names_of, queue_in, cohort_no, entry_act, alock_plan, at_entry, settles_now, alock_learn, alock_table, other, is_in}
+use Rattle.rl_alock.specs.Alock.{Cohorts, cohort_of, ranks_of, tail_no, budget_in, names_of, queue_in, cohort_no, entry_act, alock_plan, at_entry, settles_now, alock_learn, alock_table, other, is_in_cohort}
 use Rattle.rl_alock.specs.AlockGood.{InCohort, phase_at, entry_at, phases_of, Flat, Announced, status_at, AlockGood}
 use Rattle.rl_alock.specs.laws.AlockEntry.{entered_back}
 use Rattle.rl_alock.specs.laws.CohortLaws.{other_differs, both, same_cohort, in_own, in_other}
@@ -66,7 +66,7 @@ module _ (K : Cohorts) where
                 listed = λ m h. subst Listed (idle_in c m) h;
                 only = λ m h. absurd h;
                 line = all_zero (3 + 2 * ranks_of K) (tail_no c);
-                own = λ m. subst (λ z. Own (names_of K c).budget (InCohort K c) z (slice_index (replicate (3 + 2 * ranks_of K) 0) (next_word (names_of K c) m)) (slice_index (replicate (3 + 2 * ranks_of K) 0) (status_word (names_of K c) m))) (sym (idle_in c m)) tt;
+                own = λ m. subst (λ z. Own (names_of K c).budget (InCohort K c) z (slice_index (replicate (3 + 2 * ranks_of K) 0) (queue_next_word (names_of K c) m)) (slice_index (replicate (3 + 2 * ranks_of K) 0) (status_word (names_of K c) m))) (sym (idle_in c m)) tt;
                 inside = λ m b. absurd (subst Busy (idle_in c m) b);
               };
               alone = λ m h. subst SuitsAlone (sym (idle_in c m)) tt;
@@ -84,7 +84,7 @@ module _ (K : Cohorts) where
   rank_there s r v g has = let a : r < length s.views = slice_get_within s.views r v has in let b : length s.views ≡ ranks_of K = g.all_views in omega arith
 
   -- The entry where rank r's view changes to one that hasn't announced, and that is served only where it was.
-  quiet_entry : (s : LockState AlockView) (r : ℕ) (p q : Phase) (st : Entry) → AlockGood K s → slice_get s.views r ≡ Some (at_entry r p st) → ((x : ℕ) → served q x ≡ true → served p x ≡ true) → (Announced q Announce → ⊥) →
+  quiet_entry : (s : LockState AlockView) (r : ℕ) (p q : Phase) (st : SettleStage) → AlockGood K s → slice_get s.views r ≡ Some (at_entry r p st) → ((x : ℕ) → served q x ≡ true → served p x ≡ true) → (Announced q Announce → ⊥) →
       EntryOf K s.words (slice_set s.views r (at_entry r q Announce))
   quiet_entry s r p q st g has back none =
       let w : AlockView = at_entry r q Announce in
@@ -103,7 +103,7 @@ module _ (K : Cohorts) where
       absurd (none (subst (λ z. Announced z Announce) now (subst (Announced (phase_at vs m)) en h))))
       (λ ne. subst (λ z. Announced z (entry_at s.views m)) (phase_set_other s.views r w m ne) (subst (Announced (phase_at vs m)) (entry_set_other s.views r w m ne) h)) (same_or_not m r))
 
-  ask_good : (s : LockState AlockView) (r : ℕ) (p : Phase) (st : Entry) (m : Mode) → AlockGood K s → slice_get s.views r ≡ Some (at_entry r p st) → p ≡ Idle → AlockGood K (asked (alock_table K) s r (at_entry r p st) m)
+  ask_good : (s : LockState AlockView) (r : ℕ) (p : Phase) (st : SettleStage) (m : Mode) → AlockGood K s → slice_get s.views r ≡ Some (at_entry r p st) → p ≡ Idle → AlockGood K (asked (alock_table K) s r (at_entry r p st) m)
   ask_good s r p st m g has0 e =
       let has : slice_get s.views r ≡ Some (at_entry r Idle st) = subst (λ z. slice_get s.views r ≡ Some (at_entry r z st)) e has0 in
       let w : AlockView = at_entry r Clear Announce in
@@ -120,13 +120,13 @@ module _ (K : Cohorts) where
 
   -- a departure ends one tenure of its rank's queue, and none of the other
   ends_own : (c : Cohort) (r : ℕ) → InCohort K c r → tenures (queue_in K c) (event.LeaveW r ∷ []) ≡ 1
-  ends_own c r i = ap (λ z. count (z && is_in K c r) + 0) (lt_test r (ranks_of K) i.there) ∙ ap (λ z. count z + 0) (in_own K c r i.sits)
+  ends_own c r i = ap (λ z. count (z && is_in_cohort K c r) + 0) (lt_test r (ranks_of K) i.there) ∙ ap (λ z. count z + 0) (in_own K c r i.sits)
 
   ends_other : (c : Cohort) (r : ℕ) → InCohort K c r → tenures (queue_in K (other c)) (event.LeaveW r ∷ []) ≡ 0
   ends_other c r i =
-      ap (λ z. count (z && is_in K (other c) r) + 0) (lt_test r (ranks_of K) i.there) ∙ ap (λ z. count z + 0) (in_other K (other c) r (λ q. other_differs c (sym i.sits ∙ q)))
+      ap (λ z. count (z && is_in_cohort K (other c) r) + 0) (lt_test r (ranks_of K) i.there) ∙ ap (λ z. count z + 0) (in_other K (other c) r (λ q. other_differs c (sym i.sits ∙ q)))
 
-  leave_good : (s : LockState AlockView) (r : ℕ) (p : Phase) (st : Entry) (left : ℕ) → AlockGood K s → slice_get s.views r ≡ Some (at_entry r (Granted left) st) → AlockGood K (left_state (alock_table K) s r (at_entry r (Granted left) st) (event.LeaveW r))
+  leave_good : (s : LockState AlockView) (r : ℕ) (p : Phase) (st : SettleStage) (left : ℕ) → AlockGood K s → slice_get s.views r ≡ Some (at_entry r (Granted left) st) → AlockGood K (left_state (alock_table K) s r (at_entry r (Granted left) st) (event.LeaveW r))
   leave_good s r p st left g has =
       let w : AlockView = at_entry r (Look left false) Announce in
       let vs : List AlockView = slice_set s.views r (at_entry r (Look left false) Announce) in
@@ -144,7 +144,7 @@ module _ (K : Cohorts) where
       (quiet K (other (cohort_of K r)) s.words (phases_of K (other (cohort_of K r)) vs) s.trace (event.LeaveW r ∷ []) (ends_other (cohort_of K r) r i) (g.line (other (cohort_of K r)), theirs2)))
       (quiet_entry s r (Granted left) (Look left false) st g has (λ x h. refl) (λ h. h))
 
-  leave_at_writer : (s : LockState AlockView) (r : ℕ) (p : Phase) (st : Entry) → AlockGood K s → slice_get s.views r ≡ Some (at_entry r p st) → standing_of p ≡ standing.Writer → AlockGood K (left_state (alock_table K) s r (at_entry r p st) (event.LeaveW r))
+  leave_at_writer : (s : LockState AlockView) (r : ℕ) (p : Phase) (st : SettleStage) → AlockGood K s → slice_get s.views r ≡ Some (at_entry r p st) → standing_of p ≡ standing.Writer → AlockGood K (left_state (alock_table K) s r (at_entry r p st) (event.LeaveW r))
   leave_at_writer s r (Granted left) st g has e = leave_good s r (Granted left) st left g has
   leave_at_writer s r _ st g has e = cc
 
@@ -177,12 +177,12 @@ module _ (K : Cohorts) where
       (λ ne. absurd (g.entered.one i j ne si sj))
       (same_cohort (cohort_of K i) (cohort_of K j))
 
-  hand_in : (s : LockState AlockView) (r : ℕ) (p : Phase) (st : Entry) → AlockGood K s → slice_get s.views r ≡ Some (at_entry r p st) → (x left : ℕ) → p ≡ Hand x left → InCohort K (cohort_of K r) x
+  hand_in : (s : LockState AlockView) (r : ℕ) (p : Phase) (st : SettleStage) → AlockGood K s → slice_get s.views r ≡ Some (at_entry r p st) → (x left : ℕ) → p ≡ Hand x left → InCohort K (cohort_of K r) x
   hand_in s r p st g has x left e =
       hand_succ (names_of K (cohort_of K r)) (InCohort K (cohort_of K r)) s.words (phases_of K (cohort_of K r) s.views) (g.line (cohort_of K r)) s.trace (tenures (queue_in K (cohort_of K r)) s.trace) r x left (g.queue (cohort_of K r))
       (mine_is K (cohort_of K r) s.views r refl ∙ phase_get s.views r (at_entry r p st) has ∙ e)
 
-  link_in : (s : LockState AlockView) (r : ℕ) (p : Phase) (st : Entry) → AlockGood K s → slice_get s.views r ≡ Some (at_entry r p st) → (x : ℕ) → p ≡ Link x → x - 1 < ranks_of K
+  link_in : (s : LockState AlockView) (r : ℕ) (p : Phase) (st : SettleStage) → AlockGood K s → slice_get s.views r ≡ Some (at_entry r p st) → (x : ℕ) → p ≡ Link x → x - 1 < ranks_of K
   link_in s r p st g has x e =
       let N = names_of K (cohort_of K r) in
       let k = link_guess (names_of K (cohort_of K r)).budget (InCohort K (cohort_of K r)) (lane_of (names_of K (cohort_of K r)) s.words (phases_of K (cohort_of K r) s.views)) (g.line (cohort_of K r)) r x (g.queue (cohort_of K r)).inv (mine_is K (cohort_of K r) s.views r refl ∙ phase_get s.views r (at_entry r p st) has ∙ e) in
@@ -195,34 +195,34 @@ module _ (K : Cohorts) where
   which (suc (suc q)) d h = cc
 
   -- a compare-and-swap of a rank alone finds its old value
-  finds_at : (s : LockState AlockView) (r : ℕ) (p : Phase) (st : Entry) (a : Act) → ranks_of K ≡ 1 → AlockGood K s → slice_get s.views r ≡ Some (at_entry r p st) → plan_at (names_of K (cohort_of K r)) r p ≡ Some a → FindsOld a (slice_index s.words (word_of a))
+  finds_at : (s : LockState AlockView) (r : ℕ) (p : Phase) (st : SettleStage) (a : Act) → ranks_of K ≡ 1 → AlockGood K s → slice_get s.views r ≡ Some (at_entry r p st) → plan_at (names_of K (cohort_of K r)) r p ≡ Some a → FindsOld a (slice_index s.words (word_of a))
   finds_at s r p st a one g has pl =
       alone_finds (names_of K (cohort_of K r)) (InCohort K (cohort_of K r)) s.words (phases_of K (cohort_of K r) s.views) (g.line (cohort_of K r)) s.trace (tenures (queue_in K (cohort_of K r)) s.trace) r p a (g.queue (cohort_of K r))
       (λ x i. let b = rank_there s r _ g has in let c = i.there in omega arith) (mine_is K (cohort_of K r) s.views r refl ∙ phase_get s.views r (at_entry r p st) has) pl
 
-  goes_at : (s : LockState AlockView) (r : ℕ) (p : Phase) (st : Entry) (got : ℕ) → ranks_of K ≡ 1 → AlockGood K s → slice_get s.views r ≡ Some (at_entry r p st) → (turn_at (names_of K (cohort_of K r)) r p got).waits ≡ false
+  goes_at : (s : LockState AlockView) (r : ℕ) (p : Phase) (st : SettleStage) (got : ℕ) → ranks_of K ≡ 1 → AlockGood K s → slice_get s.views r ≡ Some (at_entry r p st) → (turn_at (names_of K (cohort_of K r)) r p got).waits ≡ false
   goes_at s r p st got one g has =
       alone_moves_on (names_of K (cohort_of K r)) (InCohort K (cohort_of K r)) r p got
       (subst SuitsAlone (mine_is K (cohort_of K r) s.views r refl ∙ phase_get s.views r (at_entry r p st) has)
       ((g.queue (cohort_of K r)).alone r (λ x i. let b = rank_there s r _ g has in let c = i.there in omega arith)))
 
-  entry_waits : (s : LockState AlockView) (r : ℕ) (st : Entry) (got : ℕ) → ranks_of K ≡ 1 → AlockGood K s → slice_get s.views r ≡ Some (at_entry r Settle st) → (alock_learn (names_of K (cohort_of K r)) (cohort_of K r) r Settle st got).waits ≡ false
+  entry_waits : (s : LockState AlockView) (r : ℕ) (st : SettleStage) (got : ℕ) → ranks_of K ≡ 1 → AlockGood K s → slice_get s.views r ≡ Some (at_entry r Settle st) → (alock_learn (names_of K (cohort_of K r)) (cohort_of K r) r Settle st got).waits ≡ false
   entry_waits s r Announce got one g has = refl
   entry_waits s r Tail got one g has = choose (λ z. z.waits ≡ false) (got == 0) (settles_now (names_of K (cohort_of K r)) r) (record { view = at_entry r Settle Victim; events = []; waits = false }) refl refl
   entry_waits s r Victim got one g has = absurd (g.lonely one r _ has refl)
 
-  finds_all : (s : LockState AlockView) (r : ℕ) (p : Phase) (st : Entry) (a : Act) → ranks_of K ≡ 1 → AlockGood K s → slice_get s.views r ≡ Some (at_entry r p st) → alock_plan (names_of K (cohort_of K r)) (cohort_of K r) r p st ≡ Some a → FindsOld a (slice_index s.words (word_of a))
+  finds_all : (s : LockState AlockView) (r : ℕ) (p : Phase) (st : SettleStage) (a : Act) → ranks_of K ≡ 1 → AlockGood K s → slice_get s.views r ≡ Some (at_entry r p st) → alock_plan (names_of K (cohort_of K r)) (cohort_of K r) r p st ≡ Some a → FindsOld a (slice_index s.words (word_of a))
   finds_all s r Settle Announce a one g has pl = subst (λ z. FindsOld z (slice_index s.words (word_of z))) (same_Some _ _ pl) tt
   finds_all s r Settle Tail a one g has pl = subst (λ z. FindsOld z (slice_index s.words (word_of z))) (same_Some _ _ pl) tt
   finds_all s r Settle Victim a one g has pl = subst (λ z. FindsOld z (slice_index s.words (word_of z))) (same_Some _ _ pl) tt
   finds_all s r p st a one g has pl = finds_at s r p st a one g has pl
 
-  goes_all : (s : LockState AlockView) (r : ℕ) (p : Phase) (st : Entry) (got : ℕ) → ranks_of K ≡ 1 → AlockGood K s → slice_get s.views r ≡ Some (at_entry r p st) → (alock_learn (names_of K (cohort_of K r)) (cohort_of K r) r p st got).waits ≡ false
+  goes_all : (s : LockState AlockView) (r : ℕ) (p : Phase) (st : SettleStage) (got : ℕ) → ranks_of K ≡ 1 → AlockGood K s → slice_get s.views r ≡ Some (at_entry r p st) → (alock_learn (names_of K (cohort_of K r)) (cohort_of K r) r p st got).waits ≡ false
   goes_all s r Settle st got one g has = entry_waits s r st got one g has
   goes_all s r p st got one g has = goes_at s r p st got one g has
 
   -- a rank waits on after a load alone, and stands at a load again
-  loads_again : (m : ℕ) (p : Phase) (st : Entry) → PlansLoad (plan_at (names_of K (cohort_of K m)) m p) → PlansLoad (alock_plan (names_of K (cohort_of K m)) (cohort_of K m) m p st)
+  loads_again : (m : ℕ) (p : Phase) (st : SettleStage) → PlansLoad (plan_at (names_of K (cohort_of K m)) m p) → PlansLoad (alock_plan (names_of K (cohort_of K m)) (cohort_of K m) m p st)
   loads_again m Settle st h = absurd h
   loads_again m _ st h = h
 
@@ -233,7 +233,7 @@ module _ (K : Cohorts) where
       (subst PlansLoad pl k.1, subst (λ z. PlansLoad (alock_plan (names_of K (cohort_of K m)) (cohort_of K m) m z Announce)) (sym k.0) (loads_again m p Announce k.1))
 
   -- of the entry's own acts the look at the victim alone may have to be made again, from the other cohort's tail on
-  entry_again : (m : ℕ) (st : Entry) (a : Act) (got : ℕ) → Some (entry_act (cohort_of K m) st) ≡ Some a → (alock_learn (names_of K (cohort_of K m)) (cohort_of K m) m Settle st got).waits ≡ true →
+  entry_again : (m : ℕ) (st : SettleStage) (a : Act) (got : ℕ) → Some (entry_act (cohort_of K m) st) ≡ Some a → (alock_learn (names_of K (cohort_of K m)) (cohort_of K m) m Settle st got).waits ≡ true →
       IsLoad a × PlansLoad ((alock_table K).plan (alock_learn (names_of K (cohort_of K m)) (cohort_of K m) m Settle st got).view)
   entry_again m Announce a got pl e = cc
   entry_again m Tail a got pl e =
@@ -242,7 +242,7 @@ module _ (K : Cohorts) where
       choose (λ z. z.waits ≡ true → IsLoad a × PlansLoad ((alock_table K).plan z.view)) (got == cohort_no (cohort_of K m)) (record { view = at_entry m Settle Tail; events = []; waits = true }) (settles_now (names_of K (cohort_of K m)) m)
       (λ e. (subst IsLoad (same_Some _ _ pl) tt, tt)) (λ e. cc) e
 
-  again_all : (m : ℕ) (p : Phase) (st : Entry) (a : Act) (got : ℕ) → alock_plan (names_of K (cohort_of K m)) (cohort_of K m) m p st ≡ Some a → (alock_learn (names_of K (cohort_of K m)) (cohort_of K m) m p st got).waits ≡ true →
+  again_all : (m : ℕ) (p : Phase) (st : SettleStage) (a : Act) (got : ℕ) → alock_plan (names_of K (cohort_of K m)) (cohort_of K m) m p st ≡ Some a → (alock_learn (names_of K (cohort_of K m)) (cohort_of K m) m p st got).waits ≡ true →
       IsLoad a × PlansLoad ((alock_table K).plan (alock_learn (names_of K (cohort_of K m)) (cohort_of K m) m p st got).view)
   again_all m Settle st a got pl e = entry_again m st a got pl e
   again_all m p st a got pl e = turn_again m p a got pl e

@@ -14,18 +14,18 @@ use Rattle.rl_step.specs.Queues.{tenures}
 use Rattle.rl_queue.specs.declared.view.Phase.{Phase}
 use Rattle.rl_queue.specs.declared.view.Phase.TheVariants.{Idle, Clear, Reset, Swing, Link, Wait, Settle, Granted, Look, Close, Await, Hand}
 use Rattle.rl_queue.specs.laws.Choices.{same_test, other_test}
-use Rattle.rl_queue.specs.Queue.{TheNames, Turn, status_word, full_budget, plan_at, turn_at}
+use Rattle.rl_queue.specs.Queue.{TheNames, QueueTurn, status_word, full_budget, plan_at, turn_at}
 use Rattle.rl_queue.specs.Lane.{lane_of, Busy, Own, IsFirst}
 use Rattle.rl_queue.specs.laws.QueueMoves.{act_keeps, one_first}
 use Rattle.rl_queue.specs.laws.QueueActs.{first_code}
 use Rattle.rl_queue.specs.QueuesApart.{Place}
 use Rattle.rl_queue.specs.laws.QueueFrame.{act_place}
 use Rattle.rl_queue.specs.Heads.{head_in}
-use Rattle.rl_alock.specs.declared.view.Entry.{Entry}
-use Rattle.rl_alock.specs.declared.view.Entry.TheVariants.{Announce, Tail, Victim}
+use Rattle.rl_alock.specs.declared.view.SettleStage.{SettleStage}
+use Rattle.rl_alock.specs.declared.view.SettleStage.TheVariants.{Announce, Tail, Victim}
 use Rattle.rl_alock.specs.declared.view.AlockView.{AlockView}
 use Rattle.rl_alock.specs.declared.cohort.Cohort.{Cohort}
-use Rattle.rl_alock.specs.Alock.{Cohorts, cohort_of, ranks_of, cohort_no, budget_in, names_of, queue_in, at_entry, entry_of, settles_now, other, is_in}
+use Rattle.rl_alock.specs.Alock.{Cohorts, cohort_of, ranks_of, cohort_no, budget_in, names_of, queue_in, at_entry, entry_events, settles_now, other, is_in_cohort}
 use Rattle.rl_alock.specs.AlockGood.{InCohort, phase_at, entry_at, phases_of, Announced, status_at, AlockGood}
 use Rattle.rl_alock.specs.laws.CohortLaws.{other_cohort, same_cohort, two_same, same_no, in_own, in_other}
 use Rattle.rl_alock.specs.laws.AlockViews.{phase_get, phase_set_same, phase_set_other, entry_get, entry_set_same, entry_set_other, mine_is, moves_mine}
@@ -39,12 +39,12 @@ use Rattle.rl_step.specs.Overtaking.{opened, one_more, window_after, window_of, 
 use Rattle.rl_step.specs.laws.OvertakingLaws.{window-append, overtaken-append}
 
 -- what entering adds, and how many enter by it
-entry_both : (P : List Event → ℕ → Type 0) (m : ℕ) (q : Phase) → P [] 0 → P (event.EnterW m ∷ []) 1 → P (entry_of m q) (enters q)
+entry_both : (P : List Event → ℕ → Type 0) (m : ℕ) (q : Phase) → P [] 0 → P (event.EnterW m ∷ []) 1 → P (entry_events m q) (enters q)
 entry_both P m (Granted left) a b = b
 entry_both P m _ a b = a
 
 -- a rank that plans an act of its queue hasn't announced
-plans_unsaid : (N : TheNames) (m : ℕ) (p : Phase) (st : Entry) (a : Act) → plan_at N m p ≡ Some a → Announced p st → ⊥
+plans_unsaid : (N : TheNames) (m : ℕ) (p : Phase) (st : SettleStage) (a : Act) → plan_at N m p ≡ Some a → Announced p st → ⊥
 plans_unsaid N m Settle st a pl h = cc
 plans_unsaid N m _ st a pl h = h
 
@@ -78,15 +78,15 @@ module _ (K : Cohorts) (c o : Cohort) (apart : c ≢ o) where
   bound = budget_in K o + 1
 
   abbrev Win : Option ℕ → List Event → Option ℕ
-  Win w t = window_of (is_in K c) (cohort_no c) w t
+  Win w t = window_of (is_in_cohort K c) (cohort_no c) w t
 
   abbrev Fits : Option ℕ → List Event → Type 0
-  Fits w t = OvertakenFrom (is_in K c) (cohort_no c) bound w t
+  Fits w t = OvertakenFrom (is_in_cohort K c) (cohort_no c) bound w t
 
   -- an open window is low
   low_after : (w : Option ℕ) (t : List Event) → Low bound w → Fits w t → Low bound (Win w t)
   low_after w [] l f = l
-  low_after w (e ∷ t) l f = low_after (window_after (is_in K c) (cohort_no c) w e) t f.0 f.1
+  low_after w (e ∷ t) l f = low_after (window_after (is_in_cohort K c) (cohort_no c) w e) t f.0 f.1
 
   -- The state goes on, with more events and x more entries of cohort o.
   pub goes_on : (ws us : List ℕ) (vs zs : List AlockView) (t es : List Event) (x : ℕ) → Overtaken K c o ws vs t → Win None es ≡ None → ((n : ℕ) → Win (Some n) es ≡ Some (n + x)) →
@@ -98,9 +98,9 @@ module _ (K : Cohorts) (c o : Cohort) (apart : c ≢ o) where
       let low : Low bound (Win None t) = low_after None t (λ n e. cc) g.so_far in
       let back : (w : Option ℕ) → Win None t ≡ w → (n : ℕ) → Win w es ≡ Some n → (i : ℕ) × (w ≡ Some i) × (n ≡ i + x) = by_window in
       let was : (n : ℕ) → Win None (t ++ es) ≡ Some n → (i : ℕ) × (Win None t ≡ Some i) × (n ≡ i + x) = λ n e.
-      by_window (Win None t) refl n (sym (window-append (is_in K c) (cohort_no c) None t es) ∙ e) in
+      by_window (Win None t) refl n (sym (window-append (is_in_cohort K c) (cohort_no c) None t es) ∙ e) in
       record {
-        so_far = overtaken-append (is_in K c) (cohort_no c) bound None t es g.so_far
+        so_far = overtaken-append (is_in_cohort K c) (cohort_no c) bound None t es g.so_far
             (fits (Win None t) low (λ n e. ⊎_elim (λ z. let l : n ≤ bound = low n e in omega arith) (λ h. let r = g.room n h.0 e h.1 in let s = h.2 in omega arith) (one n e)));
         opener = λ n e. let i = was n e in let k = g.opener i.0 i.1 in (k.0, k.1, said k.0 k.1 k.2);
         room = λ n m e lm.
@@ -115,18 +115,18 @@ module _ (K : Cohorts) (c o : Cohort) (apart : c ≢ o) where
   -- or its window closes
   pub closes : (ws us : List ℕ) (vs zs : List AlockView) (t es : List Event) → Overtaken K c o ws vs t → ((w : Option ℕ) → Win w es ≡ None) → ((w : Option ℕ) → Low bound w → Fits w es) → Overtaken K c o us zs (t ++ es)
   closes ws us vs zs t es g shut fits =
-      let none : (n : ℕ) → Win None (t ++ es) ≡ Some n → ⊥ = λ n e. let k : None ≡ Some n = sym (shut (Win None t)) ∙ sym (window-append (is_in K c) (cohort_no c) None t es) ∙ e in cc in
+      let none : (n : ℕ) → Win None (t ++ es) ≡ Some n → ⊥ = λ n e. let k : None ≡ Some n = sym (shut (Win None t)) ∙ sym (window-append (is_in_cohort K c) (cohort_no c) None t es) ∙ e in cc in
       record {
-        so_far = overtaken-append (is_in K c) (cohort_no c) bound None t es g.so_far (fits (Win None t) (low_after None t (λ n e. cc) g.so_far));
+        so_far = overtaken-append (is_in_cohort K c) (cohort_no c) bound None t es g.so_far (fits (Win None t) (low_after None t (λ n e. cc) g.so_far));
         opener = λ n e. absurd (none n e);
         room = λ n m e lm. absurd (none n e);
       }
 
   -- a rank of cohort o enters, and a rank of cohort c
-  enters_far : (k : ℕ) → cohort_of K k ≡ o → is_in K c k ≡ false
+  enters_far : (k : ℕ) → cohort_of K k ≡ o → is_in_cohort K c k ≡ false
   enters_far k e = in_other K c k (λ q. apart (sym q ∙ e))
 
-  enters_own : (k : ℕ) → cohort_of K k ≡ c → is_in K c k ≡ true
+  enters_own : (k : ℕ) → cohort_of K k ≡ c → is_in_cohort K c k ≡ true
   enters_own k e = in_own K c k e
 
   pub plus_zero : (n : ℕ) → Some n ≡ Some (n + 0)
@@ -159,12 +159,12 @@ module _ (K : Cohorts) (c o : Cohort) (apart : c ≢ o) where
   own_fits k e w = (subst (Low bound) (sym (own_window k e w)) low_none, tt)
 
   -- AN ACT OF A QUEUE, by a rank of cohort c: it goes on, or closes the window.
-  pub queue_own : (s : LockState AlockView) (k : ℕ) (p : Phase) (st : Entry) (a : Act) → cohort_of K k ≡ c → AlockGood K s → slice_get s.views k ≡ Some (at_entry k p st) → plan_at (names_of K (cohort_of K k)) k p ≡ Some a → Overtaken K c o s.words s.views s.trace →
+  pub queue_own : (s : LockState AlockView) (k : ℕ) (p : Phase) (st : SettleStage) (a : Act) → cohort_of K k ≡ c → AlockGood K s → slice_get s.views k ≡ Some (at_entry k p st) → plan_at (names_of K (cohort_of K k)) k p ≡ Some a → Overtaken K c o s.words s.views s.trace →
       Overtaken K c o (slice_set s.words (word_of a) (written a (slice_index s.words (word_of a)))) (slice_set s.views k (at_entry k (turn_at (names_of K (cohort_of K k)) k p (told a (slice_index s.words (word_of a)))).phase Announce))
-      (s.trace ++ ((turn_at (names_of K (cohort_of K k)) k p (told a (slice_index s.words (word_of a)))).events ++ entry_of k (turn_at (names_of K (cohort_of K k)) k p (told a (slice_index s.words (word_of a)))).phase))
+      (s.trace ++ ((turn_at (names_of K (cohort_of K k)) k p (told a (slice_index s.words (word_of a)))).events ++ entry_events k (turn_at (names_of K (cohort_of K k)) k p (told a (slice_index s.words (word_of a)))).phase))
   queue_own s k p st a mine g has pl ov =
       let N : TheNames = names_of K (cohort_of K k) in
-      let tu : Turn = turn_at N k p (told a (slice_index s.words (word_of a))) in
+      let tu : QueueTurn = turn_at N k p (told a (slice_index s.words (word_of a))) in
       let us : List ℕ = slice_set s.words (word_of a) (written a (slice_index s.words (word_of a))) in
       let w : AlockView = at_entry k tu.phase Announce in
       let zs : List AlockView = slice_set s.views k w in
@@ -182,18 +182,18 @@ module _ (K : Cohorts) (c o : Cohort) (apart : c ≢ o) where
       (goes_on s.words us s.views zs s.trace tu.events 0 ov (turn_window N k p _ None) (λ n. turn_window N k p _ (Some n) ∙ plus_zero n) (λ x l h. turn_holds N k p _ x l) (λ n e. inl refl) said pots))
       (λ e1. subst (λ z. Overtaken K c o us zs (s.trace ++ (tu.events ++ z))) (sym e1)
       (closes s.words us s.views zs s.trace (tu.events ++ event.EnterW k ∷ []) ov
-      (λ x. window-append (is_in K c) (cohort_no c) x tu.events (event.EnterW k ∷ []) ∙ own_window k mine (Win x tu.events))
-      (λ x l. overtaken-append (is_in K c) (cohort_no c) bound x tu.events (event.EnterW k ∷ []) (turn_holds N k p _ x l) (own_fits k mine (Win x tu.events)))))
+      (λ x. window-append (is_in_cohort K c) (cohort_no c) x tu.events (event.EnterW k ∷ []) ∙ own_window k mine (Win x tu.events))
+      (λ x l. overtaken-append (is_in_cohort K c) (cohort_no c) bound x tu.events (event.EnterW k ∷ []) (turn_holds N k p _ x l) (own_fits k mine (Win x tu.events)))))
       (entry_all (λ z. (z ≡ []) ⊎ (z ≡ event.EnterW k ∷ [])) k tu.phase (inl refl) (inr refl))
 
 -- An act of a queue by a rank of the cohort that overtakes: what its head may let in pays for the entry.
-queue_far : (K : Cohorts) (c : Cohort) (s : LockState AlockView) (k : ℕ) (p : Phase) (st : Entry) (a : Act) (apart : c ≢ cohort_of K k) → AlockGood K s → slice_get s.views k ≡ Some (at_entry k p st) → plan_at (names_of K (cohort_of K k)) k p ≡ Some a → Overtaken K c (cohort_of K k) s.words s.views s.trace →
+queue_far : (K : Cohorts) (c : Cohort) (s : LockState AlockView) (k : ℕ) (p : Phase) (st : SettleStage) (a : Act) (apart : c ≢ cohort_of K k) → AlockGood K s → slice_get s.views k ≡ Some (at_entry k p st) → plan_at (names_of K (cohort_of K k)) k p ≡ Some a → Overtaken K c (cohort_of K k) s.words s.views s.trace →
     Overtaken K c (cohort_of K k) (slice_set s.words (word_of a) (written a (slice_index s.words (word_of a)))) (slice_set s.views k (at_entry k (turn_at (names_of K (cohort_of K k)) k p (told a (slice_index s.words (word_of a)))).phase Announce))
-    (s.trace ++ ((turn_at (names_of K (cohort_of K k)) k p (told a (slice_index s.words (word_of a)))).events ++ entry_of k (turn_at (names_of K (cohort_of K k)) k p (told a (slice_index s.words (word_of a)))).phase))
+    (s.trace ++ ((turn_at (names_of K (cohort_of K k)) k p (told a (slice_index s.words (word_of a)))).events ++ entry_events k (turn_at (names_of K (cohort_of K k)) k p (told a (slice_index s.words (word_of a)))).phase))
 queue_far K c s k p st a apart g has pl ov =
     let o : Cohort = cohort_of K k in
     let N : TheNames = names_of K (cohort_of K k) in
-    let tu : Turn = turn_at N k p (told a (slice_index s.words (word_of a))) in
+    let tu : QueueTurn = turn_at N k p (told a (slice_index s.words (word_of a))) in
     let us : List ℕ = slice_set s.words (word_of a) (written a (slice_index s.words (word_of a))) in
     let w : AlockView = at_entry k tu.phase Announce in
     let zs : List AlockView = slice_set s.views k w in
@@ -218,12 +218,12 @@ queue_far K c s k p st a apart g has pl ov =
     let b = pot_of_head N (InCohort K (cohort_of K k)) (budget_in K (cohort_of K k)) y (entry_at zs) us (phases_of K (cohort_of K k) zs) mine.0 (s.trace ++ tu.events) e m mine.1 in
     let q : pot_in K o us zs m ≡ pot (budget_in K o) y (entry_at zs m) (phases_of K o zs m) (status_at K us m) =
     ap (λ z. pot (budget_in K o) (z == cohort_no o) (entry_at zs m) (phase_at zs m) (status_at K us m)) victim ∙ ap (λ z. pot (budget_in K o) y (entry_at zs m) z (status_at K us m)) (sym (mine_is K o zs m lm)) in omega arith in
-    goes_on K c (cohort_of K k) apart s.words us s.views zs s.trace (tu.events ++ entry_of k tu.phase) x ov
-    (window-append (is_in K c) (cohort_no c) None tu.events (entry_of k tu.phase) ∙ ap (λ z. window_of (is_in K c) (cohort_no c) z (entry_of k tu.phase)) (turn_window K c o apart N k p _ None) ∙ entry_both (λ z i. window_of (is_in K c) (cohort_no c) None z ≡ None) k tu.phase refl (far_window K c o apart k refl None))
-    (λ n. window-append (is_in K c) (cohort_no c) (Some n) tu.events (entry_of k tu.phase) ∙ ap (λ z. window_of (is_in K c) (cohort_no c) z (entry_of k tu.phase)) (turn_window K c o apart N k p _ (Some n)) ∙ entry_both (λ z i. window_of (is_in K c) (cohort_no c) (Some n) z ≡ Some (n + i)) k tu.phase (plus_zero K c o apart n) (far_window K c o apart k refl (Some n)))
-    (λ v l h. overtaken-append (is_in K c) (cohort_no c) (budget_in K o + 1) v tu.events (entry_of k tu.phase) (turn_holds K c o apart N k p _ v l)
-    (subst (λ z. OvertakenFrom (is_in K c) (cohort_no c) (budget_in K o + 1) z (entry_of k tu.phase)) (sym (turn_window K c o apart N k p _ v))
-    (entry_both (λ z i. ((n : ℕ) → v ≡ Some n → n + i ≤ budget_in K o + 1) → OvertakenFrom (is_in K c) (cohort_no c) (budget_in K o + 1) v z) k tu.phase (λ f. tt) (λ f. far_fits K c o apart k refl v f) h)))
+    goes_on K c (cohort_of K k) apart s.words us s.views zs s.trace (tu.events ++ entry_events k tu.phase) x ov
+    (window-append (is_in_cohort K c) (cohort_no c) None tu.events (entry_events k tu.phase) ∙ ap (λ z. window_of (is_in_cohort K c) (cohort_no c) z (entry_events k tu.phase)) (turn_window K c o apart N k p _ None) ∙ entry_both (λ z i. window_of (is_in_cohort K c) (cohort_no c) None z ≡ None) k tu.phase refl (far_window K c o apart k refl None))
+    (λ n. window-append (is_in_cohort K c) (cohort_no c) (Some n) tu.events (entry_events k tu.phase) ∙ ap (λ z. window_of (is_in_cohort K c) (cohort_no c) z (entry_events k tu.phase)) (turn_window K c o apart N k p _ (Some n)) ∙ entry_both (λ z i. window_of (is_in_cohort K c) (cohort_no c) (Some n) z ≡ Some (n + i)) k tu.phase (plus_zero K c o apart n) (far_window K c o apart k refl (Some n)))
+    (λ v l h. overtaken-append (is_in_cohort K c) (cohort_no c) (budget_in K o + 1) v tu.events (entry_events k tu.phase) (turn_holds K c o apart N k p _ v l)
+    (subst (λ z. OvertakenFrom (is_in_cohort K c) (cohort_no c) (budget_in K o + 1) z (entry_events k tu.phase)) (sym (turn_window K c o apart N k p _ v))
+    (entry_both (λ z i. ((n : ℕ) → v ≡ Some n → n + i ≤ budget_in K o + 1) → OvertakenFrom (is_in_cohort K c) (cohort_no c) (budget_in K o + 1) v z) k tu.phase (λ f. tt) (λ f. far_fits K c o apart k refl v f) h)))
     (λ n q. ⊎_elim (λ z. inl (omega arith)) (λ h. let z = h.2 in inr (h.0, h.1, omega arith)) old)
     (λ i li h.
     let ne : i ≢ k = λ q. apart (sym li ∙ ap (cohort_of K) q) in
@@ -231,9 +231,9 @@ queue_far K c s k p st a apart g has pl ov =
     (λ n m q lm. let f = new m lm in ⊎_elim (λ z. inl (omega arith)) (λ h. let z = h.2 in inr (h.0, h.1, omega arith)) old)
 
 -- so it is kept by each act of a queue
-pub queue_overtakes : (K : Cohorts) (c o : Cohort) (s : LockState AlockView) (k : ℕ) (p : Phase) (st : Entry) (a : Act) → c ≢ o → AlockGood K s → slice_get s.views k ≡ Some (at_entry k p st) → plan_at (names_of K (cohort_of K k)) k p ≡ Some a → Overtaken K c o s.words s.views s.trace →
+pub queue_overtakes : (K : Cohorts) (c o : Cohort) (s : LockState AlockView) (k : ℕ) (p : Phase) (st : SettleStage) (a : Act) → c ≢ o → AlockGood K s → slice_get s.views k ≡ Some (at_entry k p st) → plan_at (names_of K (cohort_of K k)) k p ≡ Some a → Overtaken K c o s.words s.views s.trace →
     Overtaken K c o (slice_set s.words (word_of a) (written a (slice_index s.words (word_of a)))) (slice_set s.views k (at_entry k (turn_at (names_of K (cohort_of K k)) k p (told a (slice_index s.words (word_of a)))).phase Announce))
-    (s.trace ++ ((turn_at (names_of K (cohort_of K k)) k p (told a (slice_index s.words (word_of a)))).events ++ entry_of k (turn_at (names_of K (cohort_of K k)) k p (told a (slice_index s.words (word_of a)))).phase))
+    (s.trace ++ ((turn_at (names_of K (cohort_of K k)) k p (told a (slice_index s.words (word_of a)))).events ++ entry_events k (turn_at (names_of K (cohort_of K k)) k p (told a (slice_index s.words (word_of a)))).phase))
 queue_overtakes K c o s k p st a apart g has pl ov =
     ⊎_elim
     (λ q. queue_own K c o apart s k p st a q g has pl ov)
@@ -241,11 +241,11 @@ queue_overtakes K c o s k p st a apart g has pl ov =
     let e : cohort_of K k ≡ o = two_same (cohort_of K k) c o q apart in
     subst
     (λ z. Overtaken K c z (slice_set s.words (word_of a) (written a (slice_index s.words (word_of a)))) (slice_set s.views k (at_entry k (turn_at (names_of K (cohort_of K k)) k p (told a (slice_index s.words (word_of a)))).phase Announce))
-    (s.trace ++ ((turn_at (names_of K (cohort_of K k)) k p (told a (slice_index s.words (word_of a)))).events ++ entry_of k (turn_at (names_of K (cohort_of K k)) k p (told a (slice_index s.words (word_of a)))).phase))) e (queue_far K c s k p st a (λ x. q (sym x)) g has pl (subst (λ z. Overtaken K c z s.words s.views s.trace) (sym e) ov)))
+    (s.trace ++ ((turn_at (names_of K (cohort_of K k)) k p (told a (slice_index s.words (word_of a)))).events ++ entry_events k (turn_at (names_of K (cohort_of K k)) k p (told a (slice_index s.words (word_of a)))).phase))) e (queue_far K c s k p st a (λ x. q (sym x)) g has pl (subst (λ z. Overtaken K c z s.words s.views s.trace) (sym e) ov)))
     (same_cohort (cohort_of K k) c)
 
 -- a head that has announced is first
-said_first : (p : Phase) (e : Entry) (x : ℕ) → Announced p e → IsFirst p x
+said_first : (p : Phase) (e : SettleStage) (x : ℕ) → Announced p e → IsFirst p x
 said_first Idle e x h = h
 said_first Clear e x h = h
 said_first Reset e x h = h
@@ -254,7 +254,7 @@ said_first (Link g) e x h = h
 said_first Wait e x h = absurd h
 said_first _ e x h = tt
 
-settle_low : (B : ℕ) (y : Bool) (e : Entry) (x : ℕ) → pot B y e Settle x ≤ B + 1
+settle_low : (B : ℕ) (y : Bool) (e : SettleStage) (x : ℕ) → pot B y e Settle x ≤ B + 1
 settle_low B y Announce x = omega arith
 settle_low B true Tail x = omega arith
 settle_low B false Tail x = omega arith
@@ -268,7 +268,7 @@ there_now vs k v w m has q = (ap (phase_at (slice_set vs k w)) q ∙ phase_set_s
 there_was : (vs : List AlockView) (k : ℕ) (v : AlockView) (m : ℕ) → slice_get vs k ≡ Some v → m ≡ k → (phase_at vs m ≡ v.queue.phase) × (entry_at vs m ≡ v.entry)
 there_was vs k v m has q = (ap (phase_at vs) q ∙ phase_get vs k v has, ap (entry_at vs) q ∙ entry_get vs k v has)
 
-pub pot_by : (K : Cohorts) (o : Cohort) (ws : List ℕ) (vs : List AlockView) (m : ℕ) (p : Phase) (e : Entry) → phase_at vs m ≡ p → entry_at vs m ≡ e → pot_in K o ws vs m ≡ pot (budget_in K o) (slice_index ws 2 == cohort_no o) e p (status_at K ws m)
+pub pot_by : (K : Cohorts) (o : Cohort) (ws : List ℕ) (vs : List AlockView) (m : ℕ) (p : Phase) (e : SettleStage) → phase_at vs m ≡ p → entry_at vs m ≡ e → pot_in K o ws vs m ≡ pot (budget_in K o) (slice_index ws 2 == cohort_no o) e p (status_at K ws m)
 pot_by K o ws vs m p e ep ee = ap (λ z. pot (budget_in K o) (slice_index ws 2 == cohort_no o) z (phase_at vs m) (status_at K ws m)) ee ∙ ap (λ z. pot (budget_in K o) (slice_index ws 2 == cohort_no o) e z (status_at K ws m)) ep
 
 pot_other : (K : Cohorts) (o : Cohort) (ws : List ℕ) (vs : List AlockView) (k : ℕ) (w : AlockView) (m : ℕ) → m ≢ k → pot_in K o ws (slice_set vs k w) m ≡ pot_in K o ws vs m
@@ -280,7 +280,7 @@ said_other vs k w i ne h = subst (λ z. Announced z (entry_at (slice_set vs k w)
 
 module _ (K : Cohorts) (c o : Cohort) (apart : c ≢ o) where
   -- A rank moves on with no entry and lets in no more, where it had not announced or goes on so.
-  pub still_overtakes : (ws : List ℕ) (vs : List AlockView) (t es : List Event) (k : ℕ) (v w : AlockView) → slice_get vs k ≡ Some v → ((x : Option ℕ) → window_of (is_in K c) (cohort_no c) x es ≡ x) → ((x : Option ℕ) → Low (budget_in K o + 1) x → OvertakenFrom (is_in K c) (cohort_no c) (budget_in K o + 1) x es) →
+  pub still_overtakes : (ws : List ℕ) (vs : List AlockView) (t es : List Event) (k : ℕ) (v w : AlockView) → slice_get vs k ≡ Some v → ((x : Option ℕ) → window_of (is_in_cohort K c) (cohort_no c) x es ≡ x) → ((x : Option ℕ) → Low (budget_in K o + 1) x → OvertakenFrom (is_in_cohort K c) (cohort_no c) (budget_in K o + 1) x es) →
       (Announced v.queue.phase v.entry → Announced w.queue.phase w.entry) → ((B s : ℕ) (y : Bool) → pot B y w.entry w.queue.phase s ≤ pot B y v.entry v.queue.phase s) → Overtaken K c o ws vs t → Overtaken K c o ws (slice_set vs k w) (t ++ es)
   still_overtakes ws vs t es k v w has quiet fits said less ov =
       goes_on K c o apart ws ws vs (slice_set vs k w) t es 0 ov (quiet None) (λ n. quiet (Some n) ∙ plus_zero K c o apart n) (λ x l h. fits x l) (λ n e. inl refl)
@@ -295,8 +295,8 @@ module _ (K : Cohorts) (c o : Cohort) (apart : c ≢ o) where
       (λ q. let x = pot_other K o ws vs k w m q in inr (m, lm, omega arith)) (same_or_not m k))
 
   -- A head settles and enters: its own window closes, and it takes its place from what it might let in.
-  pub settle_overtakes : (ws : List ℕ) (vs : List AlockView) (t : List Event) (k : ℕ) (st : Entry) → slice_get vs k ≡ Some (at_entry k Settle st) → ((m : ℕ) → cohort_of K m ≡ cohort_of K k → IsFirst (phase_at vs m) (status_at K ws m) → m ≡ k) →
-      (cohort_of K k ≡ o → (n : ℕ) → window_of (is_in K c) (cohort_no c) None t ≡ Some n → pot_in K o ws vs k ≡ budget_in K o + 1) → Overtaken K c o ws vs t →
+  pub settle_overtakes : (ws : List ℕ) (vs : List AlockView) (t : List Event) (k : ℕ) (st : SettleStage) → slice_get vs k ≡ Some (at_entry k Settle st) → ((m : ℕ) → cohort_of K m ≡ cohort_of K k → IsFirst (phase_at vs m) (status_at K ws m) → m ≡ k) →
+      (cohort_of K k ≡ o → (n : ℕ) → window_of (is_in_cohort K c) (cohort_no c) None t ≡ Some n → pot_in K o ws vs k ≡ budget_in K o + 1) → Overtaken K c o ws vs t →
       Overtaken K c o ws (slice_set vs k (settles_now (names_of K (cohort_of K k)) k).view) (t ++ (settles_now (names_of K (cohort_of K k)) k).events)
   settle_overtakes ws vs t k st has alone may ov =
       let w : AlockView = (settles_now (names_of K (cohort_of K k)) k).view in
@@ -335,7 +335,7 @@ module _ (K : Cohorts) (c o : Cohort) (apart : c ≢ o) where
         let c = first_code (names_of K o) (InCohort K o) s.words (phases_of K o s.views) (g.line o) s.trace (tenures (queue_in K o) s.trace) m (g.queue o) (mine_is K o s.views m lm ∙ w) (omega arith) in
         let d : status_at K s.words m ≤ budget_in K o + 1 = c.1 in omega arith
 
-    by : (p : Phase) (e : Entry) → phase_at s.views m ≡ p → pot (budget_in K o) y e p (status_at K s.words m) ≤ budget_in K o + 1
+    by : (p : Phase) (e : SettleStage) → phase_at s.views m ≡ p → pot (budget_in K o) y e p (status_at K s.words m) ≤ budget_in K o + 1
     by Wait e q = code (status_at K s.words m) refl q
     by Settle Announce q = omega arith
     by Settle Tail q = settle_low (budget_in K o) y Tail (status_at K s.words m)
@@ -375,12 +375,12 @@ module _ (K : Cohorts) (c o : Cohort) (apart : c ≢ o) where
       let here = there_was s.views k (at_entry k Settle Announce) k has refl in
       ⊎_elim
       (λ q.
-      let shut : window_of (is_in K c) (cohort_no c) None s.trace ≡ None = by_window (window_of (is_in K c) (cohort_no c) None s.trace) refl q in
-      let open_now : window_of (is_in K c) (cohort_no c) None (s.trace ++ es) ≡ Some 0 =
-      window-append (is_in K c) (cohort_no c) None s.trace es ∙ ap (λ z. window_of (is_in K c) (cohort_no c) z es) shut ∙ ap (λ z. if z then Some 0 else None) (ap (λ z. cohort_no z == cohort_no c) q ∙ same_test (cohort_no c)) in
+      let shut : window_of (is_in_cohort K c) (cohort_no c) None s.trace ≡ None = by_window (window_of (is_in_cohort K c) (cohort_no c) None s.trace) refl q in
+      let open_now : window_of (is_in_cohort K c) (cohort_no c) None (s.trace ++ es) ≡ Some 0 =
+      window-append (is_in_cohort K c) (cohort_no c) None s.trace es ∙ ap (λ z. window_of (is_in_cohort K c) (cohort_no c) z es) shut ∙ ap (λ z. if z then Some 0 else None) (ap (λ z. cohort_no z == cohort_no c) q ∙ same_test (cohort_no c)) in
       record {
-        so_far = overtaken-append (is_in K c) (cohort_no c) (budget_in K o + 1) None s.trace es ov.so_far
-            (subst (λ z. OvertakenFrom (is_in K c) (cohort_no c) (budget_in K o + 1) z es) (sym shut)
+        so_far = overtaken-append (is_in_cohort K c) (cohort_no c) (budget_in K o + 1) None s.trace es ov.so_far
+            (subst (λ z. OvertakenFrom (is_in_cohort K c) (cohort_no c) (budget_in K o + 1) z es) (sym shut)
             (subst (Low (budget_in K o + 1)) (sym (ap (λ z. if z then Some 0 else None) (ap (λ z. cohort_no z == cohort_no c) q ∙ same_test (cohort_no c)))) (λ n e. let z : 0 ≡ n = same_Some _ _ e in omega arith), tt));
         opener = λ n e. (k, q, let a = there_now s.views k (at_entry k Settle Announce) w k has refl in subst (λ z. Announced z (entry_at zs k)) (sym a.0) (subst (Announced Settle) (sym a.1) tt));
         room = λ n m e lm.
@@ -397,7 +397,7 @@ module _ (K : Cohorts) (c o : Cohort) (apart : c ≢ o) where
       let e : cohort_of K k ≡ o = two_same (cohort_of K k) c o q apart in
       let closed : (cohort_no (cohort_of K k) == cohort_no c) ≡ false = other_test (cohort_no (cohort_of K k)) (cohort_no c) (λ r. q (same_no (cohort_of K k) c r)) in
       let yes : (slice_index us 2 == cohort_no o) ≡ true = ap (λ z. z == cohort_no o) (now ∙ ap cohort_no e) ∙ same_test (cohort_no o) in
-      let quiet : (x : Option ℕ) → window_of (is_in K c) (cohort_no c) x es ≡ x = λ x. ap (λ z. if z then opened x else x) closed in
+      let quiet : (x : Option ℕ) → window_of (is_in_cohort K c) (cohort_no c) x es ≡ x = λ x. ap (λ z. if z then opened x else x) closed in
       goes_on K c o apart s.words us s.views zs s.trace es 0 ov (quiet None) (λ n. quiet (Some n) ∙ plus_zero K c o apart n) (λ x l h. (subst (Low (budget_in K o + 1)) (sym (quiet x)) l, tt)) (λ n r. inl refl)
       (λ i li h. said_other s.views k w i (λ r. apart (sym li ∙ ap (cohort_of K) r ∙ e)) h)
       (λ n m r lm.
@@ -415,7 +415,7 @@ module _ (K : Cohorts) (c o : Cohort) (apart : c ≢ o) where
       (status_kept s k (cohort_no (cohort_of K k)) (at_entry k Settle Announce) w m true g has refl))
       (same_or_not m k)))
       (same_cohort (cohort_of K k) c) where
-        by_window : (w : Option ℕ) → window_of (is_in K c) (cohort_no c) None s.trace ≡ w → cohort_of K k ≡ c → window_of (is_in K c) (cohort_no c) None s.trace ≡ None
+        by_window : (w : Option ℕ) → window_of (is_in_cohort K c) (cohort_no c) None s.trace ≡ w → cohort_of K k ≡ c → window_of (is_in_cohort K c) (cohort_no c) None s.trace ≡ None
         by_window None e q = e
         by_window (Some n) e q =
             let z = ov.opener n e in

@@ -12,7 +12,7 @@ use Rattle.rl_step.specs.declared.events.Event.TheVariants as event
 use Rattle.rl_queue.specs.declared.view.Phase.{Phase}
 use Rattle.rl_queue.specs.declared.view.Phase.TheVariants.{Idle, Clear, Reset, Swing, Link, Wait, Settle, Granted, Look, Close, Await, Hand, Above}
 use Rattle.rl_queue.specs.laws.Choices.{choose}
-use Rattle.rl_queue.specs.Queue.{TheNames, status_word, code_of, code_left, Turn, moves_to, moves_with, waits_at, joined_at, look_at, hand_turn, plan_at, turn_at}
+use Rattle.rl_queue.specs.Queue.{TheNames, status_word, status_code, code_left, QueueTurn, moves_to, moves_with, waits_at, joined_at, look_at, hand_turn, plan_at, turn_at}
 use Rattle.rl_queue.specs.Lane.{lane_of, Lane, Has, LineStep, IsFirst}
 use Rattle.rl_queue.specs.laws.LaneLaws.{is_first, in_line}
 use Rattle.rl_queue.specs.QueueGood.{IsNaming, QueueGood, ActMoves}
@@ -20,24 +20,24 @@ use Rattle.rl_queue.specs.laws.QueueActs.{code_more}
 use Rattle.rl_queue.specs.Heads.{Head, head_in}
 use Rattle.rl_queue.specs.laws.QueueHeads.{head, HeadStep, head_act}
 use Rattle.rl_queue.specs.laws.QueueServed.{wait_found}
-use Rattle.rl_alock.specs.declared.view.Entry.{Entry}
-use Rattle.rl_alock.specs.declared.view.Entry.TheVariants.{Announce, Tail, Victim}
+use Rattle.rl_alock.specs.declared.view.SettleStage.{SettleStage}
+use Rattle.rl_alock.specs.declared.view.SettleStage.TheVariants.{Announce, Tail, Victim}
 use Rattle.rl_alock.specs.Overtakes.{pot}
 
 -- the victim may enter no more
-pub pot_victim : (B : ℕ) (y : Bool) (e : Entry) (p : Phase) (s : ℕ) → pot B true e p s ≤ pot B y e p s
+pub pot_victim : (B : ℕ) (y : Bool) (e : SettleStage) (p : Phase) (s : ℕ) → pot B true e p s ≤ pot B y e p s
 pot_victim B y Announce Settle s = omega arith
 pot_victim B y Tail Settle s = omega arith
 pot_victim B y Victim Settle s = omega arith
 pot_victim B y e _ s = omega arith
 
 -- it is asked of a head alone how far it is in the entry
-pub pot_away : (B : ℕ) (y : Bool) (e f : Entry) (p : Phase) (s : ℕ) → p ≢ Settle → pot B y e p s ≡ pot B y f p s
+pub pot_away : (B : ℕ) (y : Bool) (e f : SettleStage) (p : Phase) (s : ℕ) → p ≢ Settle → pot B y e p s ≡ pot B y f p s
 pot_away B y e f Settle s n = absurd (n refl)
 pot_away B y e f _ s n = refl
 
 -- whoever may let any in is first
-pub pot_first : (B : ℕ) (y : Bool) (e : Entry) (p : Phase) (s : ℕ) → 0 < pot B y e p s → IsFirst p s
+pub pot_first : (B : ℕ) (y : Bool) (e : SettleStage) (p : Phase) (s : ℕ) → 0 < pot B y e p s → IsFirst p s
 pot_first B y e Idle s h = absurd (omega arith)
 pot_first B y e Clear s h = absurd (omega arith)
 pot_first B y e Reset s h = absurd (omega arith)
@@ -47,7 +47,7 @@ pot_first B y e Wait s h = omega arith
 pot_first B y e _ s h = tt
 
 -- of a queue: that of its head
-abbrev pub head_pot : ℕ → Bool → (ℕ → Entry) → Option Head → ℕ
+abbrev pub head_pot : ℕ → Bool → (ℕ → SettleStage) → Option Head → ℕ
 head_pot B y en None = 0
 head_pot B y en (Some h) = pot B y (en h.who) h.phase h.status
 
@@ -56,7 +56,7 @@ abbrev pub enters : Phase → ℕ
 enters (Granted left) = 1
 enters p = 0
 
-module _ (n : TheNames) (In : ℕ → Type 0) (B : ℕ) (limit : n.budget ≡ Some B) (y : Bool) (en en' : ℕ → Entry) (m : ℕ) (moved : en' m ≡ Announce) (others : (i : ℕ) → i ≢ m → en' i ≡ en i) where
+module _ (n : TheNames) (In : ℕ → Type 0) (B : ℕ) (limit : n.budget ≡ Some B) (y : Bool) (en en' : ℕ → SettleStage) (m : ℕ) (moved : en' m ≡ Announce) (others : (i : ℕ) → i ≢ m → en' i ≡ en i) where
   -- the head stays who it is
   stays_pot : (p : Phase) (x z : Option Head) → p ≢ Settle → ((h : Head) → x ≡ Some h → h.who ≡ m → h.phase ≡ p) → z ≡ x → 0 + head_pot B y en' z ≤ head_pot B y en x
   stays_pot p None z ne at e = let k : head_pot B y en' z ≡ 0 = ap (head_pot B y en') e in omega arith
@@ -78,7 +78,7 @@ module _ (n : TheNames) (In : ℕ → Type 0) (B : ℕ) (limit : n.budget ≡ So
   new_head z u e = ap (head_pot B y en') e ∙ ap (λ w. pot B y w Settle u) moved
 
   -- a turn of the member takes its entry off
-  abbrev TurnPots : Phase → ℕ → Option Head → Option Head → Turn → Type 0
+  abbrev TurnPots : Phase → ℕ → Option Head → Option Head → QueueTurn → Type 0
   TurnPots p s x z u = HeadStep n.budget m p u.phase s x z → enters u.phase + head_pot B y en' z ≤ head_pot B y en x
 
   abbrev Known : Phase → Option Head → Type 0
@@ -89,7 +89,7 @@ module _ (n : TheNames) (In : ℕ → Type 0) (B : ℕ) (limit : n.budget ≡ So
       choose (λ q. TurnPots (Swing guess) s x z (moves_with q (event.Join n.queue m))) (guess == 0) Settle (Link guess)
       (λ f. let a = new_head z f.1.0 f.1.1 in omega arith) (λ f. stays_pot (Swing guess) x z (λ e. cc) k f)
 
-  look_pot : (left : ℕ) (u : Bool) (got s : ℕ) (e : Entry) → pot B y e (look_at left u got) s ≤ left
+  look_pot : (left : ℕ) (u : Bool) (got s : ℕ) (e : SettleStage) → pot B y e (look_at left u got) s ≤ left
   look_pot left false got s e = choose (λ q. pot B y e q s ≤ left) (got == 0) (Close left) (Hand (got - 1) left) (omega arith) (omega arith)
   look_pot left true got s e =
       choose (λ q. pot B y e q s ≤ left) (got == 0) (Above None) (if left == 0 then Above (Some (got - 1)) else Hand (got - 1) left) (omega arith)
@@ -106,21 +106,21 @@ module _ (n : TheNames) (In : ℕ → Type 0) (B : ℕ) (limit : n.budget ≡ So
       let c : code_left n.budget got ≡ got - 2 = ap (λ w. code_left w got) limit in
       head_pots x z Wait (Granted (code_left n.budget got)) s 1 f.0 f.1 (omega arith)
 
-  pass_pot : (left : ℕ) → code_of (Some B) left - 1 ≤ left
+  pass_pot : (left : ℕ) → status_code (Some B) left - 1 ≤ left
   pass_pot zero = omega arith
-  pass_pot (suc k) = let c : code_of (Some B) (suc k) ≡ suc (suc k) = code_more B k in omega arith
+  pass_pot (suc k) = let c : status_code (Some B) (suc k) ≡ suc (suc k) = code_more B k in omega arith
 
   hand_pots : (succ left s : ℕ) (x z : Option Head) → TurnPots (Hand succ left) s x z (hand_turn n.queue n.budget succ left)
   hand_pots succ left s x z f =
       let idle : enters (hand_turn n.queue n.budget succ left).phase ≡ 0 = hand_out n.budget in
       let a : head_pot B y en x ≡ left = ap (head_pot B y en) f.0 in
-      let b : head_pot B y en' z ≡ code_of n.budget left - 1 = ap (head_pot B y en') f.1 in
-      let c : code_of n.budget left - 1 ≤ left = subst (λ w. code_of w left - 1 ≤ left) (sym limit) (pass_pot left) in omega arith where
+      let b : head_pot B y en' z ≡ status_code n.budget left - 1 = ap (head_pot B y en') f.1 in
+      let c : status_code n.budget left - 1 ≤ left = subst (λ w. status_code w left - 1 ≤ left) (sym limit) (pass_pot left) in omega arith where
         hand_out : (D : Option ℕ) → enters (hand_turn n.queue D succ left).phase ≡ 0
         hand_out None = refl
         hand_out (Some b) = choose (λ w. enters w.phase ≡ 0) (left == 0) (moves_to Idle) (moves_with Idle (event.Pass n.queue succ)) refl refl
 
-  choose_by : (P : Turn → Type 0) (a b : ℕ) (u w : Turn) → P u → (a ≢ b → P w) → P (if a == b then u else w)
+  choose_by : (P : QueueTurn → Type 0) (a b : ℕ) (u w : QueueTurn) → P u → (a ≢ b → P w) → P (if a == b then u else w)
   choose_by P a b u w pu pw = ⊎_elim (λ q. subst (λ z. P (if z then u else w)) (sym q.0) pu) (λ q. subst (λ z. P (if z then u else w)) (sym q.0) (pw q.1)) (eqb_tells a b)
 
   turn_pots : (p : Phase) (got s : ℕ) (x z : Option Head) → p ≢ Settle → ((left : ℕ) → p ≢ Granted left) → (p ≡ Wait → got ≡ s) → Known p x → TurnPots p s x z (turn_at n m p got)
@@ -170,7 +170,7 @@ module _ (n : TheNames) (In : ℕ → Type 0) (B : ℕ) (limit : n.budget ≡ So
       no.0 no.1 (λ w. wait_found n In ws m p a pl w) (head_known (lane_of n ws ph) l p q) (head_act n In ws ph ph' l k t e m p a d g q pl mv step)
 
 -- a member lets no more in than its queue's head, and the head is a member
-pub pot_of_head : (n : TheNames) (In : ℕ → Type 0) (B : ℕ) (y : Bool) (en : ℕ → Entry) (ws : List ℕ) (ph : ℕ → Phase) (l : List ℕ) (t : List Event) (e m : ℕ) → QueueGood n In ws ph l t e →
+pub pot_of_head : (n : TheNames) (In : ℕ → Type 0) (B : ℕ) (y : Bool) (en : ℕ → SettleStage) (ws : List ℕ) (ph : ℕ → Phase) (l : List ℕ) (t : List Event) (e m : ℕ) → QueueGood n In ws ph l t e →
     pot B y (en m) (ph m) (slice_index ws (status_word n m)) ≤ head_pot B y en (head_in (lane_of n ws ph) l)
 pot_of_head n In B y en ws ph l t e m g = by (pot B y (en m) (ph m) (slice_index ws (status_word n m))) refl where
   by : (x : ℕ) → pot B y (en m) (ph m) (slice_index ws (status_word n m)) ≡ x → pot B y (en m) (ph m) (slice_index ws (status_word n m)) ≤ head_pot B y en (head_in (lane_of n ws ph) l)
@@ -180,7 +180,7 @@ pot_of_head n In B y en ws ph l t e m g = by (pot B y (en m) (ph m) (slice_index
       let same : head_pot B y en (head_in (lane_of n ws ph) l) ≡ pot B y (en m) (ph m) (slice_index ws (status_word n m)) = ap (λ z. head_pot B y en (head_in (lane_of n ws ph) z)) a.1 in
       omega arith
 
-pub head_is : (n : TheNames) (In : ℕ → Type 0) (B : ℕ) (y : Bool) (en : ℕ → Entry) (ws : List ℕ) (ph : ℕ → Phase) (l : List ℕ) (t : List Event) (e : ℕ) → QueueGood n In ws ph l t e →
+pub head_is : (n : TheNames) (In : ℕ → Type 0) (B : ℕ) (y : Bool) (en : ℕ → SettleStage) (ws : List ℕ) (ph : ℕ → Phase) (l : List ℕ) (t : List Event) (e : ℕ) → QueueGood n In ws ph l t e →
     (head_pot B y en (head_in (lane_of n ws ph) l) ≡ 0) ⊎ ((h : ℕ) × (In h) × (head_pot B y en (head_in (lane_of n ws ph) l) ≡ pot B y (en h) (ph h) (slice_index ws (status_word n h))))
 head_is n In B y en ws ph l t e g = at l (λ x h. in_line n.budget In (lane_of n ws ph) l x g.inv h) where
   at : (k : List ℕ) → ((x : ℕ) → Has x k → In x) → (head_pot B y en (head_in (lane_of n ws ph) k) ≡ 0) ⊎ ((h : ℕ) × (In h) × (head_pot B y en (head_in (lane_of n ws ph) k) ≡ pot B y (en h) (ph h) (slice_index ws (status_word n h))))

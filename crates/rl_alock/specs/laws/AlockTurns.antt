@@ -6,11 +6,11 @@ use Rattle.rl_queue.specs.declared.view.Phase.{Phase}
 use Rattle.rl_queue.specs.declared.view.Phase.TheVariants.{Idle, Swing, Link, Wait, Settle, Granted, Look, Close, Await, Hand, Above}
 use Rattle.rl_queue.specs.laws.Choices.{choose}
 use Rattle.rl_queue.specs.Queue.{TheNames, code_left, moves_to, moves_with, waits_at, joined_at, hand_turn, turn_at}
-use Rattle.rl_alock.specs.Alock.{entry_of}
+use Rattle.rl_alock.specs.Alock.{entry_events}
 use Rattle.rl_alock.specs.AlockGood.{Flat}
 
 -- what holds of no event and of an entry holds of what entering adds
-pub entry_all : (P : List Event → Type 0) (m : ℕ) (p : Phase) → P [] → P (event.EnterW m ∷ []) → P (entry_of m p)
+pub entry_all : (P : List Event → Type 0) (m : ℕ) (p : Phase) → P [] → P (event.EnterW m ∷ []) → P (entry_events m p)
 entry_all P m (Granted left) a b = b
 entry_all P m _ a b = a
 

@@ -6,9 +6,9 @@ use Rattle.rl_queue.specs.declared.view.Phase.TheVariants.{Idle}
 use Rattle.rl_queue.specs.QueueGood.{Moves}
 use Rattle.rl_queue.specs.laws.RankViewLaws.{read_get, read_set_same, read_set_other, read_all, read_first}
 use Rattle.rl_alock.specs.declared.cohort.Cohort.{Cohort}
-use Rattle.rl_alock.specs.declared.view.Entry.TheVariants.{Announce}
+use Rattle.rl_alock.specs.declared.view.SettleStage.TheVariants.{Announce}
 use Rattle.rl_alock.specs.declared.view.AlockView.{AlockView}
-use Rattle.rl_alock.specs.Alock.{Cohorts, cohort_of, is_in, other, at_entry}
+use Rattle.rl_alock.specs.Alock.{Cohorts, cohort_of, is_in_cohort, other, at_entry}
 use Rattle.rl_alock.specs.AlockGood.{phase_at, entry_at, part, phases_of}
 use Rattle.rl_alock.specs.laws.CohortLaws.{other_differs, in_own, in_other}
 
@@ -47,7 +47,7 @@ module _ (K : Cohorts) where
 
   -- who is idle is idle in both
   pub idle_part : (c : Cohort) (vs : List AlockView) (m : ℕ) → phase_at vs m ≡ Idle → phases_of K c vs m ≡ Idle
-  idle_part c vs m e = ap (part (is_in K c m)) e ∙ by (is_in K c m) where
+  idle_part c vs m e = ap (part (is_in_cohort K c m)) e ∙ by (is_in_cohort K c m) where
     by : (b : _) → part b Idle ≡ Idle
     by true = refl
     by false = refl
@@ -58,11 +58,11 @@ module _ (K : Cohorts) where
       record {
         was = mine_is c vs r e ∙ phase_get vs r v has;
         now = mine_is c (slice_set vs r w) r e ∙ phase_set_same vs r v w has;
-        others = λ x ne. ap (part (is_in K c x)) (phase_set_other vs r w x ne);
+        others = λ x ne. ap (part (is_in_cohort K c x)) (phase_set_other vs r w x ne);
       }
 
   pub moves_other : (c : Cohort) (vs : List AlockView) (r : ℕ) (w : AlockView) → cohort_of K r ≡ c → (x : ℕ) → (x ≡ r) ⊎ (x ≢ r) → phases_of K (other c) (slice_set vs r w) x ≡ phases_of K (other c) vs x
   moves_other c vs r w e x which =
       ⊎_elim
       (λ q. let ex : cohort_of K x ≡ c = ap (cohort_of K) q ∙ e in other_is c (slice_set vs r w) x ex ∙ sym (other_is c vs x ex))
-      (λ q. ap (part (is_in K (other c) x)) (phase_set_other vs r w x q)) which
+      (λ q. ap (part (is_in_cohort K (other c) x)) (phase_set_other vs r w x q)) which

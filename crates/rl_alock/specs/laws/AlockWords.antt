@@ -1,7 +1,7 @@
 -- The words of ALock: each cohort's queue has its own, and the victim is none of them.
 use Rattle.std.specs.Prelude.{◌≡◌, ◌⊎◌, ℕ, ◌+◌, ◌*◌, ◌<◌}
 use Rattle.std.proofs.Common.{sym, ◌∙◌, ap, inl, inr, ⊎_elim, arith}
-use Rattle.rl_queue.specs.Queue.{next_word, status_word}
+use Rattle.rl_queue.specs.Queue.{queue_next_word, status_word}
 use Rattle.rl_queue.specs.laws.RankWordLaws.{every_second_at}
 use Rattle.rl_queue.specs.QueueGood.{IsNaming}
 use Rattle.rl_queue.specs.QueuesApart.{Place, AreApart}
@@ -10,7 +10,7 @@ use Rattle.rl_alock.specs.Alock.{Cohorts, cohort_of, ranks_of, tail_no, victim_n
 use Rattle.rl_alock.specs.AlockGood.{InCohort}
 use Rattle.rl_alock.specs.laws.CohortLaws.{other_differs, two_tails, tail_low}
 
-pub next_is : (K : Cohorts) (c : Cohort) (m : ℕ) → m < ranks_of K → next_word (names_of K c) m ≡ 3 + 2 * m
+pub next_is : (K : Cohorts) (c : Cohort) (m : ℕ) → m < ranks_of K → queue_next_word (names_of K c) m ≡ 3 + 2 * m
 next_is K c m h = every_second_at 3 (ranks_of K) m h
 
 pub status_is : (K : Cohorts) (c : Cohort) (m : ℕ) → m < ranks_of K → status_word (names_of K c) m ≡ 4 + 2 * m

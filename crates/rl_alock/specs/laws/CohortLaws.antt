@@ -3,7 +3,7 @@ use Rattle.std.specs.Prelude.{◌≡◌, ◌≢◌, ◌⊎◌, ℕ, ◌<◌, Boo
 use Rattle.std.proofs.Common.{sym, ◌∙◌, ap, inl, inr, ⊎_elim, arith}
 use Rattle.rl_alock.specs.declared.cohort.Cohort.{Cohort}
 use Rattle.rl_alock.specs.declared.cohort.Cohort.TheVariants.{Local, Remote}
-use Rattle.rl_alock.specs.Alock.{Cohorts, sits_at_home, cohort_by, cohort_of, is_in, other, cohort_no, tail_no}
+use Rattle.rl_alock.specs.Alock.{Cohorts, sits_at_home, cohort_by, cohort_of, is_in_cohort, other, cohort_no, tail_no}
 
 -- the other cohort is another, and whatever isn't a cohort is the other one
 pub other_differs : (c : Cohort) → c ≢ other c
@@ -62,17 +62,17 @@ tail_low Remote = omega arith
 
 -- a rank is in its own cohort, and not in the other
 module _ (K : Cohorts) where
-  pub in_own : (c : Cohort) (m : ℕ) → cohort_of K m ≡ c → is_in K c m ≡ true
+  pub in_own : (c : Cohort) (m : ℕ) → cohort_of K m ≡ c → is_in_cohort K c m ≡ true
   in_own c m e = by c (sits_at_home K m) e refl where
-    by : (c : Cohort) (b : Bool) → cohort_by b ≡ c → sits_at_home K m ≡ b → is_in K c m ≡ true
+    by : (c : Cohort) (b : Bool) → cohort_by b ≡ c → sits_at_home K m ≡ b → is_in_cohort K c m ≡ true
     by Local true q h = h
     by Local false q h = cc
     by Remote true q h = cc
     by Remote false q h = ap not h
 
-  pub in_other : (c : Cohort) (m : ℕ) → cohort_of K m ≢ c → is_in K c m ≡ false
+  pub in_other : (c : Cohort) (m : ℕ) → cohort_of K m ≢ c → is_in_cohort K c m ≡ false
   in_other c m ne = by c (sits_at_home K m) ne refl where
-    by : (c : Cohort) (b : Bool) → cohort_by b ≢ c → sits_at_home K m ≡ b → is_in K c m ≡ false
+    by : (c : Cohort) (b : Bool) → cohort_by b ≢ c → sits_at_home K m ≡ b → is_in_cohort K c m ≡ false
     by Local true q h = absurd (q refl)
     by Local false q h = h
     by Remote true q h = ap not h

@@ -1,10 +1,10 @@
 -- Views that `==` finds equal are one.
 use Rattle.std.proofs.Common.{◌≡◌, Bool, true, false, ◌&&◌, ap, refl, ◌∙◌, rules}
 use Rattle.rl_queue.specs.declared.view.QueueView.{QueueView}
-use Rattle.rl_alock.specs.declared.view.Entry.{Entry}
+use Rattle.rl_alock.specs.declared.view.SettleStage.{SettleStage}
 use Rattle.rl_alock.specs.declared.view.AlockView.{AlockView}
 use Rattle.rl_queue.specs.contracts.view.QueueViewPartialEq.TheImpl as queue
-use Rattle.rl_alock.specs.contracts.view.EntryPartialEq.TheImpl as entry
+use Rattle.rl_alock.specs.contracts.view.SettleStagePartialEq.TheImpl as entry
 use Rattle.rl_alock.specs.contracts.view.AlockViewPartialEq.TheImpl as alock
 
 both : (a b : Bool) → (a && b) ≡ true → (a ≡ true) × (b ≡ true)
@@ -14,7 +14,7 @@ both false b e = cc
 same_queue : (x y : QueueView) → queue.ghosts.eq x y ≡ true → x ≡ y
 same_queue x y e = search rules
 
-same_entry : (x y : Entry) → entry.ghosts.eq x y ≡ true → x ≡ y
+same_entry : (x y : SettleStage) → entry.ghosts.eq x y ≡ true → x ≡ y
 same_entry x y e = search rules
 
 pub same_alock : (x y : AlockView) → alock.ghosts.eq x y ≡ true → x ≡ y

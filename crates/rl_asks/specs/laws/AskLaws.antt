@@ -13,7 +13,7 @@ use Rattle.rl_model.specs.Call.{shard_of, is_update}
 use Rattle.rl_model.specs.Asked.{Asked, IsAsked, AreUpdates, asks_update}
 use Rattle.rl_model.proofs.Counts.{count-append, count-cons}
 use Rattle.rl_ops.specs.Ops.{total_calls}
-use Rattle.rl_journal.specs.Blocks.{batch_of}
+use Rattle.rl_journal.specs.Blocks.{batch_number}
 use Rattle.rl_site.specs.Opens.{places_needed}
 use Rattle.rl_asks.specs.Asks.{is_on, sizes_in, IsBlockOf, AreBlocks, block_from, block_shard, call_shard, place_after, asked_after, asked_of, is_update_on}
 use Rattle.rl_asks.specs.RankGood.{AsksNext}
@@ -134,11 +134,11 @@ asked_tail batch part [] later sizes = ap (λ p. asked_after batch p later sizes
 asked_tail batch part (c ∷ cs) later sizes = ap (λ z. record { call = c; batch = batch; part = part } ∷ z) (asked_tail batch (part + 1) cs later sizes ∙ ap (λ p. asked_from batch (part + 1) cs ++ asked_after batch p later sizes) (omega arith))
 
 asked_block : (batch part : ℕ) (block later : List Call) (sizes : List ℕ) → 1 ≤ length block →
-    (rest : List Asked) × (asked_after batch part (block ++ later) (sizes_in block ++ sizes) ≡ asked_from (batch_of (length block)) 0 block ++ rest)
+    (rest : List Asked) × (asked_after batch part (block ++ later) (sizes_in block ++ sizes) ≡ asked_from (batch_number (length block)) 0 block ++ rest)
 asked_block batch part [] later sizes h = absurd (omega arith)
 asked_block batch part (c ∷ cs) later sizes h = (
-  asked_after (batch_of (suc (length cs))) (1 + length cs) later sizes,
-  ap (λ z. record { call = c; batch = batch_of (suc (length cs)); part = 0 } ∷ z) (asked_tail (batch_of (suc (length cs))) 1 cs later sizes),
+  asked_after (batch_number (suc (length cs))) (1 + length cs) later sizes,
+  ap (λ z. record { call = c; batch = batch_number (suc (length cs)); part = 0 } ∷ z) (asked_tail (batch_number (suc (length cs))) 1 cs later sizes),
 )
 
 -- the calls behind a number are asked for as they stand, after some batch and place
@@ -150,18 +150,18 @@ asked_drop (suc n) batch part (c ∷ cs) [] = (batch, part, none_left (drop n cs
   none_left [] = refl
   none_left (c ∷ cs) = refl
 asked_drop (suc n) batch part (c ∷ cs) (zero ∷ ss) = asked_drop n batch (part + 1) cs ss
-asked_drop (suc n) batch part (c ∷ cs) (suc k ∷ ss) = asked_drop n (batch_of (suc k)) 1 cs ss
+asked_drop (suc n) batch part (c ∷ cs) (suc k ∷ ss) = asked_drop n (batch_number (suc k)) 1 cs ss
 
 next_from : (asked : List Asked) (n batch part : ℕ) (block : List Call) (rest : List Asked) → drop n asked ≡ asked_from batch part block ++ rest → AsksNext batch part asked n block
 next_from asked n batch part [] rest e = tt
 next_from asked n batch part (c ∷ cs) rest e =
     let q = head_at n asked (record { call = c; batch = batch; part = part }) (asked_from batch (part + 1) cs ++ rest) e in (q.0, next_from asked (n + 1) batch (part + 1) cs rest q.1)
 
-pub asks_next : (geom : Geom) (calls : List Call) (sizes : List ℕ) (n : ℕ) (b : NextBlock geom (drop n calls) (drop n sizes)) → AsksNext (batch_of (length b.block)) 0 (asked_of calls sizes) n b.block
+pub asks_next : (geom : Geom) (calls : List Call) (sizes : List ℕ) (n : ℕ) (b : NextBlock geom (drop n calls) (drop n sizes)) → AsksNext (batch_number (length b.block)) 0 (asked_of calls sizes) n b.block
 asks_next geom calls sizes n b =
     let d = asked_drop n 0 0 calls sizes in
     let k = asked_block d.0 d.1 b.block b.later b.later_sizes b.is_block.is_asked.some in
-    next_from (asked_of calls sizes) n (batch_of (length b.block)) 0 b.block k.0 (d.2 ∙ ap (λ z. asked_after d.0 d.1 z (drop n sizes)) b.calls_are ∙ ap (asked_after d.0 d.1 (b.block ++ b.later)) b.sizes_are ∙ k.1)
+    next_from (asked_of calls sizes) n (batch_number (length b.block)) 0 b.block k.0 (d.2 ∙ ap (λ z. asked_after d.0 d.1 z (drop n sizes)) b.calls_are ∙ ap (asked_after d.0 d.1 (b.block ++ b.later)) b.sizes_are ∙ k.1)
 
 -- ---- how many it adds to a shard
 

@@ -11,7 +11,7 @@ use Rattle.rl_model.specs.declared.geom.Geom.{Geom}
 use Rattle.rl_model.specs.Call.{shard_of, is_update}
 use Rattle.rl_model.specs.Asked.{Asked}
 use Rattle.rl_model.proofs.Counts.{count-cons}
-use Rattle.rl_journal.specs.Blocks.{calls_of, batch_of}
+use Rattle.rl_journal.specs.Blocks.{calls_of, batch_number}
 use Rattle.rl_journal.specs.Legal.{updates}
 use Rattle.rl_journal.specs.Ranks.{IsInOrder, IsRankInOrder, IsEntryOf, AreAsked}
 use Rattle.rl_journal.specs.laws.RankLaws.{block_more}
@@ -20,7 +20,7 @@ use Rattle.rl_site.specs.Transcript.{TheTranscript}
 use Rattle.rl_site.specs.Opens.{IsOpen, Tells}
 use Rattle.rl_asks.specs.Asks.{is_on, AreBlocks, place_after, asked_of, is_update_on}
 use Rattle.rl_asks.specs.laws.AskLaws.{NextBlock, take_more, stands_at, calls_there, asks_next, inside, rest_behind, all_on, none_on, room_for, updates_room}
-use Rattle.rl_asks.specs.Desks.{Desk, IsDesk, OpensBlock, KeepsBlock, EndsBlock, Turns, entries_of}
+use Rattle.rl_asks.specs.Desks.{Desk, IsDesk, OpensBlock, KeepsBlock, EndsBlock, Turns, desk_entries}
 use Rattle.rl_asks.specs.RankGood.{AsksNext, IsAtWork, IsOn, RankGood, IsFreshDesk, entries_in}
 
 -- where no block is open nothing is owed
@@ -82,8 +82,8 @@ module _ (geom : Geom) (calls : List Call) (sizes : List ℕ) (k : ℕ) where
 
   pub rank_begins : (desks : List Desk) → AreBlocks geom calls sizes → ((s : ℕ) (d : Desk) → slice_get desks s ≡ Some d → IsFreshDesk geom calls s d) → RankGood geom calls sizes 0 desks k
   rank_begins desks blocks fresh =
-      let none : (s : ℕ) (t : List Entry) → slice_get (map entries_of desks) s ≡ Some t → t ≡ [] =
-      λ s t e. let q = get_map_back entries_of desks s t e in sym q.2 ∙ (fresh s q.0 q.1).nothing in
+      let none : (s : ℕ) (t : List Entry) → slice_get (map desk_entries desks) s ≡ Some t → t ≡ [] =
+      λ s t e. let q = get_map_back desk_entries desks s t e in sym q.2 ∙ (fresh s q.0 q.1).nothing in
       record {
         done = 0;
         low = omega arith;
@@ -93,7 +93,7 @@ module _ (geom : Geom) (calls : List Call) (sizes : List ℕ) (k : ℕ) where
           each = λ s t e. subst (All (IsEntryOf geom k (asked_of calls sizes) 0 s)) (sym (none s t e)) (All-nil (IsEntryOf geom k (asked_of calls sizes) 0 s));
           in_order = λ s t e. subst IsInOrder (sym (none s t e)) (λ i a b p q. absurd (cc));
         };
-        total = none_in (map entries_of desks) none;
+        total = none_in (map desk_entries desks) none;
         on = λ s d e.
             let f = fresh s d e in
             record {
@@ -109,9 +109,9 @@ module _ (geom : Geom) (calls : List Call) (sizes : List ℕ) (k : ℕ) where
   -- ---- where one desk changes
 
   -- the entries on all shards stay where its own do
-  entries_stay : (desks : List Desk) (s : ℕ) (d e : Desk) → slice_get desks s ≡ Some d → e.kept ≡ d.kept → map entries_of (slice_set desks s e) ≡ map entries_of desks
+  entries_stay : (desks : List Desk) (s : ℕ) (d e : Desk) → slice_get desks s ≡ Some d → e.kept ≡ d.kept → map desk_entries (slice_set desks s e) ≡ map desk_entries desks
   entries_stay desks s d e has same =
-      map_set entries_of desks s e ∙ ap (λ (z : TheTranscript). slice_set (map entries_of desks) s z.items) same ∙ set_same_get (map entries_of desks) s d.kept.items (get_map entries_of desks s d has)
+      map_set desk_entries desks s e ∙ ap (λ (z : TheTranscript). slice_set (map desk_entries desks) s z.items) same ∙ set_same_get (map desk_entries desks) s d.kept.items (get_map desk_entries desks s d has)
 
   -- what holds of it, and of the others, holds of all
   on_all : (done opened : ℕ) (desks : List Desk) (s : ℕ) (e : Desk) → IsOn geom calls (asked_of calls sizes) done opened s e →
@@ -148,7 +148,7 @@ module _ (geom : Geom) (calls : List Call) (sizes : List ℕ) (k : ℕ) where
           let o : IsOn geom calls (asked_of calls sizes) g.done n s d = g.on s d has in
           let there : take (length b.block) (drop n calls) ≡ b.block = calls_there geom calls sizes n b in
           let mine : calls_of d.kept.items ≡ filter (is_on geom s) (take n calls) = o.calls_are ∙ ap (λ z. filter (is_on geom s) (take z calls)) done in
-          let kept : slice_get (map entries_of desks) s ≡ Some d.kept.items = get_map entries_of desks s d has in
+          let kept : slice_get (map desk_entries desks) s ≡ Some d.kept.items = get_map desk_entries desks s d has in
           let in_all : n + length b.block ≤ length calls = inside geom calls sizes n b in
           record {
             is_block = b.is_block.is_asked;
@@ -166,13 +166,13 @@ module _ (geom : Geom) (calls : List Call) (sizes : List ℕ) (k : ℕ) where
           let s : ℕ = b.is_block.shard in
           let place : place_after geom calls (n + length b.block) ≡ s = stands_at geom calls sizes n b in
           let o : IsOn geom calls (asked_of calls sizes) g.done n s d = g.on s d has in
-          let same : map entries_of (slice_set desks s e) ≡ map entries_of desks = entries_stay desks s d e has opens.same_kept in
+          let same : map desk_entries (slice_set desks s e) ≡ map desk_entries desks = entries_stay desks s d e has opens.same_kept in
           let works : IsAtWork geom calls (asked_of calls sizes) g.done (n + length b.block) s b.block n =
           record {
             seq_is = sym done;
             ends = ap (λ z. z + length b.block) done;
             calls_are = ap (λ z. take (length b.block) (drop z calls)) done ∙ calls_there geom calls sizes n b;
-            next = subst (λ z. AsksNext (batch_of (length b.block)) 0 (asked_of calls sizes) z b.block) (sym done) (asks_next geom calls sizes n b);
+            next = subst (λ z. AsksNext (batch_number (length b.block)) 0 (asked_of calls sizes) z b.block) (sym done) (asks_next geom calls sizes n b);
             one_shard = b.is_block.one_shard;
           } in
           record {
@@ -210,7 +210,7 @@ module _ (geom : Geom) (calls : List Call) (sizes : List ℕ) (k : ℕ) where
     keeps_block : KeepsBlock d e → RankGood geom calls sizes n (slice_set desks s e) k
     keeps_block w =
         let o : IsOn geom calls (asked_of calls sizes) g.done n s d = g.on s d has in
-        let same : map entries_of (slice_set desks s e) ≡ map entries_of desks = entries_stay desks s d e has w.same_kept in
+        let same : map desk_entries (slice_set desks s e) ≡ map desk_entries desks = entries_stay desks s d e has w.same_kept in
         record {
           done = g.done;
           low = g.low;
@@ -246,20 +246,20 @@ module _ (geom : Geom) (calls : List Call) (sizes : List ℕ) (k : ℕ) where
         let here : s ≡ place_after geom calls n = stands_here w.owed in
         let many : length w.entries ≡ length d.calls = sym (length-map w.entries (λ (z : Entry). z.call)) ∙ ap length w.calls_are in
         let last : g.done + length w.entries ≡ n = ap (λ m. g.done + m) many ∙ at.ends in
-        let kept : slice_get (map entries_of desks) s ≡ Some d.kept.items = get_map entries_of desks s d has in
-        let lists : map entries_of (slice_set desks s e) ≡ slice_set (map entries_of desks) s (d.kept.items ++ w.entries) = map_set entries_of desks s e ∙ ap (slice_set (map entries_of desks) s) w.items in
-        let tells = subst (λ m. Tells s k (batch_of (length d.calls)) m 0 w.entries) at.seq_is w.tells in
+        let kept : slice_get (map desk_entries desks) s ≡ Some d.kept.items = get_map desk_entries desks s d has in
+        let lists : map desk_entries (slice_set desks s e) ≡ slice_set (map desk_entries desks) s (d.kept.items ++ w.entries) = map_set desk_entries desks s e ∙ ap (slice_set (map desk_entries desks) s) w.items in
+        let tells = subst (λ m. Tells s k (batch_number (length d.calls)) m 0 w.entries) at.seq_is w.tells in
         let low = g.low in
-        let asked : AreAsked geom k (asked_of calls sizes) s g.done w.entries = asked_entries geom k (asked_of calls sizes) s (batch_of (length d.calls)) 0 g.done w.entries d.calls w.calls_are tells at.next at.one_shard (omega arith) in
-        let ordered : IsRankInOrder geom k (asked_of calls sizes) (g.done + length w.entries) (slice_set (map entries_of desks) s (d.kept.items ++ w.entries)) =
-        block_more geom k (asked_of calls sizes) s w.entries g.done (map entries_of desks) d.kept.items g.order kept asked (subst IsInOrder w.items is.in_order) in
+        let asked : AreAsked geom k (asked_of calls sizes) s g.done w.entries = asked_entries geom k (asked_of calls sizes) s (batch_number (length d.calls)) 0 g.done w.entries d.calls w.calls_are tells at.next at.one_shard (omega arith) in
+        let ordered : IsRankInOrder geom k (asked_of calls sizes) (g.done + length w.entries) (slice_set (map desk_entries desks) s (d.kept.items ++ w.entries)) =
+        block_more geom k (asked_of calls sizes) s w.entries g.done (map desk_entries desks) d.kept.items g.order kept asked (subst IsInOrder w.items is.in_order) in
         let more : take n calls ≡ take g.done calls ++ d.calls = ap (λ m. take m calls) (sym at.ends) ∙ take_more g.done (length d.calls) calls ∙ ap (λ z. take g.done calls ++ z) at.calls_are in
         record {
           done = n;
           low = g.low;
           rest = g.rest;
-          total = ap entries_in lists ∙ entries_more (map entries_of desks) s d.kept.items w.entries kept ∙ ap (λ m. m + length w.entries) g.total ∙ last;
-          order = subst (λ m. IsRankInOrder geom k (asked_of calls sizes) m (map entries_of (slice_set desks s e))) last (subst (IsRankInOrder geom k (asked_of calls sizes) (g.done + length w.entries)) (sym lists) ordered);
+          total = ap entries_in lists ∙ entries_more (map desk_entries desks) s d.kept.items w.entries kept ∙ ap (λ m. m + length w.entries) g.total ∙ last;
+          order = subst (λ m. IsRankInOrder geom k (asked_of calls sizes) m (map desk_entries (slice_set desks s e))) last (subst (IsRankInOrder geom k (asked_of calls sizes) (g.done + length w.entries)) (sym lists) ordered);
           on = on_all n n desks s e
               (record {
                 calls_are = ap calls_of w.items ∙ map-append (λ (z : Entry). z.call) d.kept.items w.entries ∙ ap (λ z. z ++ calls_of w.entries) o.calls_are ∙ ap (λ z. filter (is_on geom s) (take g.done calls) ++ z) (w.calls_are ∙ sym (all_on geom s d.calls at.one_shard))

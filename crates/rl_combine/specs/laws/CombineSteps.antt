@@ -11,9 +11,9 @@ use Rattle.rl_volume.specs.Decision.{decision}
 use Rattle.rl_work.specs.Ways.{Worked}
 use Rattle.rl_work.specs.LockedLeft.{words_unseen}
 use Rattle.rl_work.specs.laws.LockedSteps.{decision_few}
-use Rattle.rl_combine.specs.declared.stage.Stage.TheVariants.{Sweep, Volume}
-use Rattle.rl_combine.specs.Posts.{CombineSite, ranks_of}
-use Rattle.rl_combine.specs.Combine.{TheCombineSide, to_stage, to_collect, sweep_on, read_on, read_next, decided_stage, with_decision, written_on}
+use Rattle.rl_combine.specs.declared.stage.CombineStage.TheVariants.{Sweep, Volume}
+use Rattle.rl_combine.specs.Posts.{CombineSite, combine_ranks}
+use Rattle.rl_combine.specs.Combine.{TheCombineSide, combine_to_stage, to_collect, sweep_on, combine_read_on, combine_read_next, decided_stage, with_decision, combine_written_on}
 use Rattle.rl_combine.specs.CombineLeft.{sweep_left, far_at, far}
 
 -- the sweep of one rank more
@@ -41,28 +41,28 @@ module _ (S : CombineSite) where
   V = volume_words S.site.geom
 
   abbrev R : ℕ
-  R = ranks_of S
+  R = combine_ranks S
 
   -- the sweep goes on, or the own answer is collected
   pub swept : (x : TheCombineSide) (owner n : ℕ) → sweep_left V R owner ≤ n → far S (sweep_on S x owner).work ≤ n
   swept x owner n le = by (owner == R) where
-    by : (b : Bool) → far S (if b then to_collect x else to_stage x (Sweep owner)).work ≤ n
+    by : (b : Bool) → far S (if b then to_collect x else combine_to_stage x (Sweep owner)).work ≤ n
     by true = omega arith
     by false = le
 
-  decided : (x : TheCombineSide) (owner : ℕ) (b : Bool) (d : List Write × _) → length d.0 ≤ 5 → far S (to_stage (with_decision S x owner d) (decided_stage owner b)).work ≤ sweep_left V R (owner + 1) + 17
+  decided : (x : TheCombineSide) (owner : ℕ) (b : Bool) (d : List Write × _) → length d.0 ≤ 5 → far S (combine_to_stage (with_decision S x owner d) (decided_stage owner b)).work ≤ sweep_left V R (owner + 1) + 17
   decided x owner true d few = omega arith
   decided x owner false d few = omega arith
 
-  pub read_far : (x : TheCombineSide) (owner : ℕ) → far S (read_on S x owner).work ≤ sweep_left V R (owner + 1) + 18 + words_unseen V x.seen.pairs
+  pub read_far : (x : TheCombineSide) (owner : ℕ) → far S (combine_read_on S x owner).work ≤ sweep_left V R (owner + 1) + 18 + words_unseen V x.seen.pairs
   read_far x owner = by (next_word S.site.geom x.posted x.seen.pairs) where
-    by : (o : Option ℕ) → far S (read_next S x owner o).work ≤ sweep_left V R (owner + 1) + 18 + words_unseen V x.seen.pairs
+    by : (o : Option ℕ) → far S (combine_read_next S x owner o).work ≤ sweep_left V R (owner + 1) + 18 + words_unseen V x.seen.pairs
     by (Some word) = omega arith
     by None =
         let few = decision_few S.site.geom x.posted (value_or_zero x.seen.pairs) in
         let k = decided x owner (is_update x.posted) (decision S.site.geom x.posted (value_or_zero x.seen.pairs)) few in
         omega arith
 
-  pub written : (x : TheCombineSide) (owner made : ℕ) (o : Option Write) → slice_get x.writes made ≡ o → far S (written_on x owner made o).work < far_at V R x (Volume owner made)
+  pub written : (x : TheCombineSide) (owner made : ℕ) (o : Option Write) → slice_get x.writes made ≡ o → far S (combine_written_on x owner made o).work < far_at V R x (Volume owner made)
   written x owner made (Some w) e = let k = slice_get_within x.writes made w e in omega arith
   written x owner made None e = omega arith

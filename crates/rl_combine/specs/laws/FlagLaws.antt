@@ -20,10 +20,10 @@ use Rattle.rl_work.specs.Ways.{Worked, IsApart, IsLaid}
 use Rattle.rl_work.specs.Work.{write_atom, work_atom, more_entries}
 use Rattle.rl_work.specs.WorkGood.{WorkSide as Seat, transcript_of}
 use Rattle.rl_work.specs.laws.RuleLaws.{always_legal}
-use Rattle.rl_combine.specs.declared.stage.Stage.{Stage}
-use Rattle.rl_combine.specs.declared.stage.Stage.TheVariants.{Rest, Post, Raise, Look, Count, Sweep, Copy, Read, Journal, Volume, Answer, Mark, Collect, Lower}
-use Rattle.rl_combine.specs.Posts.{CombineSite, ThePost, ranks_of, post_word, flag_word, post_of, answered_entry}
-use Rattle.rl_combine.specs.Combine.{TheCombineSide, opened_of, combine_after, combine_table, is_open, early, stage_atom, stage_after, to_stage, to_collect, with_copied, with_posted, with_word, read_next, read_on, written_on, decided_stage, found}
+use Rattle.rl_combine.specs.declared.stage.CombineStage.{CombineStage}
+use Rattle.rl_combine.specs.declared.stage.CombineStage.TheVariants.{Rest, Post, Raise, Look, Count, Sweep, Copy, Read, Journal, Volume, Answer, Mark, Collect, Lower}
+use Rattle.rl_combine.specs.Posts.{CombineSite, ThePost, combine_ranks, post_word, flag_word, post_of, answered_entry}
+use Rattle.rl_combine.specs.Combine.{TheCombineSide, opened_of, combine_after, combine_table, combine_is_open, early, combine_stage_atom, combine_stage_after, combine_to_stage, to_collect, with_copied, with_posted, combine_with_word, combine_read_next, combine_read_on, combine_written_on, decided_stage, found}
 use Rattle.rl_combine.specs.CombineGood.{RankSide, front_of, IsAnswered, Progress, waits, handled, counted, answered, IsPosted, OwnAt, SweepAt, CombineGood, deciding}
 use Rattle.rl_combine.specs.Sweep.{after_all, atoms_of, StoresTwo, IsLate, FlagSays, StoresFlag, FlagMoves, passes, raises, lowers, marks}
 use Rattle.rl_combine.specs.laws.PostLaws.{others_stay, posts_stay, flag_stored}
@@ -37,21 +37,21 @@ by_test : (b : Bool) (s t : Worked TheCombineSide) (owner : ℕ) → found s.wor
 by_test true s t owner a c = a
 by_test false s t owner a c = c
 
-reads_found : (S : CombineSite) (y : TheCombineSide) (owner : ℕ) → found (read_on S y owner).work.stage ≡ Some owner
+reads_found : (S : CombineSite) (y : TheCombineSide) (owner : ℕ) → found (combine_read_on S y owner).work.stage ≡ Some owner
 reads_found S y owner = by_next (next_word S.site.geom y.posted y.seen.pairs) where
   by_kind : (b : Bool) → found (decided_stage owner b) ≡ Some owner
   by_kind true = refl
   by_kind false = refl
 
-  by_next : (o : Option ℕ) → found (read_next S y owner o).work.stage ≡ Some owner
+  by_next : (o : Option ℕ) → found (combine_read_next S y owner o).work.stage ≡ Some owner
   by_next (Some word) = refl
   by_next None = by_kind (is_update y.posted)
 
-writes_found : (x : TheCombineSide) (owner made : ℕ) (o : Option Write) → found (written_on x owner made o).work.stage ≡ Some owner
+writes_found : (x : TheCombineSide) (owner made : ℕ) (o : Option Write) → found (combine_written_on x owner made o).work.stage ≡ Some owner
 writes_found x owner made (Some w) = refl
 writes_found x owner made None = refl
 
-pub holds_on : (S : CombineSite) (r : ℕ) (x : TheCombineSide) (got owner : ℕ) (st : Stage) → found st ≡ Some owner → (st ≡ Mark owner) ⊎ (found (stage_after S r x got st).work.stage ≡ Some owner)
+pub holds_on : (S : CombineSite) (r : ℕ) (x : TheCombineSide) (got owner : ℕ) (st : CombineStage) → found st ≡ Some owner → (st ≡ Mark owner) ⊎ (found (combine_stage_after S r x got st).work.stage ≡ Some owner)
 holds_on S r x got owner Rest e = absurd (cc)
 holds_on S r x got owner (Post made) e = absurd (cc)
 holds_on S r x got owner Raise e = absurd (cc)
@@ -59,11 +59,11 @@ holds_on S r x got owner Look e = absurd (cc)
 holds_on S r x got owner Count e = absurd (cc)
 holds_on S r x got owner (Sweep j) e = absurd (cc)
 holds_on S r x got owner (Copy j made) e =
-    inr (by_test (made + 1 == 5) (read_on S (with_posted S (with_copied x got)) j) (to_stage (with_copied x got) (Copy j (made + 1))) j (reads_found S (with_posted S (with_copied x got)) j) refl ∙ e)
-holds_on S r x got owner (Read j word) e = inr (reads_found S (with_word x word got) j ∙ e)
-holds_on S r x got owner (Journal j made) e = inr (by_test (made + 1 == 6) (to_stage x (Volume j 0)) (to_stage x (Journal j (made + 1))) j refl refl ∙ e)
+    inr (by_test (made + 1 == 5) (combine_read_on S (with_posted S (with_copied x got)) j) (combine_to_stage (with_copied x got) (Copy j (made + 1))) j (reads_found S (with_posted S (with_copied x got)) j) refl ∙ e)
+holds_on S r x got owner (Read j word) e = inr (reads_found S (combine_with_word x word got) j ∙ e)
+holds_on S r x got owner (Journal j made) e = inr (by_test (made + 1 == 6) (combine_to_stage x (Volume j 0)) (combine_to_stage x (Journal j (made + 1))) j refl refl ∙ e)
 holds_on S r x got owner (Volume j made) e = inr (writes_found x j made (slice_get x.writes made) ∙ e)
-holds_on S r x got owner (Answer j made) e = inr (by_test (made + 1 == 3) (to_stage x (Mark j)) (to_stage x (Answer j (made + 1))) j refl refl ∙ e)
+holds_on S r x got owner (Answer j made) e = inr (by_test (made + 1 == 3) (combine_to_stage x (Mark j)) (combine_to_stage x (Answer j (made + 1))) j refl refl ∙ e)
 holds_on S r x got owner (Mark j) e = inl (ap (λ n. Mark n) (same_Some j owner e))
 holds_on S r x got owner (Collect made) e = absurd (cc)
 holds_on S r x got owner Lower e = absurd (cc)
@@ -73,17 +73,17 @@ kept_by_test : (b : Bool) (s t : Worked TheCombineSide) (k : TheTranscript) → 
 kept_by_test true s t k a c = a
 kept_by_test false s t k a c = c
 
-reads_kept : (S : CombineSite) (y : TheCombineSide) (owner : ℕ) → (read_on S y owner).work.kept ≡ y.kept
+reads_kept : (S : CombineSite) (y : TheCombineSide) (owner : ℕ) → (combine_read_on S y owner).work.kept ≡ y.kept
 reads_kept S y owner = by_next (next_word S.site.geom y.posted y.seen.pairs) where
-  by_next : (o : Option ℕ) → (read_next S y owner o).work.kept ≡ y.kept
+  by_next : (o : Option ℕ) → (combine_read_next S y owner o).work.kept ≡ y.kept
   by_next (Some word) = refl
   by_next None = refl
 
-writes_kept : (x : TheCombineSide) (owner made : ℕ) (o : Option Write) → (written_on x owner made o).work.kept ≡ x.kept
+writes_kept : (x : TheCombineSide) (owner made : ℕ) (o : Option Write) → (combine_written_on x owner made o).work.kept ≡ x.kept
 writes_kept x owner made (Some w) = refl
 writes_kept x owner made None = refl
 
-pub found_keeps : (S : CombineSite) (r : ℕ) (x : TheCombineSide) (got owner : ℕ) (st : Stage) → found st ≡ Some owner → (stage_after S r x got st).work.kept ≡ x.kept
+pub found_keeps : (S : CombineSite) (r : ℕ) (x : TheCombineSide) (got owner : ℕ) (st : CombineStage) → found st ≡ Some owner → (combine_stage_after S r x got st).work.kept ≡ x.kept
 found_keeps S r x got owner Rest e = absurd (cc)
 found_keeps S r x got owner (Post made) e = absurd (cc)
 found_keeps S r x got owner Raise e = absurd (cc)
@@ -91,16 +91,16 @@ found_keeps S r x got owner Look e = absurd (cc)
 found_keeps S r x got owner Count e = absurd (cc)
 found_keeps S r x got owner (Sweep j) e = absurd (cc)
 found_keeps S r x got owner (Copy j made) e =
-    kept_by_test (made + 1 == 5) (read_on S (with_posted S (with_copied x got)) j) (to_stage (with_copied x got) (Copy j (made + 1))) x.kept (reads_kept S (with_posted S (with_copied x got)) j) refl
-found_keeps S r x got owner (Read j word) e = reads_kept S (with_word x word got) j
-found_keeps S r x got owner (Journal j made) e = kept_by_test (made + 1 == 6) (to_stage x (Volume j 0)) (to_stage x (Journal j (made + 1))) x.kept refl refl
+    kept_by_test (made + 1 == 5) (combine_read_on S (with_posted S (with_copied x got)) j) (combine_to_stage (with_copied x got) (Copy j (made + 1))) x.kept (reads_kept S (with_posted S (with_copied x got)) j) refl
+found_keeps S r x got owner (Read j word) e = reads_kept S (combine_with_word x word got) j
+found_keeps S r x got owner (Journal j made) e = kept_by_test (made + 1 == 6) (combine_to_stage x (Volume j 0)) (combine_to_stage x (Journal j (made + 1))) x.kept refl refl
 found_keeps S r x got owner (Volume j made) e = writes_kept x j made (slice_get x.writes made)
-found_keeps S r x got owner (Answer j made) e = kept_by_test (made + 1 == 3) (to_stage x (Mark j)) (to_stage x (Answer j (made + 1))) x.kept refl refl
-found_keeps S r x got owner (Mark j) e = kept_by_test (j + 1 == ranks_of S) (to_collect x) (to_stage x (Sweep (j + 1))) x.kept refl refl
+found_keeps S r x got owner (Answer j made) e = kept_by_test (made + 1 == 3) (combine_to_stage x (Mark j)) (combine_to_stage x (Answer j (made + 1))) x.kept refl refl
+found_keeps S r x got owner (Mark j) e = kept_by_test (j + 1 == combine_ranks S) (to_collect x) (combine_to_stage x (Sweep (j + 1))) x.kept refl refl
 found_keeps S r x got owner (Collect made) e = absurd (cc)
 found_keeps S r x got owner Lower e = absurd (cc)
 
-pub found_open : (st : Stage) (owner : ℕ) → found st ≡ Some owner → is_open st ≡ true
+pub found_open : (st : CombineStage) (owner : ℕ) → found st ≡ Some owner → combine_is_open st ≡ true
 found_open Rest owner e = absurd (cc)
 found_open (Post made) owner e = refl
 found_open Raise owner e = refl
@@ -117,20 +117,20 @@ found_open (Collect made) owner e = refl
 found_open Lower owner e = refl
 
 -- so where the call is over, 2 was stored
-stores_two : (S : CombineSite) (r : ℕ) (x : TheCombineSide) (owner : ℕ) (more : List ℕ) → found x.stage ≡ Some owner → is_open (after_all S r x more).stage ≡ false → StoresTwo S owner (atoms_of S r x more)
+stores_two : (S : CombineSite) (r : ℕ) (x : TheCombineSide) (owner : ℕ) (more : List ℕ) → found x.stage ≡ Some owner → combine_is_open (after_all S r x more).stage ≡ false → StoresTwo S owner (atoms_of S r x more)
 stores_two S r x owner [] held over = let is = found_open x.stage owner held in absurd (cc)
 stores_two S r x owner (got ∷ more) held over =
     ⊎_elim
-    (λ (at : x.stage ≡ Mark owner). record { place = 0; is = ap (λ st. Some (stage_atom S r x st)) at })
+    (λ (at : x.stage ≡ Mark owner). record { place = 0; is = ap (λ st. Some (combine_stage_atom S r x st)) at })
     (λ (still : found (combine_after S r x got).work.stage ≡ Some owner).
     let later : StoresTwo S owner (atoms_of S r (combine_after S r x got).work more) = stores_two S r (combine_after S r x got).work owner more still over in
     record { place = suc later.place; is = later.is })
     (holds_on S r x got owner x.stage held)
 
 -- a rank that found the flag 1 in its sweep has stored 2 there before its call is over
-pub sweep_stores : (S : CombineSite) (r : ℕ) (x : TheCombineSide) (owner : ℕ) (more : List ℕ) → x.stage ≡ Sweep owner → is_open (after_all S r x (1 ∷ more)).stage ≡ false → StoresTwo S owner (atoms_of S r x (1 ∷ more))
+pub sweep_stores : (S : CombineSite) (r : ℕ) (x : TheCombineSide) (owner : ℕ) (more : List ℕ) → x.stage ≡ Sweep owner → combine_is_open (after_all S r x (1 ∷ more)).stage ≡ false → StoresTwo S owner (atoms_of S r x (1 ∷ more))
 sweep_stores S r x owner more at over =
-    let held : found (combine_after S r x 1).work.stage ≡ Some owner = ap (λ st. found (stage_after S r x 1 st).work.stage) at in
+    let held : found (combine_after S r x 1).work.stage ≡ Some owner = ap (λ st. found (combine_stage_after S r x 1 st).work.stage) at in
     let later : StoresTwo S owner (atoms_of S r (combine_after S r x 1).work more) = stores_two S r (combine_after S r x 1).work owner more held over in
     record { place = suc later.place; is = later.is }
 
@@ -156,7 +156,7 @@ module _ (S : CombineSite) (node : ℕ → ℕ) (words : List ℕ) (laid : IsLai
         due = λ two. absurd (omega arith);
       }
 
-  done_says : (y : Seat) → slice_get g.seats k ≡ Some y → is_open x.work.stage ≡ true → IsAnswered S (post_of S words k) k (opened_of x.work) y → FlagSays S words sides k x.work
+  done_says : (y : Seat) → slice_get g.seats k ≡ Some y → combine_is_open x.work.stage ≡ true → IsAnswered S (post_of S words k) k (opened_of x.work) y → FlagSays S words sides k x.work
   done_says y seat is a =
       let two : (post_of S words k).flag ≡ 2 = a.flag in
       let e : Entry = answered_entry S.site.shard k x.work.seq x.work.call (post_of S words k).answer in
@@ -169,7 +169,7 @@ module _ (S : CombineSite) (node : ℕ → ℕ) (words : List ℕ) (laid : IsLai
         due = λ _. due_of y e seat a.free.has;
       }
 
-  posted_says : (y : Seat) → slice_get g.seats k ≡ Some y → is_open x.work.stage ≡ true → IsPosted S (post_of S words k) k (opened_of x.work) y → FlagSays S words sides k x.work
+  posted_says : (y : Seat) → slice_get g.seats k ≡ Some y → combine_is_open x.work.stage ≡ true → IsPosted S (post_of S words k) k (opened_of x.work) y → FlagSays S words sides k x.work
   posted_says y seat is p = by_case p.progress where
     raised : (post_of S words k).flag ≡ 1 → (early S words k x.work ≡ []) ⊎ IsLate sides k x.work → FlagSays S words sides k x.work
     raised one open_still =
@@ -188,21 +188,21 @@ module _ (S : CombineSite) (node : ℕ → ℕ) (words : List ℕ) (laid : IsLai
     by_case (counted c) = raised c.flag (inr (late_by S node words laid sides g k x has y seat c))
     by_case (answered a) = done_says y seat is a
 
-  says_at : (y : Seat) → slice_get g.seats k ≡ Some y → (st : Stage) → x.work.stage ≡ st → OwnAt S (post_of S words k) k x y st → FlagSays S words sides k x.work
+  says_at : (y : Seat) → slice_get g.seats k ≡ Some y → (st : CombineStage) → x.work.stage ≡ st → OwnAt S (post_of S words k) k x y st → FlagSays S words sides k x.work
   says_at y seat Rest e o = zero_says o.1
   says_at y seat (Post made) e o = zero_says o.2.flag
   says_at y seat Raise e o = zero_says o.1.flag
-  says_at y seat Look e o = posted_says y seat (ap is_open e) o.1
-  says_at y seat Count e o = posted_says y seat (ap is_open e) o.1
-  says_at y seat (Sweep owner) e o = posted_says y seat (ap is_open e) o.1
-  says_at y seat (Copy owner made) e o = posted_says y seat (ap is_open e) o.1
-  says_at y seat (Read owner word) e o = posted_says y seat (ap is_open e) o.1
-  says_at y seat (Journal owner made) e o = posted_says y seat (ap is_open e) o.1
-  says_at y seat (Volume owner made) e o = posted_says y seat (ap is_open e) o.1
-  says_at y seat (Answer owner made) e o = posted_says y seat (ap is_open e) o.1
-  says_at y seat (Mark owner) e o = posted_says y seat (ap is_open e) o.1
-  says_at y seat (Collect made) e o = done_says y seat (ap is_open e) o.2.done
-  says_at y seat Lower e o = done_says y seat (ap is_open e) o.1.done
+  says_at y seat Look e o = posted_says y seat (ap combine_is_open e) o.1
+  says_at y seat Count e o = posted_says y seat (ap combine_is_open e) o.1
+  says_at y seat (Sweep owner) e o = posted_says y seat (ap combine_is_open e) o.1
+  says_at y seat (Copy owner made) e o = posted_says y seat (ap combine_is_open e) o.1
+  says_at y seat (Read owner word) e o = posted_says y seat (ap combine_is_open e) o.1
+  says_at y seat (Journal owner made) e o = posted_says y seat (ap combine_is_open e) o.1
+  says_at y seat (Volume owner made) e o = posted_says y seat (ap combine_is_open e) o.1
+  says_at y seat (Answer owner made) e o = posted_says y seat (ap combine_is_open e) o.1
+  says_at y seat (Mark owner) e o = posted_says y seat (ap combine_is_open e) o.1
+  says_at y seat (Collect made) e o = done_says y seat (ap combine_is_open e) o.2.done
+  says_at y seat Lower e o = done_says y seat (ap combine_is_open e) o.1.done
 
   pub flag_says : FlagSays S words sides k x.work
   flag_says = let s = seat_of S node words laid sides g k x has in says_at s.0 s.1 x.work.stage refl (g.own k x s.0 has s.1)
@@ -219,7 +219,7 @@ module _ (S : CombineSite) (node : ℕ → ℕ) (words : List ℕ) (laid : IsLai
     by_case (counted c) = absurd (let one = c.flag in omega arith)
     by_case (answered a) = a.small
 
-  small_at : (y : Seat) → (st : Stage) → OwnAt S (post_of S words k) k x y st → SmallAt
+  small_at : (y : Seat) → (st : CombineStage) → OwnAt S (post_of S words k) k x y st → SmallAt
   small_at y Rest o two = absurd (let low = o.1 in omega arith)
   small_at y (Post made) o two = absurd (let low = o.2.flag in omega arith)
   small_at y Raise o two = absurd (let low = o.1.flag in omega arith)
@@ -251,14 +251,14 @@ module _ (S : CombineSite) (node : ℕ → ℕ) (words : List ℕ) (laid : IsLai
   no_flag : (owner i v : ℕ) → 1 ≤ i → i < 9 → Moves (atom.Store (post_word S owner i) v)
   no_flag owner i v low few = passes (λ (e : post_word S owner i ≡ flag_word S k). absurd (omega arith)) (get_or-set_other words (post_word S owner i) (post_word S k 0) v 0 (λ e. absurd (omega arith)))
 
-  flag_set : (owner v : ℕ) → owner < ranks_of S → (k ≡ owner → Moves (atom.Store (post_word S owner 0) v)) → Moves (atom.Store (post_word S owner 0) v)
+  flag_set : (owner v : ℕ) → owner < combine_ranks S → (k ≡ owner → Moves (atom.Store (post_word S owner 0) v)) → Moves (atom.Store (post_word S owner 0) v)
   flag_set owner v there same =
       ⊎_elim
       (λ (e : k ≡ owner). same e)
       (λ (ne : k ≢ owner). passes (λ (e : post_word S owner 0 ≡ flag_word S k). absurd (ne (omega arith))) (ap (λ (p : ThePost). p.flag) (others_stay S words owner 0 v k (omega arith) ne)))
       (same_or_not k owner)
 
-  stored : (owner was v : ℕ) → owner < ranks_of S → (post_of S words owner).flag ≡ was → k ≡ owner → StoresFlag S words (atom.Store (post_word S owner 0) v) k was v
+  stored : (owner was v : ℕ) → owner < combine_ranks S → (post_of S words owner).flag ≡ was → k ≡ owner → StoresFlag S words (atom.Store (post_word S owner 0) v) k was v
   stored owner was v there is same =
       record {
         store = ap (λ n. atom.Store (post_word S n 0) v) (sym same);
@@ -269,12 +269,12 @@ module _ (S : CombineSite) (node : ℕ → ℕ) (words : List ℕ) (laid : IsLai
   front_store : (w v : ℕ) → w < S.behind → Moves (atom.Store w v)
   front_store w v low = passes (λ (e : w ≡ flag_word S k). absurd (omega arith)) (ap (λ (p : ThePost). p.flag) (posts_stay S words w v k low))
 
-  pub flag_moves : (at : Atom) → stage_atom S r x.work x.work.stage ≡ Some at → Moves at
+  pub flag_moves : (at : Atom) → combine_stage_atom S r x.work x.work.stage ≡ Some at → Moves at
   flag_moves at planned =
       let s = seat_of S node words laid sides g r x has in
       by_stage s.0 x.work.stage refl (g.own r x s.0 has s.1) (g.sweeps r x has) planned
     where
-      rank : r < ranks_of S
+      rank : r < combine_ranks S
       rank = is_rank S node words laid sides g r x has
 
       here : (a : Atom) → Moves a → Some a ≡ Some at → Moves at
@@ -285,7 +285,7 @@ module _ (S : CombineSite) (node : ℕ → ℕ) (words : List ℕ) (laid : IsLai
           front_store (volume_base + w.word) w.value (let l = laid.low in let h = seat_word S node words laid sides g apart r x has owner y there (volume_base + w.word) w.value p in omega arith)
       by_write owner made y there None p = front_store count_word (x.work.count + 1) (let l = laid.low in omega arith)
 
-      by_stage : (y : Seat) (st : Stage) → x.work.stage ≡ st → OwnAt S (post_of S words r) r x y st → SweepAt S words g.seats r x.work st → stage_atom S r x.work st ≡ Some at → Moves at
+      by_stage : (y : Seat) (st : CombineStage) → x.work.stage ≡ st → OwnAt S (post_of S words r) r x y st → SweepAt S words g.seats r x.work st → combine_stage_atom S r x.work st ≡ Some at → Moves at
       by_stage y Rest e o w p = absurd (cc)
       by_stage y (Post made) e o w p = let few = o.1 in here _ (no_flag r (1 + made) _ (omega arith) (omega arith)) p
       by_stage y Raise e o w p = here _ (flag_set r 1 rank (λ same. raises same (stored r 0 1 rank o.1.flag same))) p

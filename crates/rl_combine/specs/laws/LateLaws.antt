@@ -19,8 +19,8 @@ use Rattle.rl_site.specs.Transcript.{TheTranscript}
 use Rattle.rl_work.specs.Ways.{IsLaid}
 use Rattle.rl_work.specs.Work.{TheWork, WorkTurned, write_atom, stage_atom as block_atom, stage_after as block_after, block_close, block_close_by, decision_of, stops_block, read_next, read_on, left_of, with_call, with_seen, with_stop, more_entries}
 use Rattle.rl_work.specs.WorkGood.{WorkSide as Seat}
-use Rattle.rl_combine.specs.declared.stage.Stage.{Stage}
-use Rattle.rl_combine.specs.declared.stage.Stage.TheVariants.{Rest, Post, Raise, Look, Count, Sweep, Copy, Read, Journal, Volume, Answer, Mark, Collect, Lower}
+use Rattle.rl_combine.specs.declared.stage.CombineStage.{CombineStage}
+use Rattle.rl_combine.specs.declared.stage.CombineStage.TheVariants.{Rest, Post, Raise, Look, Count, Sweep, Copy, Read, Journal, Volume, Answer, Mark, Collect, Lower}
 use Rattle.rl_combine.specs.Posts.{CombineSite, post_of}
 use Rattle.rl_combine.specs.Combine.{combine_table, opened_of, in_hand, early}
 use Rattle.rl_combine.specs.CombineGood.{RankSide, IsCounted, OwnAt, SweepAt, IsLeft, IsToEnd, IsHeld, CombineGood}
@@ -86,7 +86,7 @@ module _ (S : CombineSite) (node : ℕ → ℕ) (words : List ℕ) (laid : IsLai
         let stands : v.standing ≡ Leaving = ap (λ (u : Seat). u.standing) v_is ∙ c.leaves in
         cc
 
-    by_stage : (q : ℕ) (z : RankSide) (st : Stage) → SweepAt S words g.seats q z.work st → in_hand st ≡ Some k → IsLateAt st k
+    by_stage : (q : ℕ) (z : RankSide) (st : CombineStage) → SweepAt S words g.seats q z.work st → in_hand st ≡ Some k → IsLateAt st k
     by_stage q z Rest s e = absurd (cc)
     by_stage q z (Post made) s e = absurd (cc)
     by_stage q z Raise s e = absurd (cc)
@@ -145,7 +145,7 @@ module _ (S : CombineSite) (node : ℕ → ℕ) (words : List ℕ) (laid : IsLai
         (λ (q : IsToEnd S words g.seats l.side.work.posted l.side.work.posted_number l.side.work.entry owner). ends l.side.work.posted l.side.work.posted_number (subst (IsToEnd S words g.seats l.side.work.posted l.side.work.posted_number l.side.work.entry) same q))
         end
 
-    by_stage : (st : Stage) → SweepAt S words g.seats l.rank l.side.work st → IsLateAt st k → LateSays l.side
+    by_stage : (st : CombineStage) → SweepAt S words g.seats l.rank l.side.work st → IsLateAt st k → LateSays l.side
     by_stage Rest s e = absurd e
     by_stage (Post made) s e = absurd e
     by_stage Raise s e = absurd e

@@ -17,10 +17,10 @@ use Rattle.rl_work.specs.Work.{more_entries}
 use Rattle.rl_work.specs.WorkGood.{WorkSide as Seat, transcripts, is_writing, FitsAt as BlockFits}
 use Rattle.rl_work.specs.laws.RuleLaws.{journal_is, always_legal, always_sorted}
 use Rattle.rl_work.specs.laws.RoomLaws.{journal_short}
-use Rattle.rl_combine.specs.declared.stage.Stage.{Stage}
-use Rattle.rl_combine.specs.declared.stage.Stage.TheVariants.{Rest}
+use Rattle.rl_combine.specs.declared.stage.CombineStage.{CombineStage}
+use Rattle.rl_combine.specs.declared.stage.CombineStage.TheVariants.{Rest}
 use Rattle.rl_combine.specs.Posts.{CombineSite, ThePost, post_of}
-use Rattle.rl_combine.specs.Combine.{TheCombineSide, Opened, opened_of, is_open, early, early_open, transcript, owes, combine_table}
+use Rattle.rl_combine.specs.Combine.{TheCombineSide, Opened, opened_of, combine_is_open, early, early_open, transcript, combine_owes, combine_table}
 use Rattle.rl_combine.specs.CombineGood.{RankSide, front_of, IsInHand, OwnAt, CombineGood}
 use Rattle.rl_combine.specs.laws.SideLaws.{posted_at, flag_at}
 use Rattle.rl_combine.specs.laws.SeatLaws.{handled_as}
@@ -61,7 +61,7 @@ module _ (S : CombineSite) (node : ℕ → ℕ) (words : List ℕ) (sides : List
         subst (IsOwnTranscript S.site r) (sym (transcript_is S words sides g r x s.0 s.1 has)) (g.work.own r s.0 s.1)
 
     -- while no call is open the volume is that of the journal's table
-    pub volume : ((r : ℕ) (x : RankSide) → slice_get sides r ≡ Some x → is_open x.work.stage ≡ false) →
+    pub volume : ((r : ℕ) (x : RankSide) → slice_get sides r ≡ Some x → combine_is_open x.work.stage ≡ false) →
         IsVolume S.site.geom S.site.shard (volume_of S.site.geom (front_of S words)) (table_after S.site.geom finite.empty (journal_by S.site words))
     volume closed =
         let still : volume_of S.site.geom (front_of S words) ≡ g.work.before = g.work.still (λ k y seat. quiet k y seat) in
@@ -85,7 +85,7 @@ module _ (S : CombineSite) (node : ℕ → ℕ) (words : List ℕ) (sides : List
 -- a rank's open call and what it keeps are as before
 pub record IsSameCall (a b : TheCombineSide) : Type 0 where
   pub same : opened_of b ≡ opened_of a
-  pub open_too : is_open b.stage ≡ is_open a.stage
+  pub open_too : combine_is_open b.stage ≡ combine_is_open a.stage
 
 same_kept : (a b : TheCombineSide) → opened_of b ≡ opened_of a → b.kept ≡ a.kept
 same_kept a b same = ap (λ (o : Opened). o.kept) same
@@ -101,21 +101,21 @@ not_two : (t : TheTranscript) (f h : Entry) → t ≡ more_entries (more_entries
 not_two t f h same = absurd (let l = ap (λ (z : TheTranscript). length z.items) same in omega (arith, length-append (t.items ++ f ∷ []) (h ∷ []), length-append t.items (f ∷ [])))
 
 -- an entry that is done early is one of an open call
-open_with : (S : CombineSite) (words : List ℕ) (k : ℕ) (x : TheCombineSide) (e : Entry) → early S words k x ≡ e ∷ [] → is_open x.stage ≡ true
+open_with : (S : CombineSite) (words : List ℕ) (k : ℕ) (x : TheCombineSide) (e : Entry) → early S words k x ≡ e ∷ [] → combine_is_open x.stage ≡ true
 open_with S words k x e one =
-    elim (is_open x.stage) as (λ b. early_open S words k x b ≡ e ∷ [] → b ≡ true) [
+    elim (combine_is_open x.stage) as (λ b. early_open S words k x b ≡ e ∷ [] → b ≡ true) [
       | true ↦ λ _. refl
       | false ↦ λ one. absurd (cc)
     ] one
 
 module _ (S : CombineSite) (node : ℕ → ℕ) (words vs : List ℕ) (k : ℕ) (a b : TheCombineSide) (y u : Seat) where
-  owes_none : HasNone S words k a y → owes S words k a ≡ (is_open a.stage && true)
-  owes_none n = ap (λ (l : List Entry). is_open a.stage && (length l == 0)) n.none
+  owes_none : HasNone S words k a y → combine_owes S words k a ≡ (combine_is_open a.stage && true)
+  owes_none n = ap (λ (l : List Entry). combine_is_open a.stage && (length l == 0)) n.none
 
-  pub owes_one : HasOne S words k a y → owes S words k a ≡ (is_open a.stage && false)
-  owes_one o = ap (λ (l : List Entry). is_open a.stage && (length l == 0)) o.one
+  pub owes_one : HasOne S words k a y → combine_owes S words k a ≡ (combine_is_open a.stage && false)
+  owes_one o = ap (λ (l : List Entry). combine_is_open a.stage && (length l == 0)) o.one
 
-  goes_look : IsSameCall a b → transcript S words k a ≡ y.work.transcript.items → transcript S vs k b ≡ u.work.transcript.items → u.work.transcript ≡ y.work.transcript → owes S vs k b ≡ owes S words k a →
+  goes_look : IsSameCall a b → transcript S words k a ≡ y.work.transcript.items → transcript S vs k b ≡ u.work.transcript.items → u.work.transcript ≡ y.work.transcript → combine_owes S vs k b ≡ combine_owes S words k a →
       BlockGoesOn (look (combine_table S node) words k a) (look (combine_table S node) vs k b)
   goes_look c before after stays owed =
       record {
@@ -123,7 +123,7 @@ module _ (S : CombineSite) (node : ℕ → ℕ) (words vs : List ℕ) (k : ℕ) 
         same_seq = ap (λ (o : Opened). o.seq) c.same;
         same_items = after ∙ ap (λ (t : TheTranscript). t.items) stays ∙ sym before;
         same_room = ap (λ (o : Opened). o.kept.room) c.same;
-        owes = ap (λ o. o && owes S vs k b) c.open_too ∙ ap (λ o. is_open a.stage && o) owed;
+        owes = ap (λ o. o && combine_owes S vs k b) c.open_too ∙ ap (λ o. combine_is_open a.stage && o) owed;
       }
 
 -- how a rank looks after an atom, where its open call is the same
@@ -153,12 +153,12 @@ look_goes S node words vs k a b y u c before after had have handed moves = ⊎_e
       (λ (n : HasNone S words k a y). ⊎_elim
       (λ (m : HasNone S vs k b u). absurd (no_more_entries a.kept q.entry (sym kept ∙ sym m.has ∙ q.has ∙ ap (λ t. more_entries t (q.entry ∷ [])) n.has)))
       (λ (m : HasOne S vs k b u).
-      let is : is_open b.stage ≡ true = open_with S vs k b m.entry m.one in
-      let was : is_open a.stage ≡ true = sym c.open_too ∙ is in
+      let is : combine_is_open b.stage ≡ true = open_with S vs k b m.entry m.one in
+      let was : combine_is_open a.stage ≡ true = sym c.open_too ∙ is in
       let h = handed q.writes in
       inr (record {
-        was = ap (λ o. is_open a.stage && o) (owes_none S node words vs k a b y u n) ∙ ap (λ o. o && (o && true)) was;
-        is_over = ap (λ o. is_open b.stage && o) (owes_one S node vs words k b a u y m) ∙ ap (λ o. o && (o && false)) is;
+        was = ap (λ o. combine_is_open a.stage && o) (owes_none S node words vs k a b y u n) ∙ ap (λ o. o && (o && true)) was;
+        is_over = ap (λ o. combine_is_open b.stage && o) (owes_one S node vs words k b a u y m) ∙ ap (λ o. o && (o && false)) is;
         same_room = ap (λ (o : Opened). o.kept.room) c.same;
         entries = q.entry ∷ [];
         items = after ∙ ap (λ (t : TheTranscript). t.items) q.has ∙ ap (λ l. l ++ q.entry ∷ []) (sym before);
@@ -173,7 +173,7 @@ look_goes S node words vs k a b y u c before after had have handed moves = ⊎_e
       had
 
 -- a rank whose seat writes has its call there
-pub handed_at : (S : CombineSite) (p : ThePost) (k : ℕ) (z : RankSide) (y : Seat) (st : Stage) → OwnAt S p k z y st → y.standing ≡ Writer → (y.work.calls ≡ z.work.call ∷ []) × (y.work.seq ≡ z.work.seq)
+pub handed_at : (S : CombineSite) (p : ThePost) (k : ℕ) (z : RankSide) (y : Seat) (st : CombineStage) → OwnAt S p k z y st → y.standing ≡ Writer → (y.work.calls ≡ z.work.call ∷ []) × (y.work.seq ≡ z.work.seq)
 handed_at S p k z y st o writes =
     let one : p.flag ≡ 1 = flag_at S p k z y st o (λ out. absurd (cc)) in
     let h : IsInHand p (opened_of z.work) y = handled_as S p k (opened_of z.work) y writes (posted_at S p k z y st o one) in

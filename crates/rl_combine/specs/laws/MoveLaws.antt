@@ -10,15 +10,15 @@ use Rattle.rl_model.specs.declared.entry.Entry.{Entry}
 use Rattle.rl_work.specs.Work.{more_entries}
 use Rattle.rl_work.specs.Ways.{IsApart, IsLaid}
 use Rattle.rl_work.specs.WorkGood.{WorkSide as Seat, WorkGood, IsApart as AreApart}
-use Rattle.rl_combine.specs.declared.stage.Stage.{Stage}
-use Rattle.rl_combine.specs.declared.stage.Stage.TheVariants.{Rest, Post, Raise, Look, Count, Sweep, Copy, Read, Journal, Volume, Answer, Mark, Collect, Lower}
-use Rattle.rl_combine.specs.Posts.{CombineSite, ThePost, ranks_of, post_of}
+use Rattle.rl_combine.specs.declared.stage.CombineStage.{CombineStage}
+use Rattle.rl_combine.specs.declared.stage.CombineStage.TheVariants.{Rest, Post, Raise, Look, Count, Sweep, Copy, Read, Journal, Volume, Answer, Mark, Collect, Lower}
+use Rattle.rl_combine.specs.Posts.{CombineSite, ThePost, combine_ranks, post_of}
 use Rattle.rl_combine.specs.Combine.{TheCombineSide, opened_of, in_hand, combine_table}
 use Rattle.rl_combine.specs.CombineGood.{RankSide, front_of, IsCombiner, IsPosted, OwnAt, SweepAt, IsHeld, CombineGood}
 use Rattle.rl_combine.specs.laws.SideLaws.{posted_at, posted_on, hand_writes, sweep_any}
 
 -- a rank at such a stage goes on with its sweep, or is about to begin it
-abbrev pub Combines : Stage → Type 0
+abbrev pub Combines : CombineStage → Type 0
 Combines Rest = ⊥
 Combines (Post made) = ⊥
 Combines Raise = ⊥
@@ -56,7 +56,7 @@ pub record Keeps (S : CombineSite) (words : List ℕ) (sides : List RankSide) (g
   pub seats : (k : ℕ) (y u : Seat) → slice_get g.seats k ≡ Some y → slice_get good.seats k ≡ Some u → SeatGoesOn S k y u
 
 module _ (S : CombineSite) (p : ThePost) (k : ℕ) (z : RankSide) (y : Seat) where
-  own_as : (st : Stage) → Combines st → OwnAt S p k z y st ↔ IsCombiner S p k z y
+  own_as : (st : CombineStage) → Combines st → OwnAt S p k z y st ↔ IsCombiner S p k z y
   own_as Rest c = absurd c
   own_as (Post made) c = absurd c
   own_as Raise c = absurd c
@@ -72,7 +72,7 @@ module _ (S : CombineSite) (p : ThePost) (k : ℕ) (z : RankSide) (y : Seat) whe
   own_as (Collect made) c = absurd c
   own_as Lower c = absurd c
 
-  pub combiner_of : (st : Stage) → Combines st → OwnAt S p k z y st → IsCombiner S p k z y
+  pub combiner_of : (st : CombineStage) → Combines st → OwnAt S p k z y st → IsCombiner S p k z y
   combiner_of st c o = (own_as st c).0 o
 
 module _ (S : CombineSite) (node : ℕ → ℕ) (words : List ℕ) (laid : IsLaid (combine_table S node) words) (sides : List RankSide) (g : CombineGood S words sides) where
@@ -83,7 +83,7 @@ module _ (S : CombineSite) (node : ℕ → ℕ) (words : List ℕ) (laid : IsLai
   pub side_of : (k : ℕ) (y : Seat) → slice_get g.seats k ≡ Some y → (z : RankSide) × (slice_get sides k ≡ Some z)
   side_of k y there = some_at sides k (let h = slice_get_within g.seats k y there in let e = g.work.ranks in let f = g.ranks in omega arith)
 
-  pub is_rank : (k : ℕ) (z : RankSide) → slice_get sides k ≡ Some z → k < ranks_of S
+  pub is_rank : (k : ℕ) (z : RankSide) → slice_get sides k ≡ Some z → k < combine_ranks S
   is_rank k z there = let h = slice_get_within sides k z there in let f = g.ranks in omega arith
 
   -- who has a call in hand is a writer, and so it is one rank at most

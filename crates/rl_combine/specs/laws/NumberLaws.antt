@@ -15,10 +15,10 @@ use Rattle.rl_work.specs.Work.{CanName as SeatCanName, CanTurn as SeatCanTurn}
 use Rattle.rl_work.specs.WorkGood.{WorkSide as Seat}
 use Rattle.rl_work.specs.laws.AtomLaws.{can_name, can_turn}
 use Rattle.rl_work.specs.laws.RoomLaws.{journal_short}
-use Rattle.rl_combine.specs.declared.stage.Stage.{Stage}
-use Rattle.rl_combine.specs.declared.stage.Stage.TheVariants.{Rest, Post, Raise, Look, Count, Sweep, Copy, Read, Journal, Volume, Answer, Mark, Collect, Lower}
-use Rattle.rl_combine.specs.Posts.{CombineSite, ranks_of, post_of}
-use Rattle.rl_combine.specs.Combine.{TheCombineSide, opened_of, combine_table, stage_atom}
+use Rattle.rl_combine.specs.declared.stage.CombineStage.{CombineStage}
+use Rattle.rl_combine.specs.declared.stage.CombineStage.TheVariants.{Rest, Post, Raise, Look, Count, Sweep, Copy, Read, Journal, Volume, Answer, Mark, Collect, Lower}
+use Rattle.rl_combine.specs.Posts.{CombineSite, combine_ranks, post_of}
+use Rattle.rl_combine.specs.Combine.{TheCombineSide, opened_of, combine_table, combine_stage_atom}
 use Rattle.rl_combine.specs.CombineGood.{RankSide, front_of, IsPosted, OwnAt, SweepAt, CombineGood, reading, deciding}
 use Rattle.rl_combine.specs.Numbers.{HasPost, CanName, CanTurn}
 use Rattle.rl_combine.specs.laws.PostLaws.{front_get, call_word}
@@ -44,14 +44,14 @@ module _ (S : CombineSite) (node : ℕ → ℕ) (words : List ℕ) (laid : IsLai
       let fits = laid.fits in
       omega arith
 
-  post_fits : (k : ℕ) → k < ranks_of S → HasPost S k
+  post_fits : (k : ℕ) → k < combine_ranks S → HasPost S k
   post_fits k there = (there, laid.fits)
 
   -- what the seat of the call in hand may do
   seat_names : (owner : ℕ) (y : Seat) → slice_get g.seats owner ≡ Some y → SeatCanName S.site.geom y.work y.work.stage
   seat_names owner y there = can_name S.site (front_of S words) g.seats g.work owner y there base_fits
 
-  names_at : (y : Seat) (st : Stage) → OwnAt S (post_of S words r) r x y st → SweepAt S words g.seats r x.work st → CanName S r x.work st
+  names_at : (y : Seat) (st : CombineStage) → OwnAt S (post_of S words r) r x y st → SweepAt S words g.seats r x.work st → CanName S r x.work st
   names_at y Rest o w = tt
   names_at y (Post made) o w = (post_fits r (is_rank S node words laid sides g r x has), o.1)
   names_at y Raise o w = post_fits r (is_rank S node words laid sides g r x has)
@@ -74,7 +74,7 @@ module _ (S : CombineSite) (node : ℕ → ℕ) (words : List ℕ) (laid : IsLai
   names = let s = seat_of S node words laid sides g r x has in names_at s.0 x.work.stage (g.own r x s.0 has s.1) (g.sweeps r x has)
 
   -- the number of a posted call whose flag is 1
-  number_fits : (owner made : ℕ) → owner < ranks_of S → (post_of S words owner).flag ≡ 1 → made + 1 ≡ 5 → slice_index (post_of S words owner).call made < 2 ^ 32
+  number_fits : (owner made : ℕ) → owner < combine_ranks S → (post_of S words owner).flag ≡ 1 → made + 1 ≡ 5 → slice_index (post_of S words owner).call made < 2 ^ 32
   number_fits owner made there one last =
       let z = some_at sides owner (let ranks = g.ranks in omega arith) in
       let s = seat_of S node words laid sides g owner z.0 z.1 in
@@ -83,7 +83,7 @@ module _ (S : CombineSite) (node : ℕ → ℕ) (words : List ℕ) (laid : IsLai
       let small = is.open_call.small in
       omega arith
 
-  turns_at : (y : Seat) (st : Stage) → OwnAt S (post_of S words r) r x y st → SweepAt S words g.seats r x.work st → (at : Atom) (cards : List ℕ) → stage_atom S r x.work st ≡ Some at → CanTurn S r x.work (do_got at words cards) st
+  turns_at : (y : Seat) (st : CombineStage) → OwnAt S (post_of S words r) r x y st → SweepAt S words g.seats r x.work st → (at : Atom) (cards : List ℕ) → combine_stage_atom S r x.work st ≡ Some at → CanTurn S r x.work (do_got at words cards) st
   turns_at y Rest o w at cards p = tt
   turns_at y (Post made) o w at cards p = o.1
   turns_at y Raise o w at cards p = tt
@@ -112,7 +112,7 @@ module _ (S : CombineSite) (node : ℕ → ℕ) (words : List ℕ) (laid : IsLai
     (let room = o.1.open_call.room in omega arith),
   )
 
-  pub turns : (at : Atom) (cards : List ℕ) → stage_atom S r x.work x.work.stage ≡ Some at → CanTurn S r x.work (do_got at words cards) x.work.stage
+  pub turns : (at : Atom) (cards : List ℕ) → combine_stage_atom S r x.work x.work.stage ≡ Some at → CanTurn S r x.work (do_got at words cards) x.work.stage
   turns at cards planned = let s = seat_of S node words laid sides g r x has in turns_at s.0 x.work.stage (g.own r x s.0 has s.1) (g.sweeps r x has) at cards planned
 
 pub may_name : (S : CombineSite) (node : ℕ → ℕ) (r : ℕ) (x : TheCombineSide) → MayWork (combine_table S node) (CombineGood S) r x → CanName S r x x.stage

@@ -11,10 +11,10 @@ use Rattle.rl_site.specs.Site.{count_word, lock_base}
 use Rattle.rl_work.specs.Ways.{Worked, IsApart, IsLaid, side_turned, standing_done}
 use Rattle.rl_work.specs.Work.{more_entries, work_after}
 use Rattle.rl_work.specs.WorkGood.{WorkSide as Seat, IsDone}
-use Rattle.rl_combine.specs.declared.stage.Stage.{Stage}
-use Rattle.rl_combine.specs.declared.stage.Stage.TheVariants.{Rest, Post, Raise, Look, Count, Sweep, Copy, Read, Journal, Volume, Answer, Mark, Collect, Lower}
-use Rattle.rl_combine.specs.Posts.{CombineSite, ThePost, ranks_of, post_word, post_of, post_spelling, answered_entry}
-use Rattle.rl_combine.specs.Combine.{TheCombineSide, Opened, opened_of, in_hand, combine_table, stage_after, sweep_on, to_collect, to_stage, with_nothing, with_copied, found}
+use Rattle.rl_combine.specs.declared.stage.CombineStage.{CombineStage}
+use Rattle.rl_combine.specs.declared.stage.CombineStage.TheVariants.{Rest, Post, Raise, Look, Count, Sweep, Copy, Read, Journal, Volume, Answer, Mark, Collect, Lower}
+use Rattle.rl_combine.specs.Posts.{CombineSite, ThePost, combine_ranks, post_word, post_of, post_spelling, answered_entry}
+use Rattle.rl_combine.specs.Combine.{TheCombineSide, Opened, opened_of, in_hand, combine_table, combine_stage_after, sweep_on, to_collect, combine_to_stage, with_nothing, with_copied, found}
 use Rattle.rl_combine.specs.CombineGood.{RankSide, front_of, HasAsked, IsPosting, IsAnswered, Progress, waits, handled, counted, answered, IsPosted, IsCollecting, IsSweeping, IsCopying, IsAnswering, IsLeft, IsToEnd, OwnAt, SweepAt, CombineGood}
 use Rattle.rl_combine.specs.laws.PostLaws.{others_stay, call_word, answer_word, flag_stored, call_stored, front_get, front_behind, copies_on, stores_on}
 use Rattle.rl_combine.specs.laws.SideLaws.{sweep_any, flag_at}
@@ -56,7 +56,7 @@ module _ (S : CombineSite) (node : ℕ → ℕ) (words : List ℕ) (laid : IsLai
     at_k : (owner : ℕ) → ◌≡◌ {A = Option ℕ} (Some owner) (Some k) → (post_of S words owner).flag ≡ 1 → (post_of S words k).flag ≡ 1
     at_k owner same f = subst (λ n. (post_of S words n).flag ≡ 1) (same_Some owner k same) f
 
-    by_stage : (st : Stage) → SweepAt S words g.seats q z.work st → found st ≡ Some k → (post_of S words k).flag ≡ 1
+    by_stage : (st : CombineStage) → SweepAt S words g.seats q z.work st → found st ≡ Some k → (post_of S words k).flag ≡ 1
     by_stage Rest s same = absurd (cc)
     by_stage (Post made) s same = absurd (cc)
     by_stage Raise s same = absurd (cc)
@@ -108,7 +108,7 @@ module _ (S : CombineSite) (node : ℕ → ℕ) (words : List ℕ) (laid : IsLai
               same = t.same;
             }
 
-    by_stage : (st : Stage) → ((k : ℕ) → found st ≡ Some k → post_of S vs k ≡ post_of S words k) → SweepAt S words g.seats q z.work st → SweepAt S vs g.seats q z.work st
+    by_stage : (st : CombineStage) → ((k : ℕ) → found st ≡ Some k → post_of S vs k ≡ post_of S words k) → SweepAt S words g.seats q z.work st → SweepAt S vs g.seats q z.work st
     by_stage Rest posts s = tt
     by_stage (Post made) posts s = tt
     by_stage Raise posts s = tt
@@ -163,12 +163,12 @@ module _ (S : CombineSite) (node : ℕ → ℕ) (words : List ℕ) (laid : IsLai
     loads w room own sweep hand = own_moves S node words laid sides g r x has words w refl (λ k ne. refl) room own sweep (λ q z ne there. g.sweeps q z there) hand
 
     -- what is known of the rank at its stage
-    own_at : (st : Stage) → x.work.stage ≡ st → (y : Seat) → slice_get g.seats r ≡ Some y → OwnAt S (post_of S words r) r x y st
+    own_at : (st : CombineStage) → x.work.stage ≡ st → (y : Seat) → slice_get g.seats r ≡ Some y → OwnAt S (post_of S words r) r x y st
     own_at st e y there = subst (OwnAt S (post_of S words r) r x y) e (g.own r x y has there)
 
     -- a word of the call is posted
     pub post_stored : (made : ℕ) → x.work.stage ≡ Post made → (got : ℕ) →
-        Keeps S words sides g (slice_set words (post_word S r (1 + made)) (slice_index (post_spelling x.work.call x.work.seq) made)) (slice_set sides r (left_by (stage_after S r x.work got (Post made))))
+        Keeps S words sides g (slice_set words (post_word S r (1 + made)) (slice_index (post_spelling x.work.call x.work.seq) made)) (slice_set sides r (left_by (combine_stage_after S r x.work got (Post made))))
     post_stored made st got =
         let s = seat_of S node words laid sides g r x has in
         let o : OwnAt S (post_of S words r) r x s.0 (Post made) = own_at (Post made) st s.0 s.1 in
@@ -180,23 +180,23 @@ module _ (S : CombineSite) (node : ℕ → ℕ) (words : List ℕ) (laid : IsLai
         let posting : (y : Seat) → slice_get g.seats r ≡ Some y → IsPosting S (post_of S vs r) r (opened_of x.work) y (made + 1) = λ y there.
         let q : OwnAt S (post_of S words r) r x y (Post made) = own_at (Post made) st y there in
         subst (λ p. IsPosting S p r (opened_of x.work) y (made + 1)) (sym p) (record { open_call = q.2.open_call; flag = q.2.flag; spelled = stored; free = q.2.free }) in
-        elim (made + 1 == 5) as (λ b. (made + 1 == 5) ≡ b → Keeps S words sides g vs (slice_set sides r (left_by (cond b (to_stage x.work Raise) (to_stage x.work (Post (made + 1))))))) [
-          | true ↦ λ e. own_store (1 + made) v (omega arith) (left_by (to_stage x.work Raise)) refl o.2.flag (ap in_hand st)
+        elim (made + 1 == 5) as (λ b. (made + 1 == 5) ≡ b → Keeps S words sides g vs (slice_set sides r (left_by (cond b (combine_to_stage x.work Raise) (combine_to_stage x.work (Post (made + 1))))))) [
+          | true ↦ λ e. own_store (1 + made) v (omega arith) (left_by (combine_to_stage x.work Raise)) refl o.2.flag (ap in_hand st)
               (λ y there. (o.0, subst (IsPosting S (post_of S vs r) r (opened_of x.work) y) (grind (arith, nat_tests)) (posting y there))) tt
-          | false ↦ λ e. own_store (1 + made) v (omega arith) (left_by (to_stage x.work (Post (made + 1)))) refl o.2.flag (ap in_hand st)
+          | false ↦ λ e. own_store (1 + made) v (omega arith) (left_by (combine_to_stage x.work (Post (made + 1)))) refl o.2.flag (ap in_hand st)
               (λ y there. (o.0, (let ne : (made + 1 ≡ 5) → ⊥ = λ h. grind (arith, nat_tests) in omega arith), posting y there)) tt
         ] refl
 
     -- the flag is raised
-    pub raised : x.work.stage ≡ Raise → (got : ℕ) → Keeps S words sides g (slice_set words (post_word S r 0) 1) (slice_set sides r (left_by (stage_after S r x.work got Raise)))
+    pub raised : x.work.stage ≡ Raise → (got : ℕ) → Keeps S words sides g (slice_set words (post_word S r 0) 1) (slice_set sides r (left_by (combine_stage_after S r x.work got Raise)))
     raised st got =
         let s = seat_of S node words laid sides g r x has in
         let o : OwnAt S (post_of S words r) r x s.0 Raise = own_at Raise st s.0 s.1 in
         let p : post_of S (slice_set words (post_word S r 0) 1) r ≡ record (post_of S words r) { flag = 1 } = flag_stored S words r 1 (is_rank S node words laid sides g r x has) laid.all in
-        own_store 0 1 (omega arith) (left_by (stage_after S r x.work got Raise)) refl o.1.flag (ap in_hand st)
+        own_store 0 1 (omega arith) (left_by (combine_stage_after S r x.work got Raise)) refl o.1.flag (ap in_hand st)
         (λ y there.
         let q : OwnAt S (post_of S words r) r x y Raise = own_at Raise st y there in
-        subst (λ p. OwnAt S p r (left_by (stage_after S r x.work got Raise)) y Look) (sym p)
+        subst (λ p. OwnAt S p r (left_by (combine_stage_after S r x.work got Raise)) y Look) (sym p)
         (tt, record { open_call = q.1.open_call; spelled = q.1.spelled; progress = waits (record { flag = refl; free = q.1.free }) }))
         tt
 
@@ -211,9 +211,9 @@ module _ (S : CombineSite) (node : ℕ → ℕ) (words : List ℕ) (laid : IsLai
       by_standing Leaving e q a = absurd a
 
     -- the flag of an own call that may be done
-    pub looked : Rests x.standing → x.work.stage ≡ Look → Keeps S words sides g words (slice_set sides r (left_by (stage_after S r x.work (post_of S words r).flag Look)))
+    pub looked : Rests x.standing → x.work.stage ≡ Look → Keeps S words sides g words (slice_set sides r (left_by (combine_stage_after S r x.work (post_of S words r).flag Look)))
     looked rests st =
-        elim ((post_of S words r).flag == 2) as (λ b. ((post_of S words r).flag == 2) ≡ b → Keeps S words sides g words (slice_set sides r (left_by (cond b (to_collect x.work) (to_stage x.work Count))))) [
+        elim ((post_of S words r).flag == 2) as (λ b. ((post_of S words r).flag == 2) ≡ b → Keeps S words sides g words (slice_set sides r (left_by (cond b (to_collect x.work) (combine_to_stage x.work Count))))) [
           | true ↦ λ e.
               let two : (post_of S words r).flag ≡ 2 = grind (arith, nat_tests) in
               loads (left_by (to_collect x.work)) refl
@@ -225,34 +225,34 @@ module _ (S : CombineSite) (node : ℕ → ℕ) (words : List ℕ) (laid : IsLai
               ))
               tt (λ k e. absurd (let n = ap in_hand st in cc))
           | false ↦ λ e.
-              loads (left_by (to_stage x.work Count)) refl
+              loads (left_by (combine_to_stage x.work Count)) refl
               (λ y there. let o : OwnAt S (post_of S words r) r x y Look = own_at Look st y there in (asked_writes rests o.0, o.1))
               tt (λ k e. absurd (let n = ap in_hand st in cc))
         ] refl
 
     -- How a sweep goes on behind words, seats and a side that are known to keep the rule at such stages.
-    pub sweeps_on : (vs : List ℕ) (seats : List Seat) (w : TheCombineSide) (owner : ℕ) → x.standing ≡ Writer → owner ≤ ranks_of S → w.count ≡ slice_index vs count_word → (r < owner → (post_of S vs r).flag ≡ 2) →
+    pub sweeps_on : (vs : List ℕ) (seats : List Seat) (w : TheCombineSide) (owner : ℕ) → x.standing ≡ Writer → owner ≤ combine_ranks S → w.count ≡ slice_index vs count_word → (r < owner → (post_of S vs r).flag ≡ 2) →
         ((v : Seat) → slice_get seats r ≡ Some v → IsPosted S (post_of S vs r) r (opened_of w) v) →
         ((t : Worked TheCombineSide) → t.work.seen.room ≡ w.seen.room → in_hand t.work.stage ≡ None → ((v : Seat) → slice_get seats r ≡ Some v → OwnAt S (post_of S vs r) r (left_by t) v t.work.stage) →
         SweepAt S vs seats r t.work t.work.stage → Keeps S words sides g vs (slice_set sides r (left_by t))) →
         Keeps S words sides g vs (slice_set sides r (left_by (sweep_on S w owner)))
     sweeps_on vs seats w owner writes few count past is keeps =
-        elim (owner == ranks_of S) as (λ b. (owner == ranks_of S) ≡ b → Keeps S words sides g vs (slice_set sides r (left_by (cond b (to_collect w) (to_stage w (Sweep owner)))))) [
+        elim (owner == combine_ranks S) as (λ b. (owner == combine_ranks S) ≡ b → Keeps S words sides g vs (slice_set sides r (left_by (cond b (to_collect w) (combine_to_stage w (Sweep owner)))))) [
           | true ↦ λ e.
-              let all : owner ≡ ranks_of S = grind (arith, nat_tests) in
+              let all : owner ≡ combine_ranks S = grind (arith, nat_tests) in
               let two : (post_of S vs r).flag ≡ 2 = past (let h = is_rank S node words laid sides g r x has in omega arith) in
               keeps (to_collect w) refl refl
               (λ v there. (writes, omega arith, record { open_call = (is v there).open_call; done = answered_of S (post_of S vs r) r (opened_of w) v (is v there) two; same = refl }))
               tt
           | false ↦ λ e.
-              let ne : (owner ≡ ranks_of S) → ⊥ = λ h. grind (arith, nat_tests) in
-              keeps (to_stage w (Sweep owner)) refl refl
+              let ne : (owner ≡ combine_ranks S) → ⊥ = λ h. grind (arith, nat_tests) in
+              keeps (combine_to_stage w (Sweep owner)) refl refl
               (λ v there. (writes, is v there))
               (record { same = count; there = omega arith; past = past })
         ] refl
 
     -- the count is loaded
-    pub counted_on : x.work.stage ≡ Count → Keeps S words sides g words (slice_set sides r (left_by (stage_after S r x.work (slice_index words count_word) Count)))
+    pub counted_on : x.work.stage ≡ Count → Keeps S words sides g words (slice_set sides r (left_by (combine_stage_after S r x.work (slice_index words count_word) Count)))
     counted_on st =
         let s = seat_of S node words laid sides g r x has in
         let o : OwnAt S (post_of S words r) r x s.0 Count = own_at Count st s.0 s.1 in
@@ -261,15 +261,15 @@ module _ (S : CombineSite) (node : ℕ → ℕ) (words : List ℕ) (laid : IsLai
         (λ t room none own sweep. loads (left_by t) room own sweep (λ k e. absurd (let n = ap in_hand st in cc)))
 
     -- the flag of a rank is loaded
-    pub swept : (owner : ℕ) → x.work.stage ≡ Sweep owner → Keeps S words sides g words (slice_set sides r (left_by (stage_after S r x.work (post_of S words owner).flag (Sweep owner))))
+    pub swept : (owner : ℕ) → x.work.stage ≡ Sweep owner → Keeps S words sides g words (slice_set sides r (left_by (combine_stage_after S r x.work (post_of S words owner).flag (Sweep owner))))
     swept owner st =
         let s = seat_of S node words laid sides g r x has in
         let o : OwnAt S (post_of S words r) r x s.0 (Sweep owner) = own_at (Sweep owner) st s.0 s.1 in
         let w : IsSweeping S words r x.work.count owner = subst (SweepAt S words g.seats r x.work) st (g.sweeps r x has) in
-        elim ((post_of S words owner).flag == 1) as (λ b. ((post_of S words owner).flag == 1) ≡ b → Keeps S words sides g words (slice_set sides r (left_by (cond b (to_stage (with_nothing x.work) (Copy owner 0)) (sweep_on S x.work (owner + 1)))))) [
+        elim ((post_of S words owner).flag == 1) as (λ b. ((post_of S words owner).flag == 1) ≡ b → Keeps S words sides g words (slice_set sides r (left_by (cond b (combine_to_stage (with_nothing x.work) (Copy owner 0)) (sweep_on S x.work (owner + 1)))))) [
           | true ↦ λ e.
               let one : (post_of S words owner).flag ≡ 1 = grind (arith, nat_tests) in
-              loads (left_by (to_stage (with_nothing x.work) (Copy owner 0))) refl
+              loads (left_by (combine_to_stage (with_nothing x.work) (Copy owner 0))) refl
               (λ y there. own_at (Sweep owner) st y there)
               (record { same = w.same; there = w.there; past = w.past }, record { flag = one; few = omega arith; same = refl })
               (λ k e. absurd (let n = ap in_hand st in cc))
@@ -286,10 +286,10 @@ module _ (S : CombineSite) (node : ℕ → ℕ) (words : List ℕ) (laid : IsLai
 
     -- a word of a post is copied, and not the last one
     pub copied_on : (owner made : ℕ) → x.work.stage ≡ Copy owner made → (made + 1 < 5) →
-        Keeps S words sides g words (slice_set sides r (left_by (to_stage (with_copied x.work (slice_index words (post_word S owner (1 + made)))) (Copy owner (made + 1)))))
+        Keeps S words sides g words (slice_set sides r (left_by (combine_to_stage (with_copied x.work (slice_index words (post_word S owner (1 + made)))) (Copy owner (made + 1)))))
     copied_on owner made st more =
         let w : IsSweeping S words r x.work.count owner × IsCopying (post_of S words owner) x.work.copied made = subst (SweepAt S words g.seats r x.work) st (g.sweeps r x has) in
-        loads (left_by (to_stage (with_copied x.work (slice_index words (post_word S owner (1 + made)))) (Copy owner (made + 1)))) refl
+        loads (left_by (combine_to_stage (with_copied x.work (slice_index words (post_word S owner (1 + made)))) (Copy owner (made + 1)))) refl
         (λ y there. own_at (Copy owner made) st y there) (
           record { same = w.0.same; there = w.0.there; past = w.0.past },
           record {
@@ -301,7 +301,7 @@ module _ (S : CombineSite) (node : ℕ → ℕ) (words : List ℕ) (laid : IsLai
         (λ k e. absurd (let n = ap in_hand st in cc))
 
     -- a word of the own answer is copied
-    pub collected : (made : ℕ) → x.work.stage ≡ Collect made → Keeps S words sides g words (slice_set sides r (left_by (stage_after S r x.work (slice_index words (post_word S r (6 + made))) (Collect made))))
+    pub collected : (made : ℕ) → x.work.stage ≡ Collect made → Keeps S words sides g words (slice_set sides r (left_by (combine_stage_after S r x.work (slice_index words (post_word S r (6 + made))) (Collect made))))
     collected made st =
         let got : ℕ = slice_index words (post_word S r (6 + made)) in
         let s = seat_of S node words laid sides g r x has in
@@ -309,26 +309,26 @@ module _ (S : CombineSite) (node : ℕ → ℕ) (words : List ℕ) (laid : IsLai
         let collecting : (y : Seat) → slice_get g.seats r ≡ Some y → IsCollecting S (post_of S words r) r (opened_of x.work) y (x.work.copied ++ got ∷ []) (made + 1) = λ y there.
         let o : OwnAt S (post_of S words r) r x y (Collect made) = own_at (Collect made) st y there in
         record { open_call = o.2.open_call; done = o.2.done; same = copies_on (post_of S words r).answer x.work.copied made got few o.2.same (answer_word S words r made few) } in
-        elim (made + 1 == 3) as (λ b. (made + 1 == 3) ≡ b → Keeps S words sides g words (slice_set sides r (left_by (cond b (to_stage (with_copied x.work got) Lower) (to_stage (with_copied x.work got) (Collect (made + 1))))))) [
-          | true ↦ λ e. loads (left_by (to_stage (with_copied x.work got) Lower)) refl
+        elim (made + 1 == 3) as (λ b. (made + 1 == 3) ≡ b → Keeps S words sides g words (slice_set sides r (left_by (cond b (combine_to_stage (with_copied x.work got) Lower) (combine_to_stage (with_copied x.work got) (Collect (made + 1))))))) [
+          | true ↦ λ e. loads (left_by (combine_to_stage (with_copied x.work got) Lower)) refl
               (λ y there. ((own_at (Collect made) st y there).0, subst (IsCollecting S (post_of S words r) r (opened_of x.work) y (x.work.copied ++ got ∷ [])) (grind (arith, nat_tests)) (collecting y there)))
               tt (λ k e. absurd (let n = ap in_hand st in cc))
-          | false ↦ λ e. loads (left_by (to_stage (with_copied x.work got) (Collect (made + 1)))) refl
+          | false ↦ λ e. loads (left_by (combine_to_stage (with_copied x.work got) (Collect (made + 1)))) refl
               (λ y there. ((own_at (Collect made) st y there).0, (let ne : (made + 1 ≡ 3) → ⊥ = λ h. grind (arith, nat_tests) in omega arith), collecting y there))
               tt (λ k e. absurd (let n = ap in_hand st in cc))
         ] refl
 
     -- the flag is lowered: the own entry is kept, and the work is over
-    pub lowered : x.work.stage ≡ Lower → (got : ℕ) → Keeps S words sides g (slice_set words (post_word S r 0) 0) (slice_set sides r (left_by (stage_after S r x.work got Lower)))
+    pub lowered : x.work.stage ≡ Lower → (got : ℕ) → Keeps S words sides g (slice_set words (post_word S r 0) 0) (slice_set sides r (left_by (combine_stage_after S r x.work got Lower)))
     lowered st got =
         let s = seat_of S node words laid sides g r x has in
         let o : OwnAt S (post_of S words r) r x s.0 Lower = own_at Lower st s.0 s.1 in
         let p : post_of S (slice_set words (post_word S r 0) 0) r ≡ record (post_of S words r) { flag = 0 } = flag_stored S words r 0 (is_rank S node words laid sides g r x has) laid.all in
-        writer_store 0 0 (omega arith) (left_by (stage_after S r x.work got Lower)) refl o.0 (ap in_hand st)
+        writer_store 0 0 (omega arith) (left_by (combine_stage_after S r x.work got Lower)) refl o.0 (ap in_hand st)
         (λ y there.
         let q : OwnAt S (post_of S words r) r x y Lower = own_at Lower st y there in
         let own : x.work.copied ≡ (post_of S words r).answer = q.1.same in
-        subst (λ p. OwnAt S p r (left_by (stage_after S r x.work got Lower)) y Rest) (sym p) (
+        subst (λ p. OwnAt S p r (left_by (combine_stage_after S r x.work got Lower)) y Rest) (sym p) (
           subst (λ st. IsDone (standing_done st)) (sym o.0) tt,
           refl,
           record {

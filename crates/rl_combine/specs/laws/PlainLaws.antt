@@ -12,16 +12,16 @@ use Rattle.rl_work.specs.Work.{work_atom, write_atom}
 use Rattle.rl_work.specs.WorkGood.{WorkSide as Seat}
 use Rattle.rl_work.specs.laws.AtomLaws.{atom_can}
 use Rattle.rl_journal.specs.Journal.{spelling}
-use Rattle.rl_combine.specs.declared.stage.Stage.{Stage}
-use Rattle.rl_combine.specs.declared.stage.Stage.TheVariants.{Rest, Post, Raise, Look, Count, Sweep, Copy, Read, Journal, Volume, Answer, Mark, Collect, Lower}
-use Rattle.rl_combine.specs.Posts.{CombineSite, ranks_of, post_word, post_of}
-use Rattle.rl_combine.specs.Combine.{stage_atom, touch_at, combine_table}
+use Rattle.rl_combine.specs.declared.stage.CombineStage.{CombineStage}
+use Rattle.rl_combine.specs.declared.stage.CombineStage.TheVariants.{Rest, Post, Raise, Look, Count, Sweep, Copy, Read, Journal, Volume, Answer, Mark, Collect, Lower}
+use Rattle.rl_combine.specs.Posts.{CombineSite, combine_ranks, post_word, post_of}
+use Rattle.rl_combine.specs.Combine.{combine_stage_atom, combine_touch_at, combine_table}
 use Rattle.rl_combine.specs.CombineGood.{RankSide, front_of, OwnAt, SweepAt, CombineGood, reading, deciding}
 use Rattle.rl_combine.specs.laws.MoveLaws.{seat_of, is_rank}
 use Rattle.rl_combine.specs.laws.SeatLaws.{seat_word}
 
 module _ (S : CombineSite) (node : ℕ → ℕ) (words : List ℕ) (laid : IsLaid (combine_table S node) words) (sides : List RankSide) (g : CombineGood S words sides) (apart : IsApart (combine_table S node) sides) (r : ℕ) (x : RankSide) (has : slice_get sides r ≡ Some x) where
-  post_there : (k i : ℕ) → k < ranks_of S → i < 9 → IsWorkWord (combine_table S node) (post_word S k i)
+  post_there : (k i : ℕ) → k < combine_ranks S → i < 9 → IsWorkWord (combine_table S node) (post_word S k i)
   post_there k i low few = record { there = omega arith; place = inr (omega arith) }
 
   front_there : (w : ℕ) → w < lock_base S.site → IsWorkWord (combine_table S node) w
@@ -32,18 +32,18 @@ module _ (S : CombineSite) (node : ℕ → ℕ) (words : List ℕ) (laid : IsLai
       subst (IsWorkAtom (combine_table S node)) (same_Some _ _ e) (front_there (volume_base + w.word) (seat_word S node words laid sides g apart r x has owner seat there (volume_base + w.word) w.value planned))
   write_there owner made seat there None planned a e = subst (IsWorkAtom (combine_table S node)) (same_Some _ _ e) (front_there count_word (omega arith))
 
-  pub plain : (at : Atom) → stage_atom S r x.work x.work.stage ≡ Some at → IsWorkAtom (combine_table S node) at
+  pub plain : (at : Atom) → combine_stage_atom S r x.work x.work.stage ≡ Some at → IsWorkAtom (combine_table S node) at
   plain at planned =
       let s = seat_of S node words laid sides g r x has in
       by_stage s.0 x.work.stage (g.own r x s.0 has s.1) (g.sweeps r x has) planned
     where
-      rank : r < ranks_of S
+      rank : r < combine_ranks S
       rank = is_rank S node words laid sides g r x has
 
       here : (a : Atom) → IsWorkAtom (combine_table S node) a → Some a ≡ Some at → IsWorkAtom (combine_table S node) at
       here a is e = subst (IsWorkAtom (combine_table S node)) (same_Some _ _ e) is
 
-      by_stage : (y : Seat) (st : Stage) → OwnAt S (post_of S words r) r x y st → SweepAt S words g.seats r x.work st → stage_atom S r x.work st ≡ Some at → IsWorkAtom (combine_table S node) at
+      by_stage : (y : Seat) (st : CombineStage) → OwnAt S (post_of S words r) r x y st → SweepAt S words g.seats r x.work st → combine_stage_atom S r x.work st ≡ Some at → IsWorkAtom (combine_table S node) at
       by_stage y Rest o w e = absurd (cc)
       by_stage y (Post made) o w e = let few = o.1 in here _ (post_there r (1 + made) rank (omega arith)) e
       by_stage y Raise o w e = here _ (post_there r 0 rank (omega arith)) e
@@ -72,7 +72,7 @@ module _ (S : CombineSite) (node : ℕ → ℕ) (words : List ℕ) (laid : IsLai
       subst (IsFrontAtom (lock_base S.site)) (same_Some _ _ e) low
 
   -- an atom that is told as a touch is on a word before the lock's
-  pub fronts : (at : Atom) → stage_atom S r x.work x.work.stage ≡ Some at → touch_at x.work.stage ≢ None → IsFrontAtom (lock_base S.site) at
+  pub fronts : (at : Atom) → combine_stage_atom S r x.work x.work.stage ≡ Some at → combine_touch_at x.work.stage ≢ None → IsFrontAtom (lock_base S.site) at
   fronts at planned told =
       let s = seat_of S node words laid sides g r x has in
       by_stage s.0 x.work.stage (g.own r x s.0 has s.1) (g.sweeps r x has) planned told
@@ -83,7 +83,7 @@ module _ (S : CombineSite) (node : ℕ → ℕ) (words : List ℕ) (laid : IsLai
       stores : (word value : ℕ) → word < lock_base S.site → Some (atom.Store word value) ≡ Some at → IsFrontAtom (lock_base S.site) at
       stores word value low e = subst (IsFrontAtom (lock_base S.site)) (same_Some _ _ e) low
 
-      by_stage : (y : Seat) (st : Stage) → OwnAt S (post_of S words r) r x y st → SweepAt S words g.seats r x.work st → stage_atom S r x.work st ≡ Some at → touch_at st ≢ None → IsFrontAtom (lock_base S.site) at
+      by_stage : (y : Seat) (st : CombineStage) → OwnAt S (post_of S words r) r x y st → SweepAt S words g.seats r x.work st → combine_stage_atom S r x.work st ≡ Some at → combine_touch_at st ≢ None → IsFrontAtom (lock_base S.site) at
       by_stage y Rest o w e told = absurd (told refl)
       by_stage y (Post made) o w e told = absurd (told refl)
       by_stage y Raise o w e told = absurd (told refl)

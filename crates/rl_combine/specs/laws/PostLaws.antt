@@ -13,7 +13,7 @@ use Rattle.rl_model.specs.declared.entry.Reply.TheVariants.{New, Was, Full, Val,
 use Rattle.rl_model.specs.Call.{shard_of}
 use Rattle.rl_journal.specs.Journal.{value_in}
 use Rattle.rl_site.specs.Site.{lock_base}
-use Rattle.rl_combine.specs.Posts.{CombineSite, ThePost, ranks_of, post_word, post_of, post_spelling, posted_call, post_code, answer_of}
+use Rattle.rl_combine.specs.Posts.{CombineSite, ThePost, combine_ranks, post_word, post_of, post_spelling, posted_call, post_code, combine_reply_of}
 use Rattle.rl_combine.specs.CombineGood.{front_of}
 
 -- a post of nine words
@@ -60,7 +60,7 @@ module _ (S : CombineSite) (words : List ℕ) where
   answer_word k (suc (suc zero)) h = refl
   answer_word k (suc (suc (suc n))) h = absurd (omega arith)
 
-  module _ (r v : ℕ) (there : r < ranks_of S) (size : length words ≡ S.behind + 9 * ranks_of S) where
+  module _ (r v : ℕ) (there : r < combine_ranks S) (size : length words ≡ S.behind + 9 * combine_ranks S) where
     -- a store to one of a rank's nine words
     changed : (i m : ℕ) → i < 9 → m < 9 → slice_index (slice_set words (post_word S r i) v) (post_word S r m) ≡ (if m == i then v else slice_index words (post_word S r m))
     changed i m few low =
@@ -122,7 +122,7 @@ call_back S (Cas key old new) seq h = refl
 call_back S (Hold shard) seq h = ap (λ z. Hold z) (sym h)
 
 -- and so is a reply
-pub reply_back : (reply : Reply) → answer_of (post_code reply) (value_in reply) ≡ reply
+pub reply_back : (reply : Reply) → combine_reply_of (post_code reply) (value_in reply) ≡ reply
 reply_back New = refl
 reply_back (Was v) = refl
 reply_back Full = refl

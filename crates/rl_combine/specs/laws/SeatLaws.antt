@@ -30,10 +30,10 @@ use Rattle.rl_work.specs.Work.{WorkTurned, more_entries, work_atom, work_after, 
 use Rattle.rl_work.specs.WorkGood.{WorkSide as Seat, WorkGood, IsApart as AreApart, side_turned as seat_turned, side_after as seat_after, FitsAt as BlockFits}
 use Rattle.rl_work.specs.laws.RoomLaws.{journal_short}
 use Rattle.rl_work.specs.laws.AtomLaws.{atom_can, atom_keeps, shift_keeps, open_keeps}
-use Rattle.rl_combine.specs.declared.stage.Stage.{Stage}
-use Rattle.rl_combine.specs.declared.stage.Stage.TheVariants.{Copy, Read, Journal, Volume, Answer, Mark}
+use Rattle.rl_combine.specs.declared.stage.CombineStage.{CombineStage}
+use Rattle.rl_combine.specs.declared.stage.CombineStage.TheVariants.{Copy, Read, Journal, Volume, Answer, Mark}
 use Rattle.rl_combine.specs.Posts.{CombineSite, ThePost, post_word, post_of, post_spelling, posted_call, posted_seq, answer_spelling, answered_entry}
-use Rattle.rl_combine.specs.Combine.{TheCombineSide, Opened, opened_of, in_hand, combine_table, stage_after, sweep_on, to_stage, at_stage, with_copied, with_posted, with_word, with_decision, read_next, read_on, decided_stage, written_on, found}
+use Rattle.rl_combine.specs.Combine.{TheCombineSide, Opened, opened_of, in_hand, combine_table, combine_stage_after, sweep_on, combine_to_stage, combine_at_stage, with_copied, with_posted, combine_with_word, with_decision, combine_read_next, combine_read_on, decided_stage, combine_written_on, found}
 use Rattle.rl_combine.specs.CombineGood.{RankSide, front_of, Waits, IsInHand, IsCounted, Progress, waits, handled, counted, answered, IsPosted, IsCombiner, IsSweeping, IsCopying, HasEntry, IsAnswering, IsLeft, IsToEnd, OwnAt, SweepAt, CombineGood, reading, deciding}
 use Rattle.rl_combine.specs.laws.PostLaws.{others_stay, posts_stay, call_word, flag_stored, answer_stored, front_get, front_set, front_behind, copies_on, stores_on, call_back, reply_back}
 use Rattle.rl_combine.specs.laws.SideLaws.{posted_at, posted_on}
@@ -95,23 +95,23 @@ module _ (S : CombineSite) (node : ℕ → ℕ) (words : List ℕ) (laid : IsLai
       omega arith
 
   -- what is known of the rank at its stage
-  sweep_at : (st : Stage) → x.work.stage ≡ st → SweepAt S words g.seats r x.work st
+  sweep_at : (st : CombineStage) → x.work.stage ≡ st → SweepAt S words g.seats r x.work st
   sweep_at st e = subst (SweepAt S words g.seats r x.work) e (g.sweeps r x has)
 
-  only_hand : (st : Stage) (owner : ℕ) → x.work.stage ≡ st → in_hand st ≡ Some owner → (k : ℕ) → in_hand x.work.stage ≡ Some k → k ≡ owner
+  only_hand : (st : CombineStage) (owner : ℕ) → x.work.stage ≡ st → in_hand st ≡ Some owner → (k : ℕ) → in_hand x.work.stage ≡ Some k → k ≡ owner
   only_hand st owner e hand k is = same_Some k owner (sym is ∙ ap in_hand e ∙ hand)
 
-  combines : (st : Stage) → x.work.stage ≡ st → Combines st → Combines x.work.stage
+  combines : (st : CombineStage) → x.work.stage ≡ st → Combines st → Combines x.work.stage
   combines st e c = subst Combines (sym e) c
 
-  is_writer : (st : Stage) → x.work.stage ≡ st → Combines st → x.standing ≡ Writer
+  is_writer : (st : CombineStage) → x.work.stage ≡ st → Combines st → x.standing ≡ Writer
   is_writer st e c =
       let s = seat_of S node words laid sides g r x has in
       (combiner_of S (post_of S words r) r x s.0 st c (subst (OwnAt S (post_of S words r) r x s.0) e (g.own r x s.0 has s.1))).0
 
   -- a word of the answer is stored
   pub answer_told : (owner made : ℕ) → x.work.stage ≡ Answer owner made → (got : ℕ) →
-      Keeps S words sides g (slice_set words (post_word S owner (6 + made)) (slice_index (answer_spelling x.work.entry) made)) (slice_set sides r (left_by (stage_after S r x.work got (Answer owner made))))
+      Keeps S words sides g (slice_set words (post_word S owner (6 + made)) (slice_index (answer_spelling x.work.entry) made)) (slice_set sides r (left_by (combine_stage_after S r x.work got (Answer owner made))))
   answer_told owner made st got =
       let w : SweepAt S words g.seats r x.work (Answer owner made) = sweep_at (Answer owner made) st in
       let few : made < 3 = w.1 in
@@ -139,13 +139,13 @@ module _ (S : CombineSite) (node : ℕ → ℕ) (words : List ℕ) (laid : IsLai
       let turn : (z : RankSide) → slice_get sides owner ≡ Some z → IsPosted S (post_of S words owner) owner (opened_of z.work) side.0 → IsPosted S (post_of S vs owner) owner (opened_of z.work) side.0 =
       λ z there is. subst (λ q. IsPosted S q owner (opened_of z.work) side.0) (sym p)
       (record { open_call = is.open_call; spelled = is.spelled; progress = answer_stays owner (opened_of z.work) side.0 (slice_set (post_of S words owner).answer made v) one is.progress }) in
-      elim (made + 1 == 3) as (λ b. (made + 1 == 3) ≡ b → Keeps S words sides g vs (slice_set sides r (left_by (cond b (to_stage x.work (Mark owner)) (to_stage x.work (Answer owner (made + 1))))))) [
+      elim (made + 1 == 3) as (λ b. (made + 1 == 3) ≡ b → Keeps S words sides g vs (slice_set sides r (left_by (cond b (combine_to_stage x.work (Mark owner)) (combine_to_stage x.work (Answer owner (made + 1))))))) [
         | true ↦ λ e.
-            combiner_moves S node words laid sides g apart r x has vs (at_stage x.work (Mark owner)) owner side.0 side.0 side.1 good posts refl refl (combines (Answer owner made) st tt) tt one turn
+            combiner_moves S node words laid sides g apart r x has vs (combine_at_stage x.work (Mark owner)) owner side.0 side.0 side.1 good posts refl refl (combines (Answer owner made) st tt) tt one turn
             (sweeping, subst (IsAnswering S vs (slice_set g.seats owner side.0) x.work.posted x.work.posted_number x.work.entry owner) (grind (arith, nat_tests)) answering)
             (only_hand (Answer owner made) owner st refl) (inr refl) (inl refl)
         | false ↦ λ e.
-            combiner_moves S node words laid sides g apart r x has vs (at_stage x.work (Answer owner (made + 1))) owner side.0 side.0 side.1 good posts refl refl (combines (Answer owner made) st tt) tt one turn
+            combiner_moves S node words laid sides g apart r x has vs (combine_at_stage x.work (Answer owner (made + 1))) owner side.0 side.0 side.1 good posts refl refl (combines (Answer owner made) st tt) tt one turn
             (sweeping, (let ne : (made + 1 ≡ 3) → ⊥ = λ h. grind (arith, nat_tests) in omega arith), answering)
             (only_hand (Answer owner made) owner st refl) (inr refl) (inl refl)
       ] refl
@@ -178,7 +178,7 @@ module _ (S : CombineSite) (node : ℕ → ℕ) (words : List ℕ) (laid : IsLai
   block_stored : (owner w v : ℕ) (y u : Seat) (s : TheCombineSide) → slice_get g.seats owner ≡ Some y → work_atom S.site.geom y.work ≡ Some (atom.Store w v) → (w ≡ count_word → ⊥) →
       y.standing ≡ Writer → u.standing ≡ Writer → u.work.transcript ≡ y.work.transcript → u.work.calls ≡ y.work.calls → u.work.seq ≡ y.work.seq →
       WorkGood S.site (slice_set (front_of S words) w v) (slice_set g.seats owner u) →
-      (st : Stage) → x.work.stage ≡ st → Combines st → found st ≡ Some owner → in_hand st ≡ Some owner → Combines s.stage → in_hand s.stage ≡ Some owner → s.seen.room ≡ x.work.seen.room → opened_of s ≡ opened_of x.work →
+      (st : CombineStage) → x.work.stage ≡ st → Combines st → found st ≡ Some owner → in_hand st ≡ Some owner → Combines s.stage → in_hand s.stage ≡ Some owner → s.seen.room ≡ x.work.seen.room → opened_of s ≡ opened_of x.work →
       IsSweeping S words r x.work.count owner → (IsSweeping S (slice_set words w v) r x.work.count owner → SweepAt S (slice_set words w v) (slice_set g.seats owner u) r s s.stage) →
       Keeps S words sides g (slice_set words w v) (slice_set sides r (record { standing = x.standing; work = s }))
   block_stored owner w v y u s seat planned other busy writes kept calls seq good st at from finds hand to on_hand room same sweeps next =
@@ -200,7 +200,7 @@ module _ (S : CombineSite) (node : ℕ → ℕ) (words : List ℕ) (laid : IsLai
 
   -- a word of the journal
   pub journal_told : (owner made : ℕ) → x.work.stage ≡ Journal owner made → (got : ℕ) →
-      Keeps S words sides g (slice_set words (journal_base S.site.geom + (6 * x.work.count + made)) (slice_index (spelling x.work.entry) made)) (slice_set sides r (left_by (stage_after S r x.work got (Journal owner made))))
+      Keeps S words sides g (slice_set words (journal_base S.site.geom + (6 * x.work.count + made)) (slice_index (spelling x.work.entry) made)) (slice_set sides r (left_by (combine_stage_after S r x.work got (Journal owner made))))
   journal_told owner made st got =
       let w : SweepAt S words g.seats r x.work (Journal owner made) = sweep_at (Journal owner made) st in
       let y : Seat = deciding x.work (block.Journal made) w.1.seen w.1.t in
@@ -211,24 +211,24 @@ module _ (S : CombineSite) (node : ℕ → ℕ) (words : List ℕ) (laid : IsLai
       let beside_now : AreApart g.seats = subst AreApart (set_same_get g.seats owner y w.1.seat) beside in
       let turned : WorkGood S.site (slice_set (front_of S words) word v) (slice_set g.seats owner (seat_turned Writer (journal_on y.work made))) =
       seat_turns g.seats g.work beside_now owner y w.1.seat tt (atom.Store word v) refl in
-      elim (made + 1 == 6) as (λ b. (made + 1 == 6) ≡ b → Keeps S words sides g (slice_set words word v) (slice_set sides r (left_by (cond b (to_stage x.work (Volume owner 0)) (to_stage x.work (Journal owner (made + 1))))))) [
+      elim (made + 1 == 6) as (λ b. (made + 1 == 6) ≡ b → Keeps S words sides g (slice_set words word v) (slice_set sides r (left_by (cond b (combine_to_stage x.work (Volume owner 0)) (combine_to_stage x.work (Journal owner (made + 1))))))) [
         | true ↦ λ e.
             let u : Seat = deciding x.work (block.Volume 0) w.1.seen w.1.t in
             let good : WorkGood S.site (slice_set (front_of S words) word v) (slice_set g.seats owner u) =
             subst (λ b. WorkGood S.site (slice_set (front_of S words) word v) (slice_set g.seats owner (seat_turned Writer (cond b (block_to y.work (block.Volume 0)) (block_to y.work (block.Journal (made + 1))))))) e turned in
-            block_stored owner word v y u (at_stage x.work (Volume owner 0)) w.1.seat refl (λ q. absurd (omega arith)) refl refl refl refl refl good (Journal owner made) st tt refl refl tt refl refl refl w.0
+            block_stored owner word v y u (combine_at_stage x.work (Volume owner 0)) w.1.seat refl (λ q. absurd (omega arith)) refl refl refl refl refl good (Journal owner made) st tt refl refl tt refl refl refl w.0
             (λ sweeping. (sweeping, record { entry_is = w.1.entry_is; small = w.1.small; seen = w.1.seen; t = w.1.t; seat = get_set_same g.seats owner y u w.1.seat }))
         | false ↦ λ e.
             let u : Seat = deciding x.work (block.Journal (made + 1)) w.1.seen w.1.t in
             let good : WorkGood S.site (slice_set (front_of S words) word v) (slice_set g.seats owner u) =
             subst (λ b. WorkGood S.site (slice_set (front_of S words) word v) (slice_set g.seats owner (seat_turned Writer (cond b (block_to y.work (block.Volume 0)) (block_to y.work (block.Journal (made + 1))))))) e turned in
-            block_stored owner word v y u (at_stage x.work (Journal owner (made + 1))) w.1.seat refl (λ q. absurd (omega arith)) refl refl refl refl refl good (Journal owner made) st tt refl refl tt refl refl refl w.0
+            block_stored owner word v y u (combine_at_stage x.work (Journal owner (made + 1))) w.1.seat refl (λ q. absurd (omega arith)) refl refl refl refl refl good (Journal owner made) st tt refl refl tt refl refl refl w.0
             (λ sweeping. (sweeping, record { entry_is = w.1.entry_is; small = w.1.small; seen = w.1.seen; t = w.1.t; seat = get_set_same g.seats owner y u w.1.seat }))
       ] refl
 
   -- one of the writes
   pub write_told : (owner made : ℕ) (d : Write) → x.work.stage ≡ Volume owner made → slice_get x.work.writes made ≡ Some d →
-      Keeps S words sides g (slice_set words (volume_base + d.word) d.value) (slice_set sides r (left_by (to_stage x.work (Volume owner (made + 1)))))
+      Keeps S words sides g (slice_set words (volume_base + d.word) d.value) (slice_set sides r (left_by (combine_to_stage x.work (Volume owner (made + 1)))))
   write_told owner made d st next =
       let w : SweepAt S words g.seats r x.work (Volume owner made) = sweep_at (Volume owner made) st in
       let y : Seat = deciding x.work (block.Volume made) w.1.seen w.1.t in
@@ -240,12 +240,12 @@ module _ (S : CombineSite) (node : ℕ → ℕ) (words : List ℕ) (laid : IsLai
       let good : WorkGood S.site (slice_set (front_of S words) (volume_base + d.word) d.value) (slice_set g.seats owner u) =
       subst (λ o. WorkGood S.site (slice_set (front_of S words) (volume_base + d.word) d.value) (slice_set g.seats owner (seat_turned Writer (block_written y.work made o)))) next
       (seat_turns g.seats g.work beside_now owner y w.1.seat tt (atom.Store (volume_base + d.word) d.value) planned) in
-      block_stored owner (volume_base + d.word) d.value y u (at_stage x.work (Volume owner (made + 1))) w.1.seat planned (λ q. absurd (omega arith)) refl refl refl refl refl good (Volume owner made) st tt refl refl tt refl refl refl w.0
+      block_stored owner (volume_base + d.word) d.value y u (combine_at_stage x.work (Volume owner (made + 1))) w.1.seat planned (λ q. absurd (omega arith)) refl refl refl refl refl good (Volume owner made) st tt refl refl tt refl refl refl w.0
       (λ sweeping. (sweeping, record { entry_is = w.1.entry_is; small = w.1.small; seen = w.1.seen; t = w.1.t; seat = get_set_same g.seats owner y u w.1.seat }))
 
   -- the count behind the last write
   pub count_told : (owner made : ℕ) → x.work.stage ≡ Volume owner made → slice_get x.work.writes made ≡ None →
-      Keeps S words sides g (slice_set words count_word (x.work.count + 1)) (slice_set sides r (left_by (written_on x.work owner made None)))
+      Keeps S words sides g (slice_set words count_word (x.work.count + 1)) (slice_set sides r (left_by (combine_written_on x.work owner made None)))
   count_told owner made st last =
       let w : SweepAt S words g.seats r x.work (Volume owner made) = sweep_at (Volume owner made) st in
       let y : Seat = deciding x.work (block.Volume made) w.1.seen w.1.t in
@@ -264,7 +264,7 @@ module _ (S : CombineSite) (node : ℕ → ℕ) (words : List ℕ) (laid : IsLai
       let posts : (k : ℕ) → post_of S vs k ≡ post_of S words k = λ k. posts_stay S words count_word v k behind in
       let fits : BlockFits S.site (front_of S words) g.work.journal g.work.before owner y (block.Volume made) = g.work.fits owner y w.1.seat in
       let update : is_update x.work.posted ≡ true = fits.0.update in
-      combiner_moves S node words laid sides g apart r x has vs (written_on x.work owner made None).work owner y u w.1.seat (subst (λ z. WorkGood S.site z (slice_set g.seats owner u)) (sym (front_set S words count_word v low)) good) (λ k ne. posts k)
+      combiner_moves S node words laid sides g apart r x has vs (combine_written_on x.work owner made None).work owner y u w.1.seat (subst (λ z. WorkGood S.site z (slice_set g.seats owner u)) (sym (front_set S words count_word v low)) good) (λ k ne. posts k)
       refl refl (combines (Volume owner made) st tt) tt
       (found_flag S node words laid sides g r x has owner (ap found st))
       (λ z there is. subst (λ q. IsPosted S q owner (opened_of z.work) u) (sym (posts owner)) (
@@ -311,7 +311,7 @@ module _ (S : CombineSite) (node : ℕ → ℕ) (words : List ℕ) (laid : IsLai
   -- What a seat reads on with, whose call is the rank's call in hand: the next word, or its block is decided.
   -- `good` is what holds where the seat has made its load too, and `lags` where it makes it later.
   reads_on : (owner : ℕ) (w : TheCombineSide) (b : BlockStage) (at : ℕ) (es : List Entry) (t : TheTranscript) (y0 y : Seat) → slice_get g.seats owner ≡ Some y0 →
-      x.standing ≡ Writer → (st : Stage) → x.work.stage ≡ st → Combines st → found st ≡ Some owner → ((k : ℕ) → in_hand x.work.stage ≡ Some k → k ≡ owner) →
+      x.standing ≡ Writer → (st : CombineStage) → x.work.stage ≡ st → Combines st → found st ≡ Some owner → ((k : ℕ) → in_hand x.work.stage ≡ Some k → k ≡ owner) →
       w.seen.room ≡ x.work.seen.room → opened_of w ≡ opened_of x.work → w.count ≡ x.work.count → IsSweeping S words r x.work.count owner →
       ((z : RankSide) (u : Seat) → slice_get sides owner ≡ Some z → u.standing ≡ Writer → u.work.transcript ≡ t → u.work.calls ≡ w.posted ∷ [] → u.work.seq ≡ w.posted_number → IsPosted S (post_of S words owner) owner (opened_of z.work) y0 →
       IsPosted S (post_of S words owner) owner (opened_of z.work) u) →
@@ -319,7 +319,7 @@ module _ (S : CombineSite) (node : ℕ → ℕ) (words : List ℕ) (laid : IsLai
       work_after S.site.geom S.site.shard owner y.work (slice_index words l) ≡ seen_on S.site.geom S.site.shard owner (reading w b at es t).work w.count →
       WorkGood S.site (front_of S words) (slice_set g.seats owner y) →
       WorkGood S.site (front_of S words) (slice_set g.seats owner (seat_turned Writer (seen_on S.site.geom S.site.shard owner (reading w b at es t).work w.count))) →
-      Keeps S words sides g words (slice_set sides r (left_by (read_on S w owner)))
+      Keeps S words sides g words (slice_set sides r (left_by (combine_read_on S w owner)))
   reads_on owner w b at es t y0 y seat busy st stage from finds hand room same count sweeps turn y0_has y_writes y_has y_calls y_seq l low planned makes lags good =
       by_next (next_word S.site.geom w.posted w.seen.pairs) refl
     where
@@ -352,12 +352,12 @@ module _ (S : CombineSite) (node : ℕ → ℕ) (words : List ℕ) (laid : IsLai
       closes : Bool → WorkTurned
       closes c = block_close_by S.site.shard owner (with_call (reading w b at es t).work d) w.count c
 
-      by_next : (o : Option ℕ) → next_word S.site.geom w.posted w.seen.pairs ≡ o → Keeps S words sides g words (slice_set sides r (left_by (read_next S w owner o)))
+      by_next : (o : Option ℕ) → next_word S.site.geom w.posted w.seen.pairs ≡ o → Keeps S words sides g words (slice_set sides r (left_by (combine_read_next S w owner o)))
       by_next (Some word) e =
           let u : Seat = reading w (block.Read w.count word) at es t in
           let turned : WorkGood S.site (front_of S words) (slice_set g.seats owner u) =
           subst (λ o. WorkGood S.site (front_of S words) (slice_set g.seats owner (seat_turned Writer (block_next (reading w b at es t).work w.count o (closes (is_update w.posted)))))) e good in
-          moves (at_stage w (Read owner word)) u turned refl refl refl refl refl refl tt refl
+          moves (combine_at_stage w (Read owner word)) u turned refl refl refl refl refl refl tt refl
           (sweeping, record { at = at; entries = es; t = t; seat = get_set_same g.seats owner y0 u seat })
       by_next None e =
           let turned : WorkGood S.site (front_of S words) (slice_set g.seats owner (seat_turned Writer (closes (is_update w.posted)))) =
@@ -367,12 +367,12 @@ module _ (S : CombineSite) (node : ℕ → ℕ) (words : List ℕ) (laid : IsLai
           by_kind (is_update w.posted) turned made
         where
           by_kind : (c : Bool) → WorkGood S.site (front_of S words) (slice_set g.seats owner (seat_turned Writer (closes c))) → work_after S.site.geom S.site.shard owner y.work (slice_index words l) ≡ closes c →
-              Keeps S words sides g words (slice_set sides r (left_by (to_stage (with_decision S w owner d) (decided_stage owner c))))
+              Keeps S words sides g words (slice_set sides r (left_by (combine_to_stage (with_decision S w owner d) (decided_stage owner c))))
           by_kind true turned made =
-              moves (at_stage (with_decision S w owner d) (Journal owner 0)) (seat_turned Writer (closes true)) turned refl refl refl refl refl refl tt refl
+              moves (combine_at_stage (with_decision S w owner d) (Journal owner 0)) (seat_turned Writer (closes true)) turned refl refl refl refl refl refl tt refl
               (sweeping, record { entry_is = refl; small = small_count; seen = (closes true).work.seen; t = t; seat = get_set_same g.seats owner y0 (seat_turned Writer (closes true)) seat })
           by_kind false turned made =
-              moves (at_stage (with_decision S w owner d) (Answer owner 0)) y lags y_writes y_has y_calls y_seq refl refl tt refl (
+              moves (combine_at_stage (with_decision S w owner d) (Answer owner 0)) y lags y_writes y_has y_calls y_seq refl refl tt refl (
                 sweeping,
                 omega arith,
                 record {
@@ -397,7 +397,7 @@ module _ (S : CombineSite) (node : ℕ → ℕ) (words : List ℕ) (laid : IsLai
               )
 
   -- a word of the volume is loaded
-  pub word_read : (owner word : ℕ) → x.work.stage ≡ Read owner word → Keeps S words sides g words (slice_set sides r (left_by (stage_after S r x.work (slice_index words (volume_base + word)) (Read owner word))))
+  pub word_read : (owner word : ℕ) → x.work.stage ≡ Read owner word → Keeps S words sides g words (slice_set sides r (left_by (combine_stage_after S r x.work (slice_index words (volume_base + word)) (Read owner word))))
   word_read owner word st =
       let w : SweepAt S words g.seats r x.work (Read owner word) = sweep_at (Read owner word) st in
       let y : Seat = reading x.work (block.Read x.work.count word) w.1.at w.1.entries w.1.t in
@@ -409,16 +409,16 @@ module _ (S : CombineSite) (node : ℕ → ℕ) (words : List ℕ) (laid : IsLai
       let beside_now : AreApart g.seats = subst AreApart same beside in
       let can : l < length (front_of S words) = atom_can S.site (front_of S words) g.seats g.work owner y w.1.seat (atom.Load l) (λ n. 0) [] refl in
       let low : l < lock_base S.site = (let size = g.work.size in omega arith) in
-      let turned : WorkGood S.site (front_of S words) (slice_set g.seats owner (seat_turned Writer (seen_on S.site.geom S.site.shard owner (reading (with_word x.work word (slice_index (front_of S words) l)) (block.Read x.work.count word) w.1.at w.1.entries w.1.t).work x.work.count))) =
+      let turned : WorkGood S.site (front_of S words) (slice_set g.seats owner (seat_turned Writer (seen_on S.site.geom S.site.shard owner (reading (combine_with_word x.work word (slice_index (front_of S words) l)) (block.Read x.work.count word) w.1.at w.1.entries w.1.t).work x.work.count))) =
       seat_turns g.seats g.work beside_now owner y w.1.seat tt (atom.Load l) refl in
-      reads_on owner (with_word x.work word got) (block.Read x.work.count word) w.1.at w.1.entries w.1.t y y w.1.seat busy (Read owner word) st tt refl (only_hand (Read owner word) owner st refl) refl refl refl w.0
+      reads_on owner (combine_with_word x.work word got) (block.Read x.work.count word) w.1.at w.1.entries w.1.t y y w.1.seat busy (Read owner word) st tt refl (only_hand (Read owner word) owner st refl) refl refl refl w.0
       (λ z u there writes kept calls seq is. still_handled S (post_of S words owner) owner (opened_of z.work) y u refl writes kept calls seq is)
       refl refl refl refl refl l low refl refl (subst (WorkGood S.site (front_of S words)) (sym same) g.work)
-      (subst (λ n. WorkGood S.site (front_of S words) (slice_set g.seats owner (seat_turned Writer (seen_on S.site.geom S.site.shard owner (reading (with_word x.work word n) (block.Read x.work.count word) w.1.at w.1.entries w.1.t).work x.work.count)))) (front_get S words l low) turned)
+      (subst (λ n. WorkGood S.site (front_of S words) (slice_set g.seats owner (seat_turned Writer (seen_on S.site.geom S.site.shard owner (reading (combine_with_word x.work word n) (block.Read x.work.count word) w.1.at w.1.entries w.1.t).work x.work.count)))) (front_get S words l low) turned)
 
   -- the last word of a post is copied: the call is in hand, and its seat is a writer's
   pub post_copied : (owner made : ℕ) → x.work.stage ≡ Copy owner made → made + 1 ≡ 5 →
-      Keeps S words sides g words (slice_set sides r (left_by (read_on S (with_posted S (with_copied x.work (slice_index words (post_word S owner (1 + made))))) owner)))
+      Keeps S words sides g words (slice_set sides r (left_by (combine_read_on S (with_posted S (with_copied x.work (slice_index words (post_word S owner (1 + made))))) owner)))
   post_copied owner made st last =
       let w : IsSweeping S words r x.work.count owner × IsCopying (post_of S words owner) x.work.copied made = sweep_at (Copy owner made) st in
       let got : ℕ = slice_index words (post_word S owner (1 + made)) in
@@ -547,7 +547,7 @@ module _ (S : CombineSite) (node : ℕ → ℕ) (words : List ℕ) (laid : IsLai
       posted_on S (post_of S words owner) owner z y z.work.stage o one (post_of S vs owner) u (turn (opened_of z.work) (posted_at S (post_of S words owner) owner z y z.work.stage o one)))
       sweep (only_hand (Mark owner) owner st refl) (inl out) grows)
 
-  pub marked : (owner : ℕ) → x.work.stage ≡ Mark owner → (got : ℕ) → Keeps S words sides g (slice_set words (post_word S owner 0) 2) (slice_set sides r (left_by (stage_after S r x.work got (Mark owner))))
+  pub marked : (owner : ℕ) → x.work.stage ≡ Mark owner → (got : ℕ) → Keeps S words sides g (slice_set words (post_word S owner 0) 2) (slice_set sides r (left_by (combine_stage_after S r x.work got (Mark owner))))
   marked owner st got =
       let w : IsSweeping S words r x.work.count owner × IsAnswering S words g.seats x.work.posted x.work.posted_number x.work.entry owner 3 = sweep_at (Mark owner) st in
       ⊎_elim left ends w.1.end

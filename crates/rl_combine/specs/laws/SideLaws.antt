@@ -3,15 +3,15 @@ use Rattle.std.specs.Prelude.{◌≡◌, ℕ, List, Some}
 use Rattle.std.proofs.Common.{arith}
 use Rattle.rl_step.specs.declared.events.Standing.TheVariants.{Out, Writer}
 use Rattle.rl_work.specs.WorkGood.{WorkSide as Seat}
-use Rattle.rl_combine.specs.declared.stage.Stage.{Stage}
-use Rattle.rl_combine.specs.declared.stage.Stage.TheVariants.{Rest, Post, Raise, Look, Count, Sweep, Copy, Read, Journal, Volume, Answer, Mark, Collect, Lower}
+use Rattle.rl_combine.specs.declared.stage.CombineStage.{CombineStage}
+use Rattle.rl_combine.specs.declared.stage.CombineStage.TheVariants.{Rest, Post, Raise, Look, Count, Sweep, Copy, Read, Journal, Volume, Answer, Mark, Collect, Lower}
 use Rattle.rl_combine.specs.Posts.{CombineSite, ThePost}
 use Rattle.rl_combine.specs.Combine.{opened_of, in_hand}
 use Rattle.rl_combine.specs.CombineGood.{RankSide, Progress, waits, handled, counted, answered, IsPosted, OwnAt, SweepAt}
 
 module _ (S : CombineSite) (p : ThePost) (k : ℕ) (z : RankSide) (y : Seat) where
   -- where the flag is 1 the call is posted
-  pub posted_at : (st : Stage) → OwnAt S p k z y st → p.flag ≡ 1 → IsPosted S p k (opened_of z.work) y
+  pub posted_at : (st : CombineStage) → OwnAt S p k z y st → p.flag ≡ 1 → IsPosted S p k (opened_of z.work) y
   posted_at Rest o e = let f = o.1 in absurd (omega arith)
   posted_at (Post made) o e = let f = o.2.flag in absurd (omega arith)
   posted_at Raise o e = let f = o.1.flag in absurd (omega arith)
@@ -28,7 +28,7 @@ module _ (S : CombineSite) (p : ThePost) (k : ℕ) (z : RankSide) (y : Seat) whe
   posted_at Lower o e = let f = o.1.done.flag in absurd (omega arith)
 
   -- and stays so whatever becomes of post and seat
-  pub posted_on : (st : Stage) → OwnAt S p k z y st → p.flag ≡ 1 → (q : ThePost) (u : Seat) → IsPosted S q k (opened_of z.work) u → OwnAt S q k z u st
+  pub posted_on : (st : CombineStage) → OwnAt S p k z y st → p.flag ≡ 1 → (q : ThePost) (u : Seat) → IsPosted S q k (opened_of z.work) u → OwnAt S q k z u st
   posted_on Rest o e q u is = let f = o.1 in absurd (omega arith)
   posted_on (Post made) o e q u is = let f = o.2.flag in absurd (omega arith)
   posted_on Raise o e q u is = let f = o.1.flag in absurd (omega arith)
@@ -45,7 +45,7 @@ module _ (S : CombineSite) (p : ThePost) (k : ℕ) (z : RankSide) (y : Seat) whe
   posted_on Lower o e q u is = let f = o.1.done.flag in absurd (omega arith)
 
   -- who has a call in hand is a writer
-  pub hand_writes : (st : Stage) → OwnAt S p k z y st → (j : ℕ) → in_hand st ≡ Some j → z.standing ≡ Writer
+  pub hand_writes : (st : CombineStage) → OwnAt S p k z y st → (j : ℕ) → in_hand st ≡ Some j → z.standing ≡ Writer
   hand_writes Rest o j e = absurd (cc)
   hand_writes (Post made) o j e = absurd (cc)
   hand_writes Raise o j e = absurd (cc)
@@ -62,7 +62,7 @@ module _ (S : CombineSite) (p : ThePost) (k : ℕ) (z : RankSide) (y : Seat) whe
   hand_writes Lower o j e = absurd (cc)
 
   -- and nothing is said of the sweep of any other
-  pub sweep_any : (st : Stage) → OwnAt S p k z y st → (z.standing ≡ Writer → ⊥) → (vs : List ℕ) (seats : List Seat) → SweepAt S vs seats k z.work st
+  pub sweep_any : (st : CombineStage) → OwnAt S p k z y st → (z.standing ≡ Writer → ⊥) → (vs : List ℕ) (seats : List Seat) → SweepAt S vs seats k z.work st
   sweep_any Rest o isnt vs seats = tt
   sweep_any (Post made) o isnt vs seats = tt
   sweep_any Raise o isnt vs seats = tt
@@ -85,7 +85,7 @@ module _ (S : CombineSite) (p : ThePost) (k : ℕ) (z : RankSide) (y : Seat) whe
   flag_by (counted c) isnt = c.flag
   flag_by (answered a) isnt = absurd (isnt a.free.out)
 
-  pub flag_at : (st : Stage) → OwnAt S p k z y st → (y.standing ≡ Out → ⊥) → p.flag ≡ 1
+  pub flag_at : (st : CombineStage) → OwnAt S p k z y st → (y.standing ≡ Out → ⊥) → p.flag ≡ 1
   flag_at Rest o isnt = absurd (isnt o.2.out)
   flag_at (Post made) o isnt = absurd (isnt o.2.free.out)
   flag_at Raise o isnt = absurd (isnt o.1.free.out)

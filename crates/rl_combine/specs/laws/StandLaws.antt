@@ -21,10 +21,10 @@ use Rattle.rl_site.specs.laws.OpeningLaws.{opening_size}
 use Rattle.rl_work.specs.Work.{first_work, write_atom}
 use Rattle.rl_work.specs.WorkGood.{WorkSide as Seat, WorkGood, IsDone, IsFirst as IsFirstSeat}
 use Rattle.rl_work.specs.laws.AtomLaws.{opening_good}
-use Rattle.rl_combine.specs.declared.stage.Stage.{Stage}
-use Rattle.rl_combine.specs.declared.stage.Stage.TheVariants.{Rest, Post, Raise, Look, Count, Sweep, Copy, Read, Journal, Volume, Answer, Mark, Collect, Lower}
-use Rattle.rl_combine.specs.Posts.{CombineSite, ThePost, ranks_of, post_word, post_of}
-use Rattle.rl_combine.specs.Combine.{TheCombineSide, is_open, touch_at, in_hand, stage_atom, combine_table, with_open}
+use Rattle.rl_combine.specs.declared.stage.CombineStage.{CombineStage}
+use Rattle.rl_combine.specs.declared.stage.CombineStage.TheVariants.{Rest, Post, Raise, Look, Count, Sweep, Copy, Read, Journal, Volume, Answer, Mark, Collect, Lower}
+use Rattle.rl_combine.specs.Posts.{CombineSite, ThePost, combine_ranks, post_word, post_of}
+use Rattle.rl_combine.specs.Combine.{TheCombineSide, combine_is_open, combine_touch_at, in_hand, combine_stage_atom, combine_table, with_open}
 use Rattle.rl_combine.specs.CombineGood.{RankSide, front_of, HasAsked, IsFree, OwnAt, SweepAt, CombineGood}
 use Rattle.rl_combine.specs.laws.PostLaws.{same_post}
 use Rattle.rl_combine.specs.laws.MoveLaws.{Keeps, seat_of, own_moves}
@@ -40,7 +40,7 @@ abbrev first_seat : CombineSite → RankSide → Seat
 first_seat S x = record { standing = Out; work = first_work S.site.geom x.work.kept.room }
 
 -- before the first call the rule holds
-pub begins : (S : CombineSite) (node : ℕ → ℕ) → GeomFits S.site.geom → (n : ℕ) → lock_base S.site ≤ S.behind → lock_base S.site + n ≡ S.behind + 9 * ranks_of S → (sides : List RankSide) → length sides ≡ ranks_of S →
+pub begins : (S : CombineSite) (node : ℕ → ℕ) → GeomFits S.site.geom → (n : ℕ) → lock_base S.site ≤ S.behind → lock_base S.site + n ≡ S.behind + 9 * combine_ranks S → (sides : List RankSide) → length sides ≡ combine_ranks S →
     ((r : ℕ) (x : RankSide) → slice_get sides r ≡ Some x → IsFirst (combine_table S node) r x) → CombineGood S (opening_words S.site ++ replicate n 0) sides
 begins S node fits n low all sides ranks first =
     let words : List ℕ = opening_words S.site ++ replicate n 0 in
@@ -104,9 +104,9 @@ module _ (S : CombineSite) (node : ℕ → ℕ) (words : List ℕ) (laid : IsLai
   own_now y seat = g.own r x y has seat
 
   -- with no open call a rank rests
-  pub at_rest_of : is_open x.work.stage ≡ false → x.work.stage ≡ Rest
+  pub at_rest_of : combine_is_open x.work.stage ≡ false → x.work.stage ≡ Rest
   at_rest_of closed = by_stage x.work.stage closed where
-    by_stage : (st : Stage) → is_open st ≡ false → st ≡ Rest
+    by_stage : (st : CombineStage) → combine_is_open st ≡ false → st ≡ Rest
     by_stage Rest e = refl
     by_stage (Post made) e = absurd (cc)
     by_stage Raise e = absurd (cc)
@@ -123,7 +123,7 @@ module _ (S : CombineSite) (node : ℕ → ℕ) (words : List ℕ) (laid : IsLai
     by_stage Lower e = absurd (cc)
 
   -- a call is opened
-  pub opens : (call : Call) (seq : ℕ) → x.standing ≡ Out → is_open x.work.stage ≡ false → IsOpen S.site r (call ∷ []) seq x.work.kept → Keeps S words sides g words (slice_set sides r (record { standing = Out; work = with_open x.work call seq }))
+  pub opens : (call : Call) (seq : ℕ) → x.standing ≡ Out → combine_is_open x.work.stage ≡ false → IsOpen S.site r (call ∷ []) seq x.work.kept → Keeps S words sides g words (slice_set sides r (record { standing = Out; work = with_open x.work call seq }))
   opens call seq out closed o =
       let rest : x.work.stage ≡ Rest = at_rest_of closed in
       own_moves S node words laid sides g r x has words (record { standing = Out; work = with_open x.work call seq }) refl (λ k ne. refl) refl
@@ -135,7 +135,7 @@ module _ (S : CombineSite) (node : ℕ → ℕ) (words : List ℕ) (laid : IsLai
       (λ k e. absurd (let n = ap in_hand rest in cc))
 
   -- the lock changes a standing
-  shifted : (p : ThePost) (y : Seat) (st : Standing) (es : List Event) → Shift r x.standing st es → (stage : Stage) → OwnAt S p r x y stage → OwnAt S p r (record { standing = st; work = x.work }) y stage
+  shifted : (p : ThePost) (y : Seat) (st : Standing) (es : List Event) → Shift r x.standing st es → (stage : CombineStage) → OwnAt S p r x y stage → OwnAt S p r (record { standing = st; work = x.work }) y stage
   shifted p y st es shift Rest o = (is_done x.standing st shift o.0, o.1, o.2) where
     is_done : (a b : Standing) → Shift r a b es → IsDone a → IsDone b
     is_done Out b s i = absurd s
@@ -180,7 +180,7 @@ module _ (S : CombineSite) (node : ℕ → ℕ) (words : List ℕ) (laid : IsLai
       (λ k e. e)).good
 
   -- how the rank goes on, by how it stands
-  standing_goes : (p : ThePost) (y : Seat) (stage : Stage) → OwnAt S p r x y stage → GoesOnAt x.standing (is_open stage) (stage_atom S r x.work stage)
+  standing_goes : (p : ThePost) (y : Seat) (stage : CombineStage) → OwnAt S p r x y stage → GoesOnAt x.standing (combine_is_open stage) (combine_stage_atom S r x.work stage)
   standing_goes p y Rest o = by_standing x.standing o.0 where
     by_standing : (st : Standing) → IsDone st → GoesOnAt st false None
     by_standing Out d = refl
@@ -188,33 +188,33 @@ module _ (S : CombineSite) (node : ℕ → ℕ) (words : List ℕ) (laid : IsLai
     by_standing Writer d = absurd d
     by_standing Reader d = absurd d
     by_standing Leaving d = refl
-  standing_goes p y (Post made) o = subst (λ a. GoesOnAt a true (stage_atom S r x.work (Post made))) (sym o.0) refl
-  standing_goes p y Raise o = subst (λ a. GoesOnAt a true (stage_atom S r x.work Raise)) (sym o.0) refl
+  standing_goes p y (Post made) o = subst (λ a. GoesOnAt a true (combine_stage_atom S r x.work (Post made))) (sym o.0) refl
+  standing_goes p y Raise o = subst (λ a. GoesOnAt a true (combine_stage_atom S r x.work Raise)) (sym o.0) refl
   standing_goes p y Look o = by_standing x.standing o.0 where
-    by_standing : (st : Standing) → HasAsked st → GoesOnAt st true (stage_atom S r x.work Look)
+    by_standing : (st : Standing) → HasAsked st → GoesOnAt st true (combine_stage_atom S r x.work Look)
     by_standing Out d = absurd d
     by_standing Asking d = refl
     by_standing Writer d = (refl, refl)
     by_standing Reader d = (refl, refl)
     by_standing Leaving d = absurd d
-  standing_goes p y Count o = subst (λ a. GoesOnAt a true (stage_atom S r x.work Count)) (sym o.0) (refl, refl)
-  standing_goes p y (Sweep owner) o = subst (λ a. GoesOnAt a true (stage_atom S r x.work (Sweep owner))) (sym o.0) (refl, refl)
-  standing_goes p y (Copy owner made) o = subst (λ a. GoesOnAt a true (stage_atom S r x.work (Copy owner made))) (sym o.0) (refl, refl)
-  standing_goes p y (Read owner word) o = subst (λ a. GoesOnAt a true (stage_atom S r x.work (Read owner word))) (sym o.0) (refl, refl)
-  standing_goes p y (Journal owner made) o = subst (λ a. GoesOnAt a true (stage_atom S r x.work (Journal owner made))) (sym o.0) (refl, refl)
-  standing_goes p y (Volume owner made) o = subst (λ a. GoesOnAt a true (stage_atom S r x.work (Volume owner made))) (sym o.0) (refl, refl)
-  standing_goes p y (Answer owner made) o = subst (λ a. GoesOnAt a true (stage_atom S r x.work (Answer owner made))) (sym o.0) (refl, refl)
-  standing_goes p y (Mark owner) o = subst (λ a. GoesOnAt a true (stage_atom S r x.work (Mark owner))) (sym o.0) (refl, refl)
-  standing_goes p y (Collect made) o = subst (λ a. GoesOnAt a true (stage_atom S r x.work (Collect made))) (sym o.0) (refl, refl)
-  standing_goes p y Lower o = subst (λ a. GoesOnAt a true (stage_atom S r x.work Lower)) (sym o.0) (refl, refl)
+  standing_goes p y Count o = subst (λ a. GoesOnAt a true (combine_stage_atom S r x.work Count)) (sym o.0) (refl, refl)
+  standing_goes p y (Sweep owner) o = subst (λ a. GoesOnAt a true (combine_stage_atom S r x.work (Sweep owner))) (sym o.0) (refl, refl)
+  standing_goes p y (Copy owner made) o = subst (λ a. GoesOnAt a true (combine_stage_atom S r x.work (Copy owner made))) (sym o.0) (refl, refl)
+  standing_goes p y (Read owner word) o = subst (λ a. GoesOnAt a true (combine_stage_atom S r x.work (Read owner word))) (sym o.0) (refl, refl)
+  standing_goes p y (Journal owner made) o = subst (λ a. GoesOnAt a true (combine_stage_atom S r x.work (Journal owner made))) (sym o.0) (refl, refl)
+  standing_goes p y (Volume owner made) o = subst (λ a. GoesOnAt a true (combine_stage_atom S r x.work (Volume owner made))) (sym o.0) (refl, refl)
+  standing_goes p y (Answer owner made) o = subst (λ a. GoesOnAt a true (combine_stage_atom S r x.work (Answer owner made))) (sym o.0) (refl, refl)
+  standing_goes p y (Mark owner) o = subst (λ a. GoesOnAt a true (combine_stage_atom S r x.work (Mark owner))) (sym o.0) (refl, refl)
+  standing_goes p y (Collect made) o = subst (λ a. GoesOnAt a true (combine_stage_atom S r x.work (Collect made))) (sym o.0) (refl, refl)
+  standing_goes p y Lower o = subst (λ a. GoesOnAt a true (combine_stage_atom S r x.work Lower)) (sym o.0) (refl, refl)
 
-  pub goes_on : GoesOnAt x.standing (is_open x.work.stage) (stage_atom S r x.work x.work.stage)
+  pub goes_on : GoesOnAt x.standing (combine_is_open x.work.stage) (combine_stage_atom S r x.work x.work.stage)
   goes_on =
       let s = seat_of S node words laid sides g r x has in
       standing_goes (post_of S words r) s.0 x.work.stage (own_now s.0 s.1)
 
   -- a Touch is a writer's
-  touches_as : (p : ThePost) (y : Seat) (stage : Stage) → OwnAt S p r x y stage → TouchesAs (touch_at stage) x.standing
+  touches_as : (p : ThePost) (y : Seat) (stage : CombineStage) → OwnAt S p r x y stage → TouchesAs (combine_touch_at stage) x.standing
   touches_as p y Rest o = tt
   touches_as p y (Post made) o = tt
   touches_as p y Raise o = tt
@@ -230,13 +230,13 @@ module _ (S : CombineSite) (node : ℕ → ℕ) (words : List ℕ) (laid : IsLai
   touches_as p y (Collect made) o = tt
   touches_as p y Lower o = tt
 
-  pub touches : TouchesAs (touch_at x.work.stage) x.standing
+  pub touches : TouchesAs (combine_touch_at x.work.stage) x.standing
   touches =
       let s = seat_of S node words laid sides g r x has in
       touches_as (post_of S words r) s.0 x.work.stage (own_now s.0 s.1)
 
 -- each atom before the lock's words is told as a touch
-pub tells_at : (S : CombineSite) (r : ℕ) (x : TheCombineSide) (at : Atom) (seated : Standing) (calls : List Call) → lock_base S.site ≤ S.behind → (stage : Stage) → stage_atom S r x stage ≡ Some at → TellsTouch (lock_base S.site) at seated calls (touch_at stage)
+pub tells_at : (S : CombineSite) (r : ℕ) (x : TheCombineSide) (at : Atom) (seated : Standing) (calls : List Call) → lock_base S.site ≤ S.behind → (stage : CombineStage) → combine_stage_atom S r x stage ≡ Some at → TellsTouch (lock_base S.site) at seated calls (combine_touch_at stage)
 tells_at S r x at seated calls low stage p = by_stage stage p where
   on_load : (w : ℕ) (t : Option Bool) → (w < lock_base S.site → t ≡ Some false) → Load w ≡ at → TellsTouch (lock_base S.site) at seated calls t
   on_load w t told p = subst (λ z. TellsTouch (lock_base S.site) z seated calls t) p (λ under. inl (told under))
@@ -254,7 +254,7 @@ tells_at S r x at seated calls low stage p = by_stage stage p where
   written n (Some w) p = on_store _ _ (Some true) (λ under. refl) p
   written n None p = on_store _ _ (Some true) (λ under. refl) p
 
-  by_stage : (stage : Stage) → stage_atom S r x stage ≡ Some at → TellsTouch (lock_base S.site) at seated calls (touch_at stage)
+  by_stage : (stage : CombineStage) → combine_stage_atom S r x stage ≡ Some at → TellsTouch (lock_base S.site) at seated calls (combine_touch_at stage)
   by_stage Rest p = absurd (cc)
   by_stage (Post made) p = post_store r (1 + made) _ (same_Some _ _ p)
   by_stage Raise p = post_store r 0 1 (same_Some _ _ p)

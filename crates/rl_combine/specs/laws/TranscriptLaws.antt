@@ -13,10 +13,10 @@ use Rattle.rl_site.specs.Transcript.{TheTranscript}
 use Rattle.rl_work.specs.Work.{more_entries}
 use Rattle.rl_work.specs.WorkGood.{WorkSide as Seat, transcript_of}
 use Rattle.rl_work.specs.laws.RuleLaws.{journal_is}
-use Rattle.rl_combine.specs.declared.stage.Stage.{Stage}
-use Rattle.rl_combine.specs.declared.stage.Stage.TheVariants.{Rest, Post, Raise, Look, Count, Sweep, Copy, Read, Journal, Volume, Answer, Mark, Collect, Lower}
+use Rattle.rl_combine.specs.declared.stage.CombineStage.{CombineStage}
+use Rattle.rl_combine.specs.declared.stage.CombineStage.TheVariants.{Rest, Post, Raise, Look, Count, Sweep, Copy, Read, Journal, Volume, Answer, Mark, Collect, Lower}
 use Rattle.rl_combine.specs.Posts.{CombineSite, post_of, answered_entry}
-use Rattle.rl_combine.specs.Combine.{TheCombineSide, opened_of, is_open, is_call, early_by, early_open, early, transcript}
+use Rattle.rl_combine.specs.Combine.{TheCombineSide, opened_of, combine_is_open, is_call, early_by, early_open, early, transcript}
 use Rattle.rl_combine.specs.CombineGood.{RankSide, front_of, HasOpen, IsPosting, IsAnswered, Progress, waits, handled, counted, answered, IsPosted, OwnAt, CombineGood}
 
 -- two tests, one after the other
@@ -92,8 +92,8 @@ module _ (S : CombineSite) (words : List ℕ) (sides : List RankSide) (g : Combi
       ] refl
 
   -- so it is at each stage
-  abbrev Shown : Stage → Type 0
-  Shown st = ((early_open S words k z.work (is_open st) ≡ []) × (y.work.transcript ≡ z.work.kept)) ⊎ ((e : Entry) × (early_open S words k z.work (is_open st) ≡ e ∷ []) × (y.work.transcript ≡ more_entries z.work.kept (e ∷ [])))
+  abbrev Shown : CombineStage → Type 0
+  Shown st = ((early_open S words k z.work (combine_is_open st) ≡ []) × (y.work.transcript ≡ z.work.kept)) ⊎ ((e : Entry) × (early_open S words k z.work (combine_is_open st) ≡ e ∷ []) × (y.work.transcript ≡ more_entries z.work.kept (e ∷ [])))
 
   posting : (made : ℕ) → IsPosting S (post_of S words k) k (opened_of z.work) y made → Shown (Post 0)
   posting made p = inl (none_by p.open_call p.free.has (λ two. let low = p.flag in omega arith), p.free.has)
@@ -111,7 +111,7 @@ module _ (S : CombineSite) (words : List ℕ) (sides : List RankSide) (g : Combi
     by_case (counted c) = inr (c.entry, one_by c.entry p.open_call c.has c.same_call c.same_seq (λ read. let update = c.update in absurd (cc)), c.has)
     by_case (answered a) = done p.open_call a
 
-  by_stage : (st : Stage) → OwnAt S (post_of S words k) k z y st → Shown st
+  by_stage : (st : CombineStage) → OwnAt S (post_of S words k) k z y st → Shown st
   by_stage Rest o = inl (refl, o.2.has)
   by_stage (Post made) o = posting made o.2
   by_stage Raise o = posting 5 o.1

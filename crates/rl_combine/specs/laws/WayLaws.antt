@@ -9,7 +9,7 @@ use Rattle.rl_step.specs.Do.{do_got}
 use Rattle.rl_site.specs.Opens.{IsOpen}
 use Rattle.rl_work.specs.Ways.{WorkTable, WorkLaws, IsSide, Works, AnswersAs, look, own_look, opened_look, opened_mode}
 use Rattle.rl_combine.specs.Posts.{CombineSite}
-use Rattle.rl_combine.specs.Combine.{TheCombineSide, combine_table, combine_after, early, is_open, with_block}
+use Rattle.rl_combine.specs.Combine.{TheCombineSide, combine_table, combine_after, early, combine_is_open, combine_with_block}
 use Rattle.rl_combine.specs.CombineGood.{RankSide, CombineGood}
 use Rattle.rl_combine.specs.laws.CombineLaws.{atom_keeps}
 use Rattle.rl_combine.specs.laws.StandLaws.{begins, frame, opens, shifts, goes_on, touches, tells_at}
@@ -22,13 +22,13 @@ module _ (S : CombineSite) (node : ℕ → ℕ) where
   T = combine_table S node
 
   -- a block is a call alone
-  opens_block : (words : List ℕ) (sides : List RankSide) (r : ℕ) (x : RankSide) (calls : List Call) (seq : ℕ) → IsSide T (CombineGood S) words sides r x → x.standing ≡ Out → is_open x.work.stage ≡ false →
-      IsOpen S.site r calls seq x.work.kept → length calls ≡ 1 → CombineGood S words (slice_set sides r (record { standing = Out; work = with_block r x.work calls seq }))
+  opens_block : (words : List ℕ) (sides : List RankSide) (r : ℕ) (x : RankSide) (calls : List Call) (seq : ℕ) → IsSide T (CombineGood S) words sides r x → x.standing ≡ Out → combine_is_open x.work.stage ≡ false →
+      IsOpen S.site r calls seq x.work.kept → length calls ≡ 1 → CombineGood S words (slice_set sides r (record { standing = Out; work = combine_with_block r x.work calls seq }))
   opens_block words sides r x [] seq s out rest is one = absurd (omega arith)
   opens_block words sides r x (c ∷ []) seq s out rest is one = (opens S node words s.laid sides s.is_good r x s.there c seq out rest is).good
   opens_block words sides r x (c ∷ d ∷ calls) seq s out rest is one = absurd (omega arith)
 
-  looks_opened : (words : List ℕ) (sides : List RankSide) (r : ℕ) (x : RankSide) (calls : List Call) (seq : ℕ) → IsSide T (CombineGood S) words sides r x → x.standing ≡ Out → is_open x.work.stage ≡ false →
+  looks_opened : (words : List ℕ) (sides : List RankSide) (r : ℕ) (x : RankSide) (calls : List Call) (seq : ℕ) → IsSide T (CombineGood S) words sides r x → x.standing ≡ Out → combine_is_open x.work.stage ≡ false →
       IsOpen S.site r calls seq x.work.kept → length calls ≡ 1 →
       (look T words r (T.opens r x.work calls seq) ≡ opened_look (look T words r x.work) calls seq) × (own_look T (T.opens r x.work calls seq) ≡ opened_look (own_look T x.work) calls seq)
       × (T.is_open (T.opens r x.work calls seq) ≡ true) × (T.ended (T.opens r x.work calls seq) ≡ T.ended x.work) × (T.mode (T.opens r x.work calls seq) ≡ opened_mode (T.asks calls) (T.mode x.work))

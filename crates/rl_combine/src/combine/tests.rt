@@ -8,7 +8,7 @@ ghost use Rattle.rl_volume.specs.Words.{volume_words};
 ghost use Rattle.rl_combine.specs.Numbers as fits;
 
 use super::CombineWork;
-use crate::{CombineSide, Stage};
+use crate::{CombineSide, CombineStage};
 use rl_model::{Call, Entry, Geom, Reply};
 use rl_site::opening_word;
 use rl_volume::{Write, volume_words};
@@ -39,20 +39,20 @@ fn can_name(place: &CombineWork, rank: u32, side: &CombineSide) -> bool
     ensures { IsTrue result → fits.CanName place.now.here rank side.now side.now.stage }
 {
     match side.stage {
-        Stage::Rest | Stage::Count => true,
-        Stage::Post { made } => has_post(place, rank) && made < 5,
-        Stage::Raise | Stage::Look | Stage::Lower => has_post(place, rank),
-        Stage::Sweep { owner } | Stage::Mark { owner } => has_post(place, owner),
-        Stage::Copy { owner, made } => has_post(place, owner) && made < 5,
-        Stage::Read { word, .. } => word < 0x8000_0000,
-        Stage::Journal { made, .. } => made < 6 && side.count < 0x0fff_ffff,
-        Stage::Volume { made, .. } => {
+        CombineStage::Rest | CombineStage::Count => true,
+        CombineStage::Post { made } => has_post(place, rank) && made < 5,
+        CombineStage::Raise | CombineStage::Look | CombineStage::Lower => has_post(place, rank),
+        CombineStage::Sweep { owner } | CombineStage::Mark { owner } => has_post(place, owner),
+        CombineStage::Copy { owner, made } => has_post(place, owner) && made < 5,
+        CombineStage::Read { word, .. } => word < 0x8000_0000,
+        CombineStage::Journal { made, .. } => made < 6 && side.count < 0x0fff_ffff,
+        CombineStage::Volume { made, .. } => {
             made as usize <= side.writes.len()
                 && are_low(side.writes.as_slice())
                 && side.count < 0xffff_ffff
         }
-        Stage::Answer { owner, made } => has_post(place, owner) && made < 3,
-        Stage::Collect { made } => has_post(place, rank) && made < 3,
+        CombineStage::Answer { owner, made } => has_post(place, owner) && made < 3,
+        CombineStage::Collect { made } => has_post(place, rank) && made < 3,
     }
 }
 
@@ -70,21 +70,21 @@ fn can_turn(
     ensures { IsTrue result → fits.CanTurn place.now.here rank side.now got side.now.stage }
 {
     match side.stage {
-        Stage::Rest | Stage::Raise | Stage::Look => true,
-        Stage::Post { made } => made < 5,
-        Stage::Count => got < 0x1_0000_0000,
-        Stage::Sweep { owner } | Stage::Mark { owner } => owner < place.ranks(),
-        Stage::Copy { made, .. } => {
+        CombineStage::Rest | CombineStage::Raise | CombineStage::Look => true,
+        CombineStage::Post { made } => made < 5,
+        CombineStage::Count => got < 0x1_0000_0000,
+        CombineStage::Sweep { owner } | CombineStage::Mark { owner } => owner < place.ranks(),
+        CombineStage::Copy { made, .. } => {
             made < 5 && side.copied.len() == made as usize && got < 0x1_0000_0000
         }
-        Stage::Read { word, .. } => word < seen && side.seen.value(word).is_none(),
-        Stage::Journal { made, .. } => made < 6,
-        Stage::Volume { made, .. } => {
+        CombineStage::Read { word, .. } => word < seen && side.seen.value(word).is_none(),
+        CombineStage::Journal { made, .. } => made < 6,
+        CombineStage::Volume { made, .. } => {
             made as usize <= side.writes.len() && side.count < 0xffff_ffff
         }
-        Stage::Answer { made, .. } => made < 3,
-        Stage::Collect { made } => made < 3 && side.copied.len() == made as usize,
-        Stage::Lower => {
+        CombineStage::Answer { made, .. } => made < 3,
+        CombineStage::Collect { made } => made < 3 && side.copied.len() == made as usize,
+        CombineStage::Lower => {
             side.copied.len() == 3
                 && side.copied[0] < 0x1_0000_0000
                 && side.kept().len() < room as usize

@@ -9,7 +9,7 @@ use Rattle.rl_word.specs.declared.acts.Act.TheVariants.{Load, CardAdd}
 use Rattle.rl_word.specs.Acts.{word_of, written, told}
 use Rattle.rl_counter.specs.declared.view.Doing.{Doing}
 use Rattle.rl_counter.specs.declared.view.Doing.TheVariants.{Nothing, Arrive, Refused, SeeTail, Swap, Reset, Round, RoundTail, Inside, Depart}
-use Rattle.rl_counter.specs.Counter.{TheCounters, arrive_word, depart_word, off, counter_act, counter_turn, Turn, to}
+use Rattle.rl_counter.specs.Counter.{TheCounters, arrive_word, depart_word, off, counter_act, counter_turn, CounterTurn, to}
 use Rattle.rl_counter.specs.CounterGood.{IsReader, Mark, inside_of, refused_of, taken_of, if_one, group_sum, CounterGood, GroupGood, AreCounted}
 use Rattle.rl_counter.specs.laws.CounterMoves.{comes_in, is_refused, gives_back, takes_out, resets, goes_out, sum_set, sum_low}
 
@@ -43,13 +43,13 @@ group_same mine share ps r p q has eq =
       by false f = refl
 
 -- what a test of two numbers chooses
-pub by_less : (P : Turn → Type 0) (x y : ℕ) (u v : Turn) → (x < y → P u) → (y ≤ x → P v) → P (if nat_lt x y then u else v)
+pub by_less : (P : CounterTurn → Type 0) (x y : ℕ) (u v : CounterTurn) → (x < y → P u) → (y ≤ x → P v) → P (if nat_lt x y then u else v)
 by_less P x y u v f g = at (nat_lt x y) refl where
   at : (b : Bool) → nat_lt x y ≡ b → P (if nat_lt x y then u else v)
   at true e = subst (λ z. P (if z then u else v)) (sym e) (f (grind (arith, nat_tests)))
   at false e = subst (λ z. P (if z then u else v)) (sym e) (g (grind (arith, nat_tests)))
 
-choose_went : (P : Turn → Type 0) (b : Bool) (u v : Turn) → P u → P v → P (if b then u else v)
+choose_went : (P : CounterTurn → Type 0) (b : Bool) (u v : CounterTurn) → P u → P v → P (if b then u else v)
 choose_went P true u v a c = a
 choose_went P false u v a c = c
 

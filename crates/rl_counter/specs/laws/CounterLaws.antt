@@ -10,7 +10,7 @@ use Rattle.rl_step.specs.Lock.{IsLoad, PlansLoad, FindsOld}
 use Rattle.rl_counter.specs.declared.view.Doing.{Doing}
 use Rattle.rl_counter.specs.declared.view.Doing.TheVariants.{Nothing, Arrive, Refused, SeeTail, Swap, Round, RoundTail, Inside, Depart, Put, Count, Compare, TakeOut, TakeOff}
 use Rattle.rl_counter.specs.declared.view.Task.TheVariants.{Enter, Exit, Up as UpTask, Down as DownTask}
-use Rattle.rl_counter.specs.Counter.{TheCounters, arrive_word, depart_word, counter_act, Turn, to}
+use Rattle.rl_counter.specs.Counter.{TheCounters, arrive_word, depart_word, counter_act, CounterTurn, to}
 use Rattle.rl_counter.specs.CounterGood.{Mark, Down, Up, Loaded, Clear, Taking, inside_of, refused_of, taken_of, sum_at, if_one, group_sum, GroupGood, AllGood, mark_by}
 use Rattle.rl_counter.specs.CounterStatements.{words_after, next_of, ShareSame, IsCleared, ends_clear, Begins, IsNeverTooSmall, HasNobodyInside, LetsInUnmarked, WritersKeep, TasksKeep, OthersKeep, BeginsAtMarks, ComesInByArriving, WaitsOnLoads, TellsWhatItFinds}
 use Rattle.rl_counter.specs.laws.CounterMoves.{counter_small, below_down, sum_has}
@@ -34,7 +34,7 @@ sum_none mine share from (p ∷ ps) z h =
       by false e = refl
 
 -- what holds of both sides of a choice between turns
-turn_by : (P : Turn → Type 0) (b : Bool) (u v : Turn) → (b ≡ true → P u) → (b ≡ false → P v) → P (if b then u else v)
+turn_by : (P : CounterTurn → Type 0) (b : Bool) (u v : CounterTurn) → (b ≡ true → P u) → (b ≡ false → P v) → P (if b then u else v)
 turn_by P true u v a c = a refl
 turn_by P false u v a c = c refl
 
@@ -97,7 +97,7 @@ begins_at_marks o g =
 
 module _ (C : TheCounters) where
   -- only an arrival leads inside
-  abbrev NotIn : Turn → Type 0
+  abbrev NotIn : CounterTurn → Type 0
   NotIn u = u.doing ≡ Inside → ⊥
 
   pub comes_in_by_arriving : ComesInByArriving C
@@ -115,7 +115,7 @@ module _ (C : TheCounters) where
   comes_in_by_arriving g _ a got pl e = cc
 
   -- a wait is for a load, behind a load
-  abbrev Again : ℕ → Act → Turn → Type 0
+  abbrev Again : ℕ → Act → CounterTurn → Type 0
   Again g a u = u.waits ≡ true → IsLoad a × PlansLoad (counter_act C g u.doing)
 
   pub waits_on_loads : WaitsOnLoads C

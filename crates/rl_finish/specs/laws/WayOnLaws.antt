@@ -9,7 +9,7 @@ use Rattle.rl_ops.specs.declared.schedule.Turn.TheVariants.{Steps, Stop}
 use Rattle.rl_ops.specs.Schedule.{TurnFits, rank_of, steps_of}
 use Rattle.rl_asks.specs.ShardGuiding.{UrgentOf}
 use Rattle.rl_machine.specs.Running.{Running}
-use Rattle.rl_machine.specs.Run.{stepped, run_of, turn_ranks, ranks_of, steps_in}
+use Rattle.rl_machine.specs.Run.{stepped, run_of, turn_ranks, ranks_of_turns, steps_in}
 use Rattle.rl_machine.specs.laws.ReplayLaws.{run_append, replicate-end}
 use Rattle.rl_machine.specs.GoesNext.{GoesNext}
 use Rattle.rl_finish.specs.WayOn.{IsWayOn, HasSteps, AreWhole, HaveOneMore}
@@ -28,12 +28,12 @@ module _ (rank count : ℕ) where
   abbrev longer : Turn
   longer = Steps rank (count + 1)
 
-  grown_ranks : (ts : List Turn) (i : ℕ) → i + 1 ≡ length ts → slice_get ts i ≡ Some (Steps rank count) → ranks_of (slice_set ts i longer) ≡ ranks_of ts ++ rank ∷ []
+  grown_ranks : (ts : List Turn) (i : ℕ) → i + 1 ≡ length ts → slice_get ts i ≡ Some (Steps rank count) → ranks_of_turns (slice_set ts i longer) ≡ ranks_of_turns ts ++ rank ∷ []
   grown_ranks [] i l e = cc
   grown_ranks (t ∷ []) zero l e =
       append-nil (replicate (count + 1) rank) ∙ replicate-end count rank ∙ sym (ap (λ z. (turn_ranks z ++ []) ++ rank ∷ []) (same_Some _ _ e) ∙ ap (λ z. z ++ rank ∷ []) (append-nil (replicate count rank)))
   grown_ranks (t ∷ u ∷ ts) zero l e = absurd (omega arith)
-  grown_ranks (t ∷ ts) (suc i) l e = ap (λ z. turn_ranks t ++ z) (grown_ranks ts i (omega arith) e) ∙ sym (append_assoc (turn_ranks t) (ranks_of ts) (rank ∷ []))
+  grown_ranks (t ∷ ts) (suc i) l e = ap (λ z. turn_ranks t ++ z) (grown_ranks ts i (omega arith) e) ∙ sym (append_assoc (turn_ranks t) (ranks_of_turns ts) (rank ∷ []))
 
   grown_steps : (ts : List Turn) (i : ℕ) → slice_get ts i ≡ Some (Steps rank count) → steps_in (slice_set ts i longer) ≡ steps_in ts + 1
   grown_steps [] i e = cc
@@ -65,9 +65,9 @@ module _ (rank count : ℕ) where
 -- ---- or in a turn of its own
 
 module _ (rank : ℕ) where
-  pushed_ranks : (ts : List Turn) → ranks_of (ts ++ Steps rank 1 ∷ []) ≡ ranks_of ts ++ rank ∷ []
+  pushed_ranks : (ts : List Turn) → ranks_of_turns (ts ++ Steps rank 1 ∷ []) ≡ ranks_of_turns ts ++ rank ∷ []
   pushed_ranks [] = refl
-  pushed_ranks (t ∷ ts) = ap (λ z. turn_ranks t ++ z) (pushed_ranks ts) ∙ sym (append_assoc (turn_ranks t) (ranks_of ts) (rank ∷ []))
+  pushed_ranks (t ∷ ts) = ap (λ z. turn_ranks t ++ z) (pushed_ranks ts) ∙ sym (append_assoc (turn_ranks t) (ranks_of_turns ts) (rank ∷ []))
 
   pushed_steps : (ts : List Turn) → steps_in (ts ++ Steps rank 1 ∷ []) ≡ steps_in ts + 1
   pushed_steps [] = refl

@@ -8,7 +8,7 @@ use Rattle.rl_model.specs.declared.entry.Entry.{Entry}
 use Rattle.rl_model.specs.declared.geom.Geom.{Geom}
 use Rattle.rl_model.specs.Table.{Table}
 use Rattle.rl_journal.specs.Blocks.{AreUpdates, apply_block, size_of, is_last, half_after, calls_of, IsPart, AreParts, IsBlock}
-use Rattle.rl_journal.specs.Legal.{table_after, IsLegalBlock, AreLegalFrom, joined}
+use Rattle.rl_journal.specs.Legal.{table_after, IsLegalBlock, AreLegalFrom, blocks_joined}
 
 module _ (geom : Geom) where
   -- entries behind others
@@ -57,36 +57,36 @@ module _ (geom : Geom) where
   block_done rank batch seq at t b is = ap (λ z. z.0) (block_half rank batch seq at t b is)
 
   -- whole blocks leave nothing begun
-  pub blocks_whole : (t : Table) (n : ℕ) (bs : List (List Entry)) → AreLegalFrom geom t n bs → (half_after geom t [] (joined bs)).1 ≡ []
+  pub blocks_whole : (t : Table) (n : ℕ) (bs : List (List Entry)) → AreLegalFrom geom t n bs → (half_after geom t [] (blocks_joined bs)).1 ≡ []
   blocks_whole t n [] legal = refl
   blocks_whole t n (b ∷ bs) legal =
       let l : IsLegalBlock geom t n b = legal.0 in
       let nothing : (half_after geom t [] b).1 ≡ [] = ap (λ z. z.1) (block_half l.rank l.batch l.seq n t b l.is) in
-      ap (λ z. z.1) (half_append t [] b (joined bs)) ∙ ap (λ z. (half_after geom (table_after geom t b) z (joined bs)).1) nothing ∙ blocks_whole (table_after geom t b) (n + length b) bs legal.1
+      ap (λ z. z.1) (half_append t [] b (blocks_joined bs)) ∙ ap (λ z. (half_after geom (table_after geom t b) z (blocks_joined bs)).1) nothing ∙ blocks_whole (table_after geom t b) (n + length b) bs legal.1
 
   -- what stands behind whole blocks
-  pub table_behind : (t : Table) (n : ℕ) (bs : List (List Entry)) (es : List Entry) → AreLegalFrom geom t n bs → table_after geom t (joined bs ++ es) ≡ table_after geom (table_after geom t (joined bs)) es
+  pub table_behind : (t : Table) (n : ℕ) (bs : List (List Entry)) (es : List Entry) → AreLegalFrom geom t n bs → table_after geom t (blocks_joined bs ++ es) ≡ table_after geom (table_after geom t (blocks_joined bs)) es
   table_behind t n bs es legal =
-      ap (λ z. z.0) (half_append t [] (joined bs) es) ∙ ap (λ z. (half_after geom (table_after geom t (joined bs)) z es).0) (blocks_whole t n bs legal)
+      ap (λ z. z.0) (half_append t [] (blocks_joined bs) es) ∙ ap (λ z. (half_after geom (table_after geom t (blocks_joined bs)) z es).0) (blocks_whole t n bs legal)
 
   -- one block more
-  pub legal_more : (t : Table) (n : ℕ) (bs : List (List Entry)) (b : List Entry) → AreLegalFrom geom t n bs → IsLegalBlock geom (table_after geom t (joined bs)) (n + length (joined bs)) b →
+  pub legal_more : (t : Table) (n : ℕ) (bs : List (List Entry)) (b : List Entry) → AreLegalFrom geom t n bs → IsLegalBlock geom (table_after geom t (blocks_joined bs)) (n + length (blocks_joined bs)) b →
       AreLegalFrom geom t n (bs ++ b ∷ [])
   legal_more t n [] b legal next = (subst (λ m. IsLegalBlock geom t m b) (omega arith) next, tt)
   legal_more t n (c ∷ bs) b legal next =
       let l : IsLegalBlock geom t n c = legal.0 in
       let nothing : (half_after geom t [] c).1 ≡ [] = ap (λ z. z.1) (block_half l.rank l.batch l.seq n t c l.is) in
-      let table : table_after geom t (c ++ joined bs) ≡ table_after geom (table_after geom t c) (joined bs) =
-      ap (λ z. z.0) (half_append t [] c (joined bs)) ∙ ap (λ z. (half_after geom (table_after geom t c) z (joined bs)).0) nothing in
-      let at : n + length (c ++ joined bs) ≡ n + length c + length (joined bs) = omega (arith, length-append c (joined bs)) in
-      (l, legal_more (table_after geom t c) (n + length c) bs b legal.1 (subst (λ m. IsLegalBlock geom (table_after geom (table_after geom t c) (joined bs)) m b) at (subst (λ u. IsLegalBlock geom u (n + length (c ++ joined bs)) b) table next)))
+      let table : table_after geom t (c ++ blocks_joined bs) ≡ table_after geom (table_after geom t c) (blocks_joined bs) =
+      ap (λ z. z.0) (half_append t [] c (blocks_joined bs)) ∙ ap (λ z. (half_after geom (table_after geom t c) z (blocks_joined bs)).0) nothing in
+      let at : n + length (c ++ blocks_joined bs) ≡ n + length c + length (blocks_joined bs) = omega (arith, length-append c (blocks_joined bs)) in
+      (l, legal_more (table_after geom t c) (n + length c) bs b legal.1 (subst (λ m. IsLegalBlock geom (table_after geom (table_after geom t c) (blocks_joined bs)) m b) at (subst (λ u. IsLegalBlock geom u (n + length (c ++ blocks_joined bs)) b) table next)))
 
-pub joined_more : (bs : List (List Entry)) (b : List Entry) → joined (bs ++ b ∷ []) ≡ joined bs ++ b
+pub joined_more : (bs : List (List Entry)) (b : List Entry) → blocks_joined (bs ++ b ∷ []) ≡ blocks_joined bs ++ b
 joined_more [] b = at_end b where
   at_end : (xs : List Entry) → xs ++ [] ≡ xs
   at_end [] = refl
   at_end (x ∷ xs) = ap (λ z. x ∷ z) (at_end xs)
-joined_more (c ∷ bs) b = ap (λ z. c ++ z) (joined_more bs b) ∙ sym (append_assoc c (joined bs) b)
+joined_more (c ∷ bs) b = ap (λ z. c ++ z) (joined_more bs b) ∙ sym (append_assoc c (blocks_joined bs) b)
 
 -- the entry at a place of parts
 pub part_at : (rank batch seq at part : ℕ) (b : List Entry) (i : ℕ) (e : Entry) → AreParts rank batch seq at part b → slice_get b i ≡ Some e → IsPart rank batch (seq + i) (at + i) (part + i) e

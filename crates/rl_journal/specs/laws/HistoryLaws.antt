@@ -14,7 +14,7 @@ use Rattle.rl_model.specs.declared.geom.Geom.{Geom}
 use Rattle.rl_model.specs.Call.{is_update}
 use Rattle.rl_model.specs.Table.{Table, apply, after_get}
 use Rattle.rl_journal.specs.Blocks.{half_after}
-use Rattle.rl_journal.specs.Legal.{table_after, map_at, updates, IsLegalBlock, AreLegalFrom, joined, IsLegalRead, IsLegal}
+use Rattle.rl_journal.specs.Legal.{table_after, map_at, updates, IsLegalBlock, AreLegalFrom, blocks_joined, IsLegalRead, IsLegal}
 use Rattle.rl_journal.specs.laws.BlockLaws.{half_append, block_half, block_done, part_at, size_pos}
 use Rattle.rl_journal.specs.laws.Lists.{get_left, filter_none, all_at}
 use Rattle.rl_journal.specs.History.{looked_at, reads_at, history_from, history, IsReadAlone, IsReplayed, IsReplayedByOneThread}
@@ -111,8 +111,8 @@ module _ (geom : Geom) where
     get_behind (x ∷ xs) ys i = let e : length (x ∷ xs) + i ≡ suc (length xs + i) = omega arith in ap (slice_get (x ∷ (xs ++ ys))) e ∙ get_behind xs ys i
 
     -- from a block on
-    from_blocks : (front : List Entry) (t : Table) (bs : List (List Entry)) → front ++ joined bs ≡ journal → half_after geom finite.empty [] front ≡ (t, []) → AreLegalFrom geom t (length front) bs →
-        IsReplayedByOneThread geom t (length front) (history_from ts (length front) (joined bs))
+    from_blocks : (front : List Entry) (t : Table) (bs : List (List Entry)) → front ++ blocks_joined bs ≡ journal → half_after geom finite.empty [] front ≡ (t, []) → AreLegalFrom geom t (length front) bs →
+        IsReplayedByOneThread geom t (length front) (history_from ts (length front) (blocks_joined bs))
     from_blocks front t [] e half all =
         let n : ℕ = length front in
         let short : take n journal ≡ front = ap (take n) (sym e) ∙ take_at front [] n refl in
@@ -124,7 +124,7 @@ module _ (geom : Geom) where
         let n : ℕ = length front in
         let b : List Entry = x ∷ xs in
         let l : IsLegalBlock geom t n b = all.0 in
-        let rest : List Entry = joined bs in
+        let rest : List Entry = blocks_joined bs in
         let short : take n journal ≡ front = ap (take n) (sym e) ∙ take_at front (b ++ rest) n refl in
         let here : map_at geom journal n ≡ t = ap (table_after geom finite.empty) short ∙ ap (λ z. z.0) half in
         let long : length (front ++ b) ≡ n + length b = length-append front b in

@@ -9,7 +9,7 @@ use Rattle.rl_model.specs.declared.entry.Entry.{Entry}
 use Rattle.rl_model.specs.declared.geom.Geom.{Geom}
 use Rattle.rl_model.specs.Table.{Table, apply}
 use Rattle.rl_journal.specs.Blocks.{IsPart}
-use Rattle.rl_journal.specs.Legal.{table_after, updates, joined, IsLegalBlock, IsLegal}
+use Rattle.rl_journal.specs.Legal.{table_after, updates, blocks_joined, IsLegalBlock, IsLegal}
 use Rattle.rl_journal.specs.History.{history, IsReadAlone, IsReplayed, IsReplayedByOneThread, TellsUpdatesBefore}
 use Rattle.rl_journal.specs.laws.Lists.{get_cases}
 use Rattle.rl_journal.specs.laws.BlockLaws.{part_at}
@@ -69,17 +69,17 @@ module _ (geom : Geom) where
       ))
       (get_cases b rest i e get)
 
-  by_blocks : (t : Table) (n : ℕ) (bs : List (List Entry)) → IsReplayed geom t n bs → (i : ℕ) (e : Entry) → slice_get (joined bs) i ≡ Some e → e.at ≡ n + count_by updates (take i (joined bs))
+  by_blocks : (t : Table) (n : ℕ) (bs : List (List Entry)) → IsReplayed geom t n bs → (i : ℕ) (e : Entry) → slice_get (blocks_joined bs) i ≡ Some e → e.at ≡ n + count_by updates (take i (blocks_joined bs))
   by_blocks t n [] r i e get = absurd (cc)
   by_blocks t n (b ∷ bs) r i e get =
       ⊎_elim
-      (λ q. at_read t n b (joined bs) q.0 (by_blocks (apply geom q.0.entry.call t).0 n bs q.1) i e get)
-      (λ q. at_block t n b (joined bs) q.0 (by_blocks (table_after geom t b) (n + length b) bs q.1) i e get)
+      (λ q. at_read t n b (blocks_joined bs) q.0 (by_blocks (apply geom q.0.entry.call t).0 n bs q.1) i e get)
+      (λ q. at_block t n b (blocks_joined bs) q.0 (by_blocks (table_after geom t b) (n + length b) bs q.1) i e get)
       r
 
   -- so every place of a history is told
   pub places_told : (journal : List Entry) (ts : List (List Entry)) → IsLegal geom journal ts → TellsUpdatesBefore (history journal ts)
   places_told journal ts legal i e get =
       let r : IsReplayedByOneThread geom finite.empty 0 (history journal ts) = replayed geom journal ts legal in
-      let there : slice_get (joined r.blocks) i ≡ Some e = ap (λ z. slice_get z i) r.split ∙ get in
+      let there : slice_get (blocks_joined r.blocks) i ≡ Some e = ap (λ z. slice_get z i) r.split ∙ get in
       by_blocks finite.empty 0 r.blocks r.replayed i e there ∙ omega arith ∙ ap (λ z. count_by updates (take i z)) r.split

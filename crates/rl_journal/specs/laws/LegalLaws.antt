@@ -11,7 +11,7 @@ use Rattle.rl_model.specs.declared.entry.Entry.{Entry}
 use Rattle.rl_model.specs.declared.geom.Geom.{Geom}
 use Rattle.rl_model.specs.Table.{Table, apply}
 use Rattle.rl_journal.specs.Blocks.{apply_block, calls_of, IsPart, AreParts, IsBlock}
-use Rattle.rl_journal.specs.Legal.{table_after, map_at, updates, is_of, IsAnswered, IsLegalBlock, AreLegalFrom, joined, IsLegalJournal, Begins, IsLegalRead, IsLegal}
+use Rattle.rl_journal.specs.Legal.{table_after, map_at, updates, is_of, IsAnswered, IsLegalBlock, AreLegalFrom, blocks_joined, IsLegalJournal, Begins, IsLegalRead, IsLegal}
 use Rattle.rl_journal.specs.Ranks.{Follows, IsInOrder}
 use Rattle.rl_journal.specs.laws.Lists.{get_cases, get_more_cases, filter_all, filter_none, passed}
 use Rattle.rl_journal.specs.laws.BlockLaws.{block_done, table_behind, legal_more, joined_more, part_at}
@@ -41,14 +41,14 @@ pub record IsIn (geom : Geom) (p : ℕ) (e : Entry) : Type 0 where
   pub place : p ≡ first + behind
   pub there : slice_get block behind ≡ Some e
 
-pub block_with : (geom : Geom) (t : Table) (n : ℕ) (bs : List (List Entry)) (p : ℕ) (e : Entry) → AreLegalFrom geom t n bs → slice_get (joined bs) p ≡ Some e → IsIn geom (n + p) e
+pub block_with : (geom : Geom) (t : Table) (n : ℕ) (bs : List (List Entry)) (p : ℕ) (e : Entry) → AreLegalFrom geom t n bs → slice_get (blocks_joined bs) p ≡ Some e → IsIn geom (n + p) e
 block_with geom t n [] p e legal get = absurd (cc)
 block_with geom t n (b ∷ bs) p e legal get =
     ⊎_elim
     (λ q. record { table = t; first = n; block = b; legal = legal.0; behind = p; place = refl; there = q.1 })
     (λ q. let more : n + length b + q.0 ≡ n + p = let e = q.1 in omega arith in
     subst (λ m. IsIn geom m e) more (block_with geom (table_after geom t b) (n + length b) bs q.0 e legal.1 q.2))
-    (get_cases b (joined bs) p e get)
+    (get_cases b (blocks_joined bs) p e get)
 
 pub in_journal : (geom : Geom) (journal : List Entry) (p : ℕ) (e : Entry) → IsLegalJournal geom journal → slice_get journal p ≡ Some e → IsIn geom p e
 in_journal geom journal p e j get = subst (λ n. IsIn geom n e) (omega arith) (block_with geom finite.empty 0 j.blocks p e j.legal (subst (λ z. slice_get z p ≡ Some e) (sym j.split) get))
@@ -94,7 +94,7 @@ module _ (geom : Geom) (journal : List Entry) where
         blocks = j.blocks ++ b ∷ [];
         split = joined_more j.blocks b ∙ ap (λ z. z ++ b) j.split;
         legal = legal_more geom finite.empty 0 j.blocks b j.legal
-            (subst (λ m. IsLegalBlock geom (table_after geom finite.empty (joined j.blocks)) m b) (omega arith) (subst (λ z. IsLegalBlock geom (table_after geom finite.empty z) (length z) b) (sym j.split) next));
+            (subst (λ m. IsLegalBlock geom (table_after geom finite.empty (blocks_joined j.blocks)) m b) (omega arith) (subst (λ z. IsLegalBlock geom (table_after geom finite.empty z) (length z) b) (sym j.split) next));
       }
 
   -- the tables are those of the journal, and so is every update's place in it

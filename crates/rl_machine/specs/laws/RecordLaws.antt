@@ -10,7 +10,7 @@ use Rattle.rl_asks.specs.laws.AskLaws.{few_calls}
 use Rattle.rl_asks.specs.RankGood.{entries_in}
 use Rattle.rl_asks.specs.ShardTables.{ShardTable, kept_in as kept_from}
 use Rattle.rl_asks.specs.ShardLaws.{GoodOf, CauseOf, FurtherOf, LawsOf}
-use Rattle.rl_asks.specs.Desks.{entries_of}
+use Rattle.rl_asks.specs.Desks.{desk_entries}
 use Rattle.rl_machine.specs.declared.shard.ShardState.{ShardState}
 use Rattle.rl_machine.specs.declared.state.MachineState.{MachineState}
 use Rattle.rl_machine.specs.Running.{ShardRun, Running, shard_run, running, cores_of}
@@ -74,10 +74,10 @@ on_all_shards table m k i counted all is =
     ∙ sym (ap entries_in (all_kept table k items))
 
 -- the entries of a rank are among those of all
-pub kept_there : {V : Type 0} (T : ShardTable V) (words : List ℕ) (from r : ℕ) (vs : List V) (v : V) → slice_get vs r ≡ Some v → slice_get (kept_from T words from vs) r ≡ Some (entries_of (T.desk words (from + r) v))
+pub kept_there : {V : Type 0} (T : ShardTable V) (words : List ℕ) (from r : ℕ) (vs : List V) (v : V) → slice_get vs r ≡ Some v → slice_get (kept_from T words from vs) r ≡ Some (desk_entries (T.desk words (from + r) v))
 kept_there T words from r [] v e = absurd (cc)
-kept_there T words from zero (x ∷ vs) v e = let at : from ≡ from + 0 = omega arith in ap (λ z. Some (entries_of (T.desk words from z))) (same_Some _ _ e) ∙ ap (λ n. Some (entries_of (T.desk words n v))) at
-kept_there T words from (suc r) (x ∷ vs) v e = let at : (from + 1) + r ≡ from + suc r = omega arith in kept_there T words (from + 1) r vs v e ∙ ap (λ n. Some (entries_of (T.desk words n v))) at
+kept_there T words from zero (x ∷ vs) v e = let at : from ≡ from + 0 = omega arith in ap (λ z. Some (desk_entries (T.desk words from z))) (same_Some _ _ e) ∙ ap (λ n. Some (desk_entries (T.desk words n v))) at
+kept_there T words from (suc r) (x ∷ vs) v e = let at : (from + 1) + r ≡ from + suc r = omega arith in kept_there T words (from + 1) r vs v e ∙ ap (λ n. Some (desk_entries (T.desk words n v))) at
 
 pub kept_long : {V : Type 0} (T : ShardTable V) (words : List ℕ) (from : ℕ) (vs : List V) → length (kept_from T words from vs) ≡ length vs
 kept_long T words from [] = refl
@@ -89,5 +89,5 @@ kept_among S k low =
     let words = S.held.words in
     let view = some_at S.views k low in
     let at : 0 + k ≡ k = omega arith in
-    kept_there T words 0 k S.views view.0 view.1 ∙ ap (λ n. Some (entries_of (T.desk words n view.0))) at
-    ∙ sym (ap (λ o. Some (entries_of (desk_at T words k o))) view.1)
+    kept_there T words 0 k S.views view.0 view.1 ∙ ap (λ n. Some (desk_entries (T.desk words n view.0))) at
+    ∙ sym (ap (λ o. Some (desk_entries (desk_at T words k o))) view.1)

@@ -12,7 +12,7 @@ use Rattle.rl_ops.specs.declared.schedule.Turn.{Turn}
 use Rattle.rl_ops.specs.declared.schedule.Turn.TheVariants as turn
 use Rattle.rl_ops.specs.Schedule.{TurnFits, steps_of}
 use Rattle.rl_machine.specs.Running.{Running}
-use Rattle.rl_machine.specs.Run.{opens, opened_if, block_opened, atom_answer, stepped, run_of, turn_ranks, ranks_of, steps_in, AreThere}
+use Rattle.rl_machine.specs.Run.{opens, opened_if, block_opened, atom_answer, stepped, run_of, turn_ranks, ranks_of_turns, steps_in, AreThere}
 
 -- an answer is counted once
 pub counts_one : (a : Stepped) (s : Steps) → steps_made (counted a s) ≡ steps_made s + 1
@@ -54,12 +54,12 @@ replicate-end n k = rw add-one (more n) where
   more (suc n) = ap (λ z. k ∷ z) (more n)
 
 -- the first turns of a schedule, and the next one
-pub ranks-more : (ts : List Turn) (i : ℕ) (t : Turn) → slice_get ts i ≡ Some t → ranks_of (take (i + 1) ts) ≡ ranks_of (take i ts) ++ turn_ranks t
+pub ranks-more : (ts : List Turn) (i : ℕ) (t : Turn) → slice_get ts i ≡ Some t → ranks_of_turns (take (i + 1) ts) ≡ ranks_of_turns (take i ts) ++ turn_ranks t
 ranks-more ts i t e = rw add-one (more ts i e) where
-  more : (ts : List Turn) (i : ℕ) → slice_get ts i ≡ Some t → ranks_of (take (suc i) ts) ≡ ranks_of (take i ts) ++ turn_ranks t
+  more : (ts : List Turn) (i : ℕ) → slice_get ts i ≡ Some t → ranks_of_turns (take (suc i) ts) ≡ ranks_of_turns (take i ts) ++ turn_ranks t
   more [] i e = cc
   more (x ∷ ts) zero e = append-nil (turn_ranks x) ∙ ap turn_ranks (same_Some _ _ e)
-  more (x ∷ ts) (suc i) e = ap (λ z. turn_ranks x ++ z) (more ts i e) ∙ sym (append_assoc (turn_ranks x) (ranks_of (take i ts)) (turn_ranks t))
+  more (x ∷ ts) (suc i) e = ap (λ z. turn_ranks x ++ z) (more ts i e) ∙ sym (append_assoc (turn_ranks x) (ranks_of_turns (take i ts)) (turn_ranks t))
 
 pub steps-more : (ts : List Turn) (i : ℕ) (t : Turn) → slice_get ts i ≡ Some t → steps_in (take (i + 1) ts) ≡ steps_in (take i ts) + steps_of t
 steps-more ts i t e = rw add-one (more ts i e) where
@@ -86,6 +86,6 @@ turn_there n (turn.Steps rank count) low = all_there count where
   all_there (suc c) = (low, all_there c)
 turn_there n (turn.Stop rank) low = tt
 
-pub ranks_there : (n : ℕ) (ts : List Turn) → AllByRecursion (TurnFits n) ts → AreThere n (ranks_of ts)
+pub ranks_there : (n : ℕ) (ts : List Turn) → AllByRecursion (TurnFits n) ts → AreThere n (ranks_of_turns ts)
 ranks_there n [] all = tt
-ranks_there n (t ∷ ts) all = there_append n (turn_ranks t) (ranks_of ts) (turn_there n t all.0) (ranks_there n ts all.1)
+ranks_there n (t ∷ ts) all = there_append n (turn_ranks t) (ranks_of_turns ts) (turn_there n t all.0) (ranks_there n ts all.1)

@@ -12,7 +12,7 @@ use Rattle.rl_step.specs.QueuePromises.{CountTenures}
 use Rattle.rl_asks.specs.Asks.{asked_of}
 use Rattle.rl_asks.specs.EventRanks.{AreByRanks}
 use Rattle.rl_ops.specs.Asked.{BeginsAt}
-use Rattle.rl_asks.specs.Desks.{Desk, entries_of}
+use Rattle.rl_asks.specs.Desks.{Desk, desk_entries}
 use Rattle.rl_asks.specs.RankGood.{entries_in}
 use Rattle.rl_asks.specs.ShardTables.{ShardTable}
 use Rattle.rl_asks.specs.ShardLaws.{GoodOf, CauseOf, FurtherOf, LawsOf}
@@ -22,11 +22,11 @@ use Rattle.rl_machine.specs.Run.{desks_by, on_shard, calls_by, sizes_by, place_o
 use Rattle.rl_machine.specs.laws.BlockEnds.{rest_begins, work_begins}
 use Rattle.rl_machine.specs.MachineGood.{IsShardOf, MachineGood}
 use Rattle.rl_machine.specs.laws.MachineLaws.{found_at, laws_of, seated, block_good}
-use Rattle.rl_machine.specs.Promises.{journal_on, transcripts_on, IsShardSound, IsSound}
+use Rattle.rl_machine.specs.Promises.{shard_journal, transcripts_on, IsShardSound, IsSound}
 use Rattle.rl_machine.specs.laws.ChangeLaws.{step_comes}
 
 -- the entries of a rank's desks
-pub kept_desks : {V : Type 0} (k : ℕ) (shards : List (ShardRun V)) → map entries_of (map (desk_on k) shards) ≡ map (kept_on k) shards
+pub kept_desks : {V : Type 0} (k : ℕ) (shards : List (ShardRun V)) → map desk_entries (map (desk_on k) shards) ≡ map (kept_on k) shards
 kept_desks k [] = refl
 kept_desks k (S ∷ shards) = ap (λ z. kept_on k S ∷ z) (kept_desks k shards)
 
@@ -45,7 +45,7 @@ module _ (C V : Type 0) (table : C → ShardTable V) (good : GoodOf C V) (cause 
       let t = events_of S.trace in
       let lawful = laws_of C V table good cause further layout laws cores q.0 S.table is.table_is in
       let geom_is : S.table.site.geom ≡ m.geom = ap (λ z. z.site.geom) is.table_is ∙ is.geom_is in
-      let legal : IsLegal m.geom (journal_on S) (transcripts_on S) = subst (λ z. IsLegal z (journal_on S) (transcripts_on S)) geom_is (lawful.legal S.held S.views t q.1 is.is_good) in
+      let legal : IsLegal m.geom (shard_journal S) (transcripts_on S) = subst (λ z. IsLegal z (shard_journal S) (transcripts_on S)) geom_is (lawful.legal S.held S.views t q.1 is.is_good) in
       record {
         exclusive = lawful.exclusive S.held S.views t q.1 is.is_good;
         guarded = λ k x at view next. lawful.guards S.held S.views t q.1 k x at (seated C V table good cause further layout laws cores q.0 q.1 S k x is.is_good view) next;
@@ -58,7 +58,7 @@ module _ (C V : Type 0) (table : C → ShardTable V) (good : GoodOf C V) (cause 
           locals = λ k x at view next kind. lawful.locals S.held S.views t q.1 k x at (seated C V table good cause further layout laws cores q.0 q.1 S k x is.is_good view) next kind;
         };
         legal = legal;
-        replayed = replayed m.geom (journal_on S) (transcripts_on S) legal;
+        replayed = replayed m.geom (shard_journal S) (transcripts_on S) legal;
         sorted = lawful.sorted S.held S.views t q.1 is.is_good;
       }
 
@@ -72,7 +72,7 @@ module _ (C V : Type 0) (table : C → ShardTable V) (good : GoodOf C V) (cause 
   rank_order : (k : ℕ) → k < length m.calls → IsRankInOrder m.geom k (asked_of (calls_by m k) (sizes_by m k)) (done_of m k) (kept_by m k)
   rank_order k h =
       let r = g.ranks k h in
-      subst (λ z. IsRankInOrder m.geom k (asked_of (calls_by m k) (sizes_by m k)) (entries_in z) z) (kept_desks k m.shards) (subst (λ n. IsRankInOrder m.geom k (asked_of (calls_by m k) (sizes_by m k)) n (map entries_of (desks_by m k))) (sym r.total) r.order)
+      subst (λ z. IsRankInOrder m.geom k (asked_of (calls_by m k) (sizes_by m k)) (entries_in z) z) (kept_desks k m.shards) (subst (λ n. IsRankInOrder m.geom k (asked_of (calls_by m k) (sizes_by m k)) n (map desk_entries (desks_by m k))) (sym r.total) r.order)
 
   rank_done : (k : ℕ) → k < length m.calls → done_of m k ≤ slice_index m.opened k
   rank_done k h =

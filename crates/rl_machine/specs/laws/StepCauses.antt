@@ -14,7 +14,7 @@ use Rattle.rl_step.specs.Lock.{Deed}
 use Rattle.rl_step.specs.Do.{TheWindow}
 use Rattle.rl_asks.specs.Asks.{block_shard}
 use Rattle.rl_asks.specs.laws.AskLaws.{NextBlock, next_of_blocks, block_is, block_at}
-use Rattle.rl_asks.specs.Desks.{Desk, entries_of}
+use Rattle.rl_asks.specs.Desks.{Desk, desk_entries}
 use Rattle.rl_asks.specs.RankGood.{RankGood, entries_in}
 use Rattle.rl_asks.specs.laws.RankLaws.{all_done}
 use Rattle.rl_asks.specs.ShardTables.{ShardTable}
@@ -38,10 +38,10 @@ held_not_free n holder e = ⊎_elim (λ q. let bad : n ≡ 0 = q.1 in absurd (om
 module _ {V : Type 0} where
   -- a block that is opened leaves all entries as they are, where it does so at the rank's desk
   kept_opened : (S : ShardRun V) (k : ℕ) (block : List Call) (seq : ℕ) (o : Option V) → slice_get S.views k ≡ o →
-      ((x : V) → slice_get S.views k ≡ Some x → entries_of (S.table.desk S.held.words k (S.table.opened block seq x)) ≡ entries_of (S.table.desk S.held.words k x)) → kept_on k (opened_at S k block seq o) ≡ kept_on k S
+      ((x : V) → slice_get S.views k ≡ Some x → desk_entries (S.table.desk S.held.words k (S.table.opened block seq x)) ≡ desk_entries (S.table.desk S.held.words k x)) → kept_on k (opened_at S k block seq o) ≡ kept_on k S
   kept_opened S k block seq None e same = refl
   kept_opened S k block seq (Some x) e same =
-      ap (λ o. entries_of (desk_at S.table S.held.words k o)) (get_set_same S.views k x (S.table.opened block seq x) e) ∙ same x e ∙ sym (ap (λ o. entries_of (desk_at S.table S.held.words k o)) e)
+      ap (λ o. desk_entries (desk_at S.table S.held.words k o)) (get_set_same S.views k x (S.table.opened block seq x) e) ∙ same x e ∙ sym (ap (λ o. desk_entries (desk_at S.table S.held.words k o)) e)
 
 -- whether a call is left decides, where none is open
 opens_not : (b left : Bool) → b ≡ false → (not b && left) ≡ left
@@ -206,7 +206,7 @@ module _ (C V : Type 0) (table : C → ShardTable V) (good : GoodOf C V) (cause 
       let same : kept_on k (opened_on k block n S) ≡ kept_on k S =
       kept_opened S k block n (slice_get S.views k) refl
       (λ x e.
-      subst (λ z. entries_of (S.table.desk S.held.words k (S.table.opened block n z)) ≡ entries_of (S.table.desk S.held.words k z)) (one_at S.views k at.view x at.has_view e) (ap (λ z. z.items) opens_desk.same_kept)) in
+      subst (λ z. desk_entries (S.table.desk S.held.words k (S.table.opened block n z)) ≡ desk_entries (S.table.desk S.held.words k z)) (one_at S.views k at.view x at.has_view e) (ap (λ z. z.items) opens_desk.same_kept)) in
       ap (λ s. map (kept_on k) (changed_if m.shards (block_shard m.geom block) (opened_on k block n) s)) has ∙ map_set (kept_on k) m.shards (block_shard m.geom block) (opened_on k block n S)
       ∙ ap (slice_set (map (kept_on k) m.shards) (block_shard m.geom block)) same
       ∙ set_same_get (map (kept_on k) m.shards) (block_shard m.geom block) (kept_on k S) (get_map (kept_on k) m.shards (block_shard m.geom block) S has)

@@ -12,7 +12,7 @@ use Rattle.rl_step.specs.Lock.{LockTable, LockState, AllOut, IsHolder, Told}
 use Rattle.rl_queue.specs.declared.view.Phase.{Phase}
 use Rattle.rl_queue.specs.declared.view.Phase.TheVariants.{Idle, Clear, Reset, Swing, Link, Wait, Settle, Granted, Look, Close, Await, Hand, Above}
 use Rattle.rl_queue.specs.Lane.{Busy}
-use Rattle.rl_queue.specs.Queue.{Turn, next_word, status_word, turn_at, moves_to, moves_with, joined_at, leave_at}
+use Rattle.rl_queue.specs.Queue.{QueueTurn, queue_next_word, status_word, turn_at, moves_to, moves_with, joined_at, leave_at}
 use Rattle.rl_tree.specs.declared.view.TreeView.{TreeView}
 use Rattle.rl_tree.specs.declared.rooted.Rooted.{Rooted}
 use Rattle.rl_tree.specs.Tree.{is_none, path, works_for, at_level, hook_by, at_hook, tree_plan, walk_turn, standing_by, tree_standing}
@@ -76,7 +76,7 @@ module _ (K : Rooted) (n : ℕ) (S : IsWellShaped K n) where
   -- an act that gets the rank's member on, with the walk that follows
   turn_far : (u : TreeView) (p : Phase) (got : ℕ) → Placed u → GetsOn p got → far_of n (mcs_learn K (at_level u u.level p) got).view < far_by n false u.level p
   turn_far u p got at gets =
-      let tu : Turn = turn_at (names_in K (Q u)) (M u) p got in
+      let tu : QueueTurn = turn_at (names_in K (Q u)) (M u) p got in
       let w : Told TreeView = walk_turn (tree_of K) (at_level u u.level p) u.level (turn_at (names_in K (Q u)) (M u) p got) in
       let a : far_of n w.view ≤ cap n u.level tu.phase = walk_cap n (tree_of K) (at_level u u.level p) u.level tu.phase tu.events tu.waits at.within at.low in
       let b : far_of n (past_hook (tree_of K) (at_hook w.view) w).view ≤ far_of n w.view = hook_cap n (tree_of K) w (at_hook w.view) refl in
@@ -122,11 +122,11 @@ module _ (K : Rooted) (n : ℕ) (S : IsWellShaped K n) where
   phase_goes s m u Settle at has busy free hook = cc
   phase_goes s m u (Granted left) at has busy free hook = record { view = at_level u u.level (Granted left); has = has; way = inl tt }
   phase_goes s m u (Look left up) at has busy free hook =
-      by_act s m (at_level u u.level (Look left up)) _ has refl (turn_far u (Look left up) (slice_index s.words (next_word (names_in K (Q u)) (M u))) at tt)
+      by_act s m (at_level u u.level (Look left up)) _ has refl (turn_far u (Look left up) (slice_index s.words (queue_next_word (names_in K (Q u)) (M u))) at tt)
   phase_goes s m u (Close left) at has busy free hook =
       by_act s m (at_level u u.level (Close left)) (CardCas (Q u) (M u + 1) 0) has refl (turn_far u (Close left) (slice_index s.words (Q u)) at tt)
   phase_goes s m u (Await left) at has busy free hook =
-      by_act s m (at_level u u.level (Await left)) _ has refl (turn_far u (Await left) (slice_index s.words (next_word (names_in K (Q u)) (M u))) at free)
+      by_act s m (at_level u u.level (Await left)) _ has refl (turn_far u (Await left) (slice_index s.words (queue_next_word (names_in K (Q u)) (M u))) at free)
   phase_goes s m u (Hand succ left) at has busy free hook = by_act s m (at_level u u.level (Hand succ left)) _ has refl (turn_far u (Hand succ left) 0 at tt)
   phase_goes s m u (Above succ) at has busy free hook = cc
 

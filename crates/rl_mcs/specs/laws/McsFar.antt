@@ -9,7 +9,7 @@ use Rattle.rl_queue.specs.laws.Choices.{choose}
 use Rattle.rl_queue.specs.Queue.{full_budget, resume_at}
 use Rattle.rl_queue.specs.laws.Stuck.{Falls}
 use Rattle.rl_tree.specs.declared.view.TreeView.{TreeView}
-use Rattle.rl_tree.specs.Tree.{TheTree, is_none, path, inside_from, goes_up, gives_up, goes_down, behind_at, hook_by, at_hook, resume_by, walk}
+use Rattle.rl_tree.specs.Tree.{TheTree, is_none, path, inside_from, goes_up, gives_up, goes_down, behind_at, hook_by, at_hook, resume_by, tree_walk}
 use Rattle.rl_mcs.specs.Mcs.{past_hook}
 use Rattle.rl_mcs.specs.McsLeft.{far_by, far_of, near_by}
 
@@ -41,7 +41,7 @@ down_cap : (n w : ℕ) (v : TreeView) (es : List Event) → far_of n (goes_down 
 down_cap n zero v es = omega arith
 down_cap n (suc j) v es = let k = resumed n j (behind_at v.behind j) in omega arith
 
-pub walk_cap : (n : ℕ) (T : TheTree) (v : TreeView) (w : ℕ) (p : Phase) (es : List Event) (b : Bool) → w ≤ n → (is_none (T.parent (path T v.leaf w)) ≡ false → w < n) → far_of n (walk T v w p es b).view ≤ cap n w p
+pub walk_cap : (n : ℕ) (T : TheTree) (v : TreeView) (w : ℕ) (p : Phase) (es : List Event) (b : Bool) → w ≤ n → (is_none (T.parent (path T v.leaf w)) ≡ false → w < n) → far_of n (tree_walk T v w p es b).view ≤ cap n w p
 walk_cap n T v w Settle es b le low = up_cap n w (is_none (T.parent (path T v.leaf w))) v es low
 walk_cap n T v w (Granted left) es b le low = inside_zero n T v w left
 walk_cap n T v w (Above s) es b le low = away_cap n w (is_none (T.parent (path T v.leaf w))) v s es le low

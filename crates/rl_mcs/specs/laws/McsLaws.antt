@@ -19,7 +19,7 @@ use Rattle.rl_queue.specs.Queue.{leave_at}
 use Rattle.rl_tree.specs.declared.rooted.Rooted.{Rooted}
 use Rattle.rl_tree.specs.declared.view.TreeView.{TreeView}
 use Rattle.rl_tree.specs.Tree.{at_hook, hook_by, at_level, tree_plan, tree_learn, tree_standing, entry_if}
-use Rattle.rl_tree.specs.Elements.{how_many, ranks_in, leaf_of, of_tree, tree_of, out_at}
+use Rattle.rl_tree.specs.Elements.{how_many, ranks_in, leaf_of_rank, of_tree, tree_of, out_at}
 use Rattle.rl_tree.specs.TreeGood.{GoodAt, IsGrantedAt}
 use Rattle.rl_tree.specs.laws.TreeCalls.{granted_is}
 use Rattle.rl_tree.specs.TreeShape.{IsWellShaped}
@@ -108,9 +108,9 @@ module _ (K : Rooted) (levels : ℕ) (S : IsWellShaped K levels) (F : TreeFacts 
   begins_at =
       record {
         all_words = length-replicate (of_tree K) 0;
-        all_views = length-first_views (λ r. out_at r (leaf_of K r)) 0 (ranks_in K);
+        all_views = length-first_views (λ r. out_at r (leaf_of_rank K r)) 0 (ranks_in K);
         all_modes = length-replicate (ranks_in K) _;
-        unhooked = λ r v h. ap at_hook (first_views_at (λ r. out_at r (leaf_of K r)) 0 (ranks_in K) r v h);
+        unhooked = λ r v h. ap at_hook (first_views_at (λ r. out_at r (leaf_of_rank K r)) 0 (ranks_in K) r v h);
         inside = false;
         tree = F.begins (of_tree K) (omega arith);
       }

@@ -13,7 +13,7 @@ use Rattle.rl_step.specs.laws.QueueLemmas.{tenures-append}
 use Rattle.rl_queue.specs.declared.view.Phase.{Phase}
 use Rattle.rl_queue.specs.declared.view.Phase.TheVariants.{Settle, Granted, Hand}
 use Rattle.rl_queue.specs.declared.view.QueueView.{QueueView}
-use Rattle.rl_queue.specs.Queue.{TheNames, Turn, at_phase, plan_at, turn_at}
+use Rattle.rl_queue.specs.Queue.{TheNames, QueueTurn, at_phase, plan_at, turn_at}
 use Rattle.rl_queue.specs.QueueGood.{QueueGood}
 use Rattle.rl_queue.specs.laws.QueueLaws.{still_keeps}
 use Rattle.rl_queue.specs.laws.QueueMoves.{act_keeps, settle_keeps, beside_keeps, hand_succ}
@@ -81,7 +81,7 @@ act_keeps_at home node_of s k p a g has pl =
     let n : ℕ = length node_of in
     let N : TheNames = dmcs_names (length node_of) in
     let ok = act_fits home (length node_of) s k p a (told a (slice_index s.words (word_of a))) g has pl in
-    let tu : Turn = turn_at (dmcs_names (length node_of)) k p (told a (slice_index s.words (word_of a))) in
+    let tu : QueueTurn = turn_at (dmcs_names (length node_of)) k p (told a (slice_index s.words (word_of a))) in
     let u : Told QueueView = dmcs_learn (length node_of) k p (told a (slice_index s.words (word_of a))) in
     let ws : List ℕ = slice_set s.words (word_of a) (written a (slice_index s.words (word_of a))) in
     let ph1 : ℕ → Phase = phase_in (slice_set s.views k (at_phase k tu.phase)) in

@@ -15,7 +15,7 @@ use Rattle.rl_queue.specs.declared.view.Phase.TheVariants.{Idle, Clear, Reset, S
 use Rattle.rl_queue.specs.declared.view.QueueView.{QueueView}
 use Rattle.rl_queue.specs.laws.Choices.{choose, same_test}
 use Rattle.rl_queue.specs.Lane.{lane_of, Busy}
-use Rattle.rl_queue.specs.Queue.{TheNames, Turn, at_phase, plan_at, turn_at, next_word, status_word, moves_to, moves_with, joined_at, leave_at}
+use Rattle.rl_queue.specs.Queue.{TheNames, QueueTurn, at_phase, plan_at, turn_at, queue_next_word, status_word, moves_to, moves_with, joined_at, leave_at}
 use Rattle.rl_queue.specs.Standings.{standing_of}
 use Rattle.rl_queue.specs.laws.StandingLaws.{not_out_busy}
 use Rattle.rl_queue.specs.Dmcs.{dmcs_names, dmcs_enter, dmcs_learn, dmcs_turn, dmcs_table, phase_in, Below, Calm, DmcsGood}
@@ -75,7 +75,7 @@ module _ (home : ℕ) (node_of : List ℕ) where
   by_act : (s : LockState QueueView) (m : ℕ) (p : Phase) (a : Act) → slice_get s.views m ≡ Some (at_phase m p) → plan_at N m p ≡ Some a → GetsOn p (told a (slice_index s.words (word_of a))) → CanGoOn T dmcs_left s m
   by_act s m p a has pl gets =
       let got : ℕ = told a (slice_index s.words (word_of a)) in
-      let t : Turn = turn_at N m p (told a (slice_index s.words (word_of a))) in
+      let t : QueueTurn = turn_at N m p (told a (slice_index s.words (word_of a))) in
       let falls : far (turn_at N m p (told a (slice_index s.words (word_of a)))).phase < far p = turn_falls far far far_falls N m p (told a (slice_index s.words (word_of a))) gets in
       let enters = enter_far m t.phase t.events t.waits in
       let words : List ℕ = slice_set s.words (word_of a) (written a (slice_index s.words (word_of a))) in
@@ -111,7 +111,7 @@ module _ (home : ℕ) (node_of : List ℕ) where
       }
 
   -- who uses the queue, isn't stuck and is calm goes on
-  pub goes_by : (s : LockState QueueView) (m : ℕ) (p : Phase) → slice_get s.views m ≡ Some (at_phase m p) → Busy p → Calm p → (Stuck p (slice_index s.words (next_word N m)) (slice_index s.words (status_word N m)) → ⊥) → CanGoOn T dmcs_left s m
+  pub goes_by : (s : LockState QueueView) (m : ℕ) (p : Phase) → slice_get s.views m ≡ Some (at_phase m p) → Busy p → Calm p → (Stuck p (slice_index s.words (queue_next_word N m)) (slice_index s.words (status_word N m)) → ⊥) → CanGoOn T dmcs_left s m
   goes_by s m Idle has busy calm free = absurd busy
   goes_by s m Clear has busy calm free = by_act s m Clear _ has refl tt
   goes_by s m Reset has busy calm free = by_act s m Reset _ has refl tt
@@ -138,7 +138,7 @@ module _ (home : ℕ) (node_of : List ℕ) where
       let at : phase_in s.views m ≡ v.0.phase = phase_get s.views m v.0 v.1 in
       let has : slice_get s.views m ≡ Some (at_phase m v.0.phase) = v.1 ∙ ap (λ i. Some (at_phase i v.0.phase)) (g.named m v.0 v.1) in
       goes_by s m v.0.phase has (subst Busy at k.busy) (g.calm m v.0 v.1)
-      (λ z. k.goes (subst (λ p. Stuck p (slice_index s.words (next_word N m)) (slice_index s.words (status_word N m))) (sym at) z))
+      (λ z. k.goes (subst (λ p. Stuck p (slice_index s.words (queue_next_word N m)) (slice_index s.words (status_word N m))) (sym at) z))
 
   somebody_goes : (s : LockState QueueView) → DmcsGood (length node_of) s → AllOut T s ⊎ ((r : ℕ) × CanGoOn T dmcs_left s r)
   somebody_goes s g =

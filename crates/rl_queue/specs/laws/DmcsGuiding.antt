@@ -5,7 +5,7 @@ use Rattle.rl_word.specs.laws.Places.{some_at}
 use Rattle.rl_step.specs.Lock.{LockState, AllOut}
 use Rattle.rl_queue.specs.declared.view.QueueView.{QueueView}
 use Rattle.rl_queue.specs.Lane.{lane_of, Busy}
-use Rattle.rl_queue.specs.Queue.{at_phase, next_word, plan_at, status_word}
+use Rattle.rl_queue.specs.Queue.{at_phase, queue_next_word, plan_at, status_word}
 use Rattle.rl_queue.specs.Standings.{standing_of}
 use Rattle.rl_queue.specs.laws.StandingLaws.{not_out_busy}
 use Rattle.rl_queue.specs.Dmcs.{dmcs_names, dmcs_table, phase_in, Below, DmcsGood}
@@ -42,7 +42,7 @@ module _ (home : ℕ) (node_of : List ℕ) where
       let v = some_at s.views m there in
       let at : phase_in s.views m ≡ v.0.phase = phase_get s.views m v.0 v.1 in
       free_urgent (dmcs_names (length node_of)) s.words m v.0.phase (subst Busy at k.busy)
-      (λ z. k.goes (subst (λ p. Stuck p (slice_index s.words (next_word (dmcs_names (length node_of)) m)) (slice_index s.words (status_word (dmcs_names (length node_of)) m))) (sym at) z))
+      (λ z. k.goes (subst (λ p. Stuck p (slice_index s.words (queue_next_word (dmcs_names (length node_of)) m)) (slice_index s.words (status_word (dmcs_names (length node_of)) m))) (sym at) z))
       (subst (λ i. urgent_at v.0.phase (loaded s.words (plan_at (dmcs_names (length node_of)) i v.0.phase)) ≡ None) (g.named m v.0 v.1) (none m v.0 v.1))
 
   all_rest : (s : LockState QueueView) → DmcsGood (length node_of) s → NoneUrgent (dmcs_urgent (length node_of) s.words) s.views → AllOut (dmcs_table home node_of) s

@@ -17,7 +17,7 @@ use Rattle.rl_step.specs.laws.QueueLemmas.{tenures-append}
 use Rattle.rl_queue.specs.declared.view.Phase.{Phase}
 use Rattle.rl_queue.specs.declared.view.Phase.TheVariants.{Idle, Clear, Link, Granted, Look}
 use Rattle.rl_queue.specs.declared.view.QueueView.{QueueView}
-use Rattle.rl_queue.specs.Queue.{next_word, status_word, at_phase, plan_at, turn_at, PlanFits, PhaseFits, GotFits}
+use Rattle.rl_queue.specs.Queue.{queue_next_word, status_word, at_phase, plan_at, turn_at, PlanFits, PhaseFits, GotFits}
 use Rattle.rl_queue.specs.Lane.{Awaits, SuitsAlone, Listed, Busy, Own, IsFirst}
 use Rattle.rl_queue.specs.QueueGood.{QueueGood}
 use Rattle.rl_queue.specs.laws.QueueMoves.{join_keeps, leave_keeps, beside_keeps, one_first, queue_fifo, queue_counted}
@@ -54,7 +54,7 @@ begins_at home node_of =
           listed = λ m h. subst Listed (idle m) h;
           only = λ m h. absurd h;
           line = all_zero (1 + 2 * length node_of) 0;
-          own = λ m. subst (λ z. Own None (Below (length node_of)) z (slice_index (replicate (1 + 2 * length node_of) 0) (next_word (dmcs_names (length node_of)) m)) (slice_index (replicate (1 + 2 * length node_of) 0) (status_word (dmcs_names (length node_of)) m))) (sym (idle m)) tt;
+          own = λ m. subst (λ z. Own None (Below (length node_of)) z (slice_index (replicate (1 + 2 * length node_of) 0) (queue_next_word (dmcs_names (length node_of)) m)) (slice_index (replicate (1 + 2 * length node_of) 0) (status_word (dmcs_names (length node_of)) m))) (sym (idle m)) tt;
           inside = λ m b. absurd (subst Busy (idle m) b);
         };
         alone = λ m h. subst SuitsAlone (sym (idle m)) tt;

@@ -12,14 +12,14 @@ use Rattle.rl_step.specs.Lock.{no_local}
 use Rattle.rl_queue.specs.declared.view.Phase.{Phase}
 use Rattle.rl_queue.specs.declared.view.Phase.TheVariants.{Clear, Reset, Swing, Link, Wait, Look, Close, Await, Hand}
 use Rattle.rl_queue.specs.laws.Choices.{other_test}
-use Rattle.rl_queue.specs.Queue.{next_word, status_word, plan_at, PlanFits}
+use Rattle.rl_queue.specs.Queue.{queue_next_word, status_word, plan_at, PlanFits}
 use Rattle.rl_queue.specs.QueueGood.{IsNaming}
 use Rattle.rl_queue.specs.RankWords.{Seated}
 use Rattle.rl_queue.specs.laws.RankWordLaws.{every_second_at}
 use Rattle.rl_queue.specs.Dmcs.{dmcs_names, dmcs_spot, Below}
 
 -- where a rank's next word and status word are
-pub next_is : (n m : ℕ) → m < n → next_word (dmcs_names n) m ≡ 1 + 2 * m
+pub next_is : (n m : ℕ) → m < n → queue_next_word (dmcs_names n) m ≡ 1 + 2 * m
 next_is n m h = every_second_at 1 n m h
 
 pub status_is : (n m : ℕ) → m < n → status_word (dmcs_names n) m ≡ 2 + 2 * m

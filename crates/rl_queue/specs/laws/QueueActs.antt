@@ -9,7 +9,7 @@ use Rattle.rl_step.specs.Queues.{count}
 use Rattle.rl_queue.specs.declared.view.Phase.{Phase}
 use Rattle.rl_queue.specs.declared.view.Phase.TheVariants.{Idle, Clear, Reset, Swing, Link, Wait, Settle, Granted, Look, Close, Await, Hand, Above}
 use Rattle.rl_queue.specs.laws.Choices.{other_test}
-use Rattle.rl_queue.specs.Queue.{TheNames, next_word, status_word, full_budget, code_of, code_left, turn_at, moves_to, moves_with, joined_at, look_at, hand_turn}
+use Rattle.rl_queue.specs.Queue.{TheNames, queue_next_word, status_word, full_budget, status_code, code_left, turn_at, moves_to, moves_with, joined_at, look_at, hand_turn}
 use Rattle.rl_queue.specs.Lane.{Awaits, Lane, lane_of, Has, last_of, Listed, Busy, IsCode, Leads, Line, Own, Guessed, told_left, QueueInvariant, is_pass, served, credit, holds, rest_if, waits_in, credit_in, held_in, QueueTrace, SuitsAlone, IsAlone, LineStep, IsFirst}
 use Rattle.rl_queue.specs.laws.LineLaws.{has_last_of}
 use Rattle.rl_queue.specs.laws.TraceLaws.{trace_quiet, trace_join}
@@ -45,7 +45,7 @@ look_upper k s = rw (eqb-suc-zero s, eqb-suc-zero k) (ap (λ z. Hand z (suc k)) 
 pub await_turn : (n : TheNames) (m left s : ℕ) → turn_at n m (Await left) (suc s) ≡ moves_to (Hand s left)
 await_turn n m left s = rw (eqb-suc-zero s) (ap (λ z. moves_to (Hand z left)) (suc_less s))
 
-pub code_more : (b k : ℕ) → code_of (Some b) (suc k) ≡ suc (suc k)
+pub code_more : (b k : ℕ) → status_code (Some b) (suc k) ≡ suc (suc k)
 code_more b k = rw (eqb-suc-zero k) (omega arith)
 
 pub pass_more : (q b s k : ℕ) → hand_turn q (Some b) s (suc k) ≡ moves_with Idle (event.Pass q s)
@@ -75,8 +75,8 @@ module _ (n : TheNames) (In : ℕ → Type 0) where
 
   -- what a member knows of its words before it moves
   pub own_in : (ws : List ℕ) (ph ph' : ℕ → Phase) (l : List ℕ) (t : List Event) (e m : ℕ) (p p' : Phase) → QueueGood n In ws ph l t e → Moves ph ph' m p p' →
-      Own n.budget In p (slice_index ws (next_word n m)) (slice_index ws (status_word n m))
-  own_in ws ph ph' l t e m p p' g mv = subst (λ z. Own n.budget In z (slice_index ws (next_word n m)) (slice_index ws (status_word n m))) mv.was (g.inv.own m)
+      Own n.budget In p (slice_index ws (queue_next_word n m)) (slice_index ws (status_word n m))
+  own_in ws ph ph' l t e m p p' g mv = subst (λ z. Own n.budget In z (slice_index ws (queue_next_word n m)) (slice_index ws (status_word n m))) mv.was (g.inv.own m)
 
   -- nothing moves
   pub stays_keeps : (ws : List ℕ) (ph ph' : ℕ → Phase) (l : List ℕ) (t : List Event) (e m : ℕ) (p : Phase) → QueueGood n In ws ph l t e → Moves ph ph' m p p → QueueGood n In ws ph' l (t ++ []) e
@@ -97,13 +97,13 @@ module _ (n : TheNames) (In : ℕ → Type 0) where
 
   -- Each act below keeps the queue good. A joiner clears its next word.
   pub clear_act : (ws : List ℕ) (ph ph' : ℕ → Phase) (l : List ℕ) (t : List Event) (e m : ℕ) → IsNaming n In (length ws) → QueueGood n In ws ph l t e → Moves ph ph' m Clear Reset →
-      QueueGoes n In m Clear Reset l (slice_set ws (next_word n m) 0) ph' (t ++ []) e
+      QueueGoes n In m Clear Reset l (slice_set ws (queue_next_word n m) 0) ph' (t ++ []) e
   clear_act ws ph ph' l t e m d g mv =
       let i : In m = busy_in ws ph ph' l t e m Clear Reset g mv tt in
       let w = next_write n In ws ph ph' m 0 d i in (
         l,
-        no_event (slice_set ws (next_word n m) 0) ph' l t e
-            (outside_keeps n In ws (slice_set ws (next_word n m) 0) ph ph' l t e m Clear Reset g mv (λ h. h) (λ h. h) w.tail (λ x ne j. w.next x j ne) (λ x ne j. w.status x j) w.here (λ b. i) (λ s k. tt)),
+        no_event (slice_set ws (queue_next_word n m) 0) ph' l t e
+            (outside_keeps n In ws (slice_set ws (queue_next_word n m) 0) ph ph' l t e m Clear Reset g mv (λ h. h) (λ h. h) w.tail (λ x ne j. w.next x j ne) (λ x ne j. w.status x j) w.here (λ b. i) (λ s k. tt)),
         refl,
       )
 
@@ -113,7 +113,7 @@ module _ (n : TheNames) (In : ℕ → Type 0) where
   reset_act ws ph ph' l t e m d g mv =
       let i : In m = busy_in ws ph ph' l t e m Reset (Swing 0) g mv tt in
       let w = status_write n In ws ph ph' m 0 d i in
-      let o : slice_index ws (next_word n m) ≡ 0 = own_in ws ph ph' l t e m Reset (Swing 0) g mv in (
+      let o : slice_index ws (queue_next_word n m) ≡ 0 = own_in ws ph ph' l t e m Reset (Swing 0) g mv in (
         l,
         no_event (slice_set ws (status_word n m) 0) ph' l t e
             (outside_keeps n In ws (slice_set ws (status_word n m) 0) ph ph' l t e m Reset (Swing 0) g mv (λ h. h) (λ h. h) w.tail (λ x ne j. w.next x j) (λ x ne j. w.status x j ne)
@@ -194,29 +194,29 @@ module _ (n : TheNames) (In : ℕ → Type 0) where
 
   -- it links itself to the one before it
   pub link_act : (ws : List ℕ) (ph ph' : ℕ → Phase) (l : List ℕ) (t : List Event) (e m guess : ℕ) → IsNaming n In (length ws) → QueueGood n In ws ph l t e → Moves ph ph' m (Link guess) Wait →
-      QueueGoes n In m (Link guess) Wait l (slice_set ws (next_word n (guess - 1)) (m + 1)) ph' (t ++ []) e
+      QueueGoes n In m (Link guess) Wait l (slice_set ws (queue_next_word n (guess - 1)) (m + 1)) ph' (t ++ []) e
   link_act ws ph ph' l t e m guess d g mv =
       let k = link_guess n.budget In (lane_of n ws ph) l m guess g.inv mv.was in
       let i : In (guess - 1) = in_line n.budget In (lane_of n ws ph) l (guess - 1) g.inv k.0 in
       let w = next_write n In ws ph ph' (guess - 1) (m + 1) d i in
-      let M : Lane = lane_of n (slice_set ws (next_word n (guess - 1)) (m + 1)) ph' in (
+      let M : Lane = lane_of n (slice_set ws (queue_next_word n (guess - 1)) (m + 1)) ph' in (
         l,
-        no_event (slice_set ws (next_word n (guess - 1)) (m + 1)) ph' l t e
+        no_event (slice_set ws (queue_next_word n (guess - 1)) (m + 1)) ph' l t e
             (record {
               inv = link_moves n.budget In (lane_of n ws ph) M l m guess g.inv mv.was mv.now w.tail (λ j. w.here) (λ x j ne. w.next x j ne) (λ x j. w.status x j) mv.others;
               alone = alone_moves n In ph ph' m (Link guess) Wait mv g.alone (λ s k. k);
-              awaited = awaited_stays n In ws (slice_set ws (next_word n (guess - 1)) (m + 1)) ph ph' m (Link guess) Wait mv g.awaited w.tail (λ x. absurd x);
+              awaited = awaited_stays n In ws (slice_set ws (queue_next_word n (guess - 1)) (m + 1)) ph ph' m (Link guess) Wait mv g.awaited w.tail (λ x. absurd x);
               says = at l g.inv.line (λ x h. w.status x (in_line n.budget In (lane_of n ws ph) l x g.inv h)) g.says;
             }),
         refl,
       ) where
-        at : (k : List ℕ) → Line n.budget (lane_of n ws ph) k → ((x : ℕ) → Has x k → slice_index (slice_set ws (next_word n (guess - 1)) (m + 1)) (status_word n x) ≡ slice_index ws (status_word n x)) →
+        at : (k : List ℕ) → Line n.budget (lane_of n ws ph) k → ((x : ℕ) → Has x k → slice_index (slice_set ws (queue_next_word n (guess - 1)) (m + 1)) (status_word n x) ≡ slice_index ws (status_word n x)) →
             QueueTrace n.queue n.budget t e (waits_in (lane_of n ws ph) k) (credit_in (lane_of n ws ph) k) (held_in (lane_of n ws ph) k) →
-            QueueTrace n.queue n.budget t e (waits_in (lane_of n (slice_set ws (next_word n (guess - 1)) (m + 1)) ph') k) (credit_in (lane_of n (slice_set ws (next_word n (guess - 1)) (m + 1)) ph') k) (held_in (lane_of n (slice_set ws (next_word n (guess - 1)) (m + 1)) ph') k)
+            QueueTrace n.queue n.budget t e (waits_in (lane_of n (slice_set ws (queue_next_word n (guess - 1)) (m + 1)) ph') k) (credit_in (lane_of n (slice_set ws (queue_next_word n (guess - 1)) (m + 1)) ph') k) (held_in (lane_of n (slice_set ws (queue_next_word n (guess - 1)) (m + 1)) ph') k)
         at [] line f s = s
         at (x ∷ r) line f s =
             let ne : x ≢ m = λ q. let bad : Leads n.budget (Link guess) (slice_index ws (status_word n x)) = subst (λ z. Leads n.budget z (slice_index ws (status_word n x))) (ap ph q ∙ mv.was) line.0 in bad in
-            says_first n.queue n.budget (lane_of n (slice_set ws (next_word n (guess - 1)) (m + 1)) ph') x r t e (ph x) (slice_index ws (status_word n x)) (mv.others x ne) (f x (inl refl)) s
+            says_first n.queue n.budget (lane_of n (slice_set ws (queue_next_word n (guess - 1)) (m + 1)) ph') x r t e (ph x) (slice_index ws (status_word n x)) (mv.others x ne) (f x (inl refl)) s
 
   -- what a first member's status is where it waits
   pub first_code : (ws : List ℕ) (ph : ℕ → Phase) (l : List ℕ) (t : List Event) (e m : ℕ) → QueueGood n In ws ph l t e → ph m ≡ Wait → 0 < slice_index ws (status_word n m) → IsCode n.budget (slice_index ws (status_word n m))
@@ -251,7 +251,7 @@ module _ (n : TheNames) (In : ℕ → Type 0) where
   -- a first member that was given the queue goes on, with no event
   pub go_on : (ws : List ℕ) (ph ph' : ℕ → Phase) (l : List ℕ) (t : List Event) (e m : ℕ) (p p' : Phase) → QueueGood n In ws ph l t e → Moves ph ph' m p p' →
       IsFirst p (slice_index ws (status_word n m)) → Leads n.budget p' (slice_index ws (status_word n m)) →
-      Own n.budget In p' (slice_index ws (next_word n m)) (slice_index ws (status_word n m)) → (IsAlone In m → SuitsAlone p → SuitsAlone p') → (Awaits p' → slice_index ws n.tail ≢ m + 1) →
+      Own n.budget In p' (slice_index ws (queue_next_word n m)) (slice_index ws (status_word n m)) → (IsAlone In m → SuitsAlone p → SuitsAlone p') → (Awaits p' → slice_index ws n.tail ≢ m + 1) →
       served p (slice_index ws (status_word n m)) ≡ true → served p' (slice_index ws (status_word n m)) ≡ true → holds p (slice_index ws (status_word n m)) ≡ false → holds p' (slice_index ws (status_word n m)) ≡ false →
       credit p' (slice_index ws (status_word n m)) ≤ credit p (slice_index ws (status_word n m)) → QueueGood n In ws ph' l (t ++ []) e
   go_on ws ph ph' l t e m p p' g mv first leads own alone waits s s' h h' c =
@@ -266,7 +266,7 @@ module _ (n : TheNames) (In : ℕ → Type 0) where
       (subst (λ z. QueueTrace n.queue n.budget (t ++ []) e r (credit p' (slice_index ws (status_word n m))) (count z)) (sym h') b))
 
   -- A leaver loads its next word.
-  pub look_act : (ws : List ℕ) (ph ph' : ℕ → Phase) (l : List ℕ) (t : List Event) (e m left : ℕ) (u : Bool) (x : ℕ) → QueueGood n In ws ph l t e → slice_index ws (next_word n m) ≡ x → Moves ph ph' m (Look left u) (look_at left u x) →
+  pub look_act : (ws : List ℕ) (ph ph' : ℕ → Phase) (l : List ℕ) (t : List Event) (e m left : ℕ) (u : Bool) (x : ℕ) → QueueGood n In ws ph l t e → slice_index ws (queue_next_word n m) ≡ x → Moves ph ph' m (Look left u) (look_at left u x) →
       QueueGood n In ws ph' l (t ++ []) e
   look_act ws ph ph' l t e m left false zero g ex mv =
       let o = own_in ws ph ph' l t e m (Look left false) (Close left) g mv in
@@ -318,7 +318,7 @@ module _ (n : TheNames) (In : ℕ → Type 0) where
       go_on ws ph ph' l t e m (Close left) (Await left) g mv tt tt o (λ s k. alone s) (λ x. ne) refl refl refl refl (omega arith)
 
   -- it loads its next word until that isn't 0
-  pub await_act : (ws : List ℕ) (ph ph' : ℕ → Phase) (l : List ℕ) (t : List Event) (e m left x : ℕ) → QueueGood n In ws ph l t e → slice_index ws (next_word n m) ≡ x → Moves ph ph' m (Await left) (turn_at n m (Await left) x).phase →
+  pub await_act : (ws : List ℕ) (ph ph' : ℕ → Phase) (l : List ℕ) (t : List Event) (e m left x : ℕ) → QueueGood n In ws ph l t e → slice_index ws (queue_next_word n m) ≡ x → Moves ph ph' m (Await left) (turn_at n m (Await left) x).phase →
       QueueGood n In ws ph' l (t ++ (turn_at n m (Await left) x).events) e
   await_act ws ph ph' l t e m left zero g ex mv = stays_keeps ws ph ph' l t e m (Await left) g mv
   await_act ws ph ph' l t e m left (suc s) g ex mv0 =

@@ -9,7 +9,7 @@ use Rattle.rl_step.specs.Queues.{passed}
 use Rattle.rl_queue.specs.declared.view.Phase.{Phase}
 use Rattle.rl_queue.specs.declared.view.Phase.TheVariants.{Idle, Swing, Link, Wait, Settle, Granted, Look, Close, Await, Hand, Above}
 use Rattle.rl_queue.specs.laws.Choices.{choose, same_test}
-use Rattle.rl_queue.specs.Queue.{TheNames, status_word, code_of, code_left, Turn, moves_to, moves_with, waits_at, joined_at, look_at, hand_turn, plan_at, turn_at}
+use Rattle.rl_queue.specs.Queue.{TheNames, status_word, status_code, code_left, QueueTurn, moves_to, moves_with, waits_at, joined_at, look_at, hand_turn, plan_at, turn_at}
 use Rattle.rl_queue.specs.Lane.{lane_of, credit, LineStep}
 use Rattle.rl_queue.specs.QueueGood.{IsNaming, QueueGood, ActMoves}
 use Rattle.rl_queue.specs.laws.QueueActs.{code_more, pass_more}
@@ -33,17 +33,17 @@ look_credit left true got s =
     (choose (λ q. credit q s ≤ left) (left == 0) (Above (Some (got - 1))) (Hand (got - 1) left) (omega arith) (omega arith))
 
 -- a hand over with a pass costs that pass
-pass_cost : (q b succ left : ℕ) → passed q (hand_turn q (Some b) succ left).events + (code_of (Some b) left - 2) ≤ left
+pass_cost : (q b succ left : ℕ) → passed q (hand_turn q (Some b) succ left).events + (status_code (Some b) left - 2) ≤ left
 pass_cost q b succ zero = omega arith
 pass_cost q b succ (suc k) =
     let a : passed q (hand_turn q (Some b) succ (suc k)).events ≡ 1 = ap (λ z. passed q z.events) (pass_more q b succ k) ∙ one in
-    let c : code_of (Some b) (suc k) ≡ suc (suc k) = code_more b k in omega arith where
+    let c : status_code (Some b) (suc k) ≡ suc (suc k) = code_more b k in omega arith where
       one : passed q (event.Pass q succ ∷ []) ≡ 1
       one = rw (same_test q)
 
 module _ (n : TheNames) (In : ℕ → Type 0) where
   -- a turn that changes the head so spends no more than it had
-  abbrev TurnSpends : ℕ → Phase → ℕ → Option Head → Option Head → Turn → Type 0
+  abbrev TurnSpends : ℕ → Phase → ℕ → Option Head → Option Head → QueueTurn → Type 0
   TurnSpends m p s x y u = HeadStep n.budget m p u.phase s x y → Spends (passed n.queue u.events) x y
 
   join_spends : (m guess s : ℕ) (x y : Option Head) → TurnSpends m (Swing guess) s x y (moves_with (joined_at guess) (event.Join n.queue m))
@@ -59,9 +59,9 @@ module _ (n : TheNames) (In : ℕ → Type 0) where
   hand_spends : (m succ left s b : ℕ) (x y : Option Head) → n.budget ≡ Some b → TurnSpends m (Hand succ left) s x y (hand_turn n.queue n.budget succ left)
   hand_spends m succ left s b x y eb f =
       let a : head_credit x ≡ left = ap head_credit f.0 in
-      let c : head_credit y ≡ code_of n.budget left - 2 = ap head_credit f.1 in
-      let k : passed n.queue (hand_turn n.queue n.budget succ left).events + (code_of n.budget left - 2) ≤ left =
-      subst (λ z. passed n.queue (hand_turn n.queue z succ left).events + (code_of z left - 2) ≤ left) (sym eb) (pass_cost n.queue b succ left) in
+      let c : head_credit y ≡ status_code n.budget left - 2 = ap head_credit f.1 in
+      let k : passed n.queue (hand_turn n.queue n.budget succ left).events + (status_code n.budget left - 2) ≤ left =
+      subst (λ z. passed n.queue (hand_turn n.queue z succ left).events + (status_code z left - 2) ≤ left) (sym eb) (pass_cost n.queue b succ left) in
       omega arith
 
   -- each turn of a member; one that waits has found its status

@@ -10,7 +10,7 @@ use Rattle.rl_step.specs.Lock.{FindsOld, PlansLoad}
 use Rattle.rl_queue.specs.declared.view.Phase.{Phase}
 use Rattle.rl_queue.specs.declared.view.Phase.TheVariants.{Idle, Swing, Link, Wait, Settle, Granted, Look, Close, Await, Hand, Above}
 use Rattle.rl_queue.specs.laws.Choices.{choose}
-use Rattle.rl_queue.specs.Queue.{stage_at, full_budget, TheNames, next_word, status_word, plan_at, turn_at, moves_to, moves_with, waits_at, code_left, joined_at, hand_turn, PlanFits, PhaseFits, GotFits, MakesActs}
+use Rattle.rl_queue.specs.Queue.{stage_at, full_budget, TheNames, queue_next_word, status_word, plan_at, turn_at, moves_to, moves_with, waits_at, code_left, joined_at, hand_turn, PlanFits, PhaseFits, GotFits, MakesActs}
 use Rattle.rl_queue.specs.Lane.{Own, told_left, lane_of, Has, last_of, Listed, IsCode, QueueInvariant, SuitsAlone, IsAlone, IsFirst}
 use Rattle.rl_queue.specs.laws.LineLaws.{has_last_of, chain_next}
 use Rattle.rl_queue.specs.laws.LaneLaws.{in_line, is_first}
@@ -30,7 +30,7 @@ module _ (n : TheNames) (In : ℕ → Type 0) where
     at _ q = tt
 
   -- a first member's next word is 0 or names a member
-  next_names : (ws : List ℕ) (ph : ℕ → Phase) (l : List ℕ) (t : List Event) (e m s : ℕ) → QueueGood n In ws ph l t e → IsFirst (ph m) (slice_index ws (status_word n m)) → slice_index ws (next_word n m) ≡ s + 1 → In s
+  next_names : (ws : List ℕ) (ph : ℕ → Phase) (l : List ℕ) (t : List Event) (e m s : ℕ) → QueueGood n In ws ph l t e → IsFirst (ph m) (slice_index ws (status_word n m)) → slice_index ws (queue_next_word n m) ≡ s + 1 → In s
   next_names ws ph l t e m s g first es =
       let a = is_first n.budget In (lane_of n ws ph) l m g.inv first in
       let g1 : QueueInvariant n.budget In (lane_of n ws ph) (m ∷ a.0) = subst (λ z. QueueInvariant n.budget In (lane_of n ws ph) z) a.1 g.inv in
@@ -39,12 +39,12 @@ module _ (n : TheNames) (In : ℕ → Type 0) where
       in_line n.budget In (lane_of n ws ph) l s g.inv h
 
   -- so that word is small
-  next_small : (ws : List ℕ) (ph : ℕ → Phase) (l : List ℕ) (t : List Event) (e m size : ℕ) → QueueGood n In ws ph l t e → IsFirst (ph m) (slice_index ws (status_word n m)) → ((x : ℕ) → In x → x < size) → slice_index ws (next_word n m) < size + 1
-  next_small ws ph l t e m size g first small = at (slice_index ws (next_word n m)) refl where
-    at : (x : ℕ) → slice_index ws (next_word n m) ≡ x → slice_index ws (next_word n m) < size + 1
+  next_small : (ws : List ℕ) (ph : ℕ → Phase) (l : List ℕ) (t : List Event) (e m size : ℕ) → QueueGood n In ws ph l t e → IsFirst (ph m) (slice_index ws (status_word n m)) → ((x : ℕ) → In x → x < size) → slice_index ws (queue_next_word n m) < size + 1
+  next_small ws ph l t e m size g first small = at (slice_index ws (queue_next_word n m)) refl where
+    at : (x : ℕ) → slice_index ws (queue_next_word n m) ≡ x → slice_index ws (queue_next_word n m) < size + 1
     at zero ex = omega arith
     at (suc s) ex =
-        let es : slice_index ws (next_word n m) ≡ s + 1 = omega arith in
+        let es : slice_index ws (queue_next_word n m) ≡ s + 1 = omega arith in
         let k : s < size = small s (next_names ws ph l t e m s g first es) in omega arith
 
   -- a code is small
@@ -138,4 +138,4 @@ plans_where n m _ = (λ e a. cc, λ f. absurd (f tt))
 -- the passes that a holder has left are those that its status tells, and are within the budget
 pub holder_told : (n : TheNames) (In : ℕ → Type 0) (ws : List ℕ) (ph : ℕ → Phase) (l : List ℕ) (t : List Event) (e m left : ℕ) → QueueGood n In ws ph l t e → ph m ≡ Granted left →
     (left ≤ full_budget n.budget) × (left ≡ told_left n.budget (slice_index ws (status_word n m)))
-holder_told n In ws ph l t e m left g q = subst (λ z. Own n.budget In z (slice_index ws (next_word n m)) (slice_index ws (status_word n m))) q (g.inv.own m)
+holder_told n In ws ph l t e m left g q = subst (λ z. Own n.budget In z (slice_index ws (queue_next_word n m)) (slice_index ws (status_word n m))) q (g.inv.own m)

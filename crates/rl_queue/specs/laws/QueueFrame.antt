@@ -9,7 +9,7 @@ use Rattle.rl_step.specs.declared.events.Event.TheVariants as event
 use Rattle.rl_queue.specs.declared.view.Phase.{Phase}
 use Rattle.rl_queue.specs.declared.view.Phase.TheVariants.{Idle, Clear, Reset, Swing, Link, Wait, Settle, Granted, Look, Close, Await, Hand}
 use Rattle.rl_queue.specs.laws.Choices.{choose}
-use Rattle.rl_queue.specs.Queue.{TheNames, next_word, status_word, code_left, plan_at, turn_at, moves_to, moves_with, waits_at, joined_at, hand_turn}
+use Rattle.rl_queue.specs.Queue.{TheNames, queue_next_word, status_word, code_left, plan_at, turn_at, moves_to, moves_with, waits_at, joined_at, hand_turn}
 use Rattle.rl_queue.specs.Lane.{lane_of, Busy}
 use Rattle.rl_queue.specs.laws.LaneLaws.{in_line}
 use Rattle.rl_queue.specs.laws.LaneMoves.{link_guess}
@@ -65,7 +65,7 @@ module _ (n : TheNames) (In : ℕ → Type 0) where
   elsewhere_keeps ws ph l t e w v g out =
       still_keeps n In ws (slice_set ws w v) ph ph l t e g (λ x. refl)
       (get_or-set_other ws w n.tail v 0 (λ k. out (inl (sym k))))
-      (λ x i. get_or-set_other ws w (next_word n x) v 0 (λ k. out (inr (inl (x, (i, sym k))))))
+      (λ x i. get_or-set_other ws w (queue_next_word n x) v 0 (λ k. out (inr (inl (x, (i, sym k))))))
       (λ x i. get_or-set_other ws w (status_word n x) v 0 (λ k. out (inr (inr (x, (i, sym k))))))
 
   -- events of others leave the queue as it was

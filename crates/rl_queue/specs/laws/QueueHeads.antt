@@ -11,7 +11,7 @@ use Rattle.rl_step.specs.declared.events.Event.{Event}
 use Rattle.rl_step.specs.declared.events.Event.TheVariants as event
 use Rattle.rl_queue.specs.declared.view.Phase.{Phase}
 use Rattle.rl_queue.specs.declared.view.Phase.TheVariants.{Idle, Clear, Reset, Swing, Link, Wait, Settle, Granted, Look, Close, Await, Hand, Above}
-use Rattle.rl_queue.specs.Queue.{TheNames, next_word, status_word, code_of, code_left, plan_at, turn_at, moves_to, moves_with, joined_at, look_at}
+use Rattle.rl_queue.specs.Queue.{TheNames, queue_next_word, status_word, status_code, code_left, plan_at, turn_at, moves_to, moves_with, joined_at, look_at}
 use Rattle.rl_queue.specs.Lane.{Lane, lane_of, Has, Listed, Busy, Leads, Line, is_pass, served, LineStep, IsFirst}
 use Rattle.rl_queue.specs.laws.LaneLaws.{in_line, is_first}
 use Rattle.rl_queue.specs.laws.LaneMoves.{link_guess, hand_moves}
@@ -42,7 +42,7 @@ HeadStep B m (Close left) Idle s x y = (x ≡ head m (Close left) s) × (y ≡ N
 HeadStep B m (Close left) q s x y = (x ≡ head m (Close left) s) × (y ≡ head m q s)
 HeadStep B m (Await left) (Await k) s x y = y ≡ x
 HeadStep B m (Await left) q s x y = (x ≡ head m (Await left) s) × (y ≡ head m q s)
-HeadStep B m (Hand succ left) q s x y = (x ≡ head m (Hand succ left) s) × (y ≡ head succ Wait (code_of B left))
+HeadStep B m (Hand succ left) q s x y = (x ≡ head m (Hand succ left) s) × (y ≡ head succ Wait (status_code B left))
 HeadStep B m (Above succ) q s x y = y ≡ x
 
 -- the head of a line is its first, with the phase and status that it has
@@ -110,15 +110,15 @@ module _ (n : TheNames) (In : ℕ → Type 0) where
       subst (λ z. HeadStep n.budget m (Swing (suc j)) z (slice_index ws (status_word n m)) (head_in (lane_of n ws ph) l) (head_in (lane_of n (slice_set ws n.tail (m + 1)) ph') k)) (sym link) r
 
   hand_head : (ws : List ℕ) (ph ph' : ℕ → Phase) (l k : List ℕ) (t : List Event) (e m s left : ℕ) → IsNaming n In (length ws) → QueueGood n In ws ph l t e → Moves ph ph' m (Hand s left) Idle → LineStep m (Hand s left) Idle l k →
-      (head_in (lane_of n ws ph) l ≡ head m (Hand s left) (slice_index ws (status_word n m))) × (head_in (lane_of n (slice_set ws (status_word n s) (code_of n.budget left)) ph') k ≡ head s Wait (code_of n.budget left))
+      (head_in (lane_of n ws ph) l ≡ head m (Hand s left) (slice_index ws (status_word n m))) × (head_in (lane_of n (slice_set ws (status_word n s) (status_code n.budget left)) ph') k ≡ head s Wait (status_code n.budget left))
   hand_head ws ph ph' l k t e m s left d g mv step =
-      let M : Lane = lane_of n (slice_set ws (status_word n s) (code_of n.budget left)) ph' in
+      let M : Lane = lane_of n (slice_set ws (status_word n s) (status_code n.budget left)) ph' in
       let i : In s = hand_succ n In ws ph l t e m s left g mv.was in
-      let w = status_write n In ws ph ph' s (code_of n.budget left) d i in
+      let w = status_write n In ws ph ph' s (status_code n.budget left) d i in
       let o = own_in n In ws ph ph' l t e m (Hand s left) Idle g mv in
-      let new = hand_moves n.budget In (lane_of n ws ph) M l m s left (code_of n.budget left) g.inv mv.was (is_code n.budget left o.0) mv.now w.tail (λ j. w.here) (λ x j ne. w.status x j ne) (λ x j. w.next x j) mv.others in (
+      let new = hand_moves n.budget In (lane_of n ws ph) M l m s left (status_code n.budget left) g.inv mv.was (is_code n.budget left o.0) mv.now w.tail (λ j. w.here) (λ x j ne. w.status x j ne) (λ x j. w.next x j) mv.others in (
         ap (head_in (lane_of n ws ph)) step.1.0 ∙ head_at (lane_of n ws ph) m (s ∷ step.0) (Hand s left) _ mv.was refl,
-        ap (head_in M) step.1.1 ∙ head_at M s step.0 Wait (code_of n.budget left) new.4 new.5,
+        ap (head_in M) step.1.1 ∙ head_at M s step.0 Wait (status_code n.budget left) new.4 new.5,
       )
 
   close_head : (ws : List ℕ) (ph ph' : ℕ → Phase) (l k : List ℕ) (t : List Event) (e m left : ℕ) (b : Bool) → QueueGood n In ws ph l t e → Moves ph ph' m (Close left) (if b then moves_to Idle else moves_to (Await left)).phase →
@@ -177,8 +177,8 @@ module _ (n : TheNames) (In : ℕ → Type 0) where
   head_act ws ph ph' l k t e m Clear a d g q pl =
       let w = next_write n In ws ph ph' m 0 d (g.inv.inside m (subst Busy (sym q) tt)) in
       subst (ActHeads l k ws ph ph' m Clear) (same_Some _ _ pl)
-      (λ mv step. ap (head_in (lane_of n (slice_set ws (next_word n m) 0) ph')) step ∙
-      head_kept ws (slice_set ws (next_word n m) 0) ph ph' l t e m Clear Reset g mv (unlisted l m (λ h. subst Listed q (g.inv.only m h))) (λ x i ne. w.status x i))
+      (λ mv step. ap (head_in (lane_of n (slice_set ws (queue_next_word n m) 0) ph')) step ∙
+      head_kept ws (slice_set ws (queue_next_word n m) 0) ph ph' l t e m Clear Reset g mv (unlisted l m (λ h. subst Listed q (g.inv.only m h))) (λ x i ne. w.status x i))
   head_act ws ph ph' l k t e m Reset a d g q pl =
       let w = status_write n In ws ph ph' m 0 d (g.inv.inside m (subst Busy (sym q) tt)) in
       subst (ActHeads l k ws ph ph' m Reset) (same_Some _ _ pl)
@@ -191,8 +191,8 @@ module _ (n : TheNames) (In : ℕ → Type 0) where
       let b = link_guess n.budget In (lane_of n ws ph) l m guess g.inv q in
       let w = next_write n In ws ph ph' (guess - 1) (m + 1) d (in_line n.budget In (lane_of n ws ph) l (guess - 1) g.inv b.0) in
       subst (ActHeads l k ws ph ph' m (Link guess)) (same_Some _ _ pl)
-      (λ mv step. ap (head_in (lane_of n (slice_set ws (next_word n (guess - 1)) (m + 1)) ph')) step ∙
-      head_kept ws (slice_set ws (next_word n (guess - 1)) (m + 1)) ph ph' l t e m (Link guess) Wait g mv (link_behind ws ph l t e m guess g q) (λ x i ne. w.status x i))
+      (λ mv step. ap (head_in (lane_of n (slice_set ws (queue_next_word n (guess - 1)) (m + 1)) ph')) step ∙
+      head_kept ws (slice_set ws (queue_next_word n (guess - 1)) (m + 1)) ph ph' l t e m (Link guess) Wait g mv (link_behind ws ph l t e m guess g q) (λ x i ne. w.status x i))
   head_act ws ph ph' l k t e m Wait a d g q pl =
       subst (ActHeads l k ws ph ph' m Wait) (same_Some _ _ pl)
       (λ mv step.
@@ -202,17 +202,17 @@ module _ (n : TheNames) (In : ℕ → Type 0) where
   head_act ws ph ph' l k t e m (Look left u) a d g q pl =
       subst (ActHeads l k ws ph ph' m (Look left u)) (same_Some _ _ pl)
       (λ mv step.
-      let f = head_first ws ph ph' l t e m (Look left u) (look_at left u (slice_index ws (next_word n m))) g mv tt in
-      (f.0, ap (λ z. head_in (lane_of n z ph') k) (set-get_or ws (next_word n m) 0) ∙ ap (head_in (lane_of n ws ph')) step ∙ f.1))
+      let f = head_first ws ph ph' l t e m (Look left u) (look_at left u (slice_index ws (queue_next_word n m))) g mv tt in
+      (f.0, ap (λ z. head_in (lane_of n z ph') k) (set-get_or ws (queue_next_word n m) 0) ∙ ap (head_in (lane_of n ws ph')) step ∙ f.1))
   head_act ws ph ph' l k t e m (Close left) a d g q pl =
       subst (ActHeads l k ws ph ph' m (Close left)) (same_Some _ _ pl)
       (at_swap (HeadsBy l k ws ph ph' m (Close left)) ws n.tail_class n.tail (m + 1) 0 (λ mv step. close_head ws ph ph' l k t e m left (slice_index ws n.tail == m + 1) g mv step))
   head_act ws ph ph' l k t e m (Await left) a d g q pl =
       subst (ActHeads l k ws ph ph' m (Await left)) (same_Some _ _ pl)
       (λ mv step.
-      subst (λ z. HeadStep n.budget m (Await left) (turn_at n m (Await left) (slice_index ws (next_word n m))).phase (slice_index ws (status_word n m)) (head_in (lane_of n ws ph) l) (head_in (lane_of n z ph') k)) (sym (set-get_or ws (next_word n m) 0))
-      (subst (λ z. HeadStep n.budget m (Await left) (turn_at n m (Await left) (slice_index ws (next_word n m))).phase (slice_index ws (status_word n m)) (head_in (lane_of n ws ph) l) (head_in (lane_of n ws ph') z)) (sym step)
-      (await_head ws ph ph' l t e m left (slice_index ws (next_word n m)) g mv)))
+      subst (λ z. HeadStep n.budget m (Await left) (turn_at n m (Await left) (slice_index ws (queue_next_word n m))).phase (slice_index ws (status_word n m)) (head_in (lane_of n ws ph) l) (head_in (lane_of n z ph') k)) (sym (set-get_or ws (queue_next_word n m) 0))
+      (subst (λ z. HeadStep n.budget m (Await left) (turn_at n m (Await left) (slice_index ws (queue_next_word n m))).phase (slice_index ws (status_word n m)) (head_in (lane_of n ws ph) l) (head_in (lane_of n ws ph') z)) (sym step)
+      (await_head ws ph ph' l t e m left (slice_index ws (queue_next_word n m)) g mv)))
   head_act ws ph ph' l k t e m (Hand s left) a d g q pl =
       let idle = hand_idle n.queue n.budget s left in
       subst (ActHeads l k ws ph ph' m (Hand s left)) (same_Some _ _ pl)

@@ -9,7 +9,7 @@ use Rattle.rl_step.specs.declared.events.Event.{Event}
 use Rattle.rl_step.specs.Queues.{count}
 use Rattle.rl_queue.specs.declared.view.Phase.{Phase}
 use Rattle.rl_queue.specs.declared.view.Phase.TheVariants.{Idle, Clear, Reset, Swing, Await}
-use Rattle.rl_queue.specs.Queue.{TheNames, next_word, status_word, swap_act}
+use Rattle.rl_queue.specs.Queue.{TheNames, queue_next_word, status_word, swap_act}
 use Rattle.rl_queue.specs.Lane.{Awaits, Lane, lane_of, Has, Listed, Busy, Leads, Own, QueueInvariant, served, credit, holds, rest_if, waits_in, credit_in, held_in, QueueTrace, SuitsAlone, IsAlone, IsFirst}
 use Rattle.rl_queue.specs.laws.LaneLaws.{in_line, is_first, outside, first_moves, line_frame, own_stays}
 use Rattle.rl_queue.specs.QueueGood.{IsNaming, Moves, QueueGood}
@@ -77,17 +77,17 @@ module _ (n : TheNames) (In : ℕ → Type 0) where
   tail_write ws ph ph' v d =
       record {
         tail = get_or-set_same ws n.tail v 0 d.tail_there;
-        next = λ x i. get_or-set_other ws n.tail (next_word n x) v 0 (d.next_tail x i);
+        next = λ x i. get_or-set_other ws n.tail (queue_next_word n x) v 0 (d.next_tail x i);
         status = λ x i. get_or-set_other ws n.tail (status_word n x) v 0 (d.status_tail x i);
       }
 
-  pub next_write : (ws : List ℕ) (ph ph' : ℕ → Phase) (k v : ℕ) → IsNaming n In (length ws) → In k → NextWrite In (lane_of n ws ph) (lane_of n (slice_set ws (next_word n k) v) ph') k v
+  pub next_write : (ws : List ℕ) (ph ph' : ℕ → Phase) (k v : ℕ) → IsNaming n In (length ws) → In k → NextWrite In (lane_of n ws ph) (lane_of n (slice_set ws (queue_next_word n k) v) ph') k v
   next_write ws ph ph' k v d i =
       record {
-        tail = get_or-set_other ws (next_word n k) n.tail v 0 (λ e. d.next_tail k i (sym e));
-        here = get_or-set_same ws (next_word n k) v 0 (d.next_there k i);
-        next = λ x j ne. get_or-set_other ws (next_word n k) (next_word n x) v 0 (λ e. ne (d.next_once x k j i e));
-        status = λ x j. get_or-set_other ws (next_word n k) (status_word n x) v 0 (λ e. d.next_status k x i j (sym e));
+        tail = get_or-set_other ws (queue_next_word n k) n.tail v 0 (λ e. d.next_tail k i (sym e));
+        here = get_or-set_same ws (queue_next_word n k) v 0 (d.next_there k i);
+        next = λ x j ne. get_or-set_other ws (queue_next_word n k) (queue_next_word n x) v 0 (λ e. ne (d.next_once x k j i e));
+        status = λ x j. get_or-set_other ws (queue_next_word n k) (status_word n x) v 0 (λ e. d.next_status k x i j (sym e));
       }
 
   pub status_write : (ws : List ℕ) (ph ph' : ℕ → Phase) (k v : ℕ) → IsNaming n In (length ws) → In k → StatusWrite In (lane_of n ws ph) (lane_of n (slice_set ws (status_word n k) v) ph') k v
@@ -95,7 +95,7 @@ module _ (n : TheNames) (In : ℕ → Type 0) where
       record {
         tail = get_or-set_other ws (status_word n k) n.tail v 0 (λ e. d.status_tail k i (sym e));
         here = get_or-set_same ws (status_word n k) v 0 (d.status_there k i);
-        next = λ x j. get_or-set_other ws (status_word n k) (next_word n x) v 0 (d.next_status x k j i);
+        next = λ x j. get_or-set_other ws (status_word n k) (queue_next_word n x) v 0 (d.next_status x k j i);
         status = λ x j ne. get_or-set_other ws (status_word n k) (status_word n x) v 0 (λ e. ne (d.status_once x k j i e));
       }
 
@@ -123,7 +123,7 @@ module _ (n : TheNames) (In : ℕ → Type 0) where
 
   -- a queue stays good where none of its words and phases changes
   pub still_keeps : (ws us : List ℕ) (ph ph' : ℕ → Phase) (l : List ℕ) (t : List Event) (e : ℕ) → QueueGood n In ws ph l t e → ((x : ℕ) → ph' x ≡ ph x) → slice_index us n.tail ≡ slice_index ws n.tail →
-      ((x : ℕ) → In x → slice_index us (next_word n x) ≡ slice_index ws (next_word n x)) → ((x : ℕ) → In x → slice_index us (status_word n x) ≡ slice_index ws (status_word n x)) → QueueGood n In us ph' l t e
+      ((x : ℕ) → In x → slice_index us (queue_next_word n x) ≡ slice_index ws (queue_next_word n x)) → ((x : ℕ) → In x → slice_index us (status_word n x) ≡ slice_index ws (status_word n x)) → QueueGood n In us ph' l t e
   still_keeps ws us ph ph' l t e g same tl nx st =
       let ins : (x : ℕ) → Has x l → In x = λ x h. in_line n.budget In (lane_of n ws ph) l x g.inv h in
       record {
@@ -133,7 +133,7 @@ module _ (n : TheNames) (In : ℕ → Type 0) where
           only = λ x h. subst Listed (sym (same x)) (g.inv.only x h);
           line = line_frame n.budget In (lane_of n ws ph) (lane_of n us ph') l tl (λ x h. (nx x (ins x h), st x (ins x h), same x)) g.inv.line;
           own = λ x.
-              subst (λ z. Own n.budget In z (slice_index us (next_word n x)) (slice_index us (status_word n x))) (sym (same x))
+              subst (λ z. Own n.budget In z (slice_index us (queue_next_word n x)) (slice_index us (status_word n x))) (sym (same x))
               (own_stays n.budget In (ph x) _ _ _ _ (g.inv.own x) (λ b. nx x (g.inv.inside x b)) (λ b. st x (g.inv.inside x b)));
           inside = λ x b. g.inv.inside x (subst Busy (same x) b);
         };
@@ -145,8 +145,8 @@ module _ (n : TheNames) (In : ℕ → Type 0) where
   -- a member outside the line moves, and stays outside
   pub outside_keeps : (ws us : List ℕ) (ph ph' : ℕ → Phase) (l : List ℕ) (t : List Event) (e m : ℕ) (p p' : Phase) → QueueGood n In ws ph l t e → Moves ph ph' m p p' → (Listed p → ⊥) → (Listed p' → ⊥) →
       slice_index us n.tail ≡ slice_index ws n.tail →
-      ((x : ℕ) → x ≢ m → In x → slice_index us (next_word n x) ≡ slice_index ws (next_word n x)) → ((x : ℕ) → x ≢ m → In x → slice_index us (status_word n x) ≡ slice_index ws (status_word n x)) →
-      Own n.budget In p' (slice_index us (next_word n m)) (slice_index us (status_word n m)) → (Busy p' → In m) → (IsAlone In m → SuitsAlone p → SuitsAlone p') → QueueGood n In us ph' l t e
+      ((x : ℕ) → x ≢ m → In x → slice_index us (queue_next_word n x) ≡ slice_index ws (queue_next_word n x)) → ((x : ℕ) → x ≢ m → In x → slice_index us (status_word n x) ≡ slice_index ws (status_word n x)) →
+      Own n.budget In p' (slice_index us (queue_next_word n m)) (slice_index us (status_word n m)) → (Busy p' → In m) → (IsAlone In m → SuitsAlone p → SuitsAlone p') → QueueGood n In us ph' l t e
   outside_keeps ws us ph ph' l t e m p p' g mv was now tl nx st own ins alone =
       let L : Lane = lane_of n ws ph in
       let M : Lane = lane_of n us ph' in
@@ -154,7 +154,7 @@ module _ (n : TheNames) (In : ℕ → Type 0) where
       record {
         inv = outside n.budget In L M l m g.inv out (λ h. now (subst Listed mv.now h)) tl
             (λ x ne. record { phase = mv.others x ne; next = nx x ne; status = st x ne })
-            (subst (λ z. Own n.budget In z (slice_index us (next_word n m)) (slice_index us (status_word n m))) (sym mv.now) own)
+            (subst (λ z. Own n.budget In z (slice_index us (queue_next_word n m)) (slice_index us (status_word n m))) (sym mv.now) own)
             (λ b. ins (subst Busy mv.now b));
         alone = alone_moves ph ph' m p p' mv g.alone alone;
         awaited = awaited_stays ws us ph ph' m p p' mv g.awaited tl (λ a. absurd (now (awaits_listed p' a)));
@@ -167,7 +167,7 @@ module _ (n : TheNames) (In : ℕ → Type 0) where
   -- the head moves and stays the head, and no word changes
   pub first_keeps : (ws : List ℕ) (ph ph' : ℕ → Phase) (l : List ℕ) (t t' : List Event) (e e' m : ℕ) (p p' : Phase) → QueueGood n In ws ph l t e → Moves ph ph' m p p' →
       IsFirst p (slice_index ws (status_word n m)) → Leads n.budget p' (slice_index ws (status_word n m)) →
-      Own n.budget In p' (slice_index ws (next_word n m)) (slice_index ws (status_word n m)) → (IsAlone In m → SuitsAlone p → SuitsAlone p') → (Awaits p' → slice_index ws n.tail ≢ m + 1) →
+      Own n.budget In p' (slice_index ws (queue_next_word n m)) (slice_index ws (status_word n m)) → (IsAlone In m → SuitsAlone p → SuitsAlone p') → (Awaits p' → slice_index ws n.tail ≢ m + 1) →
       ((r : List ℕ) →
       QueueTrace n.queue n.budget t e (rest_if (served p (slice_index ws (status_word n m))) m r) (credit p (slice_index ws (status_word n m))) (count (holds p (slice_index ws (status_word n m)))) →
       QueueTrace n.queue n.budget t' e' (rest_if (served p' (slice_index ws (status_word n m))) m r) (credit p' (slice_index ws (status_word n m))) (count (holds p' (slice_index ws (status_word n m))))) →
@@ -186,7 +186,7 @@ module _ (n : TheNames) (In : ℕ → Type 0) where
         inv = first_moves n.budget In L M m a.0 g1 refl refl refl
             (λ x ne. record { phase = mv.others x ne; next = λ i. refl; status = λ i. refl })
             (subst (λ z. Leads n.budget z (slice_index ws (status_word n m))) (sym mv.now) leads)
-            (subst (λ z. Own n.budget In z (slice_index ws (next_word n m)) (slice_index ws (status_word n m))) (sym mv.now) own);
+            (subst (λ z. Own n.budget In z (slice_index ws (queue_next_word n m)) (slice_index ws (status_word n m))) (sym mv.now) own);
         alone = alone_moves ph ph' m p p' mv g.alone alone;
         awaited = awaited_stays ws ws ph ph' m p p' mv g.awaited refl waits;
         says = says_first n.queue n.budget M m a.0 t' e' p' _ mv.now refl (says a.0 (first_says n.queue n.budget L m a.0 t e p _ mv.was refl s1));

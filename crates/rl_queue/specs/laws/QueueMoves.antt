@@ -15,7 +15,7 @@ use Rattle.rl_step.specs.laws.QueueLemmas.{is_within}
 use Rattle.rl_step.specs.Lock.{FindsOld}
 use Rattle.rl_queue.specs.declared.view.Phase.{Phase}
 use Rattle.rl_queue.specs.declared.view.Phase.TheVariants.{Idle, Clear, Reset, Swing, Link, Wait, Settle, Granted, Look, Close, Await, Hand, Above}
-use Rattle.rl_queue.specs.Queue.{TheNames, next_word, status_word, full_budget, code_of, swap_act, plan_at, turn_at, moves_to, moves_with, joined_at, hand_turn, resume_at, settled_at}
+use Rattle.rl_queue.specs.Queue.{TheNames, queue_next_word, status_word, full_budget, status_code, swap_act, plan_at, turn_at, moves_to, moves_with, joined_at, hand_turn, resume_at, settled_at}
 use Rattle.rl_queue.specs.Lane.{Lane, lane_of, Has, Listed, IsCode, Own, QueueInvariant, is_pass, rest_if, waits_in, credit_in, held_in, QueueTrace, IsFirst}
 use Rattle.rl_queue.specs.laws.LineLaws.{chain_next}
 use Rattle.rl_queue.specs.QueuesApart.{Apart}
@@ -33,18 +33,18 @@ hand_idle q (Some b) s zero = refl
 hand_idle q (Some b) s (suc k) = ap (λ z. z.phase) (pass_more q b s k)
 
 -- what is handed on is a code
-pub is_code : (B : Option ℕ) (left : ℕ) → left ≤ full_budget B → IsCode B (code_of B left)
+pub is_code : (B : Option ℕ) (left : ℕ) → left ≤ full_budget B → IsCode B (status_code B left)
 is_code None left h = refl
 is_code (Some b) zero h = (omega arith, omega arith)
 is_code (Some b) (suc k) h = let c : IsCode (Some b) (suc (suc k)) = (omega arith, omega arith) in subst (IsCode (Some b)) (sym (code_more b k)) c
 
 -- what the trace says once the queue was handed to s: passed to it, or left to it to settle
 pub hand_says : (q : ℕ) (B : Option ℕ) (t : List Event) (e s : ℕ) (r : List ℕ) (left : ℕ) → QueueTrace q B t e (s ∷ r) left 0 →
-    QueueTrace q B (t ++ (hand_turn q B s left).events) e (rest_if (is_pass (code_of B left)) s r) (code_of B left - 2) (count (is_pass (code_of B left)))
+    QueueTrace q B (t ++ (hand_turn q B s left).events) e (rest_if (is_pass (status_code B left)) s r) (status_code B left - 2) (count (is_pass (status_code B left)))
 hand_says q None t e s r left k = trace_pass q None t e left 0 r s k (λ b eb. cc)
 hand_says q (Some b) t e s r zero k = trace_quiet q (Some b) t e 0 0 0 (s ∷ r) k (omega arith)
 hand_says q (Some b) t e s r (suc j) k =
-    subst (λ z. QueueTrace q (Some b) (t ++ z.events) e (rest_if (is_pass (code_of (Some b) (suc j))) s r) (code_of (Some b) (suc j) - 2) (count (is_pass (code_of (Some b) (suc j))))) (sym (pass_more q b s j))
+    subst (λ z. QueueTrace q (Some b) (t ++ z.events) e (rest_if (is_pass (status_code (Some b) (suc j))) s r) (status_code (Some b) (suc j) - 2) (count (is_pass (status_code (Some b) (suc j))))) (sym (pass_more q b s j))
     (subst (λ z. QueueTrace q (Some b) (t ++ event.Pass q s ∷ []) e (rest_if (is_pass z) s r) (z - 2) (count (is_pass z))) (sym (code_more b j))
     (trace_pass q (Some b) t e (suc j) (suc (suc j) - 2) r s k (λ d ed. omega arith)))
 
@@ -70,21 +70,21 @@ module _ (n : TheNames) (In : ℕ → Type 0) where
       let L : Lane = lane_of n ws ph in
       let a = is_first n.budget In (lane_of n ws ph) l m g.inv (subst (λ z. IsFirst z (slice_index ws (status_word n m))) (sym eh) tt) in
       let g1 : QueueInvariant n.budget In (lane_of n ws ph) (m ∷ a.0) = subst (λ z. QueueInvariant n.budget In (lane_of n ws ph) z) a.1 g.inv in
-      let o : Own n.budget In (Hand s left) (slice_index ws (next_word n m)) (slice_index ws (status_word n m)) = subst (λ z. Own n.budget In z (slice_index ws (next_word n m)) (slice_index ws (status_word n m))) eh (g.inv.own m) in
+      let o : Own n.budget In (Hand s left) (slice_index ws (queue_next_word n m)) (slice_index ws (status_word n m)) = subst (λ z. Own n.budget In z (slice_index ws (queue_next_word n m)) (slice_index ws (status_word n m))) eh (g.inv.own m) in
       let c = chain_next (lane_of n ws ph) m s a.0 g1.line.1 o.1 in
       let h : Has s l = subst (λ z. Has s z) (sym (a.1 ∙ ap (λ z. m ∷ z) c.1)) (inr (inl refl)) in
       in_line n.budget In (lane_of n ws ph) l s g.inv h
 
   -- a leaver hands the queue to its successor
   pub hand_act : (ws : List ℕ) (ph ph' : ℕ → Phase) (l : List ℕ) (t : List Event) (e m s left : ℕ) → IsNaming n In (length ws) → QueueGood n In ws ph l t e → Moves ph ph' m (Hand s left) (hand_turn n.queue n.budget s left).phase →
-      QueueGoes n In m (Hand s left) (hand_turn n.queue n.budget s left).phase l (slice_set ws (status_word n s) (code_of n.budget left)) ph' (t ++ (hand_turn n.queue n.budget s left).events) e
+      QueueGoes n In m (Hand s left) (hand_turn n.queue n.budget s left).phase l (slice_set ws (status_word n s) (status_code n.budget left)) ph' (t ++ (hand_turn n.queue n.budget s left).events) e
   hand_act ws ph ph' l t e m s left d g mv0 =
       let mv : Moves ph ph' m (Hand s left) Idle = record { was = mv0.was; now = mv0.now ∙ hand_idle n.queue n.budget s left; others = mv0.others } in
       let i : In s = hand_succ ws ph l t e m s left g mv.was in
-      let w = status_write n In ws ph ph' s (code_of n.budget left) d i in
-      let M : Lane = lane_of n (slice_set ws (status_word n s) (code_of n.budget left)) ph' in
+      let w = status_write n In ws ph ph' s (status_code n.budget left) d i in
+      let M : Lane = lane_of n (slice_set ws (status_word n s) (status_code n.budget left)) ph' in
       let o = own_in n In ws ph ph' l t e m (Hand s left) Idle g mv in
-      let new = hand_moves n.budget In (lane_of n ws ph) M l m s left (code_of n.budget left) g.inv mv.was (is_code n.budget left o.0) mv.now w.tail (λ j. w.here) (λ x j ne. w.status x j ne) (λ x j. w.next x j) mv.others in
+      let new = hand_moves n.budget In (lane_of n ws ph) M l m s left (status_code n.budget left) g.inv mv.was (is_code n.budget left o.0) mv.now w.tail (λ j. w.here) (λ x j ne. w.status x j ne) (λ x j. w.next x j) mv.others in
       let old : QueueTrace n.queue n.budget t e (waits_in (lane_of n ws ph) (m ∷ s ∷ new.0)) (credit_in (lane_of n ws ph) (m ∷ s ∷ new.0)) (held_in (lane_of n ws ph) (m ∷ s ∷ new.0)) =
       subst (λ z. QueueTrace n.queue n.budget t e (waits_in (lane_of n ws ph) z) (credit_in (lane_of n ws ph) z) (held_in (lane_of n ws ph) z)) new.1 g.says in
       let at_hand : QueueTrace n.queue n.budget t e (s ∷ new.0) left 0 = first_says n.queue n.budget (lane_of n ws ph) m (s ∷ new.0) t e (Hand s left) _ mv.was refl old in (
@@ -92,8 +92,8 @@ module _ (n : TheNames) (In : ℕ → Type 0) where
         record {
           inv = new.6;
           alone = alone_moves n In ph ph' m (Hand s left) Idle mv g.alone (λ a k. tt);
-          awaited = awaited_stays n In ws (slice_set ws (status_word n s) (code_of n.budget left)) ph ph' m (Hand s left) Idle mv g.awaited w.tail (λ x. absurd x);
-          says = says_first n.queue n.budget M s new.0 (t ++ (hand_turn n.queue n.budget s left).events) e Wait (code_of n.budget left) new.4 new.5 (hand_says n.queue n.budget t e s new.0 left at_hand);
+          awaited = awaited_stays n In ws (slice_set ws (status_word n s) (status_code n.budget left)) ph ph' m (Hand s left) Idle mv g.awaited w.tail (λ x. absurd x);
+          says = says_first n.queue n.budget M s new.0 (t ++ (hand_turn n.queue n.budget s left).events) e Wait (status_code n.budget left) new.4 new.5 (hand_says n.queue n.budget t e s new.0 left at_hand);
         },
         (new.0, (new.1, refl)),
       )
@@ -134,14 +134,14 @@ module _ (n : TheNames) (In : ℕ → Type 0) where
       (λ mv. (l, subst (λ z. QueueGood n In z ph' l (t ++ (turn_at n m Wait (slice_index ws (status_word n m))).events) e) (sym (set-get_or ws (status_word n m) 0)) (wait_act n In ws ph ph' l t e m (slice_index ws (status_word n m)) g refl mv), refl))
   act_keeps ws ph ph' l t e m (Look left u) a d g pl =
       subst (λ b. (ActMoves n In) ws ph ph' m (Look left u) b → ActGoes n In l ws ph' t e m (Look left u) b) (same_Some _ _ pl)
-      (λ mv. (l, subst (λ z. QueueGood n In z ph' l (t ++ []) e) (sym (set-get_or ws (next_word n m) 0)) (look_act n In ws ph ph' l t e m left u (slice_index ws (next_word n m)) g refl mv), refl))
+      (λ mv. (l, subst (λ z. QueueGood n In z ph' l (t ++ []) e) (sym (set-get_or ws (queue_next_word n m) 0)) (look_act n In ws ph ph' l t e m left u (slice_index ws (queue_next_word n m)) g refl mv), refl))
   act_keeps ws ph ph' l t e m (Close left) a d g pl =
       subst (λ b. (ActMoves n In) ws ph ph' m (Close left) b → ActGoes n In l ws ph' t e m (Close left) b) (same_Some _ _ pl)
       (at_swap (λ w v k. Moves ph ph' m (Close left) (turn_at n m (Close left) k).phase → QueueGoes n In m (Close left) (turn_at n m (Close left) k).phase l (slice_set ws w v) ph' (t ++ (turn_at n m (Close left) k).events) e) ws n.tail_class n.tail (m + 1) 0
       (λ mv. close_by ws ph ph' l t e m left (slice_index ws n.tail == m + 1) d g (eqb_tells (slice_index ws n.tail) (m + 1)) mv))
   act_keeps ws ph ph' l t e m (Await left) a d g pl =
       subst (λ b. (ActMoves n In) ws ph ph' m (Await left) b → ActGoes n In l ws ph' t e m (Await left) b) (same_Some _ _ pl)
-      (λ mv. (l, subst (λ z. QueueGood n In z ph' l (t ++ (turn_at n m (Await left) (slice_index ws (next_word n m))).events) e) (sym (set-get_or ws (next_word n m) 0)) (await_act n In ws ph ph' l t e m left (slice_index ws (next_word n m)) g refl mv), refl))
+      (λ mv. (l, subst (λ z. QueueGood n In z ph' l (t ++ (turn_at n m (Await left) (slice_index ws (queue_next_word n m))).events) e) (sym (set-get_or ws (queue_next_word n m) 0)) (await_act n In ws ph ph' l t e m left (slice_index ws (queue_next_word n m)) g refl mv), refl))
   act_keeps ws ph ph' l t e m (Hand s left) a d g pl =
       subst (λ b. (ActMoves n In) ws ph ph' m (Hand s left) b → ActGoes n In l ws ph' t e m (Hand s left) b) (same_Some _ _ pl) (λ mv. hand_act ws ph ph' l t e m s left d g mv)
   act_keeps ws ph ph' l t e m _ a d g pl = cc
@@ -178,7 +178,7 @@ module _ (n : TheNames) (In : ℕ → Type 0) where
       subst (λ z. QueueGood n In ws ph' l z e) (append-nil t)
       (go_on n In ws ph ph' l t e m (Above None) (Close 0) g mv tt tt (omega arith) (λ a k. tt) (λ x. absurd x) refl refl refl refl (omega arith))
   resume_keeps ws ph ph' l t e m (Some s) g mv =
-      let o : slice_index ws (next_word n m) ≡ s + 1 = own_in n In ws ph ph' l t e m (Above (Some s)) (Hand s 0) g mv in
+      let o : slice_index ws (queue_next_word n m) ≡ s + 1 = own_in n In ws ph ph' l t e m (Above (Some s)) (Hand s 0) g mv in
       subst (λ z. QueueGood n In ws ph' l z e) (append-nil t)
       (go_on n In ws ph ph' l t e m (Above (Some s)) (Hand s 0) g mv tt tt (omega arith, o) (λ a k. tt) (λ x. absurd x) refl refl refl refl (omega arith))
 

@@ -11,7 +11,7 @@ use Rattle.rl_step.specs.Lock.{LockTable, LockState, LockLaws, MayStep, Deed}
 use Rattle.rl_queue.specs.declared.view.Phase.{Phase}
 use Rattle.rl_queue.specs.declared.view.Phase.TheVariants.{Idle, Wait, Await}
 use Rattle.rl_queue.specs.Lane.{Busy}
-use Rattle.rl_queue.specs.Queue.{TheNames, next_word, status_word, plan_at}
+use Rattle.rl_queue.specs.Queue.{TheNames, queue_next_word, status_word, plan_at}
 use Rattle.rl_queue.specs.laws.Stuck.{Stuck}
 use Rattle.rl_queue.specs.Urgency.{loaded, urgent_at}
 
@@ -40,16 +40,16 @@ module _ (N : TheNames) (ws : List ℕ) (m : ℕ) where
   urgent_busy Idle n e = cc
   urgent_busy _ n e = tt
 
-  pub urgent_free : (p : Phase) (n : ℕ) → urgent_at p (loaded ws (plan_at N m p)) ≡ Some n → Stuck p (slice_index ws (next_word N m)) (slice_index ws (status_word N m)) → ⊥
+  pub urgent_free : (p : Phase) (n : ℕ) → urgent_at p (loaded ws (plan_at N m p)) ≡ Some n → Stuck p (slice_index ws (queue_next_word N m)) (slice_index ws (status_word N m)) → ⊥
   urgent_free Wait n e k = waits_none (slice_index ws (status_word N m)) n e k
-  urgent_free (Await left) n e k = waits_none (slice_index ws (next_word N m)) n e k
+  urgent_free (Await left) n e k = waits_none (slice_index ws (queue_next_word N m)) n e k
   urgent_free _ n e k = k
 
   -- and who uses it and isn't stuck is urgent
-  pub free_urgent : (p : Phase) → Busy p → (Stuck p (slice_index ws (next_word N m)) (slice_index ws (status_word N m)) → ⊥) → urgent_at p (loaded ws (plan_at N m p)) ≡ None → ⊥
+  pub free_urgent : (p : Phase) → Busy p → (Stuck p (slice_index ws (queue_next_word N m)) (slice_index ws (status_word N m)) → ⊥) → urgent_at p (loaded ws (plan_at N m p)) ≡ None → ⊥
   free_urgent Idle busy free e = absurd busy
   free_urgent Wait busy free e = waits_some (slice_index ws (status_word N m)) free e
-  free_urgent (Await left) busy free e = waits_some (slice_index ws (next_word N m)) free e
+  free_urgent (Await left) busy free e = waits_some (slice_index ws (queue_next_word N m)) free e
   free_urgent _ busy free e = cc
 
 -- a load of the first n words finds the same there

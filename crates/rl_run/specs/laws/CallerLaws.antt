@@ -10,7 +10,7 @@ use Rattle.rl_asks.specs.ShardLaws.{GoodOf, CauseOf, FurtherOf, LawsOf}
 use Rattle.rl_site.specs.Opens.{IsOpen}
 use Rattle.rl_journal.specs.Ranks.{IsRankInOrder}
 use Rattle.rl_asks.specs.Asks.{asked_of}
-use Rattle.rl_asks.specs.Desks.{IsDesk, entries_of}
+use Rattle.rl_asks.specs.Desks.{IsDesk, desk_entries}
 use Rattle.rl_asks.specs.RankGood.{entries_in}
 use Rattle.rl_asks.specs.Asks.{block_from, block_shard}
 use Rattle.rl_shard.specs.declared.shard.Shard.{Shard}
@@ -34,7 +34,7 @@ module _ {C V : Type 0} (table : C → ShardTable V) (good : GoodOf C V) (cause 
   closed_by w t is e = e
 
   -- the entries of the seats are those of the rank's desks
-  entries_are : (ws : List (Shard C V)) (ts : List (Seat C V)) → map entries_of (desks_of (site_at table) (batches_at table) (desk_at table) rank_at (IsOf table good layout) (IsClosed table) ws ts) ≡ entries_on table ws ts
+  entries_are : (ws : List (Shard C V)) (ts : List (Seat C V)) → map desk_entries (desks_of (site_at table) (batches_at table) (desk_at table) rank_at (IsOf table good layout) (IsClosed table) ws ts) ≡ entries_on table ws ts
   entries_are [] ts = refl
   entries_are (w ∷ ws) [] = refl
   entries_are (w ∷ ws) (t ∷ ts) = ap (λ z. entries_at table w t ∷ z) (entries_are ws ts)

@@ -11,7 +11,7 @@ use Rattle.rl_site.specs.Site.{Site}
 use Rattle.rl_site.specs.Opens.{IsOpen}
 use Rattle.rl_asks.specs.Asks.{is_on, place_after, asked_of, block_from, block_shard}
 use Rattle.rl_asks.specs.laws.AskLaws.{NextBlock, next_of_blocks, size_is, block_is, inside, block_at, stands_at, is_begun}
-use Rattle.rl_asks.specs.Desks.{Desk, IsDesk, OpensBlock, Turns, entries_of}
+use Rattle.rl_asks.specs.Desks.{Desk, IsDesk, OpensBlock, Turns, desk_entries}
 use Rattle.rl_asks.specs.RankGood.{RankGood, entries_in}
 use Rattle.rl_asks.specs.laws.RankLaws.{rank_begins, closed_all, all_done, block_fits, rank_opens, rank_turns}
 use Rattle.rl_run.specs.laws.RowLaws.{row_after}
@@ -66,7 +66,7 @@ module _ {W T : Type 0} (site : W → Site) (batches : W → Bool) (desk : W →
           record {
             shut = ap (λ (z : Desk). z.is_open) (sym q.is) ∙ shut q.w q.t is f.closed;
             owing = subst (λ (z : Desk). z.owes ≡ true → z.is_open ≡ true) q.is (fine q.w q.t is).owing;
-            nothing = ap entries_of (sym q.is) ∙ f.nothing;
+            nothing = ap desk_entries (sym q.is) ∙ f.nothing;
             room = subst (λ (z : Desk). count_by (is_on geom s) calls ≤ z.kept.room) q.is f.room;
           });
     }
@@ -119,10 +119,10 @@ module _ {W T : Type 0} (site : W → Site) (batches : W → Bool) (desk : W →
           all_done geom calls sizes rank n (desks ws seats) c.good (shut_here closed) (desk w.0 t.0) (ap (slice_get (desks ws seats)) (sym c.at_is) ∙ desk_there ws seats at w.0 t.0 w.1 t.1)
 
       -- all calls were opened, and no block is open: the rank is in order with all its calls
-      pub caller_ends : AllClosedAt site batches desk rank_of Is Closed ws seats → n ≡ length calls → IsRankInOrder geom rank (asked_of calls sizes) (length calls) (map entries_of (desks ws seats))
-      caller_ends closed e = subst (λ k. IsRankInOrder geom rank (asked_of calls sizes) k (map entries_of (desks ws seats))) (done_all closed ∙ e) c.good.order
+      pub caller_ends : AllClosedAt site batches desk rank_of Is Closed ws seats → n ≡ length calls → IsRankInOrder geom rank (asked_of calls sizes) (length calls) (map desk_entries (desks ws seats))
+      caller_ends closed e = subst (λ k. IsRankInOrder geom rank (asked_of calls sizes) k (map desk_entries (desks ws seats))) (done_all closed ∙ e) c.good.order
 
-      pub caller_told : AllClosedAt site batches desk rank_of Is Closed ws seats → n ≡ length calls → entries_in (map entries_of (desks ws seats)) ≡ length calls
+      pub caller_told : AllClosedAt site batches desk rank_of Is Closed ws seats → n ≡ length calls → entries_in (map desk_entries (desks ws seats)) ≡ length calls
       caller_told closed e = c.good.total ∙ done_all closed ∙ e
 
       -- a step that found no block open leaves the seats as they are

@@ -21,7 +21,7 @@ use Rattle.rl_ops.specs.Asked.{asked_of}
 use Rattle.rl_asks.specs.RankGood.{entries_in}
 use Rattle.rl_history.specs.Naming.{naming_of}
 use Rattle.rl_history.specs.Reports.{EntryFits, ReplyFits}
-use Rattle.rl_history.specs.Lawful.{journal_in, transcripts_in}
+use Rattle.rl_history.specs.Lawful.{journal_among, transcripts_in}
 use Rattle.rl_run.specs.Told.{ToldShard, told_of}
 use Rattle.rl_run.specs.laws.ToldLaws.{no_such, kept_there, one_of_all, AskedFits, asked_fit, at_most_all, count_all, few_entries, is_beyond, ranks_there, transcripts_are}
 
@@ -75,7 +75,7 @@ module _ (place : ThePlace) (ops : Ops) (fit : OpsFit (length place.paths) place
   pub rank_of_it : (k : ℕ) (t : List Entry) → slice_get e.transcripts k ≡ Some t → filter (is_of k) entries ≡ t
   rank_of_it k t get = rank_is place.geom e.journal e.transcripts c.legal c.own k t get
 
-  pub same_journal : journal_in entries ≡ e.journal
+  pub same_journal : journal_among entries ≡ e.journal
   same_journal = updates_are place.geom e.journal e.transcripts c.legal
 
   pub same_transcripts : transcripts_in entries 0 (length place.paths) ≡ e.transcripts

@@ -21,7 +21,7 @@ use Rattle.rl_ops.specs.Ops.{OpsFit, total_calls}
 use Rattle.rl_ops.specs.Asked.{asked_of}
 use Rattle.rl_history.specs.Naming.{naming_of}
 use Rattle.rl_history.specs.Reports.{TheShard, EntryFits, TallyFits, ShardFits, ShardsFit, DoneFits}
-use Rattle.rl_history.specs.Lawful.{journal_in, transcript_in, transcripts_in, IsLawfulShard, IsLawful}
+use Rattle.rl_history.specs.Lawful.{journal_among, transcript_in, transcripts_in, IsLawfulShard, IsLawful}
 use Rattle.rl_history.proofs.QueueLaws.{queues_long}
 use Rattle.rl_run.specs.laws.EntriesFit.{HasTranscripts, HasDone, same_journal, same_transcripts, rank_of_it, as_many, few_here, few_updates, entry_fits}
 use Rattle.rl_run.specs.laws.RowLaws.{same_maps}
@@ -48,7 +48,7 @@ module _ (place : ThePlace) (ops : Ops) (proper : IsProper place) (fit : OpsFit 
     has_transcripts : HasTranscripts place e
     has_transcripts = record { ranks = c.ranks; legal = c.legal; own = c.own }
 
-    journal_same : journal_in entries ≡ e.journal
+    journal_same : journal_among entries ≡ e.journal
     journal_same = same_journal place ops fit es calls_of all_done s e has has_transcripts
 
     transcripts_same : transcripts_in entries 0 (length place.paths) ≡ e.transcripts

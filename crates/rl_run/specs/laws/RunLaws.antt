@@ -17,7 +17,7 @@ use Rattle.rl_journal.specs.laws.Lists.{all_at, get_more_cases}
 use Rattle.rl_ops.specs.Room.{calls_on, updates_on}
 use Rattle.rl_asks.specs.Asks.{is_on, AreBlocks}
 use Rattle.rl_site.specs.Site.{Site}
-use Rattle.rl_asks.specs.Desks.{entries_of}
+use Rattle.rl_asks.specs.Desks.{desk_entries}
 use Rattle.rl_shard.specs.declared.shard.Shard.{Shard}
 use Rattle.rl_shard.specs.declared.seat.Seat.{Seat}
 use Rattle.rl_shard.specs.declared.counting.CountedView.{CountedView}
@@ -73,7 +73,7 @@ module _ {C V : Type 0} (D : TheShape → ℕ → Knobs → Site → ShardTable 
           rank = (are r t get).0;
           is = (are r t get).1;
           closed = closed r t get;
-          nothing = ap (λ z. entries_of (L.own z)) view ∙ (first_desk (slice_index (map (calls_on geom s) calls) r) (0 + r)).nothing;
+          nothing = ap (λ z. desk_entries (L.own z)) view ∙ (first_desk (slice_index (map (calls_on geom s) calls) r) (0 + r)).nothing;
           room = ap (λ z. (L.own z).kept.room) view ∙ (first_desk (slice_index (map (calls_on geom s) calls) r) (0 + r)).room_is ∙ index_of_map (calls_on geom s) calls r [] low ∙ ap (λ n. calls_on geom n (get_or calls r [])) (sym number_is);
         }
 

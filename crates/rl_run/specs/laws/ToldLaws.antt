@@ -13,7 +13,7 @@ use Rattle.rl_model.specs.declared.call.Call.{Call}
 use Rattle.rl_model.specs.declared.entry.Entry.{Entry}
 use Rattle.rl_model.specs.Asked.{Asked}
 use Rattle.rl_model.proofs.Counts.{count-cons}
-use Rattle.rl_journal.specs.Blocks.{batch_of}
+use Rattle.rl_journal.specs.Blocks.{batch_number}
 use Rattle.rl_journal.specs.Legal.{is_of}
 use Rattle.rl_journal.specs.History.{Each, AreOwn}
 use Rattle.rl_journal.specs.Ranks.{count_in}
@@ -22,7 +22,7 @@ use Rattle.rl_ops.specs.Blocks.{AreOneBlock, sizes_of}
 use Rattle.rl_ops.specs.Ops.{AreBlocks}
 use Rattle.rl_ops.specs.Asked.{asked_after, asked_of}
 use Rattle.rl_asks.specs.RankGood.{entries_in}
-use Rattle.rl_history.specs.Reports.{PartFits, EachAfter, PairFits, key_of}
+use Rattle.rl_history.specs.Reports.{PartFits, EachAfter, PairFits, pair_key}
 use Rattle.rl_history.specs.Lawful.{transcripts_in}
 
 -- ---- lists
@@ -78,13 +78,13 @@ module _ (shards : ℕ) where
   block_fit : (batch part : ℕ) (block calls : List Call) (sizes : List ℕ) → AreOneBlock shards block → ((b p : ℕ) → AllByRecursion (AskedFits shards) (asked_after b p calls sizes)) →
       AllByRecursion (AskedFits shards) (asked_after batch part (block ++ calls) (sizes_of block ++ sizes))
   block_fit batch part [] calls sizes is on = absurd (let some : 1 ≤ 0 = is.asked.some in omega arith)
-  block_fit batch part (c ∷ []) calls sizes is on = (record { call = is.fit.0; part = inl (refl, refl) }, on (batch_of 1) 1)
+  block_fit batch part (c ∷ []) calls sizes is on = (record { call = is.fit.0; part = inl (refl, refl) }, on (batch_number 1) 1)
   block_fit batch part (c ∷ d ∷ cs) calls sizes is on =
       let many : (suc (suc (length cs)) == 1) ≡ false = grind (arith, nat_tests) in
-      let same : batch_of (suc (suc (length cs))) ≡ suc (suc (length cs)) = ap (λ b. if b then 0 else suc (suc (length cs))) many in
+      let same : batch_number (suc (suc (length cs))) ≡ suc (suc (length cs)) = ap (λ b. if b then 0 else suc (suc (length cs))) many in
       let few : suc (suc (length cs)) ≤ 8 = is.asked.few in (
         record { call = is.fit.0; part = inr (omega arith, omega arith, omega arith) },
-        later_fit (batch_of (suc (suc (length cs)))) 1 (d ∷ cs) calls sizes is.fit.1 (omega arith) (λ some. omega arith) (omega arith) on,
+        later_fit (batch_number (suc (suc (length cs)))) 1 (d ∷ cs) calls sizes is.fit.1 (omega arith) (λ some. omega arith) (omega arith) on,
       )
 
   blocks_fit : (batch part : ℕ) (blocks : List (List Call)) → AllByRecursion (AreOneBlock shards) blocks →
@@ -173,14 +173,14 @@ true_of false t = absurd t
 abbrev FitPair : ℕ × ℕ → Type 0
 FitPair p = (p.0 < 2 ^ 64) × (p.1 < 2 ^ 64)
 
-pairs_after : (last : ℕ) (ps : List (ℕ × ℕ)) → below_all nat_cmp last ps ≡ true → is_sorted nat_cmp ps ≡ true → AllByRecursion FitPair ps → EachAfter PairFits key_of (Some last) ps
+pairs_after : (last : ℕ) (ps : List (ℕ × ℕ)) → below_all nat_cmp last ps ≡ true → is_sorted nat_cmp ps ≡ true → AllByRecursion FitPair ps → EachAfter PairFits pair_key (Some last) ps
 pairs_after last [] low sorted fit = tt
 pairs_after last (p ∷ ps) low sorted fit = (
   (less_is last p.0 (left_true (is_lt (nat_cmp last p.0)) (below_all nat_cmp last ps) low), fit.0.0, fit.0.1),
   pairs_after p.0 ps (left_true (below_all nat_cmp p.0 ps) (is_sorted nat_cmp ps) sorted) (right_true (below_all nat_cmp p.0 ps) (is_sorted nat_cmp ps) sorted) fit.1,
 )
 
-pub pairs_fit : (ps : List (ℕ × ℕ)) → T (is_sorted nat_cmp ps) → AllByRecursion (λ p. (p.0 < 2 ^ 64) × (p.1 < 2 ^ 64)) ps → EachAfter PairFits key_of None ps
+pub pairs_fit : (ps : List (ℕ × ℕ)) → T (is_sorted nat_cmp ps) → AllByRecursion (λ p. (p.0 < 2 ^ 64) × (p.1 < 2 ^ 64)) ps → EachAfter PairFits pair_key None ps
 pairs_fit [] sorted fit = tt
 pairs_fit (p ∷ ps) sorted fit =
     let s = true_of (below_all nat_cmp p.0 ps && is_sorted nat_cmp ps) sorted in (

@@ -22,7 +22,7 @@ use Rattle.rl_counter.specs.CounterStatements.{ShareSame}
 use Rattle.rl_counter.specs.Counter.{off}
 use Rattle.rl_counter.specs.laws.CounterFrame.{other_counter}
 use Rattle.rl_rw.specs.declared.view.RwView.{RwView}
-use Rattle.rl_rw.specs.Rw.{Shared, groups, of_tree, counters_of, rw_view, hooks, from_tree, rw_table, mine_of}
+use Rattle.rl_rw.specs.Rw.{Shared, groups, behind_tree, counters_of, rw_view, hooks, from_tree, rw_table, mine_of}
 use Rattle.rl_rw.specs.RwGood.{trees, doings, Lonely, RwGood}
 use Rattle.rl_rw.specs.laws.RwRows.{hook_place, out_plans_not, hooked_same, hooked_at, stays}
 use Rattle.rl_rw.specs.laws.RwWords.{IsSound, tree_word_apart, batches_keep}
@@ -41,7 +41,7 @@ module _ (K : Shared) (levels : ℕ) (F : TreeFacts K.rooted levels) (d : IsSoun
       ⊎_elim (λ out. let no : None ≡ Some a = sym (out_plans_not (tree_of K.rooted) t out) ∙ pl in cc) (λ w. w) (g.moded r (rw_view t c Nothing) m has e)
 
   -- an act of the tree that stays away from the hook
-  tree_away : (s : LockState RwView) (r : ℕ) (t : TreeView) (c : ℕ) (a : Act) (n : Bool) (g : RwGood K levels s) → slice_get s.views r ≡ Some (rw_view t c Nothing) → tree_plan (tree_of K.rooted) t ≡ Some a → word_of a < of_tree K →
+  tree_away : (s : LockState RwView) (r : ℕ) (t : TreeView) (c : ℕ) (a : Act) (n : Bool) (g : RwGood K levels s) → slice_get s.views r ≡ Some (rw_view t c Nothing) → tree_plan (tree_of K.rooted) t ≡ Some a → word_of a < behind_tree K →
       n ≡ g.inside → at_hook (learnt_in K.rooted s.words t a).view ≡ false → Good n (there s.words a) (slice_set (trees s.views) r (learnt_in K.rooted s.words t a).view) (s.trace ++ (learnt_in K.rooted s.words t a).events) →
       AllBatched K (after s r a (from_tree (rw_view t c Nothing) false (learnt_in K.rooted s.words t a))) → RwGood K levels (after s r a (from_tree (rw_view t c Nothing) false (learnt_in K.rooted s.words t a)))
   tree_away s r t c a n g has pl low same off good bs =
@@ -62,7 +62,7 @@ module _ (K : Shared) (levels : ℕ) (F : TreeFacts K.rooted levels) (d : IsSoun
         AllCountersAt i m = GroupGood (counters_of K) (mine_of K i) i s.words (doings s.views) m
 
   -- one that comes to the hook: the rank begins at the marks
-  tree_hooks : (s : LockState RwView) (r : ℕ) (t : TreeView) (c : ℕ) (a : Act) (n : Bool) (g : RwGood K levels s) → slice_get s.views r ≡ Some (rw_view t c Nothing) → tree_plan (tree_of K.rooted) t ≡ Some a → word_of a < of_tree K →
+  tree_hooks : (s : LockState RwView) (r : ℕ) (t : TreeView) (c : ℕ) (a : Act) (n : Bool) (g : RwGood K levels s) → slice_get s.views r ≡ Some (rw_view t c Nothing) → tree_plan (tree_of K.rooted) t ≡ Some a → word_of a < behind_tree K →
       GateMoves true (learnt_in K.rooted s.words t a).view.phase g.inside n → at_hook (learnt_in K.rooted s.words t a).view ≡ true → Good n (there s.words a) (slice_set (trees s.views) r (learnt_in K.rooted s.words t a).view) (s.trace ++ (learnt_in K.rooted s.words t a).events) →
       AllBatched K (after s r a (from_tree (rw_view t c Nothing) true (learnt_in K.rooted s.words t a))) → RwGood K levels (after s r a (from_tree (rw_view t c Nothing) true (learnt_in K.rooted s.words t a)))
   tree_hooks s r t c a n g has pl low moves hook good bs =
@@ -70,7 +70,7 @@ module _ (K : Shared) (levels : ℕ) (F : TreeFacts K.rooted levels) (d : IsSoun
       let x : TreeView = (learnt_in K.rooted s.words t a).view in
       let q : Doing = hooks x.phase in
       let w : RwView = rw_view x c (hooks x.phase) in
-      let long : of_tree K ≤ length (there s.words a) = let e = length-set s.words (word_of a) (written a (found s a)) in let f = tree_long K levels F d s g in omega arith in
+      let long : behind_tree K ≤ length (there s.words a) = let e = length-set s.words (word_of a) (written a (found s a)) in let f = tree_long K levels F d s g in omega arith in
       let away = away_then K levels F d s r v n (there s.words a) x (s.trace ++ (learnt_in K.rooted s.words t a).events) g has long good hook in
       let row = hook_place (groups K) x (some_group K levels F d s r v g has) hook in
       let free : g.hook ≡ Nothing = ⊎_elim (λ e. e)
@@ -90,7 +90,7 @@ module _ (K : Shared) (levels : ℕ) (F : TreeFacts K.rooted levels) (d : IsSoun
   tree_keeps s r t c a g has pl =
       let ta = acts_in K levels F d s r t c a g has pl in
       let lawful = F.lawful g.inside s.words (trees s.views) s.trace r t a ta in
-      let low : word_of a < of_tree K = lawful.0.there in
+      let low : word_of a < behind_tree K = lawful.0.there in
       let n = F.acts g.inside s.words (trees s.views) s.trace r t a ta in
       let bs = batches_keep K d s.words s.deeds r (rw_view t c Nothing) a g.all_words (is_named K levels F d s r (rw_view t c Nothing) g has) (g.own r (rw_view t c Nothing) has) pl (inl low) g.batches in
       let U = learnt_in K.rooted s.words t a in

@@ -12,7 +12,7 @@ use Rattle.rl_step.specs.Lock.{LockState, Told}
 use Rattle.rl_queue.specs.declared.view.Phase.{Phase}
 use Rattle.rl_queue.specs.declared.view.Phase.TheVariants.{Idle, Clear, Reset, Swing, Link, Wait, Settle, Granted, Look, Close, Await, Hand, Above}
 use Rattle.rl_queue.specs.laws.Choices.{same_test}
-use Rattle.rl_queue.specs.Queue.{Turn, next_word, status_word, plan_at, turn_at, moves_to, moves_with, joined_at}
+use Rattle.rl_queue.specs.Queue.{QueueTurn, queue_next_word, status_word, plan_at, turn_at, moves_to, moves_with, joined_at}
 use Rattle.rl_queue.specs.laws.Stuck.{GetsOn}
 use Rattle.rl_queue.specs.Urgency.{loaded}
 use Rattle.rl_queue.specs.laws.TurnsFall.{turn_falls}
@@ -24,7 +24,7 @@ use Rattle.rl_tree.specs.TreeShape.{IsWellShaped}
 use Rattle.rl_tree.specs.laws.TreeHolders.{at_root}
 use Rattle.rl_counter.specs.declared.view.Doing.TheVariants.{Nothing}
 use Rattle.rl_rw.specs.declared.view.RwView.{RwView}
-use Rattle.rl_rw.specs.Rw.{Shared, groups, of_tree, rw_view, from_tree, rw_learn}
+use Rattle.rl_rw.specs.Rw.{Shared, groups, behind_tree, rw_view, from_tree, rw_learn}
 use Rattle.rl_rw.specs.RwGood.{trees, RwGood}
 use Rattle.rl_rw.specs.laws.RwWords.{IsSound, tree_word_apart}
 use Rattle.rl_rw.specs.laws.RwKeeps.{as_tree, all_trees, acts_in}
@@ -75,7 +75,7 @@ module _ (K : Shared) (n : ℕ) (F : TreeFacts K.rooted n) (d : IsSound K) (S : 
   -- no act of the tree is on a depart word
   tree_full : (s : LockState RwView) (r : ℕ) (t : TreeView) (c : ℕ) (a : Act) (x : ℕ) → RwGood K n s → slice_get s.views r ≡ Some (rw_view t c Nothing) → tree_plan (tree_of K.rooted) t ≡ Some a → fulls K (slice_set s.words (word_of a) x) (groups K) ≡ fulls K s.words (groups K)
   tree_full s r t c a x g has pl =
-      let low : word_of a < of_tree K = (F.lawful g.inside s.words (trees s.views) s.trace r t a (acts_in K n F d s r t c a g has pl)).0.there in
+      let low : word_of a < behind_tree K = (F.lawful g.inside s.words (trees s.views) s.trace r t a (acts_in K n F d s r t c a g has pl)).0.there in
       fulls_same K s.words (slice_set s.words (word_of a) x) (groups K) (λ h lh. other_full K s.words (word_of a) x h (tree_word_apart K h (word_of a) lh low).1)
 
   -- an act that brings its rank nearer
@@ -88,7 +88,7 @@ module _ (K : Shared) (n : ℕ) (F : TreeFacts K.rooted n) (d : IsSound K) (S : 
   -- an act that gets the rank's member on, with the walk that follows
   turn_far : (u : TreeView) (c : ℕ) (p : Phase) (got : ℕ) → Placed u → GetsOn p got → rw_far K n (rw_learn K (rw_view (at_level u u.level p) c Nothing) false got).view < far_by n (2 * groups K) false u.level p
   turn_far u c p got at gets =
-      let tu : Turn = turn_at (names_in K.rooted (Q u)) (M u) p got in
+      let tu : QueueTurn = turn_at (names_in K.rooted (Q u)) (M u) p got in
       let w : Told TreeView = walk_turn (tree_of K.rooted) (at_level u u.level p) u.level (turn_at (names_in K.rooted (Q u)) (M u) p got) in
       let a : far_in n (groups K) w.view ≤ cap n (groups K) u.level tu.phase = walk_cap n (groups K) (tree_of K.rooted) (at_level u u.level p) u.level tu.phase tu.events tu.waits at.within at.low in
       let b : rw_far K n (from_tree (rw_view (at_level u u.level p) c Nothing) (at_hook w.view) w).view ≤ far_in n (groups K) w.view = hook_cap K n (rw_view (at_level u u.level p) c Nothing) w (at_hook w.view) refl in
@@ -129,12 +129,12 @@ module _ (K : Shared) (n : ℕ) (F : TreeFacts K.rooted n) (d : IsSound K) (S : 
   phase_goes s r u c Settle g at has hook urgent = cc
   phase_goes s r u c (Granted left) g at has hook urgent = cc
   phase_goes s r u c (Look left up) g at has hook urgent =
-      by_act s r (at_level u u.level (Look left up)) c _ g has refl (turn_far u c (Look left up) (slice_index s.words (next_word (names_in K.rooted (Q u)) (M u))) at tt)
+      by_act s r (at_level u u.level (Look left up)) c _ g has refl (turn_far u c (Look left up) (slice_index s.words (queue_next_word (names_in K.rooted (Q u)) (M u))) at tt)
   phase_goes s r u c (Close left) g at has hook urgent =
       by_act s r (at_level u u.level (Close left)) c (CardCas (Q u) (M u + 1) 0) g has refl (turn_far u c (Close left) (slice_index s.words (Q u)) at tt)
   phase_goes s r u c (Await left) g at has hook urgent =
-      by_act s r (at_level u u.level (Await left)) c (Load (next_word (names_in K.rooted (Q u)) (M u))) g has refl
-      (turn_far u c (Await left) (slice_index s.words (next_word (names_in K.rooted (Q u)) (M u))) at (urgent_if (slice_index s.words (next_word (names_in K.rooted (Q u)) (M u))) urgent))
+      by_act s r (at_level u u.level (Await left)) c (Load (queue_next_word (names_in K.rooted (Q u)) (M u))) g has refl
+      (turn_far u c (Await left) (slice_index s.words (queue_next_word (names_in K.rooted (Q u)) (M u))) at (urgent_if (slice_index s.words (queue_next_word (names_in K.rooted (Q u)) (M u))) urgent))
   phase_goes s r u c (Hand x left) g at has hook urgent = by_act s r (at_level u u.level (Hand x left)) c _ g has refl (turn_far u c (Hand x left) 0 at tt)
   phase_goes s r u c (Above x) g at has hook urgent = cc
 

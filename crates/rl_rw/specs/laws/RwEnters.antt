@@ -17,7 +17,7 @@ use Rattle.rl_queue.specs.laws.Choices.{choose}
 use Rattle.rl_queue.specs.Queue.{turn_at}
 use Rattle.rl_queue.specs.laws.QueueTurns.{turn_all}
 use Rattle.rl_tree.specs.declared.view.TreeView.{TreeView}
-use Rattle.rl_tree.specs.Tree.{TheTree, is_none, path, names_at, works_for, settles_below, goes_up, gives_up, goes_down, walk, learn_by, tree_learn, at_hook, resume_by, tree_resume, entry_if}
+use Rattle.rl_tree.specs.Tree.{TheTree, is_none, path, names_at, works_for, settles_below, goes_up, gives_up, goes_down, tree_walk, learn_by, tree_learn, at_hook, resume_by, tree_resume, entry_if}
 use Rattle.rl_tree.specs.Elements.{tree_of}
 use Rattle.rl_counter.specs.declared.view.Doing.{Doing}
 use Rattle.rl_counter.specs.declared.view.Doing.TheVariants.{Nothing, Arrive, Refused, SeeTail, Swap, Round, RoundTail, Inside, Put, Count, Compare, TakeOut, TakeOff}
@@ -55,7 +55,7 @@ module _ (mine : ℕ → Bool) where
   down_still v zero es h = h
   down_still v (suc j) es h = h
 
-  walk_still : (T : TheTree) (v : TreeView) (w : ℕ) (q : Phase) (es : List Event) (b : Bool) → Still es → Still (walk T v w q es b).events
+  walk_still : (T : TheTree) (v : TreeView) (w : ℕ) (q : Phase) (es : List Event) (b : Bool) → Still es → Still (tree_walk T v w q es b).events
   walk_still T v w Settle es b h = up_still (is_none (T.parent (path T v.leaf w))) v w es h
   walk_still T v w (Granted l) es b h = still-append es (settles_below T v w) h (settles_still T v w)
   walk_still T v w (Above s) es b h = give_still (is_none (T.parent (path T v.leaf w))) v w s es h

@@ -8,7 +8,7 @@ use Rattle.rl_queue.specs.declared.view.Phase.TheVariants.{Idle, Clear, Reset, S
 use Rattle.rl_queue.specs.Queue.{full_budget, resume_at}
 use Rattle.rl_queue.specs.laws.Stuck.{Falls}
 use Rattle.rl_tree.specs.declared.view.TreeView.{TreeView}
-use Rattle.rl_tree.specs.Tree.{TheTree, is_none, path, inside_from, goes_up, gives_up, goes_down, behind_at, hook_by, at_hook, resume_by, walk}
+use Rattle.rl_tree.specs.Tree.{TheTree, is_none, path, inside_from, goes_up, gives_up, goes_down, behind_at, hook_by, at_hook, resume_by, tree_walk}
 use Rattle.rl_rw.specs.declared.view.RwView.{RwView}
 use Rattle.rl_rw.specs.Rw.{Shared, groups, hooks, from_tree}
 use Rattle.rl_rw.specs.RwLeft.{far_by, far_in, far_at, rw_far}
@@ -42,7 +42,7 @@ module _ (n m : ℕ) where
   down_cap zero v es = omega arith
   down_cap (suc j) v es = let k = resumed j (behind_at v.behind j) in omega arith
 
-  pub walk_cap : (T : TheTree) (v : TreeView) (w : ℕ) (p : Phase) (es : List Event) (b : Bool) → w ≤ n → (is_none (T.parent (path T v.leaf w)) ≡ false → w < n) → far_in n m (walk T v w p es b).view ≤ cap w p
+  pub walk_cap : (T : TheTree) (v : TreeView) (w : ℕ) (p : Phase) (es : List Event) (b : Bool) → w ≤ n → (is_none (T.parent (path T v.leaf w)) ≡ false → w < n) → far_in n m (tree_walk T v w p es b).view ≤ cap w p
   walk_cap T v w Settle es b le low = up_cap w (is_none (T.parent (path T v.leaf w))) v es low
   walk_cap T v w (Granted left) es b le low = inside_zero T v w left
   walk_cap T v w (Above s) es b le low = away_cap w (is_none (T.parent (path T v.leaf w))) v s es le low

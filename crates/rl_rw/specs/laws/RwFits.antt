@@ -26,9 +26,9 @@ use Rattle.rl_tree.specs.TreeFacts.{LearnFits, TreeFacts, all_events, learnt_in,
 use Rattle.rl_counter.specs.declared.view.Doing.{Doing}
 use Rattle.rl_counter.specs.declared.view.Doing.TheVariants.{Nothing, Arrive, Refused, SeeTail, Swap, Reset as ResetOff, Round, RoundTail, Inside, Depart, Put, Count, Compare, TakeOut, TakeOff}
 use Rattle.rl_counter.specs.CounterGood.{IsMark}
-use Rattle.rl_counter.specs.Counter.{Turn, arrive_word, busy, depart_word, off, to}
+use Rattle.rl_counter.specs.Counter.{CounterTurn, arrive_word, busy, depart_word, off, to}
 use Rattle.rl_rw.specs.declared.view.RwView.{RwView}
-use Rattle.rl_rw.specs.Rw.{Shared, groups, of_tree, counters_of, rw_view, plan_of, hooks, from_tree, after_hook, from_counter, rw_learn, rw_standing, rw_spot}
+use Rattle.rl_rw.specs.Rw.{Shared, groups, behind_tree, counters_of, rw_view, plan_of, hooks, from_tree, after_hook, from_counter, rw_learn, rw_standing, rw_spot}
 use Rattle.rl_rw.specs.RwGood.{trees, Place, RwGood}
 use Rattle.rl_rw.specs.laws.RwRows.{marks_hook, out_plans_not}
 use Rattle.rl_rw.specs.laws.RwWords.{IsSound, group_there, arrive_is, depart_is, group_first}
@@ -84,40 +84,40 @@ rests_at K t c Inside h = (λ e. tt, λ x. out_plans_not (tree_of K.rooted) t h)
 rests_at K t c _ h = (λ e. cc, λ x. absurd x)
 
 -- Where the words of the lock live, and of which class they are.
-spot_low : (K : Shared) (w : ℕ) → w < of_tree K → rw_spot K w ≡ tree_spot K.rooted w
-spot_low K w lt = let k : nat_lt w (of_tree K) ≡ true = grind (arith, nat_tests) in ap (λ z. if z then tree_spot K.rooted w else record { class = class.Card; home = slice_index K.rooted.shape.node_of (((w - of_tree K) / 2) * K.group) }) k
+spot_low : (K : Shared) (w : ℕ) → w < behind_tree K → rw_spot K w ≡ tree_spot K.rooted w
+spot_low K w lt = let k : nat_lt w (behind_tree K) ≡ true = grind (arith, nat_tests) in ap (λ z. if z then tree_spot K.rooted w else record { class = class.Card; home = slice_index K.rooted.shape.node_of (((w - behind_tree K) / 2) * K.group) }) k
 
-pub spot_behind : (K : Shared) (w : ℕ) → of_tree K ≤ w → rw_spot K w ≡ record { class = class.Card; home = slice_index K.rooted.shape.node_of (((w - of_tree K) / 2) * K.group) }
+pub spot_behind : (K : Shared) (w : ℕ) → behind_tree K ≤ w → rw_spot K w ≡ record { class = class.Card; home = slice_index K.rooted.shape.node_of (((w - behind_tree K) / 2) * K.group) }
 spot_behind K w le =
-    let k : nat_lt w (of_tree K) ≡ false = grind (arith, nat_tests) in
-    ap (λ z. if z then tree_spot K.rooted w else record { class = class.Card; home = slice_index K.rooted.shape.node_of (((w - of_tree K) / 2) * K.group) }) k
+    let k : nat_lt w (behind_tree K) ≡ false = grind (arith, nat_tests) in
+    ap (λ z. if z then tree_spot K.rooted w else record { class = class.Card; home = slice_index K.rooted.shape.node_of (((w - behind_tree K) / 2) * K.group) }) k
 
-spot_high : (K : Shared) (w : ℕ) → of_tree K ≤ w → ((rw_spot K w).class ≡ class.Card) × ((rw_spot K w).home ≡ slice_index K.rooted.shape.node_of (((w - of_tree K) / 2) * K.group))
+spot_high : (K : Shared) (w : ℕ) → behind_tree K ≤ w → ((rw_spot K w).class ≡ class.Card) × ((rw_spot K w).home ≡ slice_index K.rooted.shape.node_of (((w - behind_tree K) / 2) * K.group))
 spot_high K w le = let e = spot_behind K w le in (ap (λ z. z.class) e, ap (λ z. z.home) e)
 
 module _ (K : Shared) (levels : ℕ) (F : TreeFacts K.rooted levels) (d : IsSound K) where
   abbrev Good : Bool → List ℕ → List TreeView → List Event → Type 0
   Good = GoodAt K.rooted levels
 
-  pub home_at : (w : ℕ) → w < of_tree K + 2 * groups K → (rw_spot K w).home < K.rooted.shape.nodes
-  home_at w lt = by_bool (λ b. nat_lt w (of_tree K) ≡ b → (rw_spot K w).home < K.rooted.shape.nodes) (nat_lt w (of_tree K))
-      (λ e0 e. let low : w < of_tree K = grind (arith, nat_tests) in subst (λ z. z.home < K.rooted.shape.nodes) (sym (spot_low K w low)) (F.homes w low))
+  pub home_at : (w : ℕ) → w < behind_tree K + 2 * groups K → (rw_spot K w).home < K.rooted.shape.nodes
+  home_at w lt = by_bool (λ b. nat_lt w (behind_tree K) ≡ b → (rw_spot K w).home < K.rooted.shape.nodes) (nat_lt w (behind_tree K))
+      (λ e0 e. let low : w < behind_tree K = grind (arith, nat_tests) in subst (λ z. z.home < K.rooted.shape.nodes) (sym (spot_low K w low)) (F.homes w low))
       (λ e0 e.
-      let high : of_tree K ≤ w = grind (arith, nat_tests) in
-      let g : (w - of_tree K) / 2 < groups K = omega arith in
-      let first : ((w - of_tree K) / 2) * K.group < ranks_in K.rooted = group_first K ((w - of_tree K) / 2) d g in
-      subst (λ z. z < K.rooted.shape.nodes) (sym (spot_high K w high).1) (d.seated (((w - of_tree K) / 2) * K.group) first)) refl
+      let high : behind_tree K ≤ w = grind (arith, nat_tests) in
+      let g : (w - behind_tree K) / 2 < groups K = omega arith in
+      let first : ((w - behind_tree K) / 2) * K.group < ranks_in K.rooted = group_first K ((w - behind_tree K) / 2) d g in
+      subst (λ z. z < K.rooted.shape.nodes) (sym (spot_high K w high).1) (d.seated (((w - behind_tree K) / 2) * K.group) first)) refl
 
   abbrev pub MayMake : ℕ → Act → Type 0
-  MayMake r a = IsLawful (of_tree K + 2 * groups K) (rw_spot K) (layout_of K.rooted.shape) r a × (no_local r a ≡ true)
+  MayMake r a = IsLawful (behind_tree K + 2 * groups K) (rw_spot K) (layout_of K.rooted.shape) r a × (no_local r a ≡ true)
 
-  lawful_add : (r w x : ℕ) → of_tree K ≤ w → w < of_tree K + 2 * groups K → MayMake r (CardAdd w x)
+  lawful_add : (r w x : ℕ) → behind_tree K ≤ w → w < behind_tree K + 2 * groups K → MayMake r (CardAdd w x)
   lawful_add r w x high lt = (record { there = lt; homed = home_at w lt; allowed = (spot_high K w high).0 }, refl)
 
-  lawful_swap : (r w x : ℕ) → of_tree K ≤ w → w < of_tree K + 2 * groups K → MayMake r (CardSwap w x)
+  lawful_swap : (r w x : ℕ) → behind_tree K ≤ w → w < behind_tree K + 2 * groups K → MayMake r (CardSwap w x)
   lawful_swap r w x high lt = (record { there = lt; homed = home_at w lt; allowed = (spot_high K w high).0 }, refl)
 
-  lawful_load : (r w : ℕ) → w < of_tree K + 2 * groups K → MayMake r (Load w)
+  lawful_load : (r w : ℕ) → w < behind_tree K + 2 * groups K → MayMake r (Load w)
   lawful_load r w lt = (record { there = lt; homed = home_at w lt; allowed = tt }, refl)
 
   lawful_arrive : (r g x : ℕ) → g < groups K → MayMake r (CardAdd (arrive_word (counters_of K) g) x)
@@ -134,7 +134,7 @@ module _ (K : Shared) (levels : ℕ) (F : TreeFacts K.rooted levels) (d : IsSoun
         by : (p : Doing) → slice_get s.views r ≡ Some (rw_view t c p) → plan_of K (rw_view t c p) (busy p) ≡ Some a → c < groups K → MayMake r a
         by Nothing has pl lc =
             let k = F.lawful g.inside s.words (trees s.views) s.trace r t a (acts_in K levels F d s r t c a g has pl) in
-            let low : word_of a < of_tree K = k.0.there in
+            let low : word_of a < behind_tree K = k.0.there in
             let same = spot_low K (word_of a) low in (
               record {
                 there = omega arith;
@@ -171,7 +171,7 @@ module _ (K : Shared) (levels : ℕ) (F : TreeFacts K.rooted levels) (d : IsSoun
   stands_out : (t : TreeView) → t.query ≡ false → IsAbove t.phase → tree_standing t ≡ standing.Leaving
   stands_out t e h = ap (λ z. standing_by z t.phase) e ∙ above_leaves t.phase h
 
-  abbrev GoesOn : ℕ → TreeView → ℕ → Doing → Turn → Type 0
+  abbrev GoesOn : ℕ → TreeView → ℕ → Doing → CounterTurn → Type 0
   GoesOn r t c p u = RwFits K r (rw_standing p t) (from_counter K (rw_view t c p) p u.doing u.waits)
 
   -- what each act leaves fits

@@ -22,7 +22,7 @@ use Rattle.rl_counter.specs.Counter.{arrive_word, busy, depart_word, off}
 use Rattle.rl_counter.specs.CounterGood.{AreCounted}
 use Rattle.rl_ending.specs.Ending.{CanGoOn}
 use Rattle.rl_rw.specs.declared.view.RwView.{RwView}
-use Rattle.rl_rw.specs.Rw.{Shared, groups, of_tree, counters_of, rw_view, plan_of, rw_learn, rw_table}
+use Rattle.rl_rw.specs.Rw.{Shared, groups, behind_tree, counters_of, rw_view, plan_of, rw_learn, rw_table}
 use Rattle.rl_rw.specs.RwGood.{trees, Place, RwGood}
 use Rattle.rl_rw.specs.laws.RwWords.{IsSound, group_there, arrive_is, are_counted}
 use Rattle.rl_rw.specs.laws.RwKeeps.{as_tree, all_trees, is_there}
@@ -92,7 +92,7 @@ module _ (K : Shared) (n : ℕ) (F : TreeFacts K.rooted n) (d : IsSound K) (S : 
   pub compared_there : (s : LockState RwView) (r : ℕ) (v : RwView) (i a : ℕ) → RwGood K n s → slice_get s.views r ≡ Some v → v.counter.doing ≡ Compare i a → i < groups K
   compared_there s r v i a g has e = let row = subst (λ z. Place (groups K) z v.tree) e (g.place r v has) in row.2
 
-  pub tail_low : (s : LockState RwView) (r : ℕ) (v : RwView) → RwGood K n s → slice_get s.views r ≡ Some v → path (tree_of K.rooted) v.tree.leaf v.tree.level < of_tree K
+  pub tail_low : (s : LockState RwView) (r : ℕ) (v : RwView) → RwGood K n s → slice_get s.views r ≡ Some v → path (tree_of K.rooted) v.tree.leaf v.tree.level < behind_tree K
   tail_low s r v g has =
       let lt : path (tree_of K.rooted) v.tree.leaf v.tree.level < how_many K.rooted =
       level_there K.rooted n S s.words (trees s.views) s.trace g.tree.tree (all_trees K n F d s g) r v.tree v.tree.level (as_tree K n F d s r v has) (g.tree.tree.by.shaped r v.tree (as_tree K n F d s r v has)).within in omega arith

@@ -28,9 +28,9 @@ use Rattle.rl_counter.specs.declared.view.Doing.{Doing}
 use Rattle.rl_counter.specs.declared.view.Doing.TheVariants.{Nothing, Arrive, Refused, SeeTail, Swap, Reset as ResetOff, Round, RoundTail, Inside, Depart, Put, Count, Compare, TakeOut, TakeOff}
 use Rattle.rl_counter.specs.laws.CounterLaws.{begins_at_marks}
 use Rattle.rl_counter.specs.CounterGood.{GroupGood, IsMark, IsReader, Mark, mark_by}
-use Rattle.rl_counter.specs.Counter.{Turn, counter_turn, to}
+use Rattle.rl_counter.specs.Counter.{CounterTurn, counter_turn, to}
 use Rattle.rl_rw.specs.declared.view.RwView.{RwView}
-use Rattle.rl_rw.specs.Rw.{Shared, groups, of_tree, counters_of, rw_view, hooks, from_counter, mine_of}
+use Rattle.rl_rw.specs.Rw.{Shared, groups, behind_tree, counters_of, rw_view, hooks, from_counter, mine_of}
 use Rattle.rl_rw.specs.RwGood.{trees, doings, Place, Moded, Lonely, RwGood}
 use Rattle.rl_rw.specs.laws.RwRows.{marks_hook, out_away, OthersAway}
 use Rattle.rl_rw.specs.laws.RwWords.{IsSound, group_there}
@@ -112,13 +112,13 @@ abbrev pub AllCounters : Shared → List ℕ → List Doing → (ℕ → Mark) �
 AllCounters K ws ps M = (g : ℕ) → g < groups K → GroupGood (counters_of K) (mine_of K g) g ws ps (M g)
 
 abbrev pub AllBatched : Shared → LockState RwView → Type 0
-AllBatched K s = (g : ℕ) → g < groups K → Batched (mine_of K g) (of_tree K + 2 * g) K.readers s.words s.deeds
+AllBatched K s = (g : ℕ) → g < groups K → Batched (mine_of K g) (behind_tree K + 2 * g) K.readers s.words s.deeds
 
 -- where a reader goes on
 abbrev pub QuietEvents : ℕ → List Event → Type 0
 QuietEvents m es = (es ≡ []) ⊎ (es ≡ event.EnterR m ∷ [])
 
-abbrev pub ReaderGoes : Shared → TreeView → ℕ → Doing → Turn → Type 0
+abbrev pub ReaderGoes : Shared → TreeView → ℕ → Doing → CounterTurn → Type 0
 ReaderGoes K t c p u =
     ((from_counter K (rw_view t c p) p u.doing u.waits).view ≡ rw_view t c u.doing) × Place (groups K) u.doing t × Moded u.doing t mode.Read × (IsMark u.doing → ⊥) × QuietEvents t.rank (from_counter K (rw_view t c p) p u.doing u.waits).events
 
@@ -170,7 +170,7 @@ module _ (K : Shared) (levels : ℕ) (F : TreeFacts K.rooted levels) (d : IsSoun
   pub is_named : (s : LockState RwView) (r : ℕ) (v : RwView) → RwGood K levels s → slice_get s.views r ≡ Some v → v.tree.rank ≡ r
   is_named s r v g has = (g.tree.tree.by.own r v.tree (as_tree s r v has)).0
 
-  pub tree_long : (s : LockState RwView) → RwGood K levels s → of_tree K ≤ length s.words
+  pub tree_long : (s : LockState RwView) → RwGood K levels s → behind_tree K ≤ length s.words
   tree_long s g = let a = g.all_words in omega arith
 
   pub some_group : (s : LockState RwView) (r : ℕ) (v : RwView) → RwGood K levels s → slice_get s.views r ≡ Some v → 0 < groups K
@@ -185,7 +185,7 @@ module _ (K : Shared) (levels : ℕ) (F : TreeFacts K.rooted levels) (d : IsSoun
   away_now s r v g has hook k y hk ne m =
       ne (F.one_hook g.inside s.words (trees s.views) s.trace k r y.tree v.tree (viewed s k y g hk) (viewed s r v g has) (marks_hook (groups K) y.counter.doing y.tree m (g.place k y hk)) hook)
 
-  pub away_then : (s : LockState RwView) (r : ℕ) (v : RwView) (n : Bool) (ws : List ℕ) (x : TreeView) (t : List Event) → RwGood K levels s → slice_get s.views r ≡ Some v → of_tree K ≤ length ws → Good n ws (slice_set (trees s.views) r x) t → at_hook x ≡ true → OthersAway s.views r
+  pub away_then : (s : LockState RwView) (r : ℕ) (v : RwView) (n : Bool) (ws : List ℕ) (x : TreeView) (t : List Event) → RwGood K levels s → slice_get s.views r ≡ Some v → behind_tree K ≤ length ws → Good n ws (slice_set (trees s.views) r x) t → at_hook x ≡ true → OthersAway s.views r
   away_then s r v n ws x t g has long good hook k y hk ne m =
       let all : length (slice_set (trees s.views) r x) ≡ ranks_in K.rooted = length-set (trees s.views) r x ∙ all_trees s g in
       ne (F.one_hook n ws (slice_set (trees s.views) r x) t k r y.tree x

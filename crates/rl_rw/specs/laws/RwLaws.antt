@@ -22,7 +22,7 @@ use Rattle.rl_queue.specs.laws.Choices.{choose}
 use Rattle.rl_tree.specs.declared.view.TreeView.{TreeView}
 use Rattle.rl_tree.specs.declared.rooted.Rooted.{Rooted}
 use Rattle.rl_tree.specs.Tree.{at_hook, tree_standing, tree_learn, has_above}
-use Rattle.rl_tree.specs.Elements.{ranks_in, tree_of, how_many, leaf_of, out_at}
+use Rattle.rl_tree.specs.Elements.{ranks_in, tree_of, how_many, leaf_of_rank, out_at}
 use Rattle.rl_tree.specs.TreeShape.{IsWellShaped, IsTreeLaid, levels_of}
 use Rattle.rl_tree.specs.laws.TreeLaid.{laid_shaped}
 use Rattle.rl_tree.specs.laws.TreeLaws.{tree_facts}
@@ -32,10 +32,10 @@ use Rattle.rl_tree.specs.laws.TreeEvents.{queue_is}
 use Rattle.rl_counter.specs.declared.view.Doing.{Doing}
 use Rattle.rl_counter.specs.declared.view.Doing.TheVariants.{Nothing, Arrive, Refused, SeeTail, Swap, Round, RoundTail, Inside, Put, Count, Compare, TakeOut, TakeOff}
 use Rattle.rl_counter.specs.CounterGood.{GroupGood, IsMark, Loaded, Mark, group_sum, if_one, inside_of, mark_by, refused_of, taken_of, Clear as ClearMark}
-use Rattle.rl_counter.specs.Counter.{Turn, arrive_word, busy, counter_act, counter_turn, depart_word, to}
+use Rattle.rl_counter.specs.Counter.{CounterTurn, arrive_word, busy, counter_act, counter_turn, depart_word, to}
 use Rattle.rl_counter.specs.laws.CounterLaws.{begins, tells_what_it_finds}
 use Rattle.rl_rw.specs.declared.view.RwView.{RwView}
-use Rattle.rl_rw.specs.Rw.{shared_of, Shared, groups, of_tree, counters_of, rw_view, plan_of, from_tree, from_counter, rw_learn, asks_for, rw_standing, rw_table, after_hook, mine_of, BoundsBatches, KeepsBatches}
+use Rattle.rl_rw.specs.Rw.{shared_of, Shared, groups, behind_tree, counters_of, rw_view, plan_of, from_tree, from_counter, rw_learn, asks_for, rw_standing, rw_table, after_hook, mine_of, BoundsBatches, KeepsBatches}
 use Rattle.rl_rw.specs.RwGood.{trees, doings, Place, Moded, Lonely, RwGood}
 use Rattle.rl_rw.specs.laws.RwRows.{out_plans_not, resume_goes}
 use Rattle.rl_rw.specs.laws.RwWords.{groups_low, IsSound}
@@ -61,7 +61,7 @@ one_none mine share (x ∷ []) zero p one h e =
 one_none mine share (x ∷ []) (suc r) p one h e = cc
 one_none mine share (x ∷ (y ∷ ys)) r p one h e = absurd (omega arith)
 
-abbrev Goes : Shared → RwView → Doing → Turn → Type 0
+abbrev Goes : Shared → RwView → Doing → CounterTurn → Type 0
 Goes K v p u = (from_counter K v p u.doing u.waits).waits ≡ false
 
 -- what one rank learns at the counters it doesn't wait for
@@ -85,26 +85,26 @@ module _ (K : Shared) (levels : ℕ) (F : TreeFacts K.rooted levels) (d : IsSoun
 
   begins_at : RwGood K levels (opening (rw_table K) (ranks_in K.rooted))
   begins_at =
-      let view : ℕ → RwView = λ r. rw_view (out_at r (leaf_of K.rooted r)) (r / K.group) Nothing in
-      let size : ℕ = of_tree K + 2 * groups K in
+      let view : ℕ → RwView = λ r. rw_view (out_at r (leaf_of_rank K.rooted r)) (r / K.group) Nothing in
+      let size : ℕ = behind_tree K + 2 * groups K in
       let first : (r : ℕ) (v : RwView) → slice_get (opening (rw_table K) (ranks_in K.rooted)).views r ≡ Some v → v ≡ view (0 + r) =
-      λ r v h. first_views_at (λ r. rw_view (out_at r (leaf_of K.rooted r)) (r / K.group) Nothing) 0 (ranks_in K.rooted) r v h in
+      λ r v h. first_views_at (λ r. rw_view (out_at r (leaf_of_rank K.rooted r)) (r / K.group) Nothing) 0 (ranks_in K.rooted) r v h in
       let plain : (r : ℕ) (v : RwView) → slice_get (opening (rw_table K) (ranks_in K.rooted)).views r ≡ Some v → v.counter.doing ≡ Nothing = λ r v h. ap (λ z. z.counter.doing) (first r v h) in
       record {
-        all_words = length-replicate (of_tree K + 2 * groups K) 0;
-        all_views = length-first_views (λ r. rw_view (out_at r (leaf_of K.rooted r)) (r / K.group) Nothing) 0 (ranks_in K.rooted);
+        all_words = length-replicate (behind_tree K + 2 * groups K) 0;
+        all_views = length-first_views (λ r. rw_view (out_at r (leaf_of_rank K.rooted r)) (r / K.group) Nothing) 0 (ranks_in K.rooted);
         all_modes = length-replicate (ranks_in K.rooted) mode.Write;
         inside = false;
-        tree = subst (λ z. Good false (replicate (of_tree K + 2 * groups K) 0) z []) (sym (map_first (λ v. v.tree) (λ r. rw_view (out_at r (leaf_of K.rooted r)) (r / K.group) Nothing) 0 (ranks_in K.rooted))) (F.begins (of_tree K + 2 * groups K) (omega arith));
+        tree = subst (λ z. Good false (replicate (behind_tree K + 2 * groups K) 0) z []) (sym (map_first (λ v. v.tree) (λ r. rw_view (out_at r (leaf_of_rank K.rooted r)) (r / K.group) Nothing) 0 (ranks_in K.rooted))) (F.begins (behind_tree K + 2 * groups K) (omega arith));
         hook = Nothing;
         hooked = record { all = λ r v h m. absurd (subst IsMark (plain r v h) m); some = inl refl };
-        counters = begins (counters_of K) (groups K) (mine_of K) (of_tree K + 2 * groups K) (doings (opening (rw_table K) (ranks_in K.rooted)).views)
+        counters = begins (counters_of K) (groups K) (mine_of K) (behind_tree K + 2 * groups K) (doings (opening (rw_table K) (ranks_in K.rooted)).views)
             (λ r p h. let b = get_map_back (λ v. v.counter.doing) (opening (rw_table K) (ranks_in K.rooted)).views r p h in sym b.2 ∙ plain r b.0 b.1);
         own = λ r v h. ap (λ z. z.counter.counter) (first r v h) ∙ ap (λ z. z / K.group) (omega arith);
         place = λ r v h. subst (λ z. Place (groups K) z.counter.doing z.tree) (sym (first r v h)) refl;
         moded = λ r v m h e. subst (λ z. Moded z.counter.doing z.tree m) (sym (first r v h)) (inl refl);
         batches = λ g lt. record { so_far = tt; counted = omega arith };
-        lonely = λ one r v h. subst (λ z. Lonely K (replicate (of_tree K + 2 * groups K) 0) z) (sym (plain r v h)) tt;
+        lonely = λ one r v h. subst (λ z. Lonely K (replicate (behind_tree K + 2 * groups K) 0) z) (sym (plain r v h)) tt;
       }
 
   -- what one rank counted has gone
@@ -164,7 +164,7 @@ module _ (K : Shared) (levels : ℕ) (F : TreeFacts K.rooted levels) (d : IsSoun
       subst (λ z. tree_standing z ≡ standing.Out) b.2 (out_at_both b.0.counter.doing b.0.tree (out r b.0 b.1)).1
 
   -- A rank waits on after a load alone, and stands at a load again.
-  abbrev Again : TreeView → ℕ → Doing → Act → Turn → Type 0
+  abbrev Again : TreeView → ℕ → Doing → Act → CounterTurn → Type 0
   Again t c p a u =
       (from_counter K (rw_view t c p) p u.doing u.waits).waits ≡ true →
       IsLoad a × PlansLoad (plan_of K (from_counter K (rw_view t c p) p u.doing u.waits).view (busy (from_counter K (rw_view t c p) p u.doing u.waits).view.counter.doing))
@@ -246,4 +246,4 @@ laws_of rooted readers group laid limited few grouped =
 
 -- what it says of its acts gives what is promised, of the lock that was asked for
 pub hands_on : (made asked : Shared) → made ≡ asked → HandsOn (KeepsBatches made) (BoundsBatches asked)
-hands_on made asked same t ds ts shown keeps = subst (λ K. BoundsBatches K t ts) same (λ g lt. is_batched (mine_of made g) (of_tree made + 2 * g) made.readers ds ts shown (keeps g lt))
+hands_on made asked same t ds ts shown keeps = subst (λ K. BoundsBatches K t ts) same (λ g lt. is_batched (mine_of made g) (behind_tree made + 2 * g) made.readers ds ts shown (keeps g lt))

@@ -17,10 +17,10 @@ use Rattle.rl_counter.specs.declared.view.Doing.TheVariants.{Nothing, Inside, Pu
 use Rattle.rl_counter.specs.laws.CounterKeeps.{by_less}
 use Rattle.rl_counter.specs.laws.CounterMarks.{put_keeps, count_keeps, compare_keeps, take_keeps, off_keeps}
 use Rattle.rl_counter.specs.CounterGood.{AreCounted, GroupGood, IsMark, mark_by}
-use Rattle.rl_counter.specs.Counter.{Turn, arrive_word, busy, counter_act, counter_turn, depart_word, off, to}
+use Rattle.rl_counter.specs.Counter.{CounterTurn, arrive_word, busy, counter_act, counter_turn, depart_word, off, to}
 use Rattle.rl_counter.specs.laws.CounterLaws.{tells_what_it_finds}
 use Rattle.rl_rw.specs.declared.view.RwView.{RwView}
-use Rattle.rl_rw.specs.Rw.{Shared, groups, of_tree, counters_of, rw_view, plan_of, from_counter, rw_learn, rw_table, mine_of}
+use Rattle.rl_rw.specs.Rw.{Shared, groups, behind_tree, counters_of, rw_view, plan_of, from_counter, rw_learn, rw_table, mine_of}
 use Rattle.rl_rw.specs.RwGood.{doings, RwGood}
 use Rattle.rl_rw.specs.laws.RwRows.{out_plans_not}
 use Rattle.rl_rw.specs.laws.RwWords.{IsSound, arrive_is, depart_is, are_counted, batches_keep}
@@ -29,10 +29,10 @@ use Rattle.rl_rw.specs.laws.RwActs.{tree_keeps}
 use Rattle.rl_rw.specs.laws.RwReads.{reads_keep, marks_on, marks_end}
 
 -- the mark that is looked at is behind the tree's words
-arrive_behind : (K : Shared) (i : ℕ) → i < groups K → of_tree K ≤ arrive_word (counters_of K) i
+arrive_behind : (K : Shared) (i : ℕ) → i < groups K → behind_tree K ≤ arrive_word (counters_of K) i
 arrive_behind K i lt = let e = arrive_is K i lt in omega arith
 
-depart_behind : (K : Shared) (i : ℕ) → i < groups K → of_tree K ≤ depart_word (counters_of K) i
+depart_behind : (K : Shared) (i : ℕ) → i < groups K → behind_tree K ≤ depart_word (counters_of K) i
 depart_behind K i lt = let e = depart_is K i lt in omega arith
 
 module _ (K : Shared) (levels : ℕ) (F : TreeFacts K.rooted levels) (d : IsSound K) where
@@ -42,11 +42,11 @@ module _ (K : Shared) (levels : ℕ) (F : TreeFacts K.rooted levels) (d : IsSoun
   abbrev there : List ℕ → Act → List ℕ
   there ws a = slice_set ws (word_of a) (written a (slice_index ws (word_of a)))
 
-  abbrev Learns : LockState RwView → ℕ → TreeView → ℕ → Doing → Act → Turn → Type 0
+  abbrev Learns : LockState RwView → ℕ → TreeView → ℕ → Doing → Act → CounterTurn → Type 0
   Learns s r t c p a u = AllBatched K (after s r a (from_counter K (rw_view t c p) p u.doing u.waits)) → RwGood K levels (after s r a (from_counter K (rw_view t c p) p u.doing u.waits))
 
   -- the act, with its counters
-  abbrev Keeps : LockState RwView → ℕ → TreeView → ℕ → Doing → Act → Bool → Turn → Type 0
+  abbrev Keeps : LockState RwView → ℕ → TreeView → ℕ → Doing → Act → Bool → CounterTurn → Type 0
   Keeps s r t c p a o u = AllCounters K (there s.words a) (slice_set (doings s.views) r u.doing) (mark_by o u.doing) → Learns s r t c p a u
 
   -- all counters under the marks of who is there

@@ -11,7 +11,7 @@ use Rattle.rl_queue.specs.declared.view.Phase.{Phase}
 use Rattle.rl_queue.specs.declared.view.Phase.TheVariants.{Idle, Wait, Granted, Await}
 use Rattle.rl_queue.specs.laws.Choices.{same_test, other_test, lt_test}
 use Rattle.rl_queue.specs.Lane.{Busy}
-use Rattle.rl_queue.specs.Queue.{TheNames, next_word, status_word, plan_at}
+use Rattle.rl_queue.specs.Queue.{TheNames, queue_next_word, status_word, plan_at}
 use Rattle.rl_queue.specs.Urgency.{loaded}
 use Rattle.rl_queue.specs.laws.Stuck.{Stuck}
 use Rattle.rl_tree.specs.declared.view.TreeView.{TreeView}
@@ -24,7 +24,7 @@ use Rattle.rl_tree.specs.laws.TreeStandings.{out_is}
 use Rattle.rl_tree.specs.laws.RankGoes.{GoesIn}
 use Rattle.rl_counter.specs.declared.view.Doing.{Doing}
 use Rattle.rl_counter.specs.declared.view.Doing.TheVariants.{Nothing, Arrive, Refused, SeeTail, Swap, Reset as ResetOff, Round, RoundTail, Inside, Depart, Put, Count, Compare, TakeOut, TakeOff}
-use Rattle.rl_counter.specs.Counter.{Turn, arrive_word, depart_word, counter_turn, to}
+use Rattle.rl_counter.specs.Counter.{CounterTurn, arrive_word, depart_word, counter_turn, to}
 use Rattle.rl_counter.specs.CounterGood.{IsMark, Down, mark_by}
 use Rattle.rl_ending.specs.laws.EndingLaws.{all_out_or_not}
 use Rattle.rl_rw.specs.declared.view.RwView.{RwView}
@@ -39,11 +39,11 @@ use Rattle.rl_rw.specs.laws.RwBalance.{NoneAt, balanced}
 use Rattle.rl_rw.specs.laws.RwGoes.{Goes, by_far, by_change, by_look, by_arrive, own_there, tail_low, arrive_full, swap_fall, swap_still}
 
 -- who isn't stuck in the tree holds the lock, or is as urgent as a writer
-free_urgent : (N : TheNames) (ws : List ℕ) (m : ℕ) (p : Phase) → Busy p → (Stuck p (slice_index ws (next_word N m)) (slice_index ws (status_word N m)) → ⊥) →
+free_urgent : (N : TheNames) (ws : List ℕ) (m : ℕ) (p : Phase) → Busy p → (Stuck p (slice_index ws (queue_next_word N m)) (slice_index ws (status_word N m)) → ⊥) →
     (tree_urgency false p (loaded ws (plan_at N m p)) ≡ Some 0) ⊎ (tree_urgency false p (loaded ws (plan_at N m p)) ≡ Some 1)
 free_urgent N ws m Idle busy free = absurd busy
 free_urgent N ws m Wait busy free = inr (ap (λ b. where_some 1 (if b then None else Some 0)) (other_test (slice_index ws (status_word N m)) 0 free))
-free_urgent N ws m (Await left) busy free = inr (ap (λ b. where_some 1 (if b then None else Some 0)) (other_test (slice_index ws (next_word N m)) 0 free))
+free_urgent N ws m (Await left) busy free = inr (ap (λ b. where_some 1 (if b then None else Some 0)) (other_test (slice_index ws (queue_next_word N m)) 0 free))
 free_urgent N ws m (Granted left) busy free = inl refl
 free_urgent N ws m _ busy free = inr refl
 
@@ -289,7 +289,7 @@ module _ (K : Shared) (n : ℕ) (F : TreeFacts K.rooted n) (d : IsSound K) (S : 
     v : RwView
     v = rw_view t c (RoundTail a)
 
-    again : Turn
+    again : CounterTurn
     again = record { doing = Round; waits = true }
 
     seen : (b : Bool) → nat_lt a (2 ^ 32) ≡ b → (from_counter K v (RoundTail a) (counter_turn (counters_of K) (RoundTail a) (slice_index s.words 0)).doing (counter_turn (counters_of K) (RoundTail a) (slice_index s.words 0)).waits).view ≡

@@ -26,7 +26,7 @@ use Rattle.rl_counter.specs.Counter.{arrive_word, counter_act, counter_turn}
 use Rattle.rl_counter.specs.laws.CounterFrame.{reader_word, readers_keep}
 use Rattle.rl_counter.specs.laws.CounterLaws.{tells_what_it_finds}
 use Rattle.rl_rw.specs.declared.view.RwView.{RwView}
-use Rattle.rl_rw.specs.Rw.{Shared, groups, of_tree, counters_of, rw_view, after_hook, from_counter, mine_of}
+use Rattle.rl_rw.specs.Rw.{Shared, groups, behind_tree, counters_of, rw_view, after_hook, from_counter, mine_of}
 use Rattle.rl_rw.specs.RwGood.{trees, doings, Place, Moded, Lonely, RwGood}
 use Rattle.rl_rw.specs.laws.RwRows.{marks_hook, mark_free, hooked_same, hooked_at, hooked_off, stays}
 use Rattle.rl_rw.specs.laws.RwWords.{IsSound, group_there, arrive_is, depart_is, are_sound, of_group}
@@ -40,7 +40,7 @@ module _ (K : Shared) (levels : ℕ) (F : TreeFacts K.rooted levels) (d : IsSoun
   there ws a = slice_set ws (word_of a) (written a (slice_index ws (word_of a)))
 
   -- the tree doesn't see an act that is on a word behind its own, or that writes what it found
-  unseen : (o : Bool) (ws : List ℕ) (vs : List TreeView) (t : List Event) (a : Act) → ((of_tree K ≤ word_of a) ⊎ ((x : ℕ) → written a x ≡ x)) → Good o ws vs t → Good o (there ws a) vs t
+  unseen : (o : Bool) (ws : List ℕ) (vs : List TreeView) (t : List Event) (a : Act) → ((behind_tree K ≤ word_of a) ⊎ ((x : ℕ) → written a x ≡ x)) → Good o ws vs t → Good o (there ws a) vs t
   unseen o ws vs t a h g =
       ⊎_elim
       (λ low. F.beyond o ws vs t (word_of a) (written a (slice_index ws (word_of a))) low g)
@@ -53,7 +53,7 @@ module _ (K : Shared) (levels : ℕ) (F : TreeFacts K.rooted levels) (d : IsSoun
       (λ e. subst (λ z. Good o ws vs (t ++ z)) (sym e) (subst (Good o ws vs) (sym (append-nil t)) g))
       (λ e. subst (λ z. Good o ws vs (t ++ z)) (sym e) (F.beside o ws vs t (event.EnterR m) tt g)) q
 
-  reader_behind : (s : LockState RwView) (r : ℕ) (t : TreeView) (c : ℕ) (p : Doing) (a : Act) → RwGood K levels s → slice_get s.views r ≡ Some (rw_view t c p) → IsReader p → counter_act (counters_of K) c p ≡ Some a → (of_tree K ≤ word_of a) ⊎ ((x : ℕ) → written a x ≡ x)
+  reader_behind : (s : LockState RwView) (r : ℕ) (t : TreeView) (c : ℕ) (p : Doing) (a : Act) → RwGood K levels s → slice_get s.views r ≡ Some (rw_view t c p) → IsReader p → counter_act (counters_of K) c p ≡ Some a → (behind_tree K ≤ word_of a) ⊎ ((x : ℕ) → written a x ≡ x)
   reader_behind s r t c p a g has rd pl =
       let own : c ≡ r / K.group = g.own r (rw_view t c p) has in
       let lc : c < groups K = subst (λ z. z < groups K) (sym own) (group_there K r d (is_there K levels F d s r (rw_view t c p) g has)) in
@@ -124,7 +124,7 @@ module _ (K : Shared) (levels : ℕ) (F : TreeFacts K.rooted levels) (d : IsSoun
       tells ∙ sym (ap (λ z. slice_index s.words (word_of z)) pa) ∙ low.1))
 
   -- A rank at the marks that goes on there.
-  pub marks_on : (s : LockState RwView) (r : ℕ) (t : TreeView) (c : ℕ) (p q : Doing) (a : Act) (w o : Bool) → RwGood K levels s → slice_get s.views r ≡ Some (rw_view t c p) → IsMark p → IsMark q → Place (groups K) q t → (of_tree K ≤ word_of a) →
+  pub marks_on : (s : LockState RwView) (r : ℕ) (t : TreeView) (c : ℕ) (p q : Doing) (a : Act) (w o : Bool) → RwGood K levels s → slice_get s.views r ≡ Some (rw_view t c p) → IsMark p → IsMark q → Place (groups K) q t → (behind_tree K ≤ word_of a) →
       AllCounters K (there s.words a) (slice_set (doings s.views) r q) (mark_by o q) → (ranks_in K.rooted ≡ 1 → Lonely K (there s.words a) q) →
       AllBatched K (after s r a (record { view = rw_view t c q; events = []; waits = w })) → RwGood K levels (after s r a (record { view = rw_view t c q; events = []; waits = w }))
   marks_on s r t c p q a w o g has mp mq row behind counters lonely bs =
@@ -141,7 +141,7 @@ module _ (K : Shared) (levels : ℕ) (F : TreeFacts K.rooted levels) (d : IsSoun
       bs lonely
 
   -- One that ends its task: the tree goes on in the same act.
-  pub marks_end : (s : LockState RwView) (r : ℕ) (t : TreeView) (c : ℕ) (p : Doing) (a : Act) (o : Bool) → RwGood K levels s → slice_get s.views r ≡ Some (rw_view t c p) → IsMark p → opens t.phase ≡ o → (of_tree K ≤ word_of a) →
+  pub marks_end : (s : LockState RwView) (r : ℕ) (t : TreeView) (c : ℕ) (p : Doing) (a : Act) (o : Bool) → RwGood K levels s → slice_get s.views r ≡ Some (rw_view t c p) → IsMark p → opens t.phase ≡ o → (behind_tree K ≤ word_of a) →
       AllCounters K (there s.words a) (slice_set (doings s.views) r Nothing) (mark_by o Nothing) →
       AllBatched K (after s r a (after_hook K (rw_view t c p))) → RwGood K levels (after s r a (after_hook K (rw_view t c p)))
   marks_end s r t c p a o g has mp opened behind counters bs =
@@ -149,7 +149,7 @@ module _ (K : Shared) (levels : ℕ) (F : TreeFacts K.rooted levels) (d : IsSoun
       let R = resumed_in K.rooted t in
       let x : RwView = rw_view (resumed_in K.rooted t).view c Nothing in
       let hook : at_hook t ≡ true = marks_hook (groups K) p t mp (g.place r v has) in
-      let long : of_tree K ≤ length (there s.words a) = let e = length-set s.words (word_of a) (written a (found s a)) in let f = tree_long K levels F d s g in omega arith in
+      let long : behind_tree K ≤ length (there s.words a) = let e = length-set s.words (word_of a) (written a (found s a)) in let f = tree_long K levels F d s g in omega arith in
       let went = F.resumes g.inside (there s.words a) (trees s.views) s.trace r t
       (record { long = long; all = all_trees K levels F d s g; is_good = F.beyond g.inside s.words (trees s.views) s.trace (word_of a) (written a (found s a)) behind g.tree; has = as_tree K levels F d s r v has }) hook in
       stays K levels s (after s r a (after_hook K (rw_view t c p))) r v x g has (length-set s.words (word_of a) (written a (found s a))) refl refl refl (F.unhooks t hook)

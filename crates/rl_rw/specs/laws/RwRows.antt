@@ -21,7 +21,7 @@ use Rattle.rl_counter.specs.declared.view.Doing.{Doing}
 use Rattle.rl_counter.specs.declared.view.Doing.TheVariants.{Nothing, Put, Count, Compare, TakeOut, TakeOff}
 use Rattle.rl_counter.specs.CounterGood.{GroupGood, IsMark, mark_by}
 use Rattle.rl_rw.specs.declared.view.RwView.{RwView}
-use Rattle.rl_rw.specs.Rw.{Shared, groups, of_tree, counters_of, hooks, mine_of}
+use Rattle.rl_rw.specs.Rw.{Shared, groups, behind_tree, counters_of, hooks, mine_of}
 use Rattle.rl_rw.specs.RwGood.{trees, doings, Place, Moded, Lonely, Hooked, RwGood}
 
 settle_at : (t : TreeView) → t.query ≡ false → t.phase ≡ Settle → at_hook t ≡ true
@@ -108,7 +108,7 @@ module _ (K : Shared) (levels : ℕ) where
       Place (groups K) w.counter.doing w.tree → ((m : Mode) → slice_get u.modes r ≡ Some m → Moded w.counter.doing w.tree m) → ((k : ℕ) → k ≢ r → slice_get u.modes k ≡ slice_get s.modes k) →
       (o : Bool) → GoodAt K.rooted levels o u.words (slice_set (trees s.views) r w.tree) u.trace → (h : Doing) → Hooked (slice_set s.views r w) h →
       ((g : ℕ) → g < groups K → GroupGood (counters_of K) (mine_of K g) g u.words (slice_set (doings s.views) r w.counter.doing) (mark_by o h g)) →
-      ((g : ℕ) → g < groups K → Batched (mine_of K g) (of_tree K + 2 * g) K.readers u.words u.deeds) → (ranks_in K.rooted ≡ 1 → Lonely K u.words w.counter.doing) → RwGood K levels u
+      ((g : ℕ) → g < groups K → Batched (mine_of K g) (behind_tree K + 2 * g) K.readers u.words u.deeds) → (ranks_in K.rooted ≡ 1 → Lonely K u.words w.counter.doing) → RwGood K levels u
   stays s u r v w g has lw ev lm own place moded modes o tree h hooked counters batches lonely =
       record {
         all_words = lw ∙ g.all_words;

@@ -19,7 +19,7 @@ use Rattle.rl_counter.specs.CounterGood.{AreCounted, AreSound}
 use Rattle.rl_counter.specs.CounterStatements.{IsOfGroup}
 use Rattle.rl_counter.specs.Counter.{arrive_word, busy, depart_word}
 use Rattle.rl_rw.specs.declared.view.RwView.{RwView}
-use Rattle.rl_rw.specs.Rw.{Shared, groups, of_tree, counters_of, plan_of, rw_learn, mine_of}
+use Rattle.rl_rw.specs.Rw.{Shared, groups, behind_tree, counters_of, plan_of, rw_learn, mine_of}
 use Rattle.rl_rw.specs.laws.RwEnters.{rw_fits}
 
 -- what is asked of the numbers: a budget for the root, few readers, few ranks, groups of one rank at least, few elements, and ranks
@@ -58,16 +58,16 @@ groups_low n g few some = by (nat_lt 32 ((n + g - 1) / g)) refl where
       let much : suc 32 * g ≤ n + g - 1 = (le-div_iff_mul-le some).0 many in absurd (omega arith)
   by false e = grind (arith, nat_tests)
 
-pub arrive_is : (K : Shared) (g : ℕ) → g < groups K → arrive_word (counters_of K) g ≡ of_tree K + 2 * g
-arrive_is K g lt = every_second_at (of_tree K) (groups K) g lt
+pub arrive_is : (K : Shared) (g : ℕ) → g < groups K → arrive_word (counters_of K) g ≡ behind_tree K + 2 * g
+arrive_is K g lt = every_second_at (behind_tree K) (groups K) g lt
 
-pub depart_is : (K : Shared) (g : ℕ) → g < groups K → depart_word (counters_of K) g ≡ of_tree K + 1 + 2 * g
-depart_is K g lt = every_second_at (of_tree K + 1) (groups K) g lt
+pub depart_is : (K : Shared) (g : ℕ) → g < groups K → depart_word (counters_of K) g ≡ behind_tree K + 1 + 2 * g
+depart_is K g lt = every_second_at (behind_tree K + 1) (groups K) g lt
 
-pub are_counted : (K : Shared) (size : ℕ) → size ≡ of_tree K + 2 * groups K → AreCounted (counters_of K) (groups K) size
+pub are_counted : (K : Shared) (size : ℕ) → size ≡ behind_tree K + 2 * groups K → AreCounted (counters_of K) (groups K) size
 are_counted K size e =
     record {
-      many = length-every_second (of_tree K) (groups K);
+      many = length-every_second (behind_tree K) (groups K);
       arrive_there = λ g l. let a = arrive_is K g l in omega arith;
       depart_there = λ g l. let a = depart_is K g l in omega arith;
       arrive_once = λ g h l m q. let a = arrive_is K g l in let b = arrive_is K h m in omega arith;
@@ -79,27 +79,27 @@ pub self_mine : (K : Shared) (r : ℕ) → mine_of K (r / K.group) r ≡ true
 self_mine K r = ⊎_elim (λ q. q.0) (λ q. absurd (q.1 refl)) (eqb_tells (r / K.group) (r / K.group))
 
 -- an act of the tree leaves all counters
-pub tree_word_apart : (K : Shared) (g w : ℕ) → g < groups K → w < of_tree K → (w ≢ arrive_word (counters_of K) g) × (w ≢ depart_word (counters_of K) g)
+pub tree_word_apart : (K : Shared) (g w : ℕ) → g < groups K → w < behind_tree K → (w ≢ arrive_word (counters_of K) g) × (w ≢ depart_word (counters_of K) g)
 tree_word_apart K g w lt low = (λ e. let a = arrive_is K g lt in absurd (omega arith), λ e. let a = depart_is K g lt in absurd (omega arith))
 
 module _ (K : Shared) (d : IsSound K) where
   -- the counters have their words, and a rank is of its own group alone
-  pub are_sound : (ws : List ℕ) (ps : List Doing) → length ws ≡ of_tree K + 2 * groups K → length ps ≤ 32 → AreSound (counters_of K) (groups K) ws ps
+  pub are_sound : (ws : List ℕ) (ps : List Doing) → length ws ≡ behind_tree K + 2 * groups K → length ps ≤ 32 → AreSound (counters_of K) (groups K) ws ps
   are_sound ws ps long le = record { few = d.few; seats = le; counted = are_counted K (length ws) long }
 
   pub of_group : (r : ℕ) → IsOfGroup (mine_of K) r (r / K.group)
   of_group r = record { mine_is = self_mine K r; alone = λ h e. sym (eqb_means (r / K.group) h e) }
 
   -- Each act keeps the batches bounded.
-  pub batches_keep : (ws : List ℕ) (ds : List Deed) (r : ℕ) (v : RwView) (a : Act) → length ws ≡ of_tree K + 2 * groups K → v.tree.rank ≡ r → v.counter.counter ≡ r / K.group → plan_of K v (busy v.counter.doing) ≡ Some a → ((word_of a < of_tree K) ⊎ ((x : ℕ) → told a x ≡ x)) →
-      ((g : ℕ) → g < groups K → Batched (mine_of K g) (of_tree K + 2 * g) K.readers ws ds) → (g : ℕ) → g < groups K →
-      Batched (mine_of K g) (of_tree K + 2 * g) K.readers (slice_set ws (word_of a) (written a (slice_index ws (word_of a))))
+  pub batches_keep : (ws : List ℕ) (ds : List Deed) (r : ℕ) (v : RwView) (a : Act) → length ws ≡ behind_tree K + 2 * groups K → v.tree.rank ≡ r → v.counter.counter ≡ r / K.group → plan_of K v (busy v.counter.doing) ≡ Some a → ((word_of a < behind_tree K) ⊎ ((x : ℕ) → told a x ≡ x)) →
+      ((g : ℕ) → g < groups K → Batched (mine_of K g) (behind_tree K + 2 * g) K.readers ws ds) → (g : ℕ) → g < groups K →
+      Batched (mine_of K g) (behind_tree K + 2 * g) K.readers (slice_set ws (word_of a) (written a (slice_index ws (word_of a))))
       (ds ++ record { rank = r; act = a; got = told a (slice_index ws (word_of a)); events = (rw_learn K v (busy v.counter.doing) (told a (slice_index ws (word_of a)))).events } ∷ [])
   batches_keep ws ds r v a long name own pl tells all g lt =
       let x : ℕ = slice_index ws (word_of a) in
       let es : List Event = (rw_learn K v (busy v.counter.doing) (told a (slice_index ws (word_of a)))).events in
       let fits : MayEnter (mine_of K g) (arrive_word (counters_of K) g) K.readers a (told a x) es =
       rw_fits (mine_of K g) K v (busy v.counter.doing) g a (told a x) (λ e. own ∙ eqb_means (r / K.group) g (subst (λ z. mine_of K g z ≡ true) name e)) refl pl in
-      act_batches (mine_of K g) (of_tree K + 2 * g) K.readers ws ds r a es (omega arith) (all g lt)
+      act_batches (mine_of K g) (behind_tree K + 2 * g) K.readers ws ds r a es (omega arith) (all g lt)
       (λ e. ⊎_elim (λ low. absurd (omega arith)) (λ f. f x) tells)
       (⊎_elim inl (λ z. inr (z.0 ∙ ap (λ y. CardAdd y 1) (arrive_is K g lt), subst (λ y. y < K.readers) (ap (λ y. told y x) z.0) z.1, z.2)) fits)

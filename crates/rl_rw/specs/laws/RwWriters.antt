@@ -14,7 +14,7 @@ use Rattle.rl_tree.specs.TreeShape.{IsWellShaped}
 use Rattle.rl_tree.specs.laws.TreeStandings.{above_is}
 use Rattle.rl_counter.specs.declared.view.Doing.{Doing}
 use Rattle.rl_counter.specs.declared.view.Doing.TheVariants.{Nothing, Put, Count, Compare, TakeOut, TakeOff}
-use Rattle.rl_counter.specs.Counter.{Turn, arrive_word, depart_word, counter_turn, off, to}
+use Rattle.rl_counter.specs.Counter.{CounterTurn, arrive_word, depart_word, counter_turn, off, to}
 use Rattle.rl_counter.specs.CounterGood.{IsMark, Up, Clear as ClearMark, mark_by}
 use Rattle.rl_rw.specs.declared.view.RwView.{RwView}
 use Rattle.rl_rw.specs.Rw.{Shared, groups, counters_of, rw_view, from_counter}
@@ -37,7 +37,7 @@ module _ (K : Shared) (n : ℕ) (F : TreeFacts K.rooted n) (d : IsSound K) (S : 
   G = groups K
 
   -- what a rank at the marks has before it where its turn is this, and its words are these
-  abbrev Nearer : List ℕ → List ℕ → RwView → Doing → Turn → Type 0
+  abbrev Nearer : List ℕ → List ℕ → RwView → Doing → CounterTurn → Type 0
   Nearer ws us v p u = rw_far K n (from_counter K v p u.doing u.waits).view + fulls K us (groups K) < rw_far K n v + fulls K ws (groups K)
 
   put_goes : (s : LockState RwView) (r : ℕ) (t : TreeView) (c i : ℕ) → RwGood K n s → slice_get s.views r ≡ Some (rw_view t c (Put i)) → Going s r

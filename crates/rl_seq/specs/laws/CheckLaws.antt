@@ -29,7 +29,7 @@ use Rattle.rl_seq.specs.laws.OutcomeLaws.{IsReadOff, read_entry, reads_off}
 use Rattle.rl_seq.specs.laws.RestLaws.{read_joins}
 use Rattle.rl_seq.specs.Site.{SeqSite, front, version_in}
 use Rattle.rl_seq.specs.SeqGood.{SeqRank, SeqGood, IsGetting, IsReadingOut, as_locked, is_between}
-use Rattle.rl_seq.specs.SeqWork.{at_stage, checked_by}
+use Rattle.rl_seq.specs.SeqWork.{seq_at_stage, checked_by}
 
 -- a get is no update
 pub no_update : (c : Call) → reads c ≡ true → is_update c ≡ false
@@ -51,7 +51,7 @@ get_alone (c ∷ cs) a e = (c, one cs (a.alone (no_update c e)), e) where
 module _ (at : SeqSite) (words : List ℕ) (low : lock_base at.site ≤ at.behind) (size : length words ≡ at.behind + 1) (sides : List SeqRank) (g : SeqGood at words sides) (r : ℕ) (x : SeqRank) (has : slice_get sides r ≡ Some x) where
   module _ (version count : ℕ) (e : x.work.stage ≡ stage.Again version count) (f : IsReadingOut at.site (front at words) (version_in at words) r x.standing x.work.work version count None) where
     -- the version is the one found: the get is done
-    gets : version_in at words ≡ version → SeqGood at words (slice_set sides r (record { standing = standing_done x.standing; work = at_stage (seen_on at.site.geom at.site.shard r x.work.work count).work stage.Locked }))
+    gets : version_in at words ≡ version → SeqGood at words (slice_set sides r (record { standing = standing_done x.standing; work = seq_at_stage (seen_on at.site.geom at.site.shard r x.work.work count).work stage.Locked }))
     gets same =
         let w : TheWork = x.work.work in
         let q : IsGetting at.site r x.standing w = f.getting in
@@ -74,13 +74,13 @@ module _ (at : SeqSite) (words : List ℕ) (low : lock_base at.site ≤ at.behin
         let long : length w.calls ≡ 1 = ap length calls in
         let own : IsOwn at.site.shard r entry = record { shard_is = refl; rank_is = refl; small = let few = o.small in omega arith } in
         let done : IsDone (standing_done x.standing) = subst (λ z. IsDone (standing_done z)) (sym q.out) tt in
-        stays at words low size sides g r x has (ap is_between e) (record { standing = standing_done x.standing; work = at_stage t.work stage.Locked })
+        stays at words low size sides g r x has (ap is_between e) (record { standing = standing_done x.standing; work = seq_at_stage t.work stage.Locked })
         (read_joins at.site (front at words) (map as_locked sides) g.locked r (record { standing = x.standing; work = at_work_stage w Rest }) (locked_there at words sides g r x has (stage.Again version count) e)
         (record { standing = standing_done x.standing; work = t.work }) entry off.rests done refl off.same_room off.items own (no_update c a.2) o.fresh found decided.1)
         (ap stores off.rests, λ b. let no : has_work t.work.stage ≡ false = ap has_work off.rests in absurd (cc))
 
     -- it is another: the get begins anew
-    loses : SeqGood at words (slice_set sides r (record { standing = x.standing; work = at_stage (with_seen x.work.work []) stage.Look }))
+    loses : SeqGood at words (slice_set sides r (record { standing = x.standing; work = seq_at_stage (with_seen x.work.work []) stage.Look }))
     loses =
         let q : IsGetting at.site r x.standing x.work.work = f.getting in
         getting_on at words low size sides g r x has (ap is_between e) (locked_there at words sides g r x has (stage.Again version count) e) q.out (with_seen x.work.work []) stage.Look refl refl refl

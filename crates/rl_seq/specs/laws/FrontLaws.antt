@@ -5,7 +5,7 @@ use Rattle.std.proofs.lemmas.List.{take-set-le, get_or-take, length-take-le}
 use Rattle.rl_word.specs.declared.acts.Atom.{Atom}
 use Rattle.rl_word.specs.declared.acts.Atom.TheVariants as atom
 use Rattle.rl_step.specs.Do.{CanDo, do_got, do_words}
-use Rattle.rl_work.specs.EndLaws.{IsPlain}
+use Rattle.rl_work.specs.PlainWork.{IsPlain}
 use Rattle.rl_site.specs.Site.{lock_base}
 use Rattle.rl_seq.specs.Site.{SeqSite, front, version_in}
 

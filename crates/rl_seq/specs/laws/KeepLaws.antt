@@ -27,7 +27,7 @@ use Rattle.rl_seq.specs.laws.FrontLaws.{front_get, version_stored, front_kept}
 use Rattle.rl_seq.specs.laws.RestLaws.{rest_stays}
 use Rattle.rl_seq.specs.Site.{SeqSite, front, version_in}
 use Rattle.rl_seq.specs.SeqGood.{AreWanted, SeqRank, SeqGood, IsQuiet, IsEven, IsGetting, IsReadingOut, HasVersion, StillHas, SeqFits, SeqFitsAt, as_locked, is_between}
-use Rattle.rl_seq.specs.SeqWork.{at_stage, read_by, looked_by}
+use Rattle.rl_seq.specs.SeqWork.{seq_at_stage, read_by, looked_by}
 
 -- a word that a block wants is one of the volume
 pub wanted_there : (geom : Geom) → GeomFits geom → (cs : List Call) (pairs : List (ℕ × ℕ)) (word : ℕ) → wanted_by geom cs pairs ≡ Some word → word < volume_words geom
@@ -113,10 +113,10 @@ module _ (at : SeqSite) (words : List ℕ) (low : lock_base at.site ≤ at.behin
   -- a get goes on at a stage that no other side speaks of
   module _ (calm : is_between x.work.stage ≡ false) (there : slice_get (map as_locked sides) r ≡ Some (record { standing = x.standing; work = at_work_stage x.work.work Rest })) (out : x.standing ≡ Out) where
     pub getting_on : (w : TheWork) (st : SeqStage) → w.transcript ≡ x.work.work.transcript → w.seen.room ≡ x.work.work.seen.room
-        → as_locked (record { standing = x.standing; work = at_stage w st }) ≡ record { standing = x.standing; work = at_work_stage w Rest }
-        → SeqFitsAt at.site (front at words) (version_in at words) r x.standing w st → SeqGood at words (slice_set sides r (record { standing = x.standing; work = at_stage w st }))
+        → as_locked (record { standing = x.standing; work = seq_at_stage w st }) ≡ record { standing = x.standing; work = at_work_stage w Rest }
+        → SeqFitsAt at.site (front at words) (version_in at words) r x.standing w st → SeqGood at words (slice_set sides r (record { standing = x.standing; work = seq_at_stage w st }))
     getting_on w st kept room same here =
-        stays calm (record { standing = x.standing; work = at_stage w st })
+        stays calm (record { standing = x.standing; work = seq_at_stage w st })
         (subst (λ z. WorkGood at.site (front at words) (slice_set (map as_locked sides) r z)) (sym same)
         (rest_stays at.site (front at words) (map as_locked sides) g.locked r (record { standing = x.standing; work = at_work_stage x.work.work Rest }) there
         (record { standing = x.standing; work = at_work_stage w Rest }) refl (subst IsDone (sym out) tt) refl room kept))

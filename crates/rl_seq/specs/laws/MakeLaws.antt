@@ -13,7 +13,7 @@ use Rattle.rl_step.specs.Do.{CanDo, do_got, do_words}
 use Rattle.rl_work.specs.declared.stage.Stage.{Stage}
 use Rattle.rl_work.specs.declared.stage.Stage.TheVariants.{Rest, Begin, Read, Journal, Volume}
 use Rattle.rl_work.specs.laws.AtomLaws.{atom_keeps, atom_can}
-use Rattle.rl_work.specs.EndLaws.{IsPlain}
+use Rattle.rl_work.specs.PlainWork.{IsPlain}
 use Rattle.rl_work.specs.laws.EndLaws.{plain_atom}
 use Rattle.rl_work.specs.Locked.{first_reads}
 use Rattle.rl_site.specs.Site.{count_word, volume_base, lock_base}
@@ -30,7 +30,7 @@ use Rattle.rl_seq.specs.laws.KeepLaws.{stays, looks, counts, reads_word, wanted_
 use Rattle.rl_seq.specs.laws.OutcomeLaws.{Outcome, load_outcome, load_changes}
 use Rattle.rl_seq.specs.Site.{SeqSite, front, version_in}
 use Rattle.rl_seq.specs.SeqGood.{SeqRank, SeqGood, IsSeqApart, SeqFits, as_locked, locked_at, is_between}
-use Rattle.rl_seq.specs.SeqWork.{at_stage, loaded_by, loaded_on, touch_at, seq_stage_atom, seq_stage_after, seq_table}
+use Rattle.rl_seq.specs.SeqWork.{seq_at_stage, loaded_by, loaded_on, seq_touch_at, seq_stage_atom, seq_stage_after, seq_table}
 use Rattle.rl_seq.specs.laws.WriterLaws.{finds, opens_version, closes_version, writes_on}
 
 -- a side with an atom has an open block
@@ -89,13 +89,13 @@ module _ (at : SeqSite) (words : List ℕ) (low : lock_base at.site ≤ at.behin
         subst (λ z. SeqGood at z (slice_set sides r (side_turned x.standing (loaded_on t)))) (sym (load_changes at.site.geom w w.stage a words f.0 planned))
         (elim t.over as (λ b. t.over ≡ b → SeqGood at words (slice_set sides r (side_turned x.standing (loaded_by t.work b (stores t.work.stage))))) [
           | true ↦ λ over.
-              moves (record { standing = standing_done x.standing; work = at_stage t.work stage.Locked }) (gone ∙ done over)
+              moves (record { standing = standing_done x.standing; work = seq_at_stage t.work stage.Locked }) (gone ∙ done over)
               (ap stores (o.rests over), λ b. let no : has_work t.work.stage ≡ false = ap has_work (o.rests over) in absurd (cc))
           | false ↦ λ over.
               let same : record { standing = x.standing; work = t.work } ≡ locked_turned x.standing t = ap (λ b. record { standing = locked_standing b x.standing; work = t.work }) (sym over) in
               elim (stores t.work.stage) as (λ b. stores t.work.stage ≡ b → SeqGood at words (slice_set sides r (side_turned x.standing (loaded_by t.work false b)))) [
-                | true ↦ λ yes. moves (record { standing = x.standing; work = at_stage t.work stage.Decided }) same (o.decided over yes)
-                | false ↦ λ no. moves (record { standing = x.standing; work = at_stage t.work stage.Locked }) same (no, λ b. ap first_reads o.same_calls ∙ f.1 (works_on at w w.stage a planned))
+                | true ↦ λ yes. moves (record { standing = x.standing; work = seq_at_stage t.work stage.Decided }) same (o.decided over yes)
+                | false ↦ λ no. moves (record { standing = x.standing; work = seq_at_stage t.work stage.Locked }) same (no, λ b. ap first_reads o.same_calls ∙ f.1 (works_on at w w.stage a planned))
               ] refl
         ] refl)
       where
@@ -165,14 +165,14 @@ module _ (at : SeqSite) (words : List ℕ) (low : lock_base at.site ≤ at.behin
       by_stage (stage.Close v) e p = version (atom.Store at.behind (v + 2)) (record { there = omega arith; place = inr (omega arith) }) p
 
     -- an atom that is told as a touch is on a word before the lock's
-    pub fronts_at : (a : Atom) → seq_stage_atom at x.work.work x.work.stage ≡ Some a → touch_at x.work.work x.work.stage ≢ None → IsFrontAtom (lock_base at.site) a
+    pub fronts_at : (a : Atom) → seq_stage_atom at x.work.work x.work.stage ≡ Some a → seq_touch_at x.work.work x.work.stage ≢ None → IsFrontAtom (lock_base at.site) a
     fronts_at a planned told = by_stage x.work.stage refl planned told where
       inside : (st : SeqStage) → x.work.stage ≡ st → locked_at x.standing x.work.work st ≡ record { standing = x.standing; work = x.work.work } → work_atom at.site.geom x.work.work ≡ Some a → IsFrontAtom (lock_base at.site) a
       inside st e same p =
           front_names (lock_base at.site) r (home_at (λ z. 0) a) a words [] (plain_atom at.site.geom x.work.work x.work.work.stage a p)
           (atom_can at.site (front at words) (map as_locked sides) g.locked r (record { standing = x.standing; work = x.work.work }) (locked_there at words sides g r x has st e ∙ ap Some same) a (λ z. 0) [] p)
 
-      by_stage : (st : SeqStage) → x.work.stage ≡ st → seq_stage_atom at x.work.work st ≡ Some a → touch_at x.work.work st ≢ None → IsFrontAtom (lock_base at.site) a
+      by_stage : (st : SeqStage) → x.work.stage ≡ st → seq_stage_atom at x.work.work st ≡ Some a → seq_touch_at x.work.work st ≢ None → IsFrontAtom (lock_base at.site) a
       by_stage stage.Locked e p told = inside stage.Locked e refl p
       by_stage stage.Look e p told = absurd (told refl)
       by_stage (stage.Count v) e p told = absurd (told refl)

@@ -21,7 +21,7 @@ use Rattle.rl_work.specs.declared.stage.Stage.TheVariants.{Rest, Begin, Read, Jo
 use Rattle.rl_work.specs.Ways.{Worked}
 use Rattle.rl_work.specs.Work.{TheWork, WorkTurned, stage_atom, stage_after, to_stage, with_seen, with_stop, with_call, block_close_by, block_close, stops_block, read_next, read_on, left_of, seen_on, written_on, has_work, stores}
 use Rattle.rl_seq.specs.declared.stage.SeqStage.TheVariants as stage
-use Rattle.rl_seq.specs.Site.{SeqSite, version_word}
+use Rattle.rl_seq.specs.Site.{SeqSite, seq_version_word}
 use Rattle.rl_seq.specs.SeqWork.{TheSeqWork, checked_by, goes_to, is_over, loaded_by, looked_by, lost, read_by, stored_by, waits}
 
 -- the block's calls stay; it is over at rest, and goes on to write from the first word of the journal
@@ -133,7 +133,7 @@ module _ (P : Worked TheSeqWork → Type 0) where
   stored_each version w true closes goes = closes
   stored_each version w false closes goes = goes
 
-  pub looked_each : (at : SeqSite) (w : TheWork) (got : ℕ) (even : Bool) → P (goes_to w (stage.Count got)) → P (waits w (version_word at) got) → P (looked_by at w got even)
+  pub looked_each : (at : SeqSite) (w : TheWork) (got : ℕ) (even : Bool) → P (goes_to w (stage.Count got)) → P (waits w (seq_version_word at) got) → P (looked_by at w got even)
   looked_each at w got true finds waits = finds
   looked_each at w got false finds waits = waits
 

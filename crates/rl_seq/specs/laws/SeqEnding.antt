@@ -41,7 +41,7 @@ use Rattle.rl_seq.specs.laws.OutcomeLaws.{load_outcome, reads_off, read_each}
 use Rattle.rl_seq.specs.SeqCode.{CanTurnAt}
 use Rattle.rl_seq.specs.SeqGood.{SeqRank, SeqGood, IsGetting, IsReadingOut}
 use Rattle.rl_seq.specs.SeqLeft.{open_far, far_in, far, anew, near_in, near, most_near, seq_left, seq_most}
-use Rattle.rl_seq.specs.SeqWork.{TheSeqWork, at_stage, seq_block, stage_of, seq_stage_atom, seq_stage_after, seq_after, is_over, loaded_by, stored_by, looked_by, checked_by, seq_table}
+use Rattle.rl_seq.specs.SeqWork.{TheSeqWork, seq_at_stage, seq_block, stage_of, seq_stage_atom, seq_stage_after, seq_after, is_over, loaded_by, stored_by, looked_by, checked_by, seq_table}
 use Rattle.rl_seq.specs.Site.{SeqSite, version_in, front}
 use Rattle.rl_seq.specs.laws.StateLaws as state
 use Rattle.rl_seq.specs.laws.VersionLaws.{writers_odd}
@@ -196,7 +196,7 @@ module _ (at : SeqSite) (home : ℕ) where
         let hit : (now % 2 == 0) ≡ true = grind (arith, nat_tests) in
         let none = same_anew V now in
         subst (λ b. seq_left at words (slice_set (works_in sides) r (looked_by at w now b).work) < seq_left at words (works_in sides)) (sym hit)
-        (tries stage.Look e (at_stage w (stage.Count now)) refl (omega arith))
+        (tries stage.Look e (seq_at_stage w (stage.Count now)) refl (omega arith))
 
     reads_word : (version count word got : ℕ) → x.work.stage ≡ stage.Read version count word → words_unseen V (with_word w word got).seen.pairs + 1 ≤ words_unseen V w.seen.pairs
     reads_word version count word got e =
@@ -213,8 +213,8 @@ module _ (at : SeqSite) (home : ℕ) where
         let c = get_alone w.calls o.is_block q.get in
         let off = reads_off at.site.geom at.site.shard r count w c.0 c.1 q.no_reply c.2 (ap (λ cs. wanted_by at.site.geom cs w.seen.pairs) (sym c.1) ∙ f.wants) in
         let none = over_none V (seen_on at.site.geom at.site.shard r w count).work off.rests in
-        farther (stage.Again version count) e words (at_stage (seen_on at.site.geom at.site.shard r w count).work stage.Locked) (omega arith)
-    checks version count e false is = let k = other_anew V now version is in tries (stage.Again version count) e (at_stage (with_seen w []) stage.Look) refl (omega arith)
+        farther (stage.Again version count) e words (seq_at_stage (seen_on at.site.geom at.site.shard r w count).work stage.Locked) (omega arith)
+    checks version count e false is = let k = other_anew V now version is in tries (stage.Again version count) e (seq_at_stage (with_seen w []) stage.Look) refl (omega arith)
 
     by_stage : (st : SeqStage) → x.work.stage ≡ st → seq_stage_atom at w st ≡ Some a → IsLess st
     by_stage stage.Locked e p =
@@ -225,15 +225,15 @@ module _ (at : SeqSite) (home : ℕ) where
         farther stage.Locked e (do_words a words) (seq_stage_after at r w (do_got a words cards) stage.Locked).work (omega arith)
     by_stage stage.Look e p = loads _ stage.Look p (looks e)
     by_stage (stage.Count version) e p = loads _ (stage.Count version) p (read_each (λ t. seq_left at words (slice_set (works_in sides) r t.work) < seq_left at words (works_in sides)) w version _ (wanted at.site.geom w)
-        (λ word. let u = few_words_unseen V w.seen.pairs in tries (stage.Count version) e (at_stage w (stage.Read version _ word)) refl (omega arith))
-        (tries (stage.Count version) e (at_stage w (stage.Again version _)) refl (omega arith)))
+        (λ word. let u = few_words_unseen V w.seen.pairs in tries (stage.Count version) e (seq_at_stage w (stage.Read version _ word)) refl (omega arith))
+        (tries (stage.Count version) e (seq_at_stage w (stage.Again version _)) refl (omega arith)))
     by_stage (stage.Read version count word) e p = loads _ (stage.Read version count word) p
         (let got : ℕ = slice_index words (volume_base + word) in
         let y : TheWork = with_word w word got in
         let fall : words_unseen V y.seen.pairs + 1 ≤ words_unseen V w.seen.pairs = reads_word version count word got e in
         read_each (λ t. seq_left at words (slice_set (works_in sides) r t.work) < seq_left at words (works_in sides)) y version count (wanted at.site.geom y)
-        (λ next. tries (stage.Read version count word) e (at_stage y (stage.Read version count next)) refl (omega arith))
-        (tries (stage.Read version count word) e (at_stage y (stage.Again version count)) refl (omega arith)))
+        (λ next. tries (stage.Read version count word) e (seq_at_stage y (stage.Read version count next)) refl (omega arith))
+        (tries (stage.Read version count word) e (seq_at_stage y (stage.Again version count)) refl (omega arith)))
     by_stage (stage.Again version count) e p = loads _ (stage.Again version count) p (checks version count e (now == version) refl)
     by_stage stage.Decided e p = farther stage.Decided e (do_words a words) _ (omega arith)
     by_stage (stage.Open version) e p = farther (stage.Open version) e (do_words a words) _ (omega arith)
@@ -244,12 +244,12 @@ module _ (at : SeqSite) (home : ℕ) where
     by_stage (stage.Close version) e p =
         let f = fit_at at words sides g r x m.side.there (stage.Close version) e in
         let none = over_none V w f.0 in
-        farther (stage.Close version) e (do_words a words) (at_stage w stage.Locked) (omega arith)
+        farther (stage.Close version) e (do_words a words) (seq_at_stage w stage.Locked) (omega arith)
 
     atom_less : seq_left at (do_words a words) (slice_set (works_in sides) r (seq_after at r x.work (do_got a words cards)).work) < seq_left at words (works_in sides)
     atom_less = by_stage x.work.stage refl m.planned
 
-  opened_far : (w : TheWork) (calls : List Call) (seq : ℕ) (b : Bool) → length calls ≤ 8 → far V (at_stage (with_block w calls seq) (stage_of b)) ≤ V + 97
+  opened_far : (w : TheWork) (calls : List Call) (seq : ℕ) (b : Bool) → length calls ≤ 8 → far V (seq_at_stage (with_block w calls seq) (stage_of b)) ≤ V + 97
   opened_far w calls seq true few = omega arith
   opened_far w calls seq false few = omega arith
 

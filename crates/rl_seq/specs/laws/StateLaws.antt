@@ -33,7 +33,7 @@ use Rattle.rl_seq.specs.laws.KeepLaws.{stays}
 use Rattle.rl_seq.specs.laws.RestLaws.{rest_stays}
 use Rattle.rl_seq.specs.Site.{SeqSite, front, version_in}
 use Rattle.rl_seq.specs.SeqGood.{SeqRank, SeqGood, IsEven, SeqFits, SeqFitsAt, as_locked, locked_at, is_between}
-use Rattle.rl_seq.specs.SeqWork.{TheSeqWork, at_stage, first_seq, asks, asks_by, stage_of, seq_block, is_open, is_open_at, ended_at, seq_table}
+use Rattle.rl_seq.specs.SeqWork.{TheSeqWork, seq_at_stage, first_seq, asks, asks_by, stage_of, seq_block, seq_is_open, is_open_at, ended_at, seq_table}
 
 -- the transcript of a side is that of the work inside the lock
 same_items : (x : SeqRank) → (as_locked x).work.transcript.items ≡ x.work.work.transcript.items
@@ -117,19 +117,19 @@ module _ (at : SeqSite) (home : ℕ) where
     g = s.is_good
 
     opens_by : (calls : List Call) (seq : ℕ) → x.standing ≡ Out → x.work.stage ≡ stage.Locked → IsOpen at.site r calls seq x.work.work.transcript → (b : Bool) → first_reads calls ≡ b
-        → SeqGood at words (slice_set sides r (record { standing = opened_standing (asks_by b); work = at_stage (with_block x.work.work calls seq) (stage_of b) }))
+        → SeqGood at words (slice_set sides r (record { standing = opened_standing (asks_by b); work = seq_at_stage (with_block x.work.work calls seq) (stage_of b) }))
     opens_by calls seq out e new true get =
         let f = fit_at at words sides g r x s.there stage.Locked e in
-        stays at words low size sides g r x s.there (ap is_between e) (record { standing = Out; work = at_stage (with_block x.work.work calls seq) stage.Look })
+        stays at words low size sides g r x s.there (ap is_between e) (record { standing = Out; work = seq_at_stage (with_block x.work.work calls seq) stage.Look })
         (rest_stays at.site (front at words) (map as_locked sides) g.locked r (record { standing = x.standing; work = x.work.work }) (locked_there at words sides g r x s.there stage.Locked e)
         (record { standing = Out; work = at_work_stage (with_block x.work.work calls seq) Rest }) refl tt (no_store x.work.work.stage f.0) refl refl)
         (record { open_call = new; get = get; out = refl; no_reply = refl }, refl)
     opens_by calls seq out e new false get =
-        stays at words low size sides g r x s.there (ap is_between e) (record { standing = Asking; work = at_stage (with_block x.work.work calls seq) stage.Locked })
+        stays at words low size sides g r x s.there (ap is_between e) (record { standing = Asking; work = seq_at_stage (with_block x.work.work calls seq) stage.Locked })
         (open_keeps at.site (front at words) (map as_locked sides) g.locked r (record { standing = x.standing; work = x.work.work }) (locked_there at words sides g r x s.there stage.Locked e) calls seq out new)
         (refl, λ b. get)
 
-    pub opens : (calls : List Call) (seq : ℕ) → x.standing ≡ Out → is_open x.work ≡ false → IsOpen at.site r calls seq x.work.work.transcript
+    pub opens : (calls : List Call) (seq : ℕ) → x.standing ≡ Out → seq_is_open x.work ≡ false → IsOpen at.site r calls seq x.work.work.transcript
         → SeqGood at words (slice_set sides r (record { standing = opened_standing (asks calls); work = seq_block x.work calls seq }))
     opens calls seq out closed new = opens_by calls seq out (closed_at x.work.work x.work.stage closed).0 new (first_reads calls) refl
 
@@ -146,8 +146,8 @@ module _ (at : SeqSite) (home : ℕ) where
 
       by_stage : (st : SeqStage) → x.work.stage ≡ st → SeqGood at words (slice_set sides r (record { standing = standing; work = x.work }))
       by_stage stage.Locked e =
-          subst (λ z. SeqGood at words (slice_set sides r (record { standing = standing; work = at_stage x.work.work z }))) (sym e)
-          (stays at words low size sides g r x s.there (ap is_between e) (record { standing = standing; work = at_stage x.work.work stage.Locked })
+          subst (λ z. SeqGood at words (slice_set sides r (record { standing = standing; work = seq_at_stage x.work.work z }))) (sym e)
+          (stays at words low size sides g r x s.there (ap is_between e) (record { standing = standing; work = seq_at_stage x.work.work stage.Locked })
           (shift_keeps at.site (front at words) (map as_locked sides) g.locked r (record { standing = x.standing; work = x.work.work }) (locked_there at words sides g r x s.there stage.Locked e) standing events shift)
           (fit_at at words sides g r x s.there stage.Locked e))
       by_stage stage.Look e = absurd (never_out (fit_at at words sides g r x s.there stage.Look e).0.out)
@@ -160,16 +160,16 @@ module _ (at : SeqSite) (home : ℕ) where
       by_stage (stage.Close v) e = absurd (decided (stage.Close v) e refl)
 
     -- what changes with the opening
-    opened_by : (calls : List Call) (seq : ℕ) → x.work.stage ≡ stage.Locked → (b : Bool) → let y : TheSeqWork = at_stage (with_block x.work.work calls seq) (stage_of b) in
-        (look T words r y ≡ opened_look (look T words r x.work) calls seq) × (is_open y ≡ true) × (T.ended y ≡ T.ended x.work) × (mode.Write ≡ opened_mode (asks_by b) mode.Write)
+    opened_by : (calls : List Call) (seq : ℕ) → x.work.stage ≡ stage.Locked → (b : Bool) → let y : TheSeqWork = seq_at_stage (with_block x.work.work calls seq) (stage_of b) in
+        (look T words r y ≡ opened_look (look T words r x.work) calls seq) × (seq_is_open y ≡ true) × (T.ended y ≡ T.ended x.work) × (mode.Write ≡ opened_mode (asks_by b) mode.Write)
     opened_by calls seq e true = (refl, refl, ap (ended_at x.work.work) (sym e), refl)
     opened_by calls seq e false = (refl, refl, ap (ended_at x.work.work) (sym e), refl)
 
-    pub opened : (calls : List Call) (seq : ℕ) → is_open x.work ≡ false → let y : TheSeqWork = seq_block x.work calls seq in
-        (look T words r y ≡ opened_look (look T words r x.work) calls seq) × (is_open y ≡ true) × (T.ended y ≡ T.ended x.work) × (mode.Write ≡ opened_mode (asks calls) mode.Write)
+    pub opened : (calls : List Call) (seq : ℕ) → seq_is_open x.work ≡ false → let y : TheSeqWork = seq_block x.work calls seq in
+        (look T words r y ≡ opened_look (look T words r x.work) calls seq) × (seq_is_open y ≡ true) × (T.ended y ≡ T.ended x.work) × (mode.Write ≡ opened_mode (asks calls) mode.Write)
     opened calls seq closed = opened_by calls seq (closed_at x.work.work x.work.stage closed).0 (first_reads calls)
 
-    pub all_ended : is_open x.work ≡ false → T.ended x.work ≡ x.work.work.transcript.items
+    pub all_ended : seq_is_open x.work ≡ false → T.ended x.work ≡ x.work.work.transcript.items
     all_ended closed = ap (ended_at x.work.work) (closed_at x.work.work x.work.stage closed).0
 
     pub own : IsOwnTranscript at.site r x.work.work.transcript.items
@@ -193,7 +193,7 @@ module _ (at : SeqSite) (home : ℕ) where
     pub short : length (journal_by at.site words) ≤ places at.site
     short = let few = journal_short at.site (front at words) (map as_locked sides) g.locked in let same = ap length (journal_is at.site (front at words) (map as_locked sides) g.locked) in omega arith
 
-    pub volume : ((r : ℕ) (x : SeqRank) → slice_get sides r ≡ Some x → is_open x.work ≡ false) → IsVolume at.site.geom at.site.shard (volume_of at.site.geom (front at words)) (table_after at.site.geom finite.empty (journal_by at.site words))
+    pub volume : ((r : ℕ) (x : SeqRank) → slice_get sides r ≡ Some x → seq_is_open x.work ≡ false) → IsVolume at.site.geom at.site.shard (volume_of at.site.geom (front at words)) (table_after at.site.geom finite.empty (journal_by at.site words))
     volume closed =
         let same : volume_of at.site.geom (front at words) ≡ g.locked.before = g.locked.still calm in
         subst (λ j. IsVolume at.site.geom at.site.shard (volume_of at.site.geom (front at words)) (table_after at.site.geom finite.empty j)) (sym (journal_is at.site (front at words) (map as_locked sides) g.locked))

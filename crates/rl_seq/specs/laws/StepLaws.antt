@@ -20,11 +20,11 @@ use Rattle.rl_step.specs.declared.events.Stepped.TheVariants.{Moved}
 use Rattle.rl_step.specs.Lock.{IsHolder, Suits}
 use Rattle.rl_step.specs.Do.{do_got}
 use Rattle.rl_volume.specs.Seen.{next_word}
-use Rattle.rl_journal.specs.Blocks.{batch_of, calls_of, is_tenure}
+use Rattle.rl_journal.specs.Blocks.{batch_number, calls_of, is_tenure}
 use Rattle.rl_work.specs.declared.stage.Stage.{Stage}
 use Rattle.rl_work.specs.declared.stage.Stage.TheVariants.{Rest, Begin, Read, Journal, Volume}
 use Rattle.rl_work.specs.laws.AtomLaws.{few_replies, entry_calls, holder_asks}
-use Rattle.rl_work.specs.EndLaws.{Rises}
+use Rattle.rl_work.specs.PlainWork.{Rises}
 use Rattle.rl_work.specs.laws.EndLaws.{tells_rise, Ends, EndsBy, turn_ends}
 use Rattle.rl_work.specs.Locked.{first_reads}
 use Rattle.rl_work.specs.laws.LockedLaws.{locked_laws, work_tells}
@@ -44,7 +44,7 @@ use Rattle.rl_seq.specs.laws.FrontLaws.{front_long}
 use Rattle.rl_seq.specs.laws.OutcomeLaws.{Outcome, load_outcome, StoreOutcome, store_outcome, IsReadOff, reads_off, read_entry, IsMoved, loaded_each, stored_each, looked_each, read_each, checked_each}
 use Rattle.rl_seq.specs.Site.{SeqSite, front, version_in}
 use Rattle.rl_seq.specs.SeqGood.{SeqRank, SeqGood, IsSeqApart, IsQuiet, IsGetting, HasJoined, as_locked, locked_at, is_between}
-use Rattle.rl_seq.specs.SeqWork.{TheSeqWork, at_stage, seq_atom, seq_stage_atom, seq_stage_after, seq_after, loaded_by, stored_by, looked_by, looked_on, checked_by, checked_on, touch_at, is_open, is_open_at, owes, owes_at, ended_at, before_last, seq_table}
+use Rattle.rl_seq.specs.SeqWork.{TheSeqWork, seq_at_stage, seq_atom, seq_stage_atom, seq_stage_after, seq_after, loaded_by, stored_by, looked_by, looked_on, checked_by, checked_on, seq_touch_at, seq_is_open, is_open_at, seq_owes, owes_at, ended_at, before_last, seq_table}
 
 -- a rank whose last ask was to write stands as a writer where it holds
 holds_writing : (shares : Bool) (st : Standing) → Suits shares mode.Write st → IsHolder st → st ≡ Writer
@@ -99,7 +99,7 @@ last_off xs ys = let same : length (xs ++ ys) - length ys ≡ length xs = omega 
 
 -- how a work looks whose calls, numbers and entries these are
 abbrev looks_so : TheWork → Bool → Look
-looks_so w owes = record { calls = w.calls; seq = w.seq; items = w.transcript.items; room = w.transcript.room; owes = owes }
+looks_so w seq_owes = record { calls = w.calls; seq = w.seq; items = w.transcript.items; room = w.transcript.room; owes = seq_owes }
 
 module _ (at : SeqSite) (home : ℕ) where
   abbrev T : WorkTable TheSeqWork
@@ -109,7 +109,7 @@ module _ (at : SeqSite) (home : ℕ) where
   apart_of sides a = record { excludes = a.excludes; no_readers = λ r x get reader. let read : mode.Write ≡ mode.Read = a.reads r x get reader in cc }
 
   abbrev seen : TheSeqWork → Look
-  seen x = looks_so x.work (is_open x && owes x)
+  seen x = looks_so x.work (seq_is_open x && seq_owes x)
 
   module _ (words : List ℕ) (sides : List SeqRank) (r : ℕ) (x : SeqRank) (s : IsSide T (SeqGood at) words sides r x) where
     abbrev w : TheWork
@@ -144,7 +144,7 @@ module _ (at : SeqSite) (home : ℕ) where
     some_store (Journal made) e = refl
     some_store (Volume made) e = refl
 
-    pub goes_on : GoesOnAt x.standing (is_open x.work) (seq_atom at x.work)
+    pub goes_on : GoesOnAt x.standing (seq_is_open x.work) (seq_atom at x.work)
     goes_on = by_stage x.work.stage refl where
       goes_out : (a : Atom) → x.standing ≡ Out → GoesOnAt x.standing true (Some a)
       goes_out a out = subst (λ st. GoesOnAt st true (Some a)) (sym out) refl
@@ -213,9 +213,9 @@ module _ (at : SeqSite) (home : ℕ) where
     abbrev turned : WorkTurned
     turned = work_after at.site.geom at.site.shard r x.work.work (do_got a words cards)
 
-    pub touches : TouchesAs (touch_at x.work.work x.work.stage) x.standing
+    pub touches : TouchesAs (seq_touch_at x.work.work x.work.stage) x.standing
     touches = by_stage x.work.stage refl m.planned where
-      by_stage : (st : SeqStage) → x.work.stage ≡ st → seq_stage_atom at work st ≡ Some a → TouchesAs (touch_at work st) x.standing
+      by_stage : (st : SeqStage) → x.work.stage ≡ st → seq_stage_atom at work st ≡ Some a → TouchesAs (seq_touch_at work st) x.standing
       by_stage stage.Locked e p =
           let none : stores work.stage ≡ false = (fit_at at words sides rule r x m.side.there stage.Locked e).0 in
           subst (λ b. TouchesAs (Some b) x.standing) (sym none) (loads_holding at words (let laid = m.side.laid in laid.low) (let laid = m.side.laid in laid.all) sides rule r x m.side.there m.rests e a p)
@@ -231,7 +231,7 @@ module _ (at : SeqSite) (home : ℕ) where
       by_stage (stage.Close v) e p = tt
 
     -- an atom before the lock's words is told as a touch, or it is a get's
-    pub tells : TellsTouch (lock_base at.site) a x.standing x.work.work.calls (touch_at x.work.work x.work.stage)
+    pub tells : TellsTouch (lock_base at.site) a x.standing x.work.work.calls (seq_touch_at x.work.work x.work.stage)
     tells = by_stage x.work.stage refl m.planned where
       low : lock_base at.site ≤ at.behind
       low = let laid = m.side.laid in laid.low
@@ -251,7 +251,7 @@ module _ (at : SeqSite) (home : ℕ) where
       behind_store : (v : ℕ) → Store at.behind v ≡ a → TellsTouch (lock_base at.site) a x.standing work.calls None
       behind_store v p = subst (λ z. TellsTouch (lock_base at.site) z x.standing work.calls None) p (λ under. absurd (omega arith))
 
-      by_stage : (st : SeqStage) → x.work.stage ≡ st → seq_stage_atom at work st ≡ Some a → TellsTouch (lock_base at.site) a x.standing work.calls (touch_at work st)
+      by_stage : (st : SeqStage) → x.work.stage ≡ st → seq_stage_atom at work st ≡ Some a → TellsTouch (lock_base at.site) a x.standing work.calls (seq_touch_at work st)
       by_stage stage.Locked e p = work_tells at.site.geom work (lock_base at.site) x.standing work.calls work.stage a p
       by_stage stage.Look e p = behind_load (same_Some _ _ p)
       by_stage (stage.Count v) e p = by_get _ (fit_at at words sides rule r x m.side.there (stage.Count v) e).0 (same_Some _ _ p)
@@ -304,11 +304,11 @@ module _ (at : SeqSite) (home : ℕ) where
     abbrev Changes : SeqStage → TheSeqWork → Type 0
     Changes st y = AtomWork at.site.shard r (looks_so work (is_open_at work st && owes_at work st)) (seen y)
 
-    goes : (y : TheSeqWork) (b : Bool) → y.work.calls ≡ work.calls → y.work.seq ≡ work.seq → y.work.transcript ≡ work.transcript → (is_open y && owes y) ≡ b → AtomWork at.site.shard r (looks_so work b) (seen y)
+    goes : (y : TheSeqWork) (b : Bool) → y.work.calls ≡ work.calls → y.work.seq ≡ work.seq → y.work.transcript ≡ work.transcript → (seq_is_open y && seq_owes y) ≡ b → AtomWork at.site.shard r (looks_so work b) (seen y)
     goes y b calls seq kept same =
         inl (record { same_calls = calls; same_seq = seq; same_items = ap (λ (z : TheTranscript). z.items) kept; same_room = ap (λ (z : TheTranscript). z.room) kept; owes = same })
 
-    joins : (y : TheSeqWork) → Ends at.site.shard r work turned → y.work ≡ turned.work → (is_open y && owes y) ≡ false → turned.over ≡ true → AtomWork at.site.shard r (looks_so work true) (seen y)
+    joins : (y : TheSeqWork) → Ends at.site.shard r work turned → y.work ≡ turned.work → (seq_is_open y && seq_owes y) ≡ false → turned.over ≡ true → AtomWork at.site.shard r (looks_so work true) (seen y)
     joins y ended same over is =
         let k : EndsBy at.site.shard r work turned.work true = subst (EndsBy at.site.shard r work turned.work) is ended.kept in
         inr (record {
@@ -321,7 +321,7 @@ module _ (at : SeqSite) (home : ℕ) where
           tells = k.3;
         })
 
-    goes_inside : (y : TheSeqWork) → Ends at.site.shard r work turned → y.work ≡ turned.work → (is_open y && owes y) ≡ true → turned.over ≡ false → AtomWork at.site.shard r (looks_so work true) (seen y)
+    goes_inside : (y : TheSeqWork) → Ends at.site.shard r work turned → y.work ≡ turned.work → (seq_is_open y && seq_owes y) ≡ true → turned.over ≡ false → AtomWork at.site.shard r (looks_so work true) (seen y)
     goes_inside y ended same on is =
         inl (record {
           same_calls = ap (λ (z : TheWork). z.calls) same ∙ ended.same_calls;
@@ -350,22 +350,22 @@ module _ (at : SeqSite) (home : ℕ) where
           let o : Outcome work.calls turned = load_outcome at.site.geom at.site.shard r work (do_got a words cards) work.stage (fit_at at words sides rule r x m.side.there stage.Locked e).0 on in
           subst (λ b. AtomWork at.site.shard r (looks_so work (b && b)) (seen (loaded_by turned.work turned.over (stores turned.work.stage)).work)) (sym on)
           (elim turned.over as (λ b. turned.over ≡ b → AtomWork at.site.shard r (looks_so work true) (seen (loaded_by turned.work b (stores turned.work.stage)).work)) [
-            | true ↦ λ over. joins (at_stage turned.work stage.Locked) ended refl (ap (λ st. has_work st && has_work st) (o.rests over)) over
+            | true ↦ λ over. joins (seq_at_stage turned.work stage.Locked) ended refl (ap (λ st. has_work st && has_work st) (o.rests over)) over
             | false ↦ λ over.
                 elim (stores turned.work.stage) as (λ b. AtomWork at.site.shard r (looks_so work true) (seen (loaded_by turned.work false b).work)) [
-                  | true ↦ goes_inside (at_stage turned.work stage.Decided) ended refl refl over
-                  | false ↦ goes_inside (at_stage turned.work stage.Locked) ended refl (ap (λ b. b && b) (o.goes_on over)) over
+                  | true ↦ goes_inside (seq_at_stage turned.work stage.Decided) ended refl refl over
+                  | false ↦ goes_inside (seq_at_stage turned.work stage.Locked) ended refl (ap (λ b. b && b) (o.goes_on over)) over
                 ]
           ] refl)
       by_stage stage.Look e p =
-          looked_each (λ t. Changes stage.Look t.work) at work (do_got a words cards) _ (goes (at_stage work (stage.Count (do_got a words cards))) true refl refl refl refl) (goes (at_stage work stage.Look) true refl refl refl refl)
+          looked_each (λ t. Changes stage.Look t.work) at work (do_got a words cards) _ (goes (seq_at_stage work (stage.Count (do_got a words cards))) true refl refl refl refl) (goes (seq_at_stage work stage.Look) true refl refl refl refl)
       by_stage (stage.Count v) e p =
           read_each (λ t. Changes (stage.Count v) t.work) work v (do_got a words cards) _
-          (λ next. goes (at_stage work (stage.Read v (do_got a words cards) next)) true refl refl refl refl)
-          (goes (at_stage work (stage.Again v (do_got a words cards))) true refl refl refl refl)
+          (λ next. goes (seq_at_stage work (stage.Read v (do_got a words cards) next)) true refl refl refl refl)
+          (goes (seq_at_stage work (stage.Again v (do_got a words cards))) true refl refl refl refl)
       by_stage (stage.Read v count word) e p =
           let y : TheWork = with_word work word (do_got a words cards) in
-          read_each (λ t. Changes (stage.Read v count word) t.work) y v count _ (λ next. goes (at_stage y (stage.Read v count next)) true refl refl refl refl) (goes (at_stage y (stage.Again v count)) true refl refl refl refl)
+          read_each (λ t. Changes (stage.Read v count word) t.work) y v count _ (λ next. goes (seq_at_stage y (stage.Read v count next)) true refl refl refl refl) (goes (seq_at_stage y (stage.Again v count)) true refl refl refl refl)
       by_stage (stage.Again v count) e p =
           elim (do_got a words cards == v) as (λ b. Changes (stage.Again v count) (checked_by at r work v count (do_got a words cards) b).work) [
             | true ↦
@@ -378,21 +378,21 @@ module _ (at : SeqSite) (home : ℕ) where
                   entries = read_entry at.site.geom at.site.shard r count work q.0 ∷ [];
                   items = off.items;
                   calls_are = sym q.1;
-                  tells = ((refl, refl, sym (ap (λ cs. batch_of (length cs)) q.1), refl, refl), tt);
+                  tells = ((refl, refl, sym (ap (λ cs. batch_number (length cs)) q.1), refl, refl), tt);
                 }))
-            | false ↦ goes (at_stage (with_seen work []) stage.Look) true refl refl refl refl
+            | false ↦ goes (seq_at_stage (with_seen work []) stage.Look) true refl refl refl refl
           ]
-      by_stage stage.Decided e p = goes (at_stage work (stage.Open (do_got a words cards))) true refl refl refl refl
-      by_stage (stage.Open v) e p = goes (at_stage work (stage.Write v)) true refl refl refl refl
+      by_stage stage.Decided e p = goes (seq_at_stage work (stage.Open (do_got a words cards))) true refl refl refl refl
+      by_stage (stage.Open v) e p = goes (seq_at_stage work (stage.Write v)) true refl refl refl refl
       by_stage (stage.Write v) e p =
           let ended : Ends at.site.shard r work turned = inside_ends (stage.Write v) e refl in
           elim turned.over as (λ b. turned.over ≡ b → Changes (stage.Write v) (stored_by v turned.work b).work) [
-            | true ↦ λ over. joins (at_stage turned.work (stage.Close v)) ended refl refl over
-            | false ↦ λ over. goes_inside (at_stage turned.work (stage.Write v)) ended refl refl over
+            | true ↦ λ over. joins (seq_at_stage turned.work (stage.Close v)) ended refl refl over
+            | false ↦ λ over. goes_inside (seq_at_stage turned.work (stage.Write v)) ended refl refl over
           ] refl
       by_stage (stage.Close v) e p =
           let rests : work.stage ≡ Rest = (fit_at at words sides rule r x m.side.there (stage.Close v) e).0 in
-          goes (at_stage work stage.Locked) false refl refl refl (ap (λ st. has_work st && has_work st) rests)
+          goes (seq_at_stage work stage.Locked) false refl refl refl (ap (λ st. has_work st && has_work st) rests)
 
     pub changes : (k : ℕ) (u y : SeqRank) → slice_get sides k ≡ Some u → slice_get (slice_set sides r (side_after T r x (do_got a words cards))) k ≡ Some y → AtomWork at.site.shard k (seen u.work) (seen y.work)
     changes k u y was is =

@@ -32,7 +32,7 @@ use Rattle.rl_seq.specs.laws.FitLaws.{is_decided, fit_at, locked_there, decided_
 use Rattle.rl_seq.specs.laws.FrontLaws.{IsInFront, in_front, version_stored}
 use Rattle.rl_seq.specs.laws.KeepLaws.{wanted_there}
 use Rattle.rl_seq.specs.laws.OutcomeLaws.{IsMoved, loaded_each, stored_each, read_each}
-use Rattle.rl_seq.specs.Site.{SeqSite, version_word, version_in, front}
+use Rattle.rl_seq.specs.Site.{SeqSite, seq_version_word, version_in, front}
 use Rattle.rl_seq.specs.SeqGood.{AreWanted, SeqRank, SeqGood, IsQuiet, as_locked, locked_at, is_between, HasVersion}
 use Rattle.rl_seq.specs.SeqWork.{seq_atom, seq_stage_atom, seq_stage_after, looked_by, checked_by, seq_table}
 use Rattle.rl_seq.specs.Rule.{is_getting, found_version, found_count}
@@ -124,16 +124,16 @@ module _ (at : SeqSite) (words : List ℕ) (sides : List SeqRank) (g : SeqGood a
         let s = words_still x.work.stage refl f in
         (even_quiet at words sides g (has_version x.work.stage refl (version_in at words) f).even, s.0, s.1)
 
-    pub gets_load : is_getting x.work.stage ≡ true → (w : ℕ) × (seq_atom at x.work ≡ Some (atom.Load w)) × ((w ≡ version_word at) ⊎ (w < lock_base at.site))
-    gets_load b = subst (λ st. (w : ℕ) × (seq_stage_atom at x.work.work st ≡ Some (atom.Load w)) × ((w ≡ version_word at) ⊎ (w < lock_base at.site))) refl (by_stage x.work.stage refl b) where
-      by_stage : (st : SeqStage) → x.work.stage ≡ st → is_getting st ≡ true → (w : ℕ) × (seq_stage_atom at x.work.work st ≡ Some (atom.Load w)) × ((w ≡ version_word at) ⊎ (w < lock_base at.site))
+    pub gets_load : is_getting x.work.stage ≡ true → (w : ℕ) × (seq_atom at x.work ≡ Some (atom.Load w)) × ((w ≡ seq_version_word at) ⊎ (w < lock_base at.site))
+    gets_load b = subst (λ st. (w : ℕ) × (seq_stage_atom at x.work.work st ≡ Some (atom.Load w)) × ((w ≡ seq_version_word at) ⊎ (w < lock_base at.site))) refl (by_stage x.work.stage refl b) where
+      by_stage : (st : SeqStage) → x.work.stage ≡ st → is_getting st ≡ true → (w : ℕ) × (seq_stage_atom at x.work.work st ≡ Some (atom.Load w)) × ((w ≡ seq_version_word at) ⊎ (w < lock_base at.site))
       by_stage stage.Locked e d = absurd (cc)
-      by_stage stage.Look e d = (version_word at, refl, inl refl)
+      by_stage stage.Look e d = (seq_version_word at, refl, inl refl)
       by_stage (stage.Count v) e d = (count_word, refl, inr (omega arith))
       by_stage (stage.Read v count word) e d =
           let there = wanted_there at.site.geom g.locked.geom_fits x.work.work.calls x.work.work.seen.pairs word (fit_at at words sides g r x has (stage.Read v count word) e).wants in
           (volume_base + word, refl, inr (omega arith))
-      by_stage (stage.Again v count) e d = (version_word at, refl, inl refl)
+      by_stage (stage.Again v count) e d = (seq_version_word at, refl, inl refl)
       by_stage stage.Decided e d = absurd (cc)
       by_stage (stage.Open v) e d = absurd (cc)
       by_stage (stage.Write v) e d = absurd (cc)
@@ -187,11 +187,11 @@ never_lowers at home words sides r x a m = by_stage x.work.stage refl m.planned 
 
   by_stage : (st : SeqStage) → x.work.stage ≡ st → seq_stage_atom at x.work.work st ≡ Some a → version_in at words ≤ version_in at (do_words a words)
   by_stage stage.Locked e p = inside stage.Locked e refl p
-  by_stage stage.Look e p = loads (version_word at) p
+  by_stage stage.Look e p = loads (seq_version_word at) p
   by_stage (stage.Count v) e p = loads count_word p
   by_stage (stage.Read v count word) e p = loads (volume_base + word) p
-  by_stage (stage.Again v count) e p = loads (version_word at) p
-  by_stage stage.Decided e p = loads (version_word at) p
+  by_stage (stage.Again v count) e p = loads (seq_version_word at) p
+  by_stage stage.Decided e p = loads (seq_version_word at) p
   by_stage (stage.Open v) e p = let now = (fit_at at words sides g r x m.side.there (stage.Open v) e).1 in stored (v + 1) (omega arith) p
   by_stage (stage.Write v) e p = inside (stage.Write v) e refl p
   by_stage (stage.Close v) e p = let now = (fit_at at words sides g r x m.side.there (stage.Close v) e).2.one_more in stored (v + 2) (omega arith) p
@@ -199,7 +199,7 @@ never_lowers at home words sides r x a m = by_stage x.work.stage refl m.planned 
 module _ (at : SeqSite) (r : ℕ) (w : TheWork) (got : ℕ) where
   -- an answer is Moved but in two cases
   abbrev Waits : ℕ → ℕ → SeqStage → Type 0
-  Waits word value st = (st ≡ stage.Look) × (got % 2 ≢ 0) × (word ≡ version_word at) × (value ≡ got)
+  Waits word value st = (st ≡ stage.Look) × (got % 2 ≢ 0) × (word ≡ seq_version_word at) × (value ≡ got)
 
   abbrev Loses : ℕ → ℕ → SeqStage → Type 0
   Loses guess seen st = (count : ℕ) × (st ≡ stage.Again guess count) × (seen ≡ got) × (got ≢ guess)
@@ -225,7 +225,7 @@ module _ (at : SeqSite) (r : ℕ) (w : TheWork) (got : ℕ) where
       look e =
           elim (got % 2 == 0) as (λ b. (got % 2 == 0) ≡ b → (looked_by at w got b).stepped ≡ Waiting word value → Waits word value stage.Look) [
             | true ↦ λ is f. absurd (cc)
-            | false ↦ λ is f. (refl, λ even. let hit : (got % 2 == 0) ≡ true = grind (arith, nat_tests) in cc, (let same : version_word at ≡ word = cc in sym same), (let same : got ≡ value = cc in sym same))
+            | false ↦ λ is f. (refl, λ even. let hit : (got % 2 == 0) ≡ true = grind (arith, nat_tests) in cc, (let same : seq_version_word at ≡ word = cc in sym same), (let same : got ≡ value = cc in sym same))
           ] refl e
 
       check : (v count : ℕ) → (seq_stage_after at r w got (stage.Again v count)).stepped ≡ Waiting word value → Waits word value (stage.Again v count)

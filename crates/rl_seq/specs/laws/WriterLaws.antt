@@ -26,7 +26,7 @@ use Rattle.rl_seq.specs.laws.FrontLaws.{IsInFront, in_front}
 use Rattle.rl_seq.specs.laws.KeepLaws.{good_after, stays, version_moves, locked_same, never_quiet, not_alone}
 use Rattle.rl_seq.specs.Site.{SeqSite, front, version_in}
 use Rattle.rl_seq.specs.SeqGood.{SeqRank, SeqGood, IsSeqApart, IsQuiet, IsEven, IsOdd, HasJoined, SeqFits, as_locked, is_between}
-use Rattle.rl_seq.specs.SeqWork.{at_stage, stored_by}
+use Rattle.rl_seq.specs.SeqWork.{seq_at_stage, stored_by}
 
 module _ (at : SeqSite) (words : List ℕ) (low : lock_base at.site ≤ at.behind) (size : length words ≡ at.behind + 1) (sides : List SeqRank) (g : SeqGood at words sides) (apart : IsSeqApart sides) (r : ℕ) (x : SeqRank) (has : slice_get sides r ≡ Some x) where
   -- beside a writer no other block is decided
@@ -49,20 +49,20 @@ module _ (at : SeqSite) (words : List ℕ) (low : lock_base at.site ≤ at.behin
       fits_raised at.site i u.standing u.work.work (front at words) (version_in at words) v up (not_alone at words low size sides g r x has i u ne get) u.work.stage (alone_decided writer i u ne get) (g.fits i u get)
 
   -- the load of the version
-  pub finds : x.work.stage ≡ stage.Decided → SeqGood at words (slice_set sides r (record { standing = x.standing; work = at_stage x.work.work (stage.Open (version_in at words)) }))
+  pub finds : x.work.stage ≡ stage.Decided → SeqGood at words (slice_set sides r (record { standing = x.standing; work = seq_at_stage x.work.work (stage.Open (version_in at words)) }))
   finds e =
       let f : x.work.work.stage ≡ Journal 0 = fit_at at words sides g r x has stage.Decided e in
       let writer : x.standing ≡ Writer = decided_writes at words sides g r x has (ap is_decided e) in
-      stays at words low size sides g r x has (ap is_between e) (record { standing = x.standing; work = at_stage x.work.work (stage.Open (version_in at words)) })
+      stays at words low size sides g r x has (ap is_between e) (record { standing = x.standing; work = seq_at_stage x.work.work (stage.Open (version_in at words)) })
       (locked_same at words low size sides g r x has (record { standing = x.standing; work = x.work.work }) (locked_there at words sides g r x has stage.Decided e))
       (f, refl, g.quiet (writer_quiet writer (ap is_between e)))
 
   -- the version becomes odd
-  pub opens_version : (version : ℕ) → x.work.stage ≡ stage.Open version → SeqGood at (slice_set words at.behind (version + 1)) (slice_set sides r (record { standing = x.standing; work = at_stage x.work.work (stage.Write version) }))
+  pub opens_version : (version : ℕ) → x.work.stage ≡ stage.Open version → SeqGood at (slice_set words at.behind (version + 1)) (slice_set sides r (record { standing = x.standing; work = seq_at_stage x.work.work (stage.Write version) }))
   opens_version version e =
       let f = fit_at at words sides g r x has (stage.Open version) e in
       let writer : x.standing ≡ Writer = decided_writes at words sides g r x has (ap is_decided e) in
-      let y : SeqRank = record { standing = x.standing; work = at_stage x.work.work (stage.Write version) } in
+      let y : SeqRank = record { standing = x.standing; work = seq_at_stage x.work.work (stage.Write version) } in
       let was : IsEven version (slice_index (front at words) count_word) = f.2 in
       version_moves at words low size sides g r x has (version + 1) y
       (locked_same at words low size sides g r x has (record { standing = x.standing; work = x.work.work }) (locked_there at words sides g r x has (stage.Open version) e))
@@ -72,14 +72,14 @@ module _ (at : SeqSite) (words : List ℕ) (low : lock_base at.site ≤ at.behin
 
   -- and even again
   pub closes_version : (version : ℕ) → x.work.stage ≡ stage.Close version
-      → SeqGood at (slice_set words at.behind (version + 2)) (slice_set sides r (record { standing = standing_done x.standing; work = at_stage x.work.work stage.Locked }))
+      → SeqGood at (slice_set words at.behind (version + 2)) (slice_set sides r (record { standing = standing_done x.standing; work = seq_at_stage x.work.work stage.Locked }))
   closes_version version e =
       let f = fit_at at words sides g r x has (stage.Close version) e in
       let rests : x.work.work.stage ≡ Rest = f.0 in
       let writer : x.standing ≡ Writer = f.1 in
       let odd : IsOdd version (version_in at words) = f.2 in
       let leaves : standing_done x.standing ≡ Leaving = ap standing_done writer in
-      let y : SeqRank = record { standing = standing_done x.standing; work = at_stage x.work.work stage.Locked } in
+      let y : SeqRank = record { standing = standing_done x.standing; work = seq_at_stage x.work.work stage.Locked } in
       version_moves at words low size sides g r x has (version + 2) y
       (subst (λ z. WorkGood at.site (front at words) (slice_set (map as_locked sides) r (record { standing = z; work = x.work.work }))) (sym leaves)
       (locked_same at words low size sides g r x has (record { standing = Leaving; work = x.work.work }) (locked_there at words sides g r x has (stage.Close version) e)))
@@ -172,10 +172,10 @@ module _ (at : SeqSite) (words : List ℕ) (low : lock_base at.site ≤ at.behin
         elim t.over as (λ b. t.over ≡ b → SeqGood at vs (slice_set sides r (side_turned x.standing (stored_by version t.work b)))) [
           | true ↦ λ over.
               let j = is.joins over in
-              moves (record { standing = x.standing; work = at_stage t.work (stage.Close version) }) refl (ap (λ b. record { standing = locked_standing b x.standing; work = t.work }) (sym over))
+              moves (record { standing = x.standing; work = seq_at_stage t.work (stage.Close version) }) refl (ap (λ b. record { standing = locked_standing b x.standing; work = t.work }) (sym over))
               (j.0, writer, odd, let up = j.1 in let few = f.2 in omega arith, j.2)
           | false ↦ λ over.
               let j = is.goes over in
-              moves (record { standing = x.standing; work = at_stage t.work (stage.Write version) }) refl (ap (λ b. record { standing = locked_standing b x.standing; work = t.work }) (sym over))
+              moves (record { standing = x.standing; work = seq_at_stage t.work (stage.Write version) }) refl (ap (λ b. record { standing = locked_standing b x.standing; work = t.work }) (sym over))
               (j.0, odd, let same = j.1 in let few = f.2 in omega arith)
         ] refl

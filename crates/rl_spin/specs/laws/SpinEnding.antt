@@ -5,35 +5,35 @@ use Rattle.std.proofs.Common.{sym, ◌∙◌, ap, subst, inl, inr, ⊎_elim, ari
 use Rattle.rl_step.specs.declared.events.Standing.TheVariants as standing
 use Rattle.rl_step.specs.Lock.{LockState, AllOut}
 use Rattle.rl_spin.specs.declared.view.SpinView.{SpinView}
-use Rattle.rl_spin.specs.declared.view.Phase.{Phase}
-use Rattle.rl_spin.specs.declared.view.Phase.TheVariants.{Out, Trying, Inside, Releasing}
-use Rattle.rl_spin.specs.Spin.{SpinGood, spin_table, at_phase, Owns, spin_standing, spin_learn}
+use Rattle.rl_spin.specs.declared.view.SpinPhase.{SpinPhase}
+use Rattle.rl_spin.specs.declared.view.SpinPhase.TheVariants.{Out, Trying, Inside, Releasing}
+use Rattle.rl_spin.specs.Spin.{SpinGood, spin_table, spin_at_phase, Owns, spin_standing, spin_learn}
 use Rattle.rl_spin.specs.SpinLeft.{acts_in, acts_of, spin_left}
 use Rattle.rl_ending.specs.Ending.{LockEnds, CanGoOn}
 use Rattle.rl_ending.specs.laws.Sums.{sum_falls, sum_grows}
 use Rattle.rl_ending.specs.laws.EndingLaws.{all_out_or_not}
 
 -- who owns the word can go on
-pub owner_goes : (n home : ℕ) (s : LockState SpinView) (r k : ℕ) (p : Phase) → slice_get s.views r ≡ Some (at_phase k p) → Owns p → CanGoOn (spin_table home) spin_left s r
+pub owner_goes : (n home : ℕ) (s : LockState SpinView) (r k : ℕ) (p : SpinPhase) → slice_get s.views r ≡ Some (spin_at_phase k p) → Owns p → CanGoOn (spin_table home) spin_left s r
 owner_goes n home s r k Out has o = absurd o
 owner_goes n home s r k Trying has o = absurd o
-owner_goes n home s r k Inside has o = record { view = at_phase k Inside; has = has; way = inl tt }
+owner_goes n home s r k Inside has o = record { view = spin_at_phase k Inside; has = has; way = inl tt }
 owner_goes n home s r k Releasing has o =
     record {
-      view = at_phase k Releasing;
+      view = spin_at_phase k Releasing;
       has = has;
-      way = inr (record { act = _; planned = refl; less = sum_falls acts_of s.views r (at_phase k Releasing) (at_phase k Out) has (omega arith) });
+      way = inr (record { act = _; planned = refl; less = sum_falls acts_of s.views r (spin_at_phase k Releasing) (spin_at_phase k Out) has (omega arith) });
     }
 
 -- and where the word is 0, so can everybody who isn't out
-pub free_goes : (n home : ℕ) (s : LockState SpinView) (r k : ℕ) (p : Phase) → slice_index s.words 0 ≡ 0 → slice_get s.views r ≡ Some (at_phase k p) → (spin_standing p ≡ standing.Out → ⊥) → CanGoOn (spin_table home) spin_left s r
+pub free_goes : (n home : ℕ) (s : LockState SpinView) (r k : ℕ) (p : SpinPhase) → slice_index s.words 0 ≡ 0 → slice_get s.views r ≡ Some (spin_at_phase k p) → (spin_standing p ≡ standing.Out → ⊥) → CanGoOn (spin_table home) spin_left s r
 free_goes n home s r k Out free has busy = absurd (busy refl)
 free_goes n home s r k Trying free has busy =
-    let enters : (spin_learn k Trying (slice_index s.words 0)).view ≡ at_phase k Inside = ap (λ w. (spin_learn k Trying w).view) free in
+    let enters : (spin_learn k Trying (slice_index s.words 0)).view ≡ spin_at_phase k Inside = ap (λ w. (spin_learn k Trying w).view) free in
     record {
-      view = at_phase k Trying;
+      view = spin_at_phase k Trying;
       has = has;
-      way = inr (record { act = _; planned = refl; less = subst (λ v. sum_by acts_of (slice_set s.views r v) < sum_by acts_of s.views) (sym enters) (sum_falls acts_of s.views r (at_phase k Trying) (at_phase k Inside) has (omega arith)) });
+      way = inr (record { act = _; planned = refl; less = subst (λ v. sum_by acts_of (slice_set s.views r v) < sum_by acts_of s.views) (sym enters) (sum_falls acts_of s.views r (spin_at_phase k Trying) (spin_at_phase k Inside) has (omega arith)) });
     }
 free_goes n home s r k Inside free has busy = owner_goes n home s r k Inside has tt
 free_goes n home s r k Releasing free has busy = owner_goes n home s r k Releasing has tt
@@ -45,7 +45,7 @@ goes_by n home s (suc w) g e =
     let here : slice_index s.words 0 ≡ w + 1 = e ∙ omega arith in
     let h = g.held w here in inr (w, owner_goes n home s w h.0.rank h.0.phase h.1 h.2)
 
-few : (p : Phase) → acts_in p ≤ 1
+few : (p : SpinPhase) → acts_in p ≤ 1
 few Out = omega arith
 few Trying = omega arith
 few Inside = omega arith
@@ -55,6 +55,6 @@ pub spin_ends : (n home : ℕ) → LockEnds (spin_table home) spin_left (SpinGoo
 spin_ends n home =
     record {
       somebody = λ s g. goes_by n home s (slice_index s.words 0) g refl;
-      ask_adds = λ s r v m g has out. sum_grows acts_of s.views r 1 v (at_phase v.rank Trying) has (few Trying);
-      leave_adds = λ s r v g has holds. sum_grows acts_of s.views r 1 v (at_phase v.rank Releasing) has (few Releasing);
+      ask_adds = λ s r v m g has out. sum_grows acts_of s.views r 1 v (spin_at_phase v.rank Trying) has (few Trying);
+      leave_adds = λ s r v g has holds. sum_grows acts_of s.views r 1 v (spin_at_phase v.rank Releasing) has (few Releasing);
     }

@@ -5,9 +5,9 @@ use Rattle.std.proofs.Math.Dec.{eqb-suc-zero}
 use Rattle.rl_step.specs.declared.events.Standing.TheVariants as standing
 use Rattle.rl_step.specs.Lock.{LockState, AllOut}
 use Rattle.rl_spin.specs.declared.view.SpinView.{SpinView}
-use Rattle.rl_spin.specs.declared.view.Phase.{Phase}
-use Rattle.rl_spin.specs.declared.view.Phase.TheVariants.{Out, Trying, Inside, Releasing}
-use Rattle.rl_spin.specs.Spin.{SpinGood, spin_table, at_phase, Owns, spin_standing}
+use Rattle.rl_spin.specs.declared.view.SpinPhase.{SpinPhase}
+use Rattle.rl_spin.specs.declared.view.SpinPhase.TheVariants.{Out, Trying, Inside, Releasing}
+use Rattle.rl_spin.specs.Spin.{SpinGood, spin_table, spin_at_phase, Owns, spin_standing}
 use Rattle.rl_spin.specs.SpinLeft.{spin_left}
 use Rattle.rl_spin.specs.SpinUrgency.{urgent_in, spin_urgent}
 use Rattle.rl_spin.specs.laws.SpinEnding.{owner_goes, free_goes}
@@ -19,14 +19,14 @@ use Rattle.rl_ending.specs.Guiding.{LockGuides, NoneUrgent}
 taken : (w n : ℕ) → urgent_in (suc w) Trying ≡ Some n → ⊥
 taken w n e = let not = eqb-suc-zero w in cc
 
-few_at : (w n : ℕ) (p : Phase) → urgent_in w p ≡ Some n → n < 8
+few_at : (w n : ℕ) (p : SpinPhase) → urgent_in w p ≡ Some n → n < 8
 few_at w n Out e = cc
 few_at zero n Trying e = let z : 0 ≡ n = cc in omega arith
 few_at (suc w) n Trying e = absurd (taken w n e)
 few_at w n Inside e = let z : 0 ≡ n = cc in omega arith
 few_at w n Releasing e = let z : 0 ≡ n = cc in omega arith
 
-goes_at : (n home : ℕ) (s : LockState SpinView) (r k u w : ℕ) (p : Phase) → slice_index s.words 0 ≡ w → slice_get s.views r ≡ Some (at_phase k p) → urgent_in w p ≡ Some u → CanGoOn (spin_table home) spin_left s r
+goes_at : (n home : ℕ) (s : LockState SpinView) (r k u w : ℕ) (p : SpinPhase) → slice_index s.words 0 ≡ w → slice_get s.views r ≡ Some (spin_at_phase k p) → urgent_in w p ≡ Some u → CanGoOn (spin_table home) spin_left s r
 goes_at n home s r k u w Out is has e = cc
 goes_at n home s r k u zero Trying is has e = free_goes n home s r k Trying is has (λ z. cc)
 goes_at n home s r k u (suc w) Trying is has e = absurd (taken w u e)
@@ -41,13 +41,13 @@ spin_guides n home =
       rest = λ s g none. rests_by s (slice_index s.words 0) g none refl;
     } where
       -- who owns the word is urgent, and where the word is 0 so is everybody who isn't out
-      owner_urgent : (w : ℕ) (p : Phase) → Owns p → urgent_in w p ≡ None → ⊥
+      owner_urgent : (w : ℕ) (p : SpinPhase) → Owns p → urgent_in w p ≡ None → ⊥
       owner_urgent w Out o e = absurd o
       owner_urgent w Trying o e = absurd o
       owner_urgent w Inside o e = cc
       owner_urgent w Releasing o e = cc
 
-      free_urgent : (p : Phase) → (spin_standing p ≡ standing.Out → ⊥) → urgent_in 0 p ≡ None → ⊥
+      free_urgent : (p : SpinPhase) → (spin_standing p ≡ standing.Out → ⊥) → urgent_in 0 p ≡ None → ⊥
       free_urgent Out busy e = busy refl
       free_urgent Trying busy e = cc
       free_urgent Inside busy e = cc

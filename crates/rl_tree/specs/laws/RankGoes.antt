@@ -2,7 +2,7 @@
 use Rattle.std.specs.Prelude.{◌≡◌, ℕ, Bool, true, false, List, slice_get, slice_index, Some}
 use Rattle.rl_queue.specs.declared.view.Phase.{Phase}
 use Rattle.rl_queue.specs.Lane.{Busy}
-use Rattle.rl_queue.specs.Queue.{next_word, status_word}
+use Rattle.rl_queue.specs.Queue.{queue_next_word, status_word}
 use Rattle.rl_tree.specs.declared.view.TreeView.{TreeView}
 use Rattle.rl_tree.specs.Tree.{path, works_for}
 use Rattle.rl_tree.specs.declared.rooted.Rooted.{Rooted}
@@ -12,7 +12,7 @@ use Rattle.rl_queue.specs.laws.Stuck.{Stuck}
 module _ (K : Rooted) (ws : List ℕ) where
   -- member m of queue q isn't stuck in this phase
   abbrev pub IsFree : ℕ → ℕ → Phase → Type 0
-  IsFree q m p = Stuck p (slice_index ws (next_word (names_in K q) m)) (slice_index ws (status_word (names_in K q) m)) → ⊥
+  IsFree q m p = Stuck p (slice_index ws (queue_next_word (names_in K q) m)) (slice_index ws (status_word (names_in K q) m)) → ⊥
 
   -- a rank that loads a status goes on; else it uses the queue and isn't stuck
   abbrev pub GoesIn : Bool → ℕ → ℕ → Phase → Type 0

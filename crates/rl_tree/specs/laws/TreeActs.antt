@@ -10,7 +10,7 @@ use Rattle.rl_step.specs.Queues.{tenures}
 use Rattle.rl_step.specs.laws.QueueLemmas.{tenures-append}
 use Rattle.rl_queue.specs.laws.Choices.{same_test, other_test}
 use Rattle.rl_queue.specs.declared.view.Phase.{Phase}
-use Rattle.rl_queue.specs.Queue.{Turn, status_word, plan_at, turn_at}
+use Rattle.rl_queue.specs.Queue.{QueueTurn, status_word, plan_at, turn_at}
 use Rattle.rl_queue.specs.Lane.{lane_of}
 use Rattle.rl_queue.specs.QueueGood.{QueueGood}
 use Rattle.rl_queue.specs.laws.QueueLaws.{still_keeps}
@@ -22,7 +22,7 @@ use Rattle.rl_queue.specs.laws.QueueHeads.{HeadStep, head_act}
 use Rattle.rl_tree.specs.declared.view.TreeView.{TreeView}
 use Rattle.rl_tree.specs.Tree.{has_above, hook_by, path, works_for, behind_at, at_level}
 use Rattle.rl_tree.specs.declared.rooted.Rooted.{Rooted}
-use Rattle.rl_tree.specs.Elements.{how_many, ranks_in, leaf_of, is_node, names_in, tree_of, queue_at}
+use Rattle.rl_tree.specs.Elements.{how_many, ranks_in, leaf_of_rank, is_node, names_in, tree_of, queue_at}
 use Rattle.rl_tree.specs.TreeGood.{Rest, way_at, way_of, below_by, Gate, gate_of, granted_in, Matches, Spent, Tells, Shaped, InQueue, IsGoodBy, TreeGood}
 use Rattle.rl_tree.specs.laws.TreePaths.{put, put_here, put_away, put_moves, AllGood, FirstBelow, one_agent, same_level}
 use Rattle.rl_tree.specs.laws.TreeClimb.{heads_same, el_apart}
@@ -30,7 +30,7 @@ use Rattle.rl_tree.specs.laws.TreeKeeps.{OthersTell, first_below}
 use Rattle.rl_tree.specs.laws.TreeWords.{IsWorded}
 use Rattle.rl_tree.specs.TreeShape.{IsTreed}
 
-module _ (K : Rooted) (levels : ℕ) (T : IsTreed K levels) (v : TreeView) (ov : v.leaf ≡ leaf_of K v.rank) (hv : v.rank < ranks_in K) (ws : List ℕ) (vs : List TreeView) (t : List Event) (g : TreeGood K levels ws vs t) (d : IsWorded K (length ws)) (has : slice_get vs v.rank ≡ Some v)
+module _ (K : Rooted) (levels : ℕ) (T : IsTreed K levels) (v : TreeView) (ov : v.leaf ≡ leaf_of_rank K v.rank) (hv : v.rank < ranks_in K) (ws : List ℕ) (vs : List TreeView) (t : List Event) (g : TreeGood K levels ws vs t) (d : IsWorded K (length ws)) (has : slice_get vs v.rank ≡ Some v)
     (no_query : v.query ≡ false) (all_there : length vs ≡ ranks_in K) (a : Act) (pl : plan_at (names_in K (path (tree_of K) v.leaf v.level)) (works_for (tree_of K) v v.level) v.phase ≡ Some a) where
   -- the queue at the rank's level, the member for which it works there, its turn, and the words and phases after it
   abbrev pub R : ℕ
@@ -39,7 +39,7 @@ module _ (K : Rooted) (levels : ℕ) (T : IsTreed K levels) (v : TreeView) (ov :
   abbrev pub M : ℕ
   M = works_for (tree_of K) v v.level
 
-  abbrev pub tu : Turn
+  abbrev pub tu : QueueTurn
   tu = turn_at (names_in K R) M v.phase (told a (slice_index ws (word_of a)))
 
   abbrev pub us : List ℕ
@@ -106,7 +106,7 @@ module _ (K : Rooted) (levels : ℕ) (T : IsTreed K levels) (v : TreeView) (ov :
       let lv = level_low in
       let hi : i < ranks_in K = let b : i < length vs = slice_get_within vs i u h in omega arith in
       let hu : u.rank < ranks_in K = subst (λ z. z < ranks_in K) (sym o.0) hi in
-      let ou : u.leaf ≡ leaf_of K u.rank = o.1 ∙ ap (leaf_of K) (sym o.0) in
+      let ou : u.leaf ≡ leaf_of_rank K u.rank = o.1 ∙ ap (leaf_of_rank K) (sym o.0) in
       ⊎_elim
       (λ q. inr (λ m.
       let same : k ≡ v.level = same_level K levels T u.rank v.rank u.leaf v.leaf k v.level ou ov hu hv (omega arith) lv q in
@@ -155,7 +155,7 @@ module _ (K : Rooted) (levels : ℕ) (T : IsTreed K levels) (v : TreeView) (ov :
       let sh = g.by.shaped v.rank v has in
       let same_way : way_of v.query v.phase ≡ way_at tu.phase = ap (λ z. way_of z v.phase) no_query ∙ sym way in
       record {
-        own = λ i u h. ⊎_elim (λ c. (ap (λ z. z.rank) c.1 ∙ sym c.0, ap (λ z. z.leaf) c.1 ∙ ov ∙ ap (leaf_of K) (sym c.0))) (λ c. others.own i u c.0 c.1) (cases i u h);
+        own = λ i u h. ⊎_elim (λ c. (ap (λ z. z.rank) c.1 ∙ sym c.0, ap (λ z. z.leaf) c.1 ∙ ov ∙ ap (leaf_of_rank K) (sym c.0))) (λ c. others.own i u c.0 c.1) (cases i u h);
         shaped = λ i u h. ⊎_elim (λ c. subst (Shaped levels) (sym c.1) (record { within = sh.within; resting = λ x. absurd (moves x); above = λ x. cc; three = sh.three; hooked = λ x. let k : true ≡ false = sym x ∙ unhooked in cc })) (λ c. others.shaped i u c.0 c.1) (cases i u h);
         queue = all_good;
         below = λ i u k h b. ⊎_elim

@@ -22,7 +22,7 @@ use Rattle.rl_queue.specs.laws.QueueHeads.{head_first, head_kept, unlisted}
 use Rattle.rl_tree.specs.declared.view.TreeView.{TreeView}
 use Rattle.rl_tree.specs.Tree.{has_above, path, works_for, behind_at, at_level}
 use Rattle.rl_tree.specs.declared.rooted.Rooted.{Rooted}
-use Rattle.rl_tree.specs.Elements.{how_many, ranks_in, leaf_of, is_node, is_in, names_in, tree_of, queue_at}
+use Rattle.rl_tree.specs.Elements.{how_many, ranks_in, leaf_of_rank, is_node, is_in, names_in, tree_of, queue_at}
 use Rattle.rl_step.specs.LockQueues.{is_at}
 use Rattle.rl_tree.specs.TreeGood.{way_of, below_by, Releasing, gate_of, granted_in, Matches, Spent, Tells, IsGrantedAt, Shaped, InQueue, IsGoodBy, TreeGood}
 use Rattle.rl_tree.specs.laws.TreePaths.{put, put_here, put_away, put_moves, AllGood, FirstBelow}
@@ -77,7 +77,7 @@ beside_tree K levels F L e ws vs t ev g apart none =
           let z : tenures (queue_at K q) (ev ∷ []) ≡ 0 = let y : ends (queue_at K q) ev ≡ 0 = none q in omega arith in omega arith;
     }
 
-module _ (K : Rooted) (levels : ℕ) (T : IsTreed K levels) (v : TreeView) (ov : v.leaf ≡ leaf_of K v.rank) (hv : v.rank < ranks_in K) (ws : List ℕ) (vs : List TreeView) (t : List Event) (g : TreeGood K levels ws vs t) (has : slice_get vs v.rank ≡ Some v) (all_there : length vs ≡ ranks_in K) where
+module _ (K : Rooted) (levels : ℕ) (T : IsTreed K levels) (v : TreeView) (ov : v.leaf ≡ leaf_of_rank K v.rank) (hv : v.rank < ranks_in K) (ws : List ℕ) (vs : List TreeView) (t : List Event) (g : TreeGood K levels ws vs t) (has : slice_get vs v.rank ≡ Some v) (all_there : length vs ≡ ranks_in K) where
   abbrev Q : ℕ
   Q = path (tree_of K) v.leaf v.level
 
@@ -185,7 +185,7 @@ module _ (K : Rooted) (levels : ℕ) (T : IsTreed K levels) (v : TreeView) (ov :
 
   member : InQueue K v.leaf v.rank
   member =
-      record { is = ap (λ z. if z then nat_lt v.rank (ranks_in K) && (leaf_of K v.rank == v.leaf) else is_at ((tree_of K).parent v.rank) v.leaf) leaf_node ∙ ap (λ z. z && (leaf_of K v.rank == v.leaf)) (lt_test v.rank (ranks_in K) hv) ∙ ap (λ z. z == v.leaf) (sym ov) ∙ same_test v.leaf }
+      record { is = ap (λ z. if z then nat_lt v.rank (ranks_in K) && (leaf_of_rank K v.rank == v.leaf) else is_at ((tree_of K).parent v.rank) v.leaf) leaf_node ∙ ap (λ z. z && (leaf_of_rank K v.rank == v.leaf)) (lt_test v.rank (ranks_in K) hv) ∙ ap (λ z. z == v.leaf) (sym ov) ∙ same_test v.leaf }
 
   phase_here : v.level ≡ 0 → v.query ≡ false → g.phase v.leaf v.rank ≡ v.phase
   phase_here lv nq = subst (λ z. Tells v z (g.phase v.leaf v.rank)) nq (subst (λ z. Tells v v.query (g.phase (path (tree_of K) v.leaf z) (works_for (tree_of K) v z))) lv (g.by.here v.rank v has))
@@ -220,8 +220,8 @@ module _ (K : Rooted) (levels : ℕ) (T : IsTreed K levels) (v : TreeView) (ov :
     by : (b : Bool) → is_node K x ≡ b → count (is_node K x && is_in K x v.rank) ≡ 0
     by false e = ap (λ z. count (z && is_in K x v.rank)) e
     by true e =
-        let other : (leaf_of K v.rank == x) ≡ false = other_test (leaf_of K v.rank) x (λ q. ne (sym (ov ∙ q))) in
-        let off : is_in K x v.rank ≡ false = ap (λ z. if z then nat_lt v.rank (ranks_in K) && (leaf_of K v.rank == x) else is_at ((tree_of K).parent v.rank) x) e ∙ and_false (nat_lt v.rank (ranks_in K)) (leaf_of K v.rank == x) other in
+        let other : (leaf_of_rank K v.rank == x) ≡ false = other_test (leaf_of_rank K v.rank) x (λ q. ne (sym (ov ∙ q))) in
+        let off : is_in K x v.rank ≡ false = ap (λ z. if z then nat_lt v.rank (ranks_in K) && (leaf_of_rank K v.rank == x) else is_at ((tree_of K).parent v.rank) x) e ∙ and_false (nat_lt v.rank (ranks_in K)) (leaf_of_rank K v.rank == x) other in
         ap count (ap (λ z. z && is_in K x v.rank) e ∙ off)
 
   -- LEAVING: who is inside begins to leave its node's queue, which has something above it.

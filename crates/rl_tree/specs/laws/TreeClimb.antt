@@ -22,7 +22,7 @@ use Rattle.rl_queue.specs.laws.QueueHeads.{head, head_at, head_first}
 use Rattle.rl_tree.specs.declared.view.TreeView.{TreeView}
 use Rattle.rl_tree.specs.Tree.{path, works_for, settles_below}
 use Rattle.rl_tree.specs.declared.rooted.Rooted.{Rooted}
-use Rattle.rl_tree.specs.Elements.{how_many, ranks_in, leaf_of, is_node, names_in, tree_of, queue_at}
+use Rattle.rl_tree.specs.Elements.{how_many, ranks_in, leaf_of_rank, is_node, names_in, tree_of, queue_at}
 use Rattle.rl_step.specs.LockQueues.{is_at}
 use Rattle.rl_tree.specs.TreeGood.{Open, gate_of, Matches, IsGrantedAt, InQueue, granted_in}
 use Rattle.rl_tree.specs.laws.TreePaths.{put, put_here, put_away, put_moves, AllGood}
@@ -42,7 +42,7 @@ pub else_parts : (b : Bool) (y z c : ℕ) → y ≡ 1 → z ≡ 0 → c ≡ 1 �
 else_parts true y z c a e f = refl
 else_parts false y z c a e f = omega arith
 
-module _ (K : Rooted) (levels : ℕ) (T : IsTreed K levels) (v : TreeView) (own : v.leaf ≡ leaf_of K v.rank) (here : v.rank < ranks_in K) where
+module _ (K : Rooted) (levels : ℕ) (T : IsTreed K levels) (v : TreeView) (own : v.leaf ≡ leaf_of_rank K v.rank) (here : v.rank < ranks_in K) where
   -- the element and the member at a level of the rank's path
   abbrev pub el : ℕ → ℕ
   el j = path (tree_of K) v.leaf j

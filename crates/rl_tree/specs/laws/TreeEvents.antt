@@ -9,7 +9,7 @@ use Rattle.rl_step.specs.Queues.{QueueOf}
 use Rattle.rl_tree.specs.declared.view.TreeView.{TreeView}
 use Rattle.rl_tree.specs.Tree.{path, works_for, settles_below}
 use Rattle.rl_tree.specs.declared.rooted.Rooted.{Rooted}
-use Rattle.rl_tree.specs.Elements.{how_many, ranks_in, leaf_of, tree_of, queue_at, queues_from}
+use Rattle.rl_tree.specs.Elements.{how_many, ranks_in, leaf_of_rank, tree_of, queue_at, queues_from}
 use Rattle.rl_tree.specs.TreeGood.{InQueue}
 use Rattle.rl_tree.specs.TreeShape.{IsWellShaped}
 
@@ -63,7 +63,7 @@ pub append_length : (es fs : List Event) → length (es ++ fs) ≡ length es + l
 append_length [] fs = omega arith
 append_length (e ∷ es) fs = let k = append_length es fs in omega arith
 
-module _ (K : Rooted) (levels : ℕ) (S : IsWellShaped K levels) (v : TreeView) (own : v.leaf ≡ leaf_of K v.rank) (here : v.rank < ranks_in K) where
+module _ (K : Rooted) (levels : ℕ) (S : IsWellShaped K levels) (v : TreeView) (own : v.leaf ≡ leaf_of_rank K v.rank) (here : v.rank < ranks_in K) where
   el_there : (i : ℕ) → i ≤ levels → path (tree_of K) v.leaf i < how_many K
   el_there i le = subst (λ z. path (tree_of K) z i < how_many K) (sym own) (S.treed.there v.rank i here le)
 

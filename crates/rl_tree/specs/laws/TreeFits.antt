@@ -15,7 +15,7 @@ use Rattle.rl_queue.specs.laws.RankWordLaws.{length-every_second}
 use Rattle.rl_tree.specs.declared.rooted.Rooted.{Rooted}
 use Rattle.rl_tree.specs.declared.view.TreeView.{TreeView}
 use Rattle.rl_tree.specs.Tree.{path, works_for, plan_by}
-use Rattle.rl_tree.specs.Elements.{how_many, ranks_in, leaf_of, is_node, of_elements, names_in, tree_of}
+use Rattle.rl_tree.specs.Elements.{how_many, ranks_in, leaf_of_rank, is_node, of_elements, names_in, tree_of}
 use Rattle.rl_tree.specs.Fits.{IsPlaced, acting, MayPlan, StatusFits, GotFitsBy, TreeMayLearn}
 use Rattle.rl_tree.specs.TreeGood.{Tells, IsGrantedAt, InQueue, TreeGood}
 use Rattle.rl_tree.specs.laws.TreeParts.{is_child}
@@ -72,9 +72,9 @@ module _ (K : Rooted) (levels : ℕ) (S : IsWellShaped K levels) (inside : Bool)
   path_member : (i : ℕ) → i ≤ levels → InQueue K (path (tree_of K) v.leaf i) (works_for (tree_of K) v i)
   path_member zero le =
       let lt : v.rank < ranks_in K = rank_there K levels S ws vs t x.is_good.tree x.all r v x.has in
-      let own : v.leaf ≡ leaf_of K v.rank = own_leaf K levels S ws vs t x.is_good.tree x.all r v x.has in
+      let own : v.leaf ≡ leaf_of_rank K v.rank = own_leaf K levels S ws vs t x.is_good.tree x.all r v x.has in
       let node : is_node K v.leaf ≡ true = ap (is_node K) own ∙ S.treed.leaf v.rank lt in
-      record { is = ap (λ z. if z then nat_lt v.rank (ranks_in K) && (leaf_of K v.rank == v.leaf) else is_at ((tree_of K).parent v.rank) v.leaf) node ∙ ap (λ z. z && (leaf_of K v.rank == v.leaf)) (lt_test v.rank (ranks_in K) lt) ∙ ap (λ z. z == v.leaf) (sym own) ∙ same_test v.leaf }
+      record { is = ap (λ z. if z then nat_lt v.rank (ranks_in K) && (leaf_of_rank K v.rank == v.leaf) else is_at ((tree_of K).parent v.rank) v.leaf) node ∙ ap (λ z. z && (leaf_of_rank K v.rank == v.leaf)) (lt_test v.rank (ranks_in K) lt) ∙ ap (λ z. z == v.leaf) (sym own) ∙ same_test v.leaf }
   path_member (suc i) le = (is_child K levels S.treed (path (tree_of K) v.leaf i) (path (tree_of K) v.leaf (suc i)) (there i (omega arith)) (level_up K levels S ws vs t x.is_good.tree x.all r v i x.has (omega arith))).1
 
   pub placed_at : IsPlaced K v

@@ -10,7 +10,7 @@ use Rattle.rl_queue.specs.declared.view.Phase.{Phase}
 use Rattle.rl_queue.specs.declared.view.Phase.TheVariants.{Idle, Clear, Wait, Settle, Granted, Look, Hand, Above}
 use Rattle.rl_queue.specs.Lane.{Lane, lane_of, Busy, is_pass}
 use Rattle.rl_queue.specs.laws.LaneLaws.{busy_or_idle}
-use Rattle.rl_queue.specs.Queue.{next_word, status_word}
+use Rattle.rl_queue.specs.Queue.{queue_next_word, status_word}
 use Rattle.rl_queue.specs.laws.StandingLaws.{not_out_busy}
 use Rattle.rl_tree.specs.declared.view.TreeView.{TreeView}
 use Rattle.rl_tree.specs.Tree.{or_zero, hook_by, path, works_for, behind_at, standing_by, tree_standing}
@@ -153,19 +153,19 @@ module _ (K : Rooted) (levels : ℕ) (S : IsWellShaped K levels) (ws : List ℕ)
       (OfElement K e x → IsGrantedAt (g.phase e x) → Some_goes) → Some_goes
   opens_goes d e p x Wait le de up h eq o down =
       let a = agent d e x le de (subst Busy (sym eq) tt) (λ k. subst IsGrantedAt eq k) in
-      agent_goes e x d a (subst Busy (sym eq) tt) (λ k. pass_not_zero (slice_index ws (status_word (names_in K e) x)) o (subst (λ z. Stuck z (slice_index ws (next_word (names_in K e) x)) (slice_index ws (status_word (names_in K e) x))) eq k)) (λ k. subst Climbs eq k)
+      agent_goes e x d a (subst Busy (sym eq) tt) (λ k. pass_not_zero (slice_index ws (status_word (names_in K e) x)) o (subst (λ z. Stuck z (slice_index ws (queue_next_word (names_in K e) x)) (slice_index ws (status_word (names_in K e) x))) eq k)) (λ k. subst Climbs eq k)
   opens_goes d e p x (Look left u) le de up h eq o down =
       let a = agent d e x le de (subst Busy (sym eq) tt) (λ k. subst IsGrantedAt eq k) in
-      agent_goes e x d a (subst Busy (sym eq) tt) (λ k. subst (λ z. Stuck z (slice_index ws (next_word (names_in K e) x)) (slice_index ws (status_word (names_in K e) x))) eq k) (λ k. subst Climbs eq k)
+      agent_goes e x d a (subst Busy (sym eq) tt) (λ k. subst (λ z. Stuck z (slice_index ws (queue_next_word (names_in K e) x)) (slice_index ws (status_word (names_in K e) x))) eq k) (λ k. subst Climbs eq k)
   opens_goes d e p x (Hand n left) le de up h eq o down =
       let a = agent d e x le de (subst Busy (sym eq) tt) (λ k. subst IsGrantedAt eq k) in
-      agent_goes e x d a (subst Busy (sym eq) tt) (λ k. subst (λ z. Stuck z (slice_index ws (next_word (names_in K e) x)) (slice_index ws (status_word (names_in K e) x))) eq k) (λ k. subst Climbs eq k)
+      agent_goes e x d a (subst Busy (sym eq) tt) (λ k. subst (λ z. Stuck z (slice_index ws (queue_next_word (names_in K e) x)) (slice_index ws (status_word (names_in K e) x))) eq k) (λ k. subst Climbs eq k)
   opens_goes d e p x (Above n) le de up h eq o down =
       let a = agent d e x le de (subst Busy (sym eq) tt) (λ k. subst IsGrantedAt eq k) in
       above_goes d e p x up a (subst Climbs (sym eq) tt) h
   opens_goes d e p x (Granted left) le de up h eq o down =
       ⊎_elim
-      (λ n. agent_goes e x 0 (node_agent e x n) (subst Busy (sym eq) tt) (λ k. subst (λ z. Stuck z (slice_index ws (next_word (names_in K e) x)) (slice_index ws (status_word (names_in K e) x))) eq k) (λ k. subst Climbs eq k))
+      (λ n. agent_goes e x 0 (node_agent e x n) (subst Busy (sym eq) tt) (λ k. subst (λ z. Stuck z (slice_index ws (queue_next_word (names_in K e) x)) (slice_index ws (status_word (names_in K e) x))) eq k) (λ k. subst Climbs eq k))
       (λ n. down n (subst IsGrantedAt (sym eq) tt))
       (member_is K S.root_free e x ((g.by.queue e le).inv.inside x (subst Busy (sym eq) tt)))
   opens_goes d e p x Idle le de up h eq o down = absurd o

@@ -24,7 +24,7 @@ use Rattle.rl_queue.specs.laws.QueueHeads.{head_first}
 use Rattle.rl_tree.specs.declared.view.TreeView.{TreeView}
 use Rattle.rl_tree.specs.Tree.{hook_by, path, member_at, works_for, plan_by, tree_plan, at_hook, tree_standing}
 use Rattle.rl_tree.specs.declared.rooted.Rooted.{Rooted}
-use Rattle.rl_tree.specs.Elements.{how_many, ranks_in, leaf_of, is_node, names_in, tree_of, queue_at}
+use Rattle.rl_tree.specs.Elements.{how_many, ranks_in, leaf_of_rank, is_node, names_in, tree_of, queue_at}
 use Rattle.rl_tree.specs.TreeGood.{gate_at, gate_of, granted_in, Matches, Tells, IsGrantedAt, way_of, InQueue, TreeGood}
 use Rattle.rl_tree.specs.laws.TreePaths.{FirstBelow, one_agent}
 use Rattle.rl_tree.specs.laws.TreeClimb.{else_zero}
@@ -56,8 +56,8 @@ module _ (K : Rooted) (levels : ℕ) (S : IsWellShaped K levels) (ws : List ℕ)
   pub rank_there : (r : ℕ) (v : TreeView) → slice_get vs r ≡ Some v → v.rank < ranks_in K
   rank_there r v has = let a : r < length vs = slice_get_within vs r v has in let c : v.rank ≡ r = rank_is r v has in omega arith
 
-  pub own_leaf : (r : ℕ) (v : TreeView) → slice_get vs r ≡ Some v → v.leaf ≡ leaf_of K v.rank
-  own_leaf r v has = (g.by.own r v has).1 ∙ ap (leaf_of K) (sym (rank_is r v has))
+  pub own_leaf : (r : ℕ) (v : TreeView) → slice_get vs r ≡ Some v → v.leaf ≡ leaf_of_rank K v.rank
+  own_leaf r v has = (g.by.own r v has).1 ∙ ap (leaf_of_rank K) (sym (rank_is r v has))
 
   pub level_there : (r : ℕ) (v : TreeView) (i : ℕ) → slice_get vs r ≡ Some v → i ≤ levels → path (tree_of K) v.leaf i < how_many K
   level_there r v i has le = subst (λ z. path (tree_of K) z i < how_many K) (sym (own_leaf r v has)) (S.treed.there v.rank i (rank_there r v has) le)

@@ -15,7 +15,7 @@ use Rattle.rl_queue.specs.laws.QueueHeads.{head_first}
 use Rattle.rl_tree.specs.declared.view.TreeView.{TreeView}
 use Rattle.rl_tree.specs.Tree.{has_above, path, works_for, behind_at, at_level, settles_below}
 use Rattle.rl_tree.specs.declared.rooted.Rooted.{Rooted}
-use Rattle.rl_tree.specs.Elements.{how_many, ranks_in, leaf_of, is_node, names_in, tree_of}
+use Rattle.rl_tree.specs.Elements.{how_many, ranks_in, leaf_of_rank, is_node, names_in, tree_of}
 use Rattle.rl_step.specs.LockQueues.{is_at}
 use Rattle.rl_tree.specs.TreeGood.{Down, Rest, way_of, below_by, gate_of, granted_in, Matches, Tells, IsGrantedAt, InQueue, IsGoodBy, TreeGood}
 use Rattle.rl_tree.specs.laws.TreePaths.{put, put_here, put_away, put_moves, AllGood}
@@ -26,7 +26,7 @@ use Rattle.rl_tree.specs.laws.TreeOnward.{resume_way, resume_unhooked, resume_no
 use Rattle.rl_tree.specs.TreeShape.{IsTreed}
 
 -- THE ENTRY GOES ON from the hook: a rank that must settle in each queue on its path does so, from the root down.
-pub hook_enters : (K : Rooted) (levels : ℕ) (T : IsTreed K levels) (v : TreeView) (ov : v.leaf ≡ leaf_of K v.rank) (hv : v.rank < ranks_in K) (ws : List ℕ) (vs : List TreeView) (t : List Event) (g : TreeGood K levels ws vs t) → slice_get vs v.rank ≡ Some v → length vs ≡ ranks_in K → v.query ≡ false → v.phase ≡ Settle → v.level ≡ levels →
+pub hook_enters : (K : Rooted) (levels : ℕ) (T : IsTreed K levels) (v : TreeView) (ov : v.leaf ≡ leaf_of_rank K v.rank) (hv : v.rank < ranks_in K) (ws : List ℕ) (vs : List TreeView) (t : List Event) (g : TreeGood K levels ws vs t) → slice_get vs v.rank ≡ Some v → length vs ≡ ranks_in K → v.query ≡ false → v.phase ≡ Settle → v.level ≡ levels →
     (q : Phase) → settled K levels T v ov hv g.phase (suc levels) (el K levels T v ov hv 0) (me K levels T v ov hv 0) ≡ q → IsGrantedAt q → IsGoodBy K levels (settled K levels T v ov hv g.phase (suc levels)) g.line g.ended ws (slice_set vs v.rank (at_level v 0 q)) (t ++ settles_below (tree_of K) v (suc levels))
 hook_enters K levels T v ov hv ws vs t g has all_there nq must lv q now inside =
     let top : (tree_of K).parent (path (tree_of K) v.leaf levels) ≡ None = subst (λ z. (tree_of K).parent (path (tree_of K) z levels) ≡ None) (sym ov) (T.top v.rank hv) in
@@ -38,7 +38,7 @@ hook_enters K levels T v ov hv ws vs t g has all_there nq must lv q now inside =
     (λ x tx. let k = g.by.tenured x tx in let z : (if is_node K x then 0 else count (is_at ((tree_of K).parent (path (tree_of K) v.leaf levels)) x)) ≡ 0 = else_zero (is_node K x) _ (ap (λ y. count (is_at y x)) top) in omega arith) now inside
 
 -- THE LEAVE GOES ON from the hook: what is above the root was given up, and the rank hands the root over, or empties it.
-pub hook_leaves : (K : Rooted) (levels : ℕ) (T : IsTreed K levels) (v : TreeView) (ov : v.leaf ≡ leaf_of K v.rank) (hv : v.rank < ranks_in K) (ws : List ℕ) (vs : List TreeView) (t : List Event) (g : TreeGood K levels ws vs t) → slice_get vs v.rank ≡ Some v → length vs ≡ ranks_in K → v.query ≡ false → (s : Option ℕ) → v.phase ≡ Above s → v.level ≡ levels →
+pub hook_leaves : (K : Rooted) (levels : ℕ) (T : IsTreed K levels) (v : TreeView) (ov : v.leaf ≡ leaf_of_rank K v.rank) (hv : v.rank < ranks_in K) (ws : List ℕ) (vs : List TreeView) (t : List Event) (g : TreeGood K levels ws vs t) → slice_get vs v.rank ≡ Some v → length vs ≡ ranks_in K → v.query ≡ false → (s : Option ℕ) → v.phase ≡ Above s → v.level ≡ levels →
     IsGoodBy K levels (put g.phase (path (tree_of K) v.leaf v.level) (works_for (tree_of K) v v.level) (resume_at (Above s))) g.line g.ended ws (slice_set vs v.rank (at_level v v.level (resume_at (Above s)))) t
 hook_leaves K levels T v ov hv ws vs t g has all_there nq s gave lv =
     let q : ℕ = path (tree_of K) v.leaf v.level in

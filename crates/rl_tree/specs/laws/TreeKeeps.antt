@@ -12,7 +12,7 @@ use Rattle.rl_queue.specs.Heads.{head_in}
 use Rattle.rl_tree.specs.declared.view.TreeView.{TreeView}
 use Rattle.rl_tree.specs.Tree.{has_above, hook_by, path, works_for, behind_at, at_level, settles_below}
 use Rattle.rl_tree.specs.declared.rooted.Rooted.{Rooted}
-use Rattle.rl_tree.specs.Elements.{how_many, ranks_in, leaf_of, names_in, tree_of}
+use Rattle.rl_tree.specs.Elements.{how_many, ranks_in, leaf_of_rank, names_in, tree_of}
 use Rattle.rl_tree.specs.TreeGood.{way_of, below_by, gate_of, Matches, Spent, IsGrantedAt, Tells, Shaped, IsGoodBy}
 use Rattle.rl_tree.specs.laws.TreePaths.{put, below_first, same_level, AllGood, FirstBelow, one_agent}
 use Rattle.rl_tree.specs.laws.TreeClimb.{el, me, whole, settled, cascade, settled_away, settled_gates, Owes, owes_all}
@@ -29,7 +29,7 @@ granted_unhooked _ g h = g
 
 -- what the views of all ranks but one tell of the phases
 pub record OthersTell (K : Rooted) (levels : ℕ) (F : ℕ → ℕ → Phase) (vs : List TreeView) (r : ℕ) : Type 0 where
-  pub own : (i : ℕ) (u : TreeView) → i ≢ r → slice_get vs i ≡ Some u → (u.rank ≡ i) × (u.leaf ≡ leaf_of K i)
+  pub own : (i : ℕ) (u : TreeView) → i ≢ r → slice_get vs i ≡ Some u → (u.rank ≡ i) × (u.leaf ≡ leaf_of_rank K i)
   pub there : (i : ℕ) (u : TreeView) → slice_get vs i ≡ Some u → i < ranks_in K
   pub shaped : (i : ℕ) (u : TreeView) → i ≢ r → slice_get vs i ≡ Some u → Shaped levels u
   pub below : (i : ℕ) (u : TreeView) (k : ℕ) → i ≢ r → slice_get vs i ≡ Some u → k < u.level → F (path (tree_of K) u.leaf k) (works_for (tree_of K) u k) ≡ below_by (way_of u.query u.phase) (behind_at u.behind k)
@@ -44,7 +44,7 @@ module _ (K : Rooted) (levels : ℕ) (T : IsTreed K levels) where
       (below_first (way_of u.query u.phase) (behind_at u.behind k) _ (λ q. let z : u.level ≡ 0 = sh.resting q in absurd (omega arith)))
 
   -- what another rank works for isn't what this rank has settled
-  other_cell : (ws : List ℕ) (F : ℕ → ℕ → Phase) (L : ℕ → List ℕ) (e : ℕ → ℕ) (t : List Event) (v u : TreeView) (j k : ℕ) → AllGood K levels T ws F L e t → v.leaf ≡ leaf_of K v.rank → u.leaf ≡ leaf_of K u.rank → v.rank < ranks_in K → u.rank < ranks_in K → u.rank ≢ v.rank →
+  other_cell : (ws : List ℕ) (F : ℕ → ℕ → Phase) (L : ℕ → List ℕ) (e : ℕ → ℕ) (t : List Event) (v u : TreeView) (j k : ℕ) → AllGood K levels T ws F L e t → v.leaf ≡ leaf_of_rank K v.rank → u.leaf ≡ leaf_of_rank K u.rank → v.rank < ranks_in K → u.rank < ranks_in K → u.rank ≢ v.rank →
       j ≤ suc levels → k ≤ levels → ((i : ℕ) → i < j → F (path (tree_of K) v.leaf i) (works_for (tree_of K) v i) ≡ Settle) → FirstBelow K levels T ws F u.rank u.leaf k →
       (i : ℕ) → i < j → (path (tree_of K) u.leaf k ≢ path (tree_of K) v.leaf i) ⊎ (works_for (tree_of K) u k ≢ works_for (tree_of K) v i)
   other_cell ws F L e t v u j k g ov ou hv hu ne le lk st first i b =
@@ -56,7 +56,7 @@ module _ (K : Rooted) (levels : ℕ) (T : IsTreed K levels) where
       (λ q. inl q)
       (same_or_not (path (tree_of K) u.leaf k) (path (tree_of K) v.leaf i))
 
-  spent_settled : (v : TreeView) (ov : v.leaf ≡ leaf_of K v.rank) (hv : v.rank < ranks_in K) (F : ℕ → ℕ → Phase) (j : ℕ) → ((q m : ℕ) → Spent (has_above (names_in K q).budget) (F q m)) → (q m : ℕ) → Spent (has_above (names_in K q).budget) (settled K levels T v ov hv F j q m)
+  spent_settled : (v : TreeView) (ov : v.leaf ≡ leaf_of_rank K v.rank) (hv : v.rank < ranks_in K) (F : ℕ → ℕ → Phase) (j : ℕ) → ((q m : ℕ) → Spent (has_above (names_in K q).budget) (F q m)) → (q m : ℕ) → Spent (has_above (names_in K q).budget) (settled K levels T v ov hv F j q m)
   spent_settled v ov hv F zero h q m = h q m
   spent_settled v ov hv F (suc j) h q m =
       spent_settled v ov hv (put F (el K levels T v ov hv j) (me K levels T v ov hv j) (whole K levels T v ov hv j)) j
@@ -64,7 +64,7 @@ module _ (K : Rooted) (levels : ℕ) (T : IsTreed K levels) where
 
   -- A settlement that climbs: where all queues are good, and rank r must settle in all below level j, and has the queue at level j, if
   -- there is one, the tree is good once it has settled in each of them from the upper one down, and is inside.
-  pub climbs : (ws : List ℕ) (F : ℕ → ℕ → Phase) (L : ℕ → List ℕ) (e : ℕ → ℕ) (t : List Event) (vs : List TreeView) (v : TreeView) (r j : ℕ) (q : Phase) (ov : v.leaf ≡ leaf_of K v.rank) (hv : v.rank < ranks_in K) →
+  pub climbs : (ws : List ℕ) (F : ℕ → ℕ → Phase) (L : ℕ → List ℕ) (e : ℕ → ℕ) (t : List Event) (vs : List TreeView) (v : TreeView) (r j : ℕ) (q : Phase) (ov : v.leaf ≡ leaf_of_rank K v.rank) (hv : v.rank < ranks_in K) →
       v.rank ≡ r → length v.behind ≡ 3 → OthersTell K levels F vs r → AllGood K levels T ws F L e t → j ≤ suc levels → ((i : ℕ) → i < j → F (el K levels T v ov hv i) (me K levels T v ov hv i) ≡ Settle) →
       (j ≤ levels → IsGrantedAt (F (el K levels T v ov hv j) (me K levels T v ov hv j))) →
       ((x p : ℕ) → x < how_many K → (tree_of K).parent x ≡ Some p → ((i : ℕ) → i < j → x ≢ el K levels T v ov hv i) → Matches (gate_of (head_in (lane_of (names_in K x) ws (F x)) (L x))) (F p x)) →
@@ -79,10 +79,10 @@ module _ (K : Rooted) (levels : ℕ) (T : IsTreed K levels) where
       let sh = others.shaped i u ne h in
       let hi = others.there i u h in
       settled_away K levels T v ov hv F j (path (tree_of K) u.leaf k) (works_for (tree_of K) u k)
-      (other_cell ws F L e t v u j k g ov (o.1 ∙ ap (leaf_of K) (sym o.0)) hv (subst (λ z. z < ranks_in K) (sym o.0) hi) (λ x. ne (sym o.0 ∙ x ∙ vr)) le (let a : u.level ≤ levels = sh.within in omega arith) st
+      (other_cell ws F L e t v u j k g ov (o.1 ∙ ap (leaf_of_rank K) (sym o.0)) hv (subst (λ z. z < ranks_in K) (sym o.0) hi) (λ x. ne (sym o.0 ∙ x ∙ vr)) le (let a : u.level ≤ levels = sh.within in omega arith) st
       (first_below ws F u k sh lk (λ x b. others.below i u x ne h b))) in
       record {
-        own = λ i u h. ⊎_elim (λ c. (ap (λ z. z.rank) c.1 ∙ vr ∙ sym c.0, ap (λ z. z.leaf) c.1 ∙ ov ∙ ap (leaf_of K) (vr ∙ sym c.0))) (λ c. others.own i u c.0 c.1) (cases i u h);
+        own = λ i u h. ⊎_elim (λ c. (ap (λ z. z.rank) c.1 ∙ vr ∙ sym c.0, ap (λ z. z.leaf) c.1 ∙ ov ∙ ap (leaf_of_rank K) (vr ∙ sym c.0))) (λ c. others.own i u c.0 c.1) (cases i u h);
         shaped = λ i u h. ⊎_elim (λ c. subst (Shaped levels) (sym c.1) (record { within = omega arith; resting = λ x. refl; above = λ x. cc; three = three; hooked = λ x. absurd (granted_unhooked q inside x) })) (λ c. others.shaped i u c.0 c.1) (cases i u h);
         queue = cascade K levels T v ov hv ws F L e t j le g st;
         below = λ i u k h b. ⊎_elim

@@ -7,7 +7,7 @@ use Rattle.rl_word.specs.Shapes.{IsProper}
 use Rattle.rl_step.specs.LockQueues.{parent_of, budget_by}
 use Rattle.rl_tree.specs.Tree.{has_above, path}
 use Rattle.rl_tree.specs.declared.rooted.Rooted.{Rooted}
-use Rattle.rl_tree.specs.Elements.{how_many, ranks_in, leaf_of, names_in, tree_of}
+use Rattle.rl_tree.specs.Elements.{how_many, ranks_in, leaf_of_rank, names_in, tree_of}
 use Rattle.rl_tree.specs.laws.TreeProper.{root_free, rising, seated, path_root, is_treed, depth_same, levels_are, reached, first_there}
 use Rattle.rl_tree.specs.laws.TreeSize.{few_elements}
 use Rattle.rl_tree.specs.TreeShape.{IsTreed, IsWellShaped, IsBudgeted, levels_of, level_in, IsTreeLaid}
@@ -53,16 +53,16 @@ proper_laid K proper homed budgeted low = subst (IsTreeLaid K) (sym (levels_are 
   same : (e : ℕ) → T.depth e ≡ level_in K proper.levels e
   same e = depth_same K proper e
 
-  reaches : (e : ℕ) → e < how_many K → (r : ℕ) × (j : ℕ) × (r < ranks_in K) × (j ≤ 3) × (e ≡ path (tree_of K) (leaf_of K r) j)
+  reaches : (e : ℕ) → e < how_many K → (r : ℕ) × (j : ℕ) × (r < ranks_in K) × (j ≤ 3) × (e ≡ path (tree_of K) (leaf_of_rank K r) j)
   reaches e lt = let k = reached K proper e lt in let a : k.1 ≤ proper.levels = k.3 in let b : proper.levels ≤ 3 = proper.shallow in (k.0, k.1, k.2, omega arith, k.4)
 
-  lone : (e : ℕ) → ranks_in K ≡ 1 → e < how_many K → e ≡ path (tree_of K) (leaf_of K 0) (level_in K proper.levels e)
+  lone : (e : ℕ) → ranks_in K ≡ 1 → e < how_many K → e ≡ path (tree_of K) (leaf_of_rank K 0) (level_in K proper.levels e)
   lone e one lt =
       let k = reached K proper e lt in
       let a : k.0 < ranks_in K = k.2 in
       let z : k.0 ≡ 0 = omega arith in
       let level : k.1 ≡ level_in K proper.levels e = sym (T.deep k.0 k.1 k.2 k.3) ∙ ap T.depth (sym k.4) ∙ same e in
-      k.4 ∙ ap (λ y. path (tree_of K) (leaf_of K y) k.1) z ∙ ap (path (tree_of K) (leaf_of K 0)) level
+      k.4 ∙ ap (λ y. path (tree_of K) (leaf_of_rank K y) k.1) z ∙ ap (path (tree_of K) (leaf_of_rank K 0)) level
 
   modest : (q b : ℕ) → (names_in K q).budget ≡ Some b → b ≤ 1000
   modest zero b e = low b e
@@ -75,7 +75,7 @@ proper_laid K proper homed budgeted low = subst (IsTreeLaid K) (sym (levels_are 
   laid =
       record {
         there = T.there;
-        deep = λ r j h le. sym (same (path (tree_of K) (leaf_of K r) j)) ∙ T.deep r j h le;
+        deep = λ r j h le. sym (same (path (tree_of K) (leaf_of_rank K r) j)) ∙ T.deep r j h le;
         up = T.up;
         top = λ r lt. path_root K proper r lt;
         node = λ e lt h. sym (same e) ∙ T.node e lt h;

@@ -13,7 +13,7 @@ use Rattle.rl_step.specs.declared.events.Event.{Event}
 use Rattle.rl_step.specs.Lock.{Rests, no_local}
 use Rattle.rl_queue.specs.declared.view.Phase.{Phase}
 use Rattle.rl_queue.specs.declared.view.Phase.TheVariants.{Idle, Clear, Reset, Swing, Link, Wait, Settle, Granted, Look, Close, Await, Hand, Above}
-use Rattle.rl_queue.specs.Queue.{TheNames, next_word, status_word, plan_at}
+use Rattle.rl_queue.specs.Queue.{TheNames, queue_next_word, status_word, plan_at}
 use Rattle.rl_queue.specs.Lane.{lane_of, Busy, IsAlone}
 use Rattle.rl_queue.specs.laws.LaneLaws.{in_line}
 use Rattle.rl_queue.specs.laws.LaneMoves.{link_guess}
@@ -21,9 +21,9 @@ use Rattle.rl_queue.specs.QueueGood.{QueueGood}
 use Rattle.rl_queue.specs.laws.QueueMoves.{hand_succ}
 use Rattle.rl_queue.specs.Standings.{standing_of}
 use Rattle.rl_tree.specs.declared.view.TreeView.{TreeView}
-use Rattle.rl_tree.specs.Tree.{TheTree, is_none, hook_by, path, member_at, walk, goes_up, gives_up, goes_down}
+use Rattle.rl_tree.specs.Tree.{TheTree, is_none, hook_by, path, member_at, tree_walk, goes_up, gives_up, goes_down}
 use Rattle.rl_tree.specs.declared.rooted.Rooted.{Rooted}
-use Rattle.rl_tree.specs.Elements.{how_many, ranks_in, leaf_of, first_node_of, of_elements, of_tree, names_in, tree_of, tree_spot}
+use Rattle.rl_tree.specs.Elements.{how_many, ranks_in, leaf_of_rank, first_node_of, of_elements, of_tree, names_in, tree_of, tree_spot}
 use Rattle.rl_tree.specs.TreeGood.{InQueue}
 use Rattle.rl_tree.specs.laws.TreeWords.{member_is, words_at}
 use Rattle.rl_tree.specs.TreeShape.{IsWellShaped}
@@ -92,8 +92,8 @@ module _ (K : Rooted) (levels : ℕ) (S : IsWellShaped K levels) where
   may_swap r w old new lt = let there : w < of_tree K = omega arith in (record { there = there; homed = spot_home w there; allowed = card_word w lt }, refl)
 
   -- the words of a member
-  stores_next : (r q m x : ℕ) → q < how_many K → InQueue K q m → MayMake r (Store (next_word (names_in K q) m) x)
-  stores_next r q m x lq i = let k = words_at K S.root_free q m i in may_store r (next_word (names_in K q) m) x (omega arith) k.0 k.1
+  stores_next : (r q m x : ℕ) → q < how_many K → InQueue K q m → MayMake r (Store (queue_next_word (names_in K q) m) x)
+  stores_next r q m x lq i = let k = words_at K S.root_free q m i in may_store r (queue_next_word (names_in K q) m) x (omega arith) k.0 k.1
 
   stores_status : (r q m x : ℕ) → q < how_many K → InQueue K q m → MayMake r (Store (status_word (names_in K q) m) x)
   stores_status r q m x lq i = let k = words_at K S.root_free q m i in let a = k.0 in let b = k.2 in may_store r (status_word (names_in K q) m) x (omega arith) (omega arith) k.3
@@ -101,8 +101,8 @@ module _ (K : Rooted) (levels : ℕ) (S : IsWellShaped K levels) where
   pub loads_status : (r q m : ℕ) → InQueue K q m → MayMake r (Load (status_word (names_in K q) m))
   loads_status r q m i = may_load r (status_word (names_in K q) m) (words_at K S.root_free q m i).3
 
-  loads_next : (r q m : ℕ) → InQueue K q m → MayMake r (Load (next_word (names_in K q) m))
-  loads_next r q m i = may_load r (next_word (names_in K q) m) (words_at K S.root_free q m i).1
+  loads_next : (r q m : ℕ) → InQueue K q m → MayMake r (Load (queue_next_word (names_in K q) m))
+  loads_next r q m i = may_load r (queue_next_word (names_in K q) m) (words_at K S.root_free q m i).1
 
   -- each planned act is lawful
   pub lawful_in : (r q m : ℕ) (p : Phase) (a : Act) (ws : List ℕ) (ph : ℕ → Phase) (l : List ℕ) (t : List Event) (e : ℕ) → q < how_many K → QueueGood (names_in K q) (InQueue K q) ws ph l t e → ph m ≡ p → plan_at (names_in K q) m p ≡ Some a → MayMake r a
@@ -121,24 +121,24 @@ module _ (K : Rooted) (levels : ℕ) (S : IsWellShaped K levels) where
   lawful_in r q m _ a ws ph l t e lq g ep pl = cc
 
   -- where there is one rank, each queue on its path has one member
-  pub alone_on : (r i : ℕ) → ranks_in K ≡ 1 → r < ranks_in K → i ≤ levels → IsAlone (InQueue K (path (tree_of K) (leaf_of K r) i)) (member_at (tree_of K) r (leaf_of K r) i)
+  pub alone_on : (r i : ℕ) → ranks_in K ≡ 1 → r < ranks_in K → i ≤ levels → IsAlone (InQueue K (path (tree_of K) (leaf_of_rank K r) i)) (member_at (tree_of K) r (leaf_of_rank K r) i)
   alone_on r zero one hr le x j =
       ⊎_elim (λ n. let a : x < ranks_in K = n.there in omega arith)
       (λ n. let bad : true ≡ false = sym (S.treed.leaf r hr) ∙ n.is in cc)
-      (member_is K S.root_free (leaf_of K r) x j)
+      (member_is K S.root_free (leaf_of_rank K r) x j)
   alone_on r (suc i) one hr le x j =
-      let q : ℕ = path (tree_of K) (leaf_of K r) (suc i) in
-      let dq : S.treed.depth (path (tree_of K) (leaf_of K r) (suc i)) ≡ suc i = S.treed.deep r (suc i) hr le in
-      let lq : path (tree_of K) (leaf_of K r) (suc i) < how_many K = S.treed.there r (suc i) hr le in
+      let q : ℕ = path (tree_of K) (leaf_of_rank K r) (suc i) in
+      let dq : S.treed.depth (path (tree_of K) (leaf_of_rank K r) (suc i)) ≡ suc i = S.treed.deep r (suc i) hr le in
+      let lq : path (tree_of K) (leaf_of_rank K r) (suc i) < how_many K = S.treed.there r (suc i) hr le in
       ⊎_elim
-      (λ n. let z : S.treed.depth (path (tree_of K) (leaf_of K r) (suc i)) ≡ 0 = S.treed.node (path (tree_of K) (leaf_of K r) (suc i)) lq n.is in absurd (omega arith))
+      (λ n. let z : S.treed.depth (path (tree_of K) (leaf_of_rank K r) (suc i)) ≡ 0 = S.treed.node (path (tree_of K) (leaf_of_rank K r) (suc i)) lq n.is in absurd (omega arith))
       (λ n.
-      let o = S.treed.over x (path (tree_of K) (leaf_of K r) (suc i)) n.there n.mine in
-      let dx0 : S.treed.depth (path (tree_of K) (leaf_of K r) (suc i)) ≡ suc (S.treed.depth x) = o.1 in
+      let o = S.treed.over x (path (tree_of K) (leaf_of_rank K r) (suc i)) n.there n.mine in
+      let dx0 : S.treed.depth (path (tree_of K) (leaf_of_rank K r) (suc i)) ≡ suc (S.treed.depth x) = o.1 in
       let dx : S.treed.depth x ≡ i = omega arith in
       let zero_rank : 0 ≡ r = omega arith in
-      S.lonely x one n.there ∙ ap (λ z. path (tree_of K) (leaf_of K 0) z) dx ∙ ap (λ z. path (tree_of K) (leaf_of K z) i) zero_rank)
-      (member_is K S.root_free (path (tree_of K) (leaf_of K r) (suc i)) x j)
+      S.lonely x one n.there ∙ ap (λ z. path (tree_of K) (leaf_of_rank K 0) z) dx ∙ ap (λ z. path (tree_of K) (leaf_of_rank K z) i) zero_rank)
+      (member_is K S.root_free (path (tree_of K) (leaf_of_rank K r) (suc i)) x j)
 
 -- nothing but a load waits; one that goes up, or gives up what is above, tells what was told before
 pub up_goes : (b : Bool) (v : TreeView) (w : ℕ) (es : List Event) → ((goes_up b v w es).events ≡ es) × ((goes_up b v w es).waits ≡ false)
@@ -153,7 +153,7 @@ down_waits : (v : TreeView) (w : ℕ) (es : List Event) → (goes_down v w es).w
 down_waits v zero es = refl
 down_waits v (suc j) es = refl
 
-pub walk_waits : (T : TheTree) (v : TreeView) (w : ℕ) (p : Phase) (es : List Event) (b : Bool) → b ≡ false → (walk T v w p es b).waits ≡ false
+pub walk_waits : (T : TheTree) (v : TreeView) (w : ℕ) (p : Phase) (es : List Event) (b : Bool) → b ≡ false → (tree_walk T v w p es b).waits ≡ false
 walk_waits T v w Idle es b e = down_waits v w es
 walk_waits T v w Settle es b e = (up_goes (is_none (T.parent (path T v.leaf w))) v w es).1
 walk_waits T v w (Granted left) es b e = refl

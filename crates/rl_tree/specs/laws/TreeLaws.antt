@@ -14,7 +14,7 @@ use Rattle.rl_queue.specs.laws.QueueActs.{pass_more}
 use Rattle.rl_queue.specs.laws.QueueMoves.{queue_fifo, queue_within}
 use Rattle.rl_queue.specs.laws.QueueFits.{alone_moves_on, waits_on}
 use Rattle.rl_tree.specs.declared.view.TreeView.{TreeView}
-use Rattle.rl_tree.specs.Tree.{TheTree, has_above, is_none, hook_by, path, works_for, names_at, behind_at, inside_from, goes_down, walk, plan_by, tree_plan, learn_by, at_hook, resume_by, tree_standing}
+use Rattle.rl_tree.specs.Tree.{TheTree, has_above, is_none, hook_by, path, works_for, names_at, behind_at, inside_from, goes_down, tree_walk, plan_by, tree_plan, learn_by, at_hook, resume_by, tree_standing}
 use Rattle.rl_tree.specs.declared.rooted.Rooted.{Rooted}
 use Rattle.rl_tree.specs.Elements.{how_many, names_in, tree_of}
 use Rattle.rl_tree.specs.TreeGood.{Spent, IsGrantedAt, InQueue, is_open, TreeGood, IsAbove}
@@ -52,7 +52,7 @@ inside_hook : (T : TheTree) (v : TreeView) (w left : ℕ) → hook_by false (ins
 inside_hook T v zero left = refl
 inside_hook T v (suc j) left = refl
 
-walk_hook : (T : TheTree) (v : TreeView) (w : ℕ) (p : Phase) (es : List Event) (b : Bool) → at_hook (walk T v w p es b).view ≡ true → (hook_by false p ≡ true) × ((walk T v w p es b).events ≡ es)
+walk_hook : (T : TheTree) (v : TreeView) (w : ℕ) (p : Phase) (es : List Event) (b : Bool) → at_hook (tree_walk T v w p es b).view ≡ true → (hook_by false p ≡ true) × ((tree_walk T v w p es b).events ≡ es)
 walk_hook T v w Idle es b h = let bad : false ≡ true = sym (down_hook v w es) ∙ h in cc
 walk_hook T v w Settle es b h = (refl, (up_goes (is_none (T.parent (path T v.leaf w))) v w es).0)
 walk_hook T v w (Granted left) es b h = let bad : false ≡ true = sym (inside_hook T v w left) ∙ h in cc
@@ -60,14 +60,14 @@ walk_hook T v w (Above s) es b h = (refl, (gives_goes (is_none (T.parent (path T
 walk_hook T v w _ es b h = cc
 
 -- where it plans a load again, so does the rank after it, and isn't at the hook
-walk_loads : (K : Rooted) (v : TreeView) (p : Phase) (es : List Event) (b : Bool) → PlansLoad (plan_at (names_at (tree_of K) v v.level) (works_for (tree_of K) v v.level) p) → PlansLoad (tree_plan (tree_of K) (walk (tree_of K) v v.level p es b).view) × (at_hook (walk (tree_of K) v v.level p es b).view ≡ false)
+walk_loads : (K : Rooted) (v : TreeView) (p : Phase) (es : List Event) (b : Bool) → PlansLoad (plan_at (names_at (tree_of K) v v.level) (works_for (tree_of K) v v.level) p) → PlansLoad (tree_plan (tree_of K) (tree_walk (tree_of K) v v.level p es b).view) × (at_hook (tree_walk (tree_of K) v v.level p es b).view ≡ false)
 walk_loads K v Wait es b h = (h, refl)
 walk_loads K v (Look left u) es b h = (h, refl)
 walk_loads K v (Await left) es b h = (h, refl)
 walk_loads K v _ es b h = absurd h
 
 -- and it waits on only where its turn does
-walk_rests : (T : TheTree) (v : TreeView) (w : ℕ) (p : Phase) (es : List Event) (b : Bool) → (walk T v w p es b).waits ≡ true → b ≡ true
+walk_rests : (T : TheTree) (v : TreeView) (w : ℕ) (p : Phase) (es : List Event) (b : Bool) → (tree_walk T v w p es b).waits ≡ true → b ≡ true
 walk_rests T v w p es true h = refl
 walk_rests T v w p es false h = let bad : false ≡ true = sym (walk_waits T v w p es false refl) ∙ h in cc
 

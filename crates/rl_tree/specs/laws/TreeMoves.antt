@@ -22,7 +22,7 @@ use Rattle.rl_queue.specs.Standings.{standing_of}
 use Rattle.rl_tree.specs.declared.view.TreeView.{TreeView}
 use Rattle.rl_tree.specs.Tree.{has_above, path, member_at, works_for, behind_at, names_at, at_level, settles_below, inside_from, at_hook, plan_by, learn_by, resume_by, standing_by, tree_standing}
 use Rattle.rl_tree.specs.declared.rooted.Rooted.{Rooted}
-use Rattle.rl_tree.specs.Elements.{ranks_in, leaf_of, of_tree, names_in, tree_of}
+use Rattle.rl_tree.specs.Elements.{ranks_in, leaf_of_rank, of_tree, names_in, tree_of}
 use Rattle.rl_tree.specs.TreeGood.{way_of, below_by, gate_of, is_open, root_open, Tells, InQueue, IsGrantedAt, IsGoodBy, GoodAt}
 use Rattle.rl_tree.specs.laws.TreePaths.{put, put_moves}
 use Rattle.rl_tree.specs.laws.TreeClimb.{settled, settled_here, settled_head}
@@ -82,7 +82,7 @@ module _ (K : Rooted) (levels : ℕ) (S : IsWellShaped K levels) (inside : Bool)
   there : v.rank < ranks_in K
   there = rank_there K levels S ws vs t x.is_good.tree x.all r v x.has
 
-  own : v.leaf ≡ leaf_of K v.rank
+  own : v.leaf ≡ leaf_of_rank K v.rank
   own = own_leaf K levels S ws vs t x.is_good.tree x.all r v x.has
 
   up : (i : ℕ) → i < levels → (tree_of K).parent (path (tree_of K) v.leaf i) ≡ Some (path (tree_of K) v.leaf (suc i))

@@ -12,7 +12,7 @@ use Rattle.rl_step.specs.laws.QueueLemmas.{tenures-append}
 use Rattle.rl_queue.specs.laws.Choices.{choose, same_test, other_test}
 use Rattle.rl_queue.specs.declared.view.Phase.{Phase}
 use Rattle.rl_queue.specs.declared.view.Phase.TheVariants.{Idle, Clear, Wait, Settle, Granted, Above}
-use Rattle.rl_queue.specs.Queue.{Turn, status_word, plan_at, resume_at}
+use Rattle.rl_queue.specs.Queue.{QueueTurn, status_word, plan_at, resume_at}
 use Rattle.rl_queue.specs.Lane.{lane_of, Listed, is_pass, IsFirst}
 use Rattle.rl_queue.specs.laws.QueueMoves.{join_keeps, resume_keeps}
 use Rattle.rl_queue.specs.laws.QueueTurns.{turn_all}
@@ -21,7 +21,7 @@ use Rattle.rl_queue.specs.laws.QueueHeads.{head_first, head_kept, HeadStep, head
 use Rattle.rl_tree.specs.declared.view.TreeView.{TreeView}
 use Rattle.rl_tree.specs.Tree.{has_above, hook_by, path, member_at, works_for, behind_at, at_level, asks_status, leaves_behind, settles_below}
 use Rattle.rl_tree.specs.declared.rooted.Rooted.{Rooted}
-use Rattle.rl_tree.specs.Elements.{how_many, ranks_in, leaf_of, is_node, names_in, tree_of, queue_at}
+use Rattle.rl_tree.specs.Elements.{how_many, ranks_in, leaf_of_rank, is_node, names_in, tree_of, queue_at}
 use Rattle.rl_tree.specs.TreeGood.{Up, Down, Rest, way_at, way_of, below_by, Gate, Shut, Asking, Open, Releasing, gate_at, gate_of, granted_in, one_if, Matches, Spent, IsGrantedAt, Shaped, InQueue, IsGoodBy, TreeGood, open_if}
 use Rattle.rl_tree.specs.laws.TreePaths.{put, put_here, put_away, put_moves, AllGood, FirstBelow}
 use Rattle.rl_tree.specs.laws.TreeClimb.{el_apart, el, me, settled, owed, debt, debt_is, Owes, else_zero, else_parts}
@@ -96,7 +96,7 @@ pub resume_none : (o : Option ℕ) → one_if (resume_at (Above o)) ≡ 0
 resume_none None = refl
 resume_none (Some x) = refl
 
-module _ (K : Rooted) (levels : ℕ) (T : IsTreed K levels) (v : TreeView) (ov : v.leaf ≡ leaf_of K v.rank) (hv : v.rank < ranks_in K) (ws : List ℕ) (vs : List TreeView) (t : List Event) (g : TreeGood K levels ws vs t) (d : IsWorded K (length ws)) (has : slice_get vs v.rank ≡ Some v)
+module _ (K : Rooted) (levels : ℕ) (T : IsTreed K levels) (v : TreeView) (ov : v.leaf ≡ leaf_of_rank K v.rank) (hv : v.rank < ranks_in K) (ws : List ℕ) (vs : List TreeView) (t : List Event) (g : TreeGood K levels ws vs t) (d : IsWorded K (length ws)) (has : slice_get vs v.rank ≡ Some v)
     (no_query : v.query ≡ false) (all_there : length vs ≡ ranks_in K) (a : Act) (pl : plan_at (names_in K (path (tree_of K) v.leaf v.level)) (works_for (tree_of K) v v.level) v.phase ≡ Some a) where
   abbrev Q : ℕ
   Q = path (tree_of K) v.leaf v.level
@@ -113,7 +113,7 @@ module _ (K : Rooted) (levels : ℕ) (T : IsTreed K levels) (v : TreeView) (ov :
   abbrev Z : ℕ → List ℕ
   Z = L K levels T v ov hv ws vs t g d has no_query all_there a pl
 
-  abbrev turn : Turn
+  abbrev turn : QueueTurn
   turn = tu K levels T v ov hv ws vs t g d has no_query all_there a pl
 
   abbrev pub before : ℕ → Option Head

@@ -14,7 +14,7 @@ use Rattle.rl_queue.specs.Heads.{head_in}
 use Rattle.rl_tree.specs.declared.view.TreeView.{TreeView}
 use Rattle.rl_tree.specs.Tree.{has_above, path, member_at, works_for, behind_at}
 use Rattle.rl_tree.specs.declared.rooted.Rooted.{Rooted}
-use Rattle.rl_tree.specs.Elements.{how_many, ranks_in, leaf_of, is_node, names_in, tree_of, queue_at}
+use Rattle.rl_tree.specs.Elements.{how_many, ranks_in, leaf_of_rank, is_node, names_in, tree_of, queue_at}
 use Rattle.rl_step.specs.LockQueues.{is_at}
 use Rattle.rl_tree.specs.TreeGood.{way_of, below_by, Gate, gate_of, granted_in, Matches, Spent, Tells, Shaped, InQueue, IsGoodBy, TreeGood}
 use Rattle.rl_tree.specs.laws.TreePaths.{put, put_here, put_away, AllGood, FirstBelow, one_agent, same_level}
@@ -37,13 +37,13 @@ module _ (K : Rooted) (levels : ℕ) (T : IsTreed K levels) where
   Tenured ws F L e t = (q : ℕ) → q < how_many K → e q + (if is_node K q then 0 else granted_in (head_in (lane_of (names_in K q) ws (F q)) (L q))) ≡ tenures (queue_at K q) t
 
   -- rank r's view is w now
-  pub assembles : (ws : List ℕ) (F : ℕ → ℕ → Phase) (L : ℕ → List ℕ) (e : ℕ → ℕ) (t : List Event) (vs : List TreeView) (r : ℕ) (w : TreeView) → w.rank ≡ r → w.leaf ≡ leaf_of K r → Shaped levels w → OthersTell K levels F vs r → AllGood K levels T ws F L e t →
+  pub assembles : (ws : List ℕ) (F : ℕ → ℕ → Phase) (L : ℕ → List ℕ) (e : ℕ → ℕ) (t : List Event) (vs : List TreeView) (r : ℕ) (w : TreeView) → w.rank ≡ r → w.leaf ≡ leaf_of_rank K r → Shaped levels w → OthersTell K levels F vs r → AllGood K levels T ws F L e t →
       ((k : ℕ) → k < w.level → F (path (tree_of K) w.leaf k) (works_for (tree_of K) w k) ≡ below_by (way_of w.query w.phase) (behind_at w.behind k)) →
       Tells w w.query (F (path (tree_of K) w.leaf w.level) (works_for (tree_of K) w w.level)) → Gated ws F L → AllSpent F → Tenured ws F L e t → IsGoodBy K levels F L e ws (slice_set vs r w) t
   assembles ws F L e t vs r w wr wl sh others good below here gates spent ten =
       let cases : (i : ℕ) (u : TreeView) → slice_get (slice_set vs r w) i ≡ Some u → ((i ≡ r) × (u ≡ w)) ⊎ ((i ≢ r) × (slice_get vs i ≡ Some u)) = λ i u h. get_set_cases vs r i w u h in
       record {
-        own = λ i u h. ⊎_elim (λ c. (ap (λ z. z.rank) c.1 ∙ wr ∙ sym c.0, ap (λ z. z.leaf) c.1 ∙ wl ∙ ap (leaf_of K) (sym c.0))) (λ c. others.own i u c.0 c.1) (cases i u h);
+        own = λ i u h. ⊎_elim (λ c. (ap (λ z. z.rank) c.1 ∙ wr ∙ sym c.0, ap (λ z. z.leaf) c.1 ∙ wl ∙ ap (leaf_of_rank K) (sym c.0))) (λ c. others.own i u c.0 c.1) (cases i u h);
         shaped = λ i u h. ⊎_elim (λ c. subst (Shaped levels) (sym c.1) sh) (λ c. others.shaped i u c.0 c.1) (cases i u h);
         queue = good;
         below = λ i u k h b. ⊎_elim
@@ -60,7 +60,7 @@ module _ (K : Rooted) (levels : ℕ) (T : IsTreed K levels) where
       }
 
   -- nobody else works for the member for which a rank works at a level below which it is first
-  pub not_theirs : (ws : List ℕ) (F : ℕ → ℕ → Phase) (L : ℕ → List ℕ) (e : ℕ → ℕ) (t : List Event) (vs : List TreeView) (r l i : ℕ) → l ≡ leaf_of K r → r < ranks_in K → i ≤ levels → AllGood K levels T ws F L e t → OthersTell K levels F vs r → FirstBelow K levels T ws F r l i →
+  pub not_theirs : (ws : List ℕ) (F : ℕ → ℕ → Phase) (L : ℕ → List ℕ) (e : ℕ → ℕ) (t : List Event) (vs : List TreeView) (r l i : ℕ) → l ≡ leaf_of_rank K r → r < ranks_in K → i ≤ levels → AllGood K levels T ws F L e t → OthersTell K levels F vs r → FirstBelow K levels T ws F r l i →
       (n : ℕ) (u : TreeView) (k : ℕ) → n ≢ r → slice_get vs n ≡ Some u → k ≤ u.level → (path (tree_of K) u.leaf k ≢ path (tree_of K) l i) ⊎ (works_for (tree_of K) u k ≢ member_at (tree_of K) r l i)
   not_theirs ws F L e t vs r l i ol hr li g o fv n u k ne h lk =
       let own = o.own n u ne h in
@@ -68,7 +68,7 @@ module _ (K : Rooted) (levels : ℕ) (T : IsTreed K levels) where
       let lu : u.level ≤ levels = sh.within in
       let hn : n < ranks_in K = o.there n u h in
       let hu : u.rank < ranks_in K = subst (λ z. z < ranks_in K) (sym own.0) hn in
-      let ou : u.leaf ≡ leaf_of K u.rank = own.1 ∙ ap (leaf_of K) (sym own.0) in
+      let ou : u.leaf ≡ leaf_of_rank K u.rank = own.1 ∙ ap (leaf_of_rank K) (sym own.0) in
       ⊎_elim
       (λ q. inr (λ m.
       let same : k ≡ i = same_level K levels T u.rank r u.leaf l k i ou ol hu hr (omega arith) li q in
@@ -79,7 +79,7 @@ module _ (K : Rooted) (levels : ℕ) (T : IsTreed K levels) where
       (same_or_not (path (tree_of K) u.leaf k) (path (tree_of K) l i))
 
   -- so what the others tell stays true where that member moves
-  pub others_put : (ws : List ℕ) (F : ℕ → ℕ → Phase) (L : ℕ → List ℕ) (e : ℕ → ℕ) (t : List Event) (vs : List TreeView) (r l i : ℕ) (p : Phase) → l ≡ leaf_of K r → r < ranks_in K → i ≤ levels → AllGood K levels T ws F L e t → OthersTell K levels F vs r → FirstBelow K levels T ws F r l i →
+  pub others_put : (ws : List ℕ) (F : ℕ → ℕ → Phase) (L : ℕ → List ℕ) (e : ℕ → ℕ) (t : List Event) (vs : List TreeView) (r l i : ℕ) (p : Phase) → l ≡ leaf_of_rank K r → r < ranks_in K → i ≤ levels → AllGood K levels T ws F L e t → OthersTell K levels F vs r → FirstBelow K levels T ws F r l i →
       OthersTell K levels (put F (path (tree_of K) l i) (member_at (tree_of K) r l i) p) vs r
   others_put ws F L e t vs r l i p ol hr li g o fv =
       let Q : ℕ = path (tree_of K) l i in
@@ -144,7 +144,7 @@ module _ (K : Rooted) (levels : ℕ) (T : IsTreed K levels) where
   is_child x p there up =
       let o = T.over x p there up in
       let no : is_node K p ≡ false = by (is_node K p) refl o.0 o.1 in
-      (no, record { is = ap (λ z. if z then (nat_lt x (ranks_in K) && (leaf_of K x == p)) else is_at ((tree_of K).parent x) p) no ∙ ap (λ z. is_at z p) up ∙ same_test p }) where
+      (no, record { is = ap (λ z. if z then (nat_lt x (ranks_in K) && (leaf_of_rank K x == p)) else is_at ((tree_of K).parent x) p) no ∙ ap (λ z. is_at z p) up ∙ same_test p }) where
         by : (b : Bool) → is_node K p ≡ b → p < how_many K → T.depth p ≡ suc (T.depth x) → is_node K p ≡ false
         by true h lt deep = let z : T.depth p ≡ 0 = T.node p lt h in absurd (omega arith)
         by false h lt deep = h

@@ -10,7 +10,7 @@ use Rattle.rl_queue.specs.QueueGood.{QueueGood, Moves}
 use Rattle.rl_queue.specs.laws.QueueMoves.{one_first}
 use Rattle.rl_tree.specs.Tree.{path, member_at}
 use Rattle.rl_tree.specs.declared.rooted.Rooted.{Rooted}
-use Rattle.rl_tree.specs.Elements.{how_many, ranks_in, leaf_of, names_in, tree_of}
+use Rattle.rl_tree.specs.Elements.{how_many, ranks_in, leaf_of_rank, names_in, tree_of}
 use Rattle.rl_tree.specs.TreeShape.{IsTreed}
 use Rattle.rl_tree.specs.TreeGood.{Way, Up, Down, Rest, below_by, InQueue}
 
@@ -47,7 +47,7 @@ module _ (K : Rooted) (levels : ℕ) (T : IsTreed K levels) where
   at_member r l k = member_at (tree_of K) r l k
 
   -- two ranks' paths meet at one level
-  pub same_level : (r r' l l' i j : ℕ) → l ≡ leaf_of K r → l' ≡ leaf_of K r' → r < ranks_in K → r' < ranks_in K → i ≤ levels → j ≤ levels → at_path l i ≡ at_path l' j → i ≡ j
+  pub same_level : (r r' l l' i j : ℕ) → l ≡ leaf_of_rank K r → l' ≡ leaf_of_rank K r' → r < ranks_in K → r' < ranks_in K → i ≤ levels → j ≤ levels → at_path l i ≡ at_path l' j → i ≡ j
   same_level r r' l l' i j o o' h h' li lj e =
       sym (T.deep r i h li) ∙ ap (λ z. T.depth (at_path z i)) (sym o) ∙ ap T.depth e ∙ ap (λ z. T.depth (at_path z j)) o' ∙ T.deep r' j h' lj
 
@@ -59,7 +59,7 @@ module _ (K : Rooted) (levels : ℕ) (T : IsTreed K levels) where
   FirstBelow ws F r l i = (k : ℕ) → k < i → IsFirst (F (at_path l k) (at_member r l k)) (slice_index ws (status_word (names_in K (at_path l k)) (at_member r l k)))
 
   -- One agent: two ranks that work for the same member of a queue are one.
-  pub one_agent : (ws : List ℕ) (F : ℕ → ℕ → Phase) (L : ℕ → List ℕ) (e : ℕ → ℕ) (t : List Event) → AllGood ws F L e t → (r r' l l' i : ℕ) → l ≡ leaf_of K r → r < ranks_in K → i ≤ levels →
+  pub one_agent : (ws : List ℕ) (F : ℕ → ℕ → Phase) (L : ℕ → List ℕ) (e : ℕ → ℕ) (t : List Event) → AllGood ws F L e t → (r r' l l' i : ℕ) → l ≡ leaf_of_rank K r → r < ranks_in K → i ≤ levels →
       FirstBelow ws F r l i → FirstBelow ws F r' l' i → at_member r l i ≡ at_member r' l' i → r ≡ r'
   one_agent ws F L e t g r r' l l' zero o h li f f' same = same
   one_agent ws F L e t g r r' l l' (suc k) o h li f f' same =

@@ -9,7 +9,7 @@ use Rattle.rl_step.specs.laws.QueueLemmas.{eqb_means}
 use Rattle.rl_queue.specs.laws.Choices.{same_test}
 use Rattle.rl_tree.specs.Tree.{or_zero, path}
 use Rattle.rl_tree.specs.declared.rooted.Rooted.{Rooted}
-use Rattle.rl_tree.specs.Elements.{how_many, ranks_in, first_node_of, leaf_of, is_node, tree_of}
+use Rattle.rl_tree.specs.Elements.{how_many, ranks_in, first_node_of, leaf_of_rank, is_node, tree_of}
 use Rattle.rl_step.specs.LockQueues.{parent_of, stands}
 use Rattle.rl_tree.specs.TreeShape.{IsTreed, above_it, steps_up}
 
@@ -120,17 +120,17 @@ module _ (K : Rooted) (P : IsProper K.shape) where
   pub seated : (r : ℕ) → r < ranks_in K → slice_index K.shape.node_of r < K.shape.nodes
   seated r lt = let k = node_at r lt in let a : slice_index K.shape.node_of r ≡ k.0 = k.2 in let b : k.0 < K.shape.nodes = k.3 in omega arith
 
-  leaf_at : (r : ℕ) → r < ranks_in K → (n : ℕ) × (slice_get K.shape.leaf_of n ≡ Some (leaf_of K r))
+  leaf_at : (r : ℕ) → r < ranks_in K → (n : ℕ) × (slice_get K.shape.leaf_of n ≡ Some (leaf_of_rank K r))
   leaf_at r lt =
       let k = node_at r lt in
       let b : k.0 < K.shape.nodes = k.3 in
       let c : length K.shape.leaf_of ≡ K.shape.nodes = P.each_node in
       let l = some_at K.shape.leaf_of k.0 (omega arith) in
-      let is : leaf_of K r ≡ l.0 = ap (slice_index K.shape.leaf_of) k.2 ∙ get_or_from_slice_get K.shape.leaf_of k.0 l.0 0 l.1 in
+      let is : leaf_of_rank K r ≡ l.0 = ap (slice_index K.shape.leaf_of) k.2 ∙ get_or_from_slice_get K.shape.leaf_of k.0 l.0 0 l.1 in
       (k.0, l.1 ∙ ap Some (sym is))
 
-  leaf_deep : (r : ℕ) → r < ranks_in K → IsUnder K.shape.elements 0 P.levels (leaf_of K r)
-  leaf_deep r lt = let k = leaf_at r lt in P.even k.0 (leaf_of K r) k.1
+  leaf_deep : (r : ℕ) → r < ranks_in K → IsUnder K.shape.elements 0 P.levels (leaf_of_rank K r)
+  leaf_deep r lt = let k = leaf_at r lt in P.even k.0 (leaf_of_rank K r) k.1
 
   -- a path goes up step by step
   path_under : (l j n m : ℕ) → m ≡ j + n → IsUnder K.shape.elements 0 m l → IsUnder K.shape.elements 0 n (path (tree_of K) l j)
@@ -139,8 +139,8 @@ module _ (K : Rooted) (P : IsProper K.shape) where
       let k = path_under l j (suc n) m (omega arith) u in
       subst (IsUnder K.shape.elements 0 n) (sym (ap or_zero (parent_is (path (tree_of K) l j) k.0 k.1))) k.2
 
-  path_at : (r j n : ℕ) → r < ranks_in K → P.levels ≡ j + n → IsUnder K.shape.elements 0 n (path (tree_of K) (leaf_of K r) j)
-  path_at r j n lt e = path_under (leaf_of K r) j n P.levels e (leaf_deep r lt)
+  path_at : (r j n : ℕ) → r < ranks_in K → P.levels ≡ j + n → IsUnder K.shape.elements 0 n (path (tree_of K) (leaf_of_rank K r) j)
+  path_at r j n lt e = path_under (leaf_of_rank K r) j n P.levels e (leaf_deep r lt)
 
   path_shift : (l p j : ℕ) → (tree_of K).parent l ≡ Some p → path (tree_of K) l (suc j) ≡ path (tree_of K) p j
   path_shift l p zero e = ap or_zero e
@@ -150,7 +150,7 @@ module _ (K : Rooted) (P : IsProper K.shape) where
   path_top zero e l u = u
   path_top (suc s) e l u = path_shift l u.0 s (parent_is l u.0 u.1) ∙ path_top s e u.0 u.2
 
-  pub path_root : (r : ℕ) → r < ranks_in K → path (tree_of K) (leaf_of K r) P.levels ≡ 0
+  pub path_root : (r : ℕ) → r < ranks_in K → path (tree_of K) (leaf_of_rank K r) P.levels ≡ 0
   path_root r lt = path_at r P.levels 0 lt (omega arith)
 
   -- THE TREE
@@ -158,18 +158,18 @@ module _ (K : Rooted) (P : IsProper K.shape) where
   is_treed =
       record {
         depth = depth_of;
-        there = λ r j h le. under_there (P.levels - j) (path (tree_of K) (leaf_of K r) j) (path_at r j (P.levels - j) h (omega arith));
-        deep = λ r j h le. let k = depth_is (path (tree_of K) (leaf_of K r) j) (P.levels - j) (path_at r j (P.levels - j) h (omega arith)) in let d : depth_of (path (tree_of K) (leaf_of K r) j) + (P.levels - j) ≡ P.levels = k.1 in omega arith;
+        there = λ r j h le. under_there (P.levels - j) (path (tree_of K) (leaf_of_rank K r) j) (path_at r j (P.levels - j) h (omega arith));
+        deep = λ r j h le. let k = depth_is (path (tree_of K) (leaf_of_rank K r) j) (P.levels - j) (path_at r j (P.levels - j) h (omega arith)) in let d : depth_of (path (tree_of K) (leaf_of_rank K r) j) + (P.levels - j) ≡ P.levels = k.1 in omega arith;
         up = λ r j h lt. path_step r j (P.levels - suc j) h (omega arith);
         top = λ r h. ap (λ z. parent_of (slice_get K.shape.elements z)) (path_root r h) ∙ root_free;
         node = λ e there h. node_low e h;
-        leaf = λ r h. let k = leaf_at r h in at_stands K.shape.leaf_of k.0 (leaf_of K r) k.1;
+        leaf = λ r h. let k = leaf_at r h in at_stands K.shape.leaf_of k.0 (leaf_of_rank K r) k.1;
         over = λ e p there h. over_it e p there h;
       } where
-        path_step : (r j n : ℕ) → r < ranks_in K → P.levels ≡ j + suc n → parent_of (slice_get K.shape.elements (path (tree_of K) (leaf_of K r) j)) ≡ Some (path (tree_of K) (leaf_of K r) (suc j))
+        path_step : (r j n : ℕ) → r < ranks_in K → P.levels ≡ j + suc n → parent_of (slice_get K.shape.elements (path (tree_of K) (leaf_of_rank K r) j)) ≡ Some (path (tree_of K) (leaf_of_rank K r) (suc j))
         path_step r j n h e =
             let k = path_at r j (suc n) h e in
-            let a = parent_is (path (tree_of K) (leaf_of K r) j) k.0 k.1 in
+            let a = parent_is (path (tree_of K) (leaf_of_rank K r) j) k.0 k.1 in
             a ∙ ap Some (sym (ap or_zero a))
 
         node_low : (e : ℕ) → is_node K e ≡ true → depth_of e ≡ 0
@@ -189,7 +189,7 @@ module _ (K : Rooted) (P : IsProper K.shape) where
             (omega arith, omega arith)
 
   -- each element is on the path of some rank
-  pub reached : (e : ℕ) → e < how_many K → (r : ℕ) × (j : ℕ) × (r < ranks_in K) × (j ≤ P.levels) × (e ≡ path (tree_of K) (leaf_of K r) j)
+  pub reached : (e : ℕ) → e < how_many K → (r : ℕ) × (j : ℕ) × (r < ranks_in K) × (j ≤ P.levels) × (e ≡ path (tree_of K) (leaf_of_rank K r) j)
   reached e there =
       let x = some_at K.shape.elements e there in
       let k = P.first e x.0 x.1 in
@@ -199,7 +199,7 @@ module _ (K : Rooted) (P : IsProper K.shape) where
       let f : x.0.first_node < length K.shape.leaf_of = slice_get_within K.shape.leaf_of x.0.first_node k.leaf k.has in
       let c : length K.shape.leaf_of ≡ K.shape.nodes = P.each_node in
       let r = P.used x.0.first_node (omega arith) in
-      let leaf : leaf_of K r.0 ≡ k.leaf = ap (slice_index K.shape.leaf_of) (get_or_from_slice_get K.shape.node_of r.0 x.0.first_node 0 r.1) ∙ get_or_from_slice_get K.shape.leaf_of x.0.first_node k.leaf 0 k.has in
+      let leaf : leaf_of_rank K r.0 ≡ k.leaf = ap (slice_index K.shape.leaf_of) (get_or_from_slice_get K.shape.node_of r.0 x.0.first_node 0 r.1) ∙ get_or_from_slice_get K.shape.leaf_of x.0.first_node k.leaf 0 k.has in
       let up : path (tree_of K) k.leaf k.steps ≡ e = path_top k.steps e k.leaf k.under in
       (r.0, k.steps, slice_get_within K.shape.node_of r.0 x.0.first_node r.1, omega arith, sym up ∙ ap (λ z. path (tree_of K) z k.steps) (sym leaf))
 

@@ -9,7 +9,7 @@ use Rattle.rl_step.specs.laws.LockLemmas.{first_views_at}
 use Rattle.rl_step.specs.Queues.{QueueOf, ends}
 use Rattle.rl_queue.specs.declared.view.Phase.{Phase}
 use Rattle.rl_queue.specs.declared.view.Phase.TheVariants.{Idle}
-use Rattle.rl_queue.specs.Queue.{next_word, status_word}
+use Rattle.rl_queue.specs.Queue.{queue_next_word, status_word}
 use Rattle.rl_queue.specs.laws.RankWordLaws.{all_zero}
 use Rattle.rl_queue.specs.Lane.{lane_of}
 use Rattle.rl_queue.specs.laws.LaneLaws.{in_line}
@@ -20,7 +20,7 @@ use Rattle.rl_queue.specs.Heads.{head_in}
 use Rattle.rl_tree.specs.declared.view.TreeView.{TreeView}
 use Rattle.rl_tree.specs.Tree.{has_above}
 use Rattle.rl_tree.specs.declared.rooted.Rooted.{Rooted}
-use Rattle.rl_tree.specs.Elements.{how_many, ranks_in, leaf_of, is_node, of_tree, names_in, queue_at, out_at}
+use Rattle.rl_tree.specs.Elements.{how_many, ranks_in, leaf_of_rank, is_node, of_tree, names_in, queue_at, out_at}
 use Rattle.rl_tree.specs.TreeGood.{gate_of, granted_in, Matches, Tells, Shaped, InQueue, is_open, IsGoodBy}
 use Rattle.rl_tree.specs.laws.TreeClimb.{heads_same, else_zero}
 use Rattle.rl_tree.specs.laws.TreeOnward.{spent_idle}
@@ -78,7 +78,7 @@ module _ (K : Rooted) (levels : ℕ) (S : IsWellShaped K levels) where
     same : (y : ℕ) → y < of_tree K → slice_index (slice_set ws w x) y ≡ slice_index ws y
     same y lt = get_or-set_other ws w y x 0 (λ e. absurd (omega arith))
 
-    nexts : (q m : ℕ) → InQueue K q m → slice_index (slice_set ws w x) (next_word (names_in K q) m) ≡ slice_index ws (next_word (names_in K q) m)
+    nexts : (q m : ℕ) → InQueue K q m → slice_index (slice_set ws w x) (queue_next_word (names_in K q) m) ≡ slice_index ws (queue_next_word (names_in K q) m)
     nexts q m i = same _ (words_at K S.root_free q m i).1
 
     states : (q m : ℕ) → InQueue K q m → slice_index (slice_set ws w x) (status_word (names_in K q) m) ≡ slice_index ws (status_word (names_in K q) m)
@@ -109,9 +109,9 @@ module _ (K : Rooted) (levels : ℕ) (S : IsWellShaped K levels) where
   pub begins_at : Begins K levels
   begins_at size le = record { tree = record { phase = λ q m. Idle; line = λ q. []; ended = λ q. 0; by = good }; gate = refl } where
     out : ℕ → TreeView
-    out r = out_at r (leaf_of K r)
+    out r = out_at r (leaf_of_rank K r)
 
-    first : (r : ℕ) (v : TreeView) → slice_get (first_views (λ i. out_at i (leaf_of K i)) 0 (ranks_in K)) r ≡ Some v → v ≡ out_at r (leaf_of K r)
+    first : (r : ℕ) (v : TreeView) → slice_get (first_views (λ i. out_at i (leaf_of_rank K i)) 0 (ranks_in K)) r ≡ Some v → v ≡ out_at r (leaf_of_rank K r)
     first r v h = first_views_at out 0 (ranks_in K) r v h ∙ ap out (let z : 0 + r ≡ r = omega arith in z)
 
     queues : (q : ℕ) → q < how_many K → QueueGood (names_in K q) (InQueue K q) (replicate size 0) (λ m. Idle) [] [] 0
@@ -123,7 +123,7 @@ module _ (K : Rooted) (levels : ℕ) (S : IsWellShaped K levels) where
           says = record { fifo = refl; tenure = refl; within = λ b e. (tt, omega arith) };
         }
 
-    good : IsGoodBy K levels (λ q m. Idle) (λ q. []) (λ q. 0) (replicate size 0) (first_views (λ i. out_at i (leaf_of K i)) 0 (ranks_in K)) []
+    good : IsGoodBy K levels (λ q m. Idle) (λ q. []) (λ q. 0) (replicate size 0) (first_views (λ i. out_at i (leaf_of_rank K i)) 0 (ranks_in K)) []
     good =
         record {
           own = λ r v h. (ap (λ z. z.rank) (first r v h), ap (λ z. z.leaf) (first r v h));

@@ -4,7 +4,7 @@ use Rattle.std.proofs.Common.{sym, ◌∙◌, ap, subst, inl, inr, ⊎_elim, ari
 use Rattle.rl_word.specs.laws.Places.{same_or_not}
 use Rattle.rl_tree.specs.Tree.{path}
 use Rattle.rl_tree.specs.declared.rooted.Rooted.{Rooted}
-use Rattle.rl_tree.specs.Elements.{how_many, ranks_in, leaf_of, tree_of}
+use Rattle.rl_tree.specs.Elements.{how_many, ranks_in, leaf_of_rank, tree_of}
 
 abbrev Without : (ℕ → ℕ → Type 0) → ℕ → ℕ → ℕ → ℕ → Type 0
 Without R n h i c = R i c ⊎ (R i n × R h c)
@@ -36,9 +36,9 @@ pigeon (suc n) (suc h) R has one =
 
 -- an element is at this level of this rank's path
 abbrev At : Rooted → ℕ → ℕ → Type 0
-At K e c = (r : ℕ) × (j : ℕ) × (r < ranks_in K) × (j ≤ 3) × (c ≡ r * 4 + j) × (e ≡ path (tree_of K) (leaf_of K r) j)
+At K e c = (r : ℕ) × (j : ℕ) × (r < ranks_in K) × (j ≤ 3) × (c ≡ r * 4 + j) × (e ≡ path (tree_of K) (leaf_of_rank K r) j)
 
-pub few_elements : (K : Rooted) → ((e : ℕ) → e < how_many K → (r : ℕ) × (j : ℕ) × (r < ranks_in K) × (j ≤ 3) × (e ≡ path (tree_of K) (leaf_of K r) j)) → how_many K ≤ ranks_in K * 4
+pub few_elements : (K : Rooted) → ((e : ℕ) → e < how_many K → (r : ℕ) × (j : ℕ) × (r < ranks_in K) × (j ≤ 3) × (e ≡ path (tree_of K) (leaf_of_rank K r) j)) → how_many K ≤ ranks_in K * 4
 few_elements K reached =
     pigeon (ranks_in K * 4) (how_many K) (At K)
     (λ e lt.
@@ -53,4 +53,4 @@ few_elements K reached =
     let yc : c ≡ y.0 * 4 + y.1 = y.4 in
     let same_rank : x.0 ≡ y.0 = omega arith in
     let same_level : x.1 ≡ y.1 = omega arith in
-    x.5 ∙ ap (λ z. path (tree_of K) (leaf_of K z) x.1) same_rank ∙ ap (path (tree_of K) (leaf_of K y.0)) same_level ∙ sym y.5)
+    x.5 ∙ ap (λ z. path (tree_of K) (leaf_of_rank K z) x.1) same_rank ∙ ap (path (tree_of K) (leaf_of_rank K y.0)) same_level ∙ sym y.5)

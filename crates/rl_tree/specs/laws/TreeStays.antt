@@ -11,7 +11,7 @@ use Rattle.rl_queue.specs.laws.QueueHeads.{head, HeadStep}
 use Rattle.rl_tree.specs.declared.view.TreeView.{TreeView}
 use Rattle.rl_tree.specs.Tree.{has_above, hook_by, path, works_for, at_level}
 use Rattle.rl_tree.specs.declared.rooted.Rooted.{Rooted}
-use Rattle.rl_tree.specs.Elements.{how_many, ranks_in, leaf_of, names_in, tree_of}
+use Rattle.rl_tree.specs.Elements.{how_many, ranks_in, leaf_of_rank, names_in, tree_of}
 use Rattle.rl_tree.specs.TreeGood.{Up, Down, Rest, way_at, Gate, Shut, Asking, Open, Releasing, gate_at, gate_of, granted_in, Matches, Spent, IsGoodBy, TreeGood}
 use Rattle.rl_tree.specs.laws.TreeWords.{IsWorded}
 use Rattle.rl_tree.specs.laws.TreeActs.{tu, us, head_here, stays_at_level, F, L}
@@ -130,7 +130,7 @@ await_gate false s left u sp e = cc
 pub stays_hand : (B : Option ℕ) (left s : ℕ) → Spent (has_above B) (Await left) → Stays B (Await left) (Hand s left)
 stays_hand B left s sp = leaving B (Await left) (Hand s left) (λ m u x y f. inl f) (λ h u. await_gate (has_above B) s left u sp h) refl refl refl refl refl (spent_hand (has_above B) s left) (leave_matches (Await left) (Hand s left) tt (λ h. cc) (λ h. h) (λ h. h))
 
-module _ (K : Rooted) (levels : ℕ) (T : IsTreed K levels) (budgeted : (e p : ℕ) → e < how_many K → (tree_of K).parent e ≡ Some p → has_above (names_in K e).budget ≡ true) (v : TreeView) (ov : v.leaf ≡ leaf_of K v.rank) (hv : v.rank < ranks_in K) (ws : List ℕ) (vs : List TreeView) (t : List Event) (g : TreeGood K levels ws vs t) (d : IsWorded K (length ws)) (has : slice_get vs v.rank ≡ Some v)
+module _ (K : Rooted) (levels : ℕ) (T : IsTreed K levels) (budgeted : (e p : ℕ) → e < how_many K → (tree_of K).parent e ≡ Some p → has_above (names_in K e).budget ≡ true) (v : TreeView) (ov : v.leaf ≡ leaf_of_rank K v.rank) (hv : v.rank < ranks_in K) (ws : List ℕ) (vs : List TreeView) (t : List Event) (g : TreeGood K levels ws vs t) (d : IsWorded K (length ws)) (has : slice_get vs v.rank ≡ Some v)
     (no_query : v.query ≡ false) (all_there : length vs ≡ ranks_in K) (a : Act) (pl : plan_at (names_in K (path (tree_of K) v.leaf v.level)) (works_for (tree_of K) v v.level) v.phase ≡ Some a) where
   -- An act that leaves its rank at its level keeps the tree good.
   pub level_keeps : Stays (names_in K (path (tree_of K) v.leaf v.level)).budget v.phase (tu K levels T v ov hv ws vs t g d has no_query all_there a pl).phase →

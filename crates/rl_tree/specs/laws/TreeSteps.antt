@@ -15,7 +15,7 @@ use Rattle.rl_step.specs.Lock.{Told, Shift, holds_only, InOrder}
 use Rattle.rl_queue.specs.laws.Choices.{same_test, lt_test}
 use Rattle.rl_queue.specs.declared.view.Phase.{Phase}
 use Rattle.rl_queue.specs.declared.view.Phase.TheVariants.{Idle, Clear, Reset, Swing, Link, Wait, Settle, Granted, Look, Close, Await, Hand, Above}
-use Rattle.rl_queue.specs.Queue.{TheNames, Turn, status_word, full_budget, code_of, code_left, plan_at, turn_at, moves_to, moves_with, waits_at, joined_at, hand_turn, resume_at}
+use Rattle.rl_queue.specs.Queue.{TheNames, QueueTurn, status_word, full_budget, status_code, code_left, plan_at, turn_at, moves_to, moves_with, waits_at, joined_at, hand_turn, resume_at}
 use Rattle.rl_queue.specs.Lane.{Busy, is_pass, lane_of}
 use Rattle.rl_queue.specs.laws.QueueActs.{wait_turn, pass_more, code_more}
 use Rattle.rl_queue.specs.laws.QueueMoves.{hand_succ}
@@ -25,7 +25,7 @@ use Rattle.rl_queue.specs.Standings.{standing_of}
 use Rattle.rl_tree.specs.declared.view.TreeView.{TreeView}
 use Rattle.rl_tree.specs.Tree.{TheTree, has_above, is_none, path, member_at, works_for, behind_at, names_at, at_level, asks_status, leaves_behind, settles_below, inside_from, goes_up, gives_up, walk_turn, at_hook, tree_standing, entry_if}
 use Rattle.rl_tree.specs.declared.rooted.Rooted.{Rooted}
-use Rattle.rl_tree.specs.Elements.{how_many, ranks_in, leaf_of, is_node, names_in, tree_of}
+use Rattle.rl_tree.specs.Elements.{how_many, ranks_in, leaf_of_rank, is_node, names_in, tree_of}
 use Rattle.rl_step.specs.LockQueues.{is_at}
 use Rattle.rl_tree.specs.TreeGood.{Up, Down, Rest, way_at, Gate, Shut, Asking, Open, Releasing, open_if, some_left, gate_of, granted_in, Matches, Spent, InQueue, is_open, root_open, IsGoodBy, TreeGood}
 use Rattle.rl_tree.specs.laws.TreePaths.{put, put_here, put_moves, put_away}
@@ -59,7 +59,7 @@ none_above None e = refl
 none_above (Some b) e = cc
 
 -- the gate after a hand over
-hand_gate : (B : Option ℕ) (left : ℕ) → has_above B ≡ true → open_if (is_pass (code_of B left)) ≡ open_if (some_left left)
+hand_gate : (B : Option ℕ) (left : ℕ) → has_above B ≡ true → open_if (is_pass (status_code B left)) ≡ open_if (some_left left)
 hand_gate None left h = cc
 hand_gate (Some b) zero h = refl
 hand_gate (Some b) (suc k) h = ap (λ z. open_if (is_pass z)) (code_more b k)
@@ -70,7 +70,7 @@ hand_phase q (Some b) s zero = ([], refl, inl refl)
 hand_phase q (Some b) s (suc k) = (event.Pass q s ∷ [], pass_more q b s k, inr refl)
 
 -- the phase in its node's queue of one that has settled below a level
-settled_leaf : (K : Rooted) (levels : ℕ) (T : IsTreed K levels) (v : TreeView) (own : v.leaf ≡ leaf_of K v.rank) (here : v.rank < ranks_in K) (F : ℕ → ℕ → Phase) (w left : ℕ) → w ≤ levels → F (path (tree_of K) v.leaf w) (works_for (tree_of K) v w) ≡ Granted left →
+settled_leaf : (K : Rooted) (levels : ℕ) (T : IsTreed K levels) (v : TreeView) (own : v.leaf ≡ leaf_of_rank K v.rank) (here : v.rank < ranks_in K) (F : ℕ → ℕ → Phase) (w left : ℕ) → w ≤ levels → F (path (tree_of K) v.leaf w) (works_for (tree_of K) v w) ≡ Granted left →
     settled K levels T v own here F w (el K levels T v own here 0) (me K levels T v own here 0) ≡ inside_from (tree_of K) v w left
 settled_leaf K levels T v own here F zero left le e = e
 settled_leaf K levels T v own here F (suc j) left le e = settled_here K levels T v own here F (suc j) 0 (omega arith) (omega arith)
@@ -81,7 +81,7 @@ going r l w p b = record { rank = r; leaf = l; level = w; phase = p; query = fal
 
 -- a rank of a good state that plans an act, and whether the root's gate is open
 pub record Acting (K : Rooted) (levels : ℕ) (o : Bool) (ws : List ℕ) (vs : List TreeView) (t : List Event) (r l w : ℕ) (p : Phase) (b : List (Option ℕ)) (a : Act) : Type 0 where
-  pub own : l ≡ leaf_of K r
+  pub own : l ≡ leaf_of_rank K r
   pub there : r < ranks_in K
   pub good : TreeGood K levels ws vs t
   pub opened : root_open K ws good.phase good.line ≡ o
@@ -130,10 +130,10 @@ module _ (K : Rooted) (levels : ℕ) (S : IsWellShaped K levels) (ws : List ℕ)
   abbrev us : Act → List ℕ
   us a = slice_set ws (word_of a) (written a (slice_index ws (word_of a)))
 
-  abbrev turn : ℕ → ℕ → ℕ → Phase → Act → Turn
+  abbrev turn : ℕ → ℕ → ℕ → Phase → Act → QueueTurn
   turn r l w p a = turn_at (names_in K (path (tree_of K) l w)) (member_at (tree_of K) r l w) p (told a (slice_index ws (word_of a)))
 
-  abbrev Goal : ℕ → ℕ → ℕ → Phase → List (Option ℕ) → Act → Turn → Type 0
+  abbrev Goal : ℕ → ℕ → ℕ → Phase → List (Option ℕ) → Act → QueueTurn → Type 0
   Goal r l w p b a y = Steps K levels o (slice_set ws (word_of a) (written a (slice_index ws (word_of a)))) vs t (going r l w p b) (walk_turn (tree_of K) (going r l w p b) w y)
 
   -- the heads of the rank's queue
@@ -165,7 +165,7 @@ module _ (K : Rooted) (levels : ℕ) (S : IsWellShaped K levels) (ws : List ℕ)
   all_in : (r l w : ℕ) (p : Phase) (b : List (Option ℕ)) (a : Act) (x : Acting K levels o ws vs t r l w p b a) (i : ℕ) → i ≤ levels → InQueue K (R l i) (M r l i)
   all_in r l w p b a x zero le =
       let node : is_node K l ≡ true = ap (is_node K) x.own ∙ S.treed.leaf r x.there in
-      record { is = ap (λ z. if z then nat_lt r (ranks_in K) && (leaf_of K r == l) else is_at ((tree_of K).parent r) l) node ∙ ap (λ z. z && (leaf_of K r == l)) (lt_test r (ranks_in K) x.there) ∙ ap (λ z. z == l) (sym x.own) ∙ same_test l }
+      record { is = ap (λ z. if z then nat_lt r (ranks_in K) && (leaf_of_rank K r == l) else is_at ((tree_of K).parent r) l) node ∙ ap (λ z. z && (leaf_of_rank K r == l)) (lt_test r (ranks_in K) x.there) ∙ ap (λ z. z == l) (sym x.own) ∙ same_test l }
   all_in r l w p b a x (suc i) le =
       (is_child K levels S.treed (R l i) (R l (suc i)) (el_there r l w p b a x i (omega arith)) (subst (λ z. (tree_of K).parent (path (tree_of K) z i) ≡ Some (path (tree_of K) z (suc i))) (sym x.own) (S.treed.up r i x.there (omega arith)))).1
 
@@ -197,7 +197,7 @@ module _ (K : Rooted) (levels : ℕ) (S : IsWellShaped K levels) (ws : List ℕ)
       (same_or_not 0 (R l w))
 
   -- AN ACT THAT STAYS at its level
-  stays : (r l w : ℕ) (p : Phase) (b : List (Option ℕ)) (a : Act) (x : Acting K levels o ws vs t r l w p b a) (y : Turn) → turn r l w p a ≡ y → Stays (N l w).budget p y.phase →
+  stays : (r l w : ℕ) (p : Phase) (b : List (Option ℕ)) (a : Act) (x : Acting K levels o ws vs t r l w p b a) (y : QueueTurn) → turn r l w p a ≡ y → Stays (N l w).budget p y.phase →
       walk_turn (tree_of K) (going r l w p b) w y ≡ record { view = at_level (going r l w p b) w y.phase; events = y.events; waits = y.waits } → Shift r (standing_of p) (standing_of y.phase) (holds_only y.events) → InOrder y.events → length y.events ≤ 5 → Named K y.events → Goal r l w p b a (turn r l w p a)
   stays r l w p b a x y e st form shift order few names =
       let st2 : Stays (N l w).budget p (turn r l w p a).phase = subst (λ z. Stays (N l w).budget p z.phase) (sym e) st in

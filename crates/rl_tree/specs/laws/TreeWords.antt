@@ -7,11 +7,11 @@ use Rattle.rl_word.specs.declared.shapes.Element.{Element}
 use Rattle.rl_step.specs.laws.QueueLemmas.{eqb_means}
 use Rattle.rl_queue.specs.QueueGood.{IsNaming}
 use Rattle.rl_queue.specs.QueuesApart.{AreApart}
-use Rattle.rl_queue.specs.Queue.{next_word, status_word}
+use Rattle.rl_queue.specs.Queue.{queue_next_word, status_word}
 use Rattle.rl_queue.specs.RankWords.{every_second}
 use Rattle.rl_queue.specs.laws.RankWordLaws.{every_second_at}
 use Rattle.rl_tree.specs.declared.rooted.Rooted.{Rooted}
-use Rattle.rl_tree.specs.Elements.{how_many, ranks_in, leaf_of, is_node, of_elements, names_in}
+use Rattle.rl_tree.specs.Elements.{how_many, ranks_in, leaf_of_rank, is_node, of_elements, names_in}
 use Rattle.rl_step.specs.LockQueues.{is_at, parent_of}
 use Rattle.rl_tree.specs.TreeGood.{InQueue}
 
@@ -24,8 +24,8 @@ pub record IsWorded (K : Rooted) (size : ℕ) : Type 0 where
 pub record OfNode (K : Rooted) (q m : ℕ) : Type 0 where
   pub is : is_node K q ≡ true
   pub there : m < ranks_in K
-  pub mine : leaf_of K m ≡ q
-  pub next : next_word (names_in K q) m ≡ of_elements K + 2 * m
+  pub mine : leaf_of_rank K m ≡ q
+  pub next : queue_next_word (names_in K q) m ≡ of_elements K + 2 * m
   pub status : status_word (names_in K q) m ≡ of_elements K + 1 + 2 * m
 
 pub record OfElement (K : Rooted) (q m : ℕ) : Type 0 where
@@ -33,7 +33,7 @@ pub record OfElement (K : Rooted) (q m : ℕ) : Type 0 where
   pub low : 0 < m
   pub there : m < how_many K
   pub mine : parent_of (slice_get K.shape.elements m) ≡ Some q
-  pub next : next_word (names_in K q) m ≡ how_many K + 2 * (m - 1)
+  pub next : queue_next_word (names_in K q) m ≡ how_many K + 2 * (m - 1)
   pub status : status_word (names_in K q) m ≡ how_many K + 1 + 2 * (m - 1)
 
 at_is : (o : Option ℕ) (q : ℕ) → is_at o q ≡ true → o ≡ Some q
@@ -55,18 +55,18 @@ module _ (K : Rooted) (root_free : parent_of (slice_get K.shape.elements 0) ≡ 
   member_is q m i = by (is_node K q) refl where
     by : (b : Bool) → is_node K q ≡ b → OfNode K q m ⊎ OfElement K q m
     by true e =
-        let h : (nat_lt m (ranks_in K) && (leaf_of K m == q)) ≡ true = ap (λ z. if z then nat_lt m (ranks_in K) && (leaf_of K m == q) else is_at (parent_of (slice_get K.shape.elements m)) q) (sym e) ∙ i.is in
-        let c = and_both (nat_lt m (ranks_in K)) (leaf_of K m == q) h in
+        let h : (nat_lt m (ranks_in K) && (leaf_of_rank K m == q)) ≡ true = ap (λ z. if z then nat_lt m (ranks_in K) && (leaf_of_rank K m == q) else is_at (parent_of (slice_get K.shape.elements m)) q) (sym e) ∙ i.is in
+        let c = and_both (nat_lt m (ranks_in K)) (leaf_of_rank K m == q) h in
         let lt : m < ranks_in K = let t : nat_lt m (ranks_in K) ≡ true = c.0 in grind (arith, nat_tests) in
         inl (record {
           is = e;
           there = lt;
-          mine = eqb_means (leaf_of K m) q c.1;
+          mine = eqb_means (leaf_of_rank K m) q c.1;
           next = ap (λ z. slice_index (if z then every_second (of_elements K) (ranks_in K) else 0 ∷ every_second (how_many K) (how_many K - 1)) m) e ∙ every_second_at (of_elements K) (ranks_in K) m lt;
           status = ap (λ z. slice_index (if z then every_second (of_elements K + 1) (ranks_in K) else 0 ∷ every_second (how_many K + 1) (how_many K - 1)) m) e ∙ every_second_at (of_elements K + 1) (ranks_in K) m lt;
         })
     by false e =
-        let h : is_at (parent_of (slice_get K.shape.elements m)) q ≡ true = ap (λ z. if z then nat_lt m (ranks_in K) && (leaf_of K m == q) else is_at (parent_of (slice_get K.shape.elements m)) q) (sym e) ∙ i.is in
+        let h : is_at (parent_of (slice_get K.shape.elements m)) q ≡ true = ap (λ z. if z then nat_lt m (ranks_in K) && (leaf_of_rank K m == q) else is_at (parent_of (slice_get K.shape.elements m)) q) (sym e) ∙ i.is in
         let p = at_is (parent_of (slice_get K.shape.elements m)) q h in
         inr (element m p e) where
           element : (m : ℕ) → parent_of (slice_get K.shape.elements m) ≡ Some q → is_node K q ≡ false → OfElement K q m
@@ -87,7 +87,7 @@ module _ (K : Rooted) (root_free : parent_of (slice_get K.shape.elements 0) ≡ 
               }
 
   -- where a member's words are, of one word or the other
-  pub words_at : (q m : ℕ) → InQueue K q m → (how_many K ≤ next_word (names_in K q) m) × (next_word (names_in K q) m < of_elements K + 2 * ranks_in K) × (status_word (names_in K q) m ≡ next_word (names_in K q) m + 1) × (status_word (names_in K q) m < of_elements K + 2 * ranks_in K)
+  pub words_at : (q m : ℕ) → InQueue K q m → (how_many K ≤ queue_next_word (names_in K q) m) × (queue_next_word (names_in K q) m < of_elements K + 2 * ranks_in K) × (status_word (names_in K q) m ≡ queue_next_word (names_in K q) m + 1) × (status_word (names_in K q) m < of_elements K + 2 * ranks_in K)
   words_at q m i =
       ⊎_elim
       (λ n. let a = n.next in let b = n.status in let c = n.there in (omega arith, omega arith, omega arith, omega arith))
@@ -95,11 +95,11 @@ module _ (K : Rooted) (root_free : parent_of (slice_get K.shape.elements 0) ≡ 
       (member_is q m i)
 
   -- members of queues whose words are one are one, of one queue
-  pub same_words : (q x m k : ℕ) → InQueue K q m → InQueue K x k → next_word (names_in K q) m ≡ next_word (names_in K x) k → (m ≡ k) × (q ≡ x)
+  pub same_words : (q x m k : ℕ) → InQueue K q m → InQueue K x k → queue_next_word (names_in K q) m ≡ queue_next_word (names_in K x) k → (m ≡ k) × (q ≡ x)
   same_words q x m k i j e =
       ⊎_elim
       (λ n. ⊎_elim
-      (λ o. let a = n.next in let b = o.next in let s : m ≡ k = omega arith in (s, sym n.mine ∙ ap (leaf_of K) s ∙ o.mine))
+      (λ o. let a = n.next in let b = o.next in let s : m ≡ k = omega arith in (s, sym n.mine ∙ ap (leaf_of_rank K) s ∙ o.mine))
       (λ o. let a = n.next in let b = o.next in let c = o.there in let d = o.low in absurd (omega arith)) (member_is x k j))
       (λ n. ⊎_elim
       (λ o. let a = n.next in let b = o.next in let c = n.there in let d = n.low in absurd (omega arith))
@@ -107,7 +107,7 @@ module _ (K : Rooted) (root_free : parent_of (slice_get K.shape.elements 0) ≡ 
       (member_is q m i)
 
   -- next words and status words have other parities behind the tails, so none is both
-  pub never_both : (q x m k : ℕ) → InQueue K q m → InQueue K x k → next_word (names_in K q) m ≢ status_word (names_in K x) k
+  pub never_both : (q x m k : ℕ) → InQueue K q m → InQueue K x k → queue_next_word (names_in K q) m ≢ status_word (names_in K x) k
   never_both q x m k i j e =
       ⊎_elim
       (λ n. ⊎_elim (λ o. let a = n.next in let b = o.status in absurd (omega arith)) (λ o. let a = n.next in let b = o.status in let c = o.there in let d = o.low in absurd (omega arith)) (member_is x k j))

@@ -26,7 +26,7 @@ use Rattle.rl_volume.proofs.StartLaws.{starts, start_size}
 use Rattle.rl_work.specs.declared.stage.Stage.{Stage}
 use Rattle.rl_work.specs.declared.stage.Stage.TheVariants.{Rest, Begin, Read, Journal, Volume}
 use Rattle.rl_journal.specs.Journal.{spelled}
-use Rattle.rl_journal.specs.Blocks.{calls_of, size_of, batch_of}
+use Rattle.rl_journal.specs.Blocks.{calls_of, size_of, batch_number}
 use Rattle.rl_journal.specs.Legal.{updates, table_after, IsLegalBlock, IsLegalRead}
 use Rattle.rl_journal.specs.Ranks.{IsOwn}
 use Rattle.rl_model.specs.Asked.{asks_update}
@@ -244,7 +244,7 @@ opening_good site fits sides ranks first =
     }
 
 -- the batch number is that of so many calls
-batch_back : (batch : ℕ) → (batch ≡ 1 → ⊥) → batch_of (size_of batch) ≡ batch
+batch_back : (batch : ℕ) → (batch ≡ 1 → ⊥) → batch_number (size_of batch) ≡ batch
 batch_back zero ne = refl
 batch_back (suc zero) ne = absurd (ne refl)
 batch_back (suc (suc n)) ne = let miss : (suc (suc n) == 1) ≡ false = grind (arith, nat_tests) in ap (λ b. if b then 0 else suc (suc n)) miss
@@ -256,7 +256,7 @@ entry_calls site words sides g r x has made stage =
     let f : FitsAt site words g.journal g.before r x (Volume made) = subst (FitsAt site words g.journal g.before r x) stage (g.fits r x has) in
     let l : IsLegalBlock site.geom (table_after site.geom finite.empty g.journal) (length g.journal) x.work.entries = f.0.is_next.legal in
     let many : length x.work.calls ≡ size_of l.batch = ap length (sym f.0.same_calls) ∙ length-map x.work.entries (λ (e : Entry). e.call) ∙ l.is.whole in
-    let batch : l.batch ≡ batch_in x.work = sym (batch_back l.batch l.is.not_one) ∙ ap batch_of (sym many) in
+    let batch : l.batch ≡ batch_in x.work = sym (batch_back l.batch l.is.not_one) ∙ ap batch_number (sym many) in
     let told : Tells site.shard l.rank l.batch l.seq 0 x.work.entries = parts_tell site.shard l.rank l.batch l.seq (length g.journal) 0 x.work.entries l.is.parts
     (subst (λ k. All (IsOwn site.shard k) x.work.entries) (sym f.0.is_next.mine) f.0.is_next.own) in (
       f.0.same_calls,

@@ -18,14 +18,14 @@ use Rattle.rl_volume.specs.Seen.{value_or_zero}
 use Rattle.rl_volume.specs.Decision.{decision}
 use Rattle.std.specs.Prelude.{All}
 use Rattle.std.proofs.lemmas.List.Elements.{All-head, All-tail}
-use Rattle.rl_journal.specs.Blocks.{calls_of, undone, batch_of, AreParts}
+use Rattle.rl_journal.specs.Blocks.{calls_of, undone, batch_number, AreParts}
 use Rattle.rl_journal.specs.Ranks.{IsOwn}
 use Rattle.rl_model.specs.Asked.{asks_update}
 use Rattle.rl_work.specs.laws.TurnLaws.{entries_calls}
 use Rattle.rl_site.specs.Opens.{Tells}
 use Rattle.rl_site.specs.Transcript.{TheTranscript}
 use Rattle.rl_work.specs.Work.{TheWork, WorkTurned, stage_atom, write_atom, stage_after, with_seen, with_stop, with_call, batch_in, entries_of, block_close_by, block_close, stops_block, read_next, read_on, left_of, written_on, journal_on, to_stage}
-use Rattle.rl_work.specs.EndLaws.{IsPlain, Rises}
+use Rattle.rl_work.specs.PlainWork.{IsPlain, Rises}
 
 plain_write : (at : ℕ) (o : Option Write) → IsPlain (write_atom at o)
 plain_write at (Some w) = tt
@@ -71,7 +71,7 @@ module _ (geom : Geom) (shard rank : ℕ) (x : TheWork) where
   -- a side that has decided some of the calls
   module _ (y : TheWork) (calls : y.calls ≡ x.calls) (seq : y.seq ≡ x.seq) (kept : y.transcript ≡ x.transcript) where
     same_numbers : (b : List Entry) → Tells shard rank (batch_in y) y.seq 0 b → Tells shard rank (batch_in x) x.seq 0 b
-    same_numbers b t = subst (λ n. Tells shard rank (batch_in x) n 0 b) seq (subst (λ cs. Tells shard rank (batch_of (length cs)) y.seq 0 b) calls t)
+    same_numbers b t = subst (λ n. Tells shard rank (batch_in x) n 0 b) seq (subst (λ cs. Tells shard rank (batch_number (length cs)) y.seq 0 b) calls t)
 
     closed_ends : (count : ℕ) → length y.replies ≡ length y.calls → (b : Bool) → Ends shard rank x (block_close_by shard rank y count b)
     closed_ends count long true = record { same_calls = calls; same_seq = seq; same_room = ap (λ (z : TheTranscript). z.room) kept; kept = ap (λ (z : TheTranscript). z.items) kept }

@@ -9,13 +9,13 @@ use Rattle.rl_model.specs.declared.entry.Reply.TheVariants.{Undone}
 use Rattle.rl_model.specs.declared.geom.Geom.{Geom}
 use Rattle.rl_model.specs.Table.{Table, apply}
 use Rattle.rl_volume.specs.declared.write.Write.{Write}
-use Rattle.rl_volume.specs.Decision.{written}
-use Rattle.rl_journal.specs.Blocks.{stops, in_turn, any_stops, undone, only_first, apply_batch, apply_block, size_of, batch_of, AreUpdates, calls_of, replies_of, AreParts}
+use Rattle.rl_volume.specs.Decision.{words_written}
+use Rattle.rl_journal.specs.Blocks.{stops, in_turn, any_stops, undone, only_first, apply_batch, apply_block, size_of, batch_number, AreUpdates, calls_of, replies_of, AreParts}
 use Rattle.rl_journal.specs.Ranks.{IsOwn}
 use Rattle.rl_work.specs.Work.{entries_of, stops_block}
 
 -- the writes of some calls behind those of others
-pub written_append : (words : List ℕ) (ws vs : List Write) → written words (ws ++ vs) ≡ written (written words ws) vs
+pub written_append : (words : List ℕ) (ws vs : List Write) → words_written words (ws ++ vs) ≡ words_written (words_written words ws) vs
 written_append words [] vs = refl
 written_append words (w ∷ ws) vs = written_append _ ws vs
 
@@ -64,16 +64,16 @@ undone_filled rs a cs before after b l =
     ∙ ap (λ z. z ++ a ∷ replicate (length cs) Undone) (undone_many rs) ∙ ap (λ z. undone rs ++ a ∷ z) (undone_many cs)
 
 -- the batch number of a call alone, and of more
-pub batch_alone : (n : ℕ) → n ≡ 1 → batch_of n ≡ 0
-batch_alone n e = ap batch_of e
+pub batch_alone : (n : ℕ) → n ≡ 1 → batch_number n ≡ 0
+batch_alone n e = ap batch_number e
 
-pub batch_more : (n : ℕ) → (n ≡ 1 → ⊥) → batch_of n ≡ n
+pub batch_more : (n : ℕ) → (n ≡ 1 → ⊥) → batch_number n ≡ n
 batch_more n other = let miss : (n == 1) ≡ false = by_test (n == 1) refl in ap (λ b. cond {A = ℕ} b 0 n) miss where
   by_test : (b : Bool) → (n == 1) ≡ b → b ≡ false
   by_test true e = absurd (other (grind (arith, nat_tests)))
   by_test false e = refl
 
-pub batch_size : (n : ℕ) → 1 ≤ n → size_of (batch_of n) ≡ n
+pub batch_size : (n : ℕ) → 1 ≤ n → size_of (batch_number n) ≡ n
 batch_size n some =
     elim (n == 1) as (λ b. (n == 1) ≡ b → size_of (cond b 0 n) ≡ n) [
       | true ↦ λ e. let one : n ≡ 1 = grind (arith, nat_tests) in sym one
@@ -84,10 +84,10 @@ batch_size n some =
     pos zero h = absurd (omega arith)
     pos (suc m) h = refl
 
-pub batch_few : (n : ℕ) → n ≤ 8 → batch_of n ≤ 8
+pub batch_few : (n : ℕ) → n ≤ 8 → batch_number n ≤ 8
 batch_few n few = elim (n == 1) as (λ b. cond b 0 n ≤ 8) [ true ↦ omega arith | false ↦ few ]
 
-pub batch_not_one : (n : ℕ) → batch_of n ≡ 1 → ⊥
+pub batch_not_one : (n : ℕ) → batch_number n ≡ 1 → ⊥
 batch_not_one n is =
     elim (n == 1) as (λ b. (n == 1) ≡ b → cond {A = ℕ} b 0 n ≡ 1 → ⊥) [
       | true ↦ λ e h. absurd (omega arith)
@@ -100,9 +100,9 @@ module _ (geom : Geom) (t : Table) where
   as_batch (suc n) cs h = refl
 
   -- a block that nothing stops
-  pub block_runs : (cs : List Call) → 1 ≤ length cs → ((length cs ≡ 1 → ⊥) → any_stops (in_turn geom t cs).1 ≡ false) → apply_block geom (batch_of (length cs)) cs t ≡ in_turn geom t cs
+  pub block_runs : (cs : List Call) → 1 ≤ length cs → ((length cs ≡ 1 → ⊥) → any_stops (in_turn geom t cs).1 ≡ false) → apply_block geom (batch_number (length cs)) cs t ≡ in_turn geom t cs
   block_runs cs some none =
-      elim (length cs == 1) as (λ b. (length cs == 1) ≡ b → apply_block geom (batch_of (length cs)) cs t ≡ in_turn geom t cs) [
+      elim (length cs == 1) as (λ b. (length cs == 1) ≡ b → apply_block geom (batch_number (length cs)) cs t ≡ in_turn geom t cs) [
         | true ↦ λ e. let one : length cs ≡ 1 = grind (arith, nat_tests) in ap (λ n. apply_block geom n cs t) (batch_alone (length cs) one)
         | false ↦ λ e.
             let other : length cs ≡ 1 → ⊥ = λ one. let hit : (length cs == 1) ≡ true = ap (λ n. n == 1) one in cc in
@@ -112,7 +112,7 @@ module _ (geom : Geom) (t : Table) where
 
   -- a batch that a call stops
   pub block_stops : (first : List Call) (c : Call) (rest : List Call) → (length (first ++ c ∷ rest) ≡ 1 → ⊥) → any_stops (in_turn geom t first).1 ≡ false → stops (apply geom c (in_turn geom t first).0).1 ≡ true →
-      apply_block geom (batch_of (length (first ++ c ∷ rest))) (first ++ c ∷ rest) t
+      apply_block geom (batch_number (length (first ++ c ∷ rest))) (first ++ c ∷ rest) t
       ≡ (t, undone (in_turn geom t first).1 ++ (apply geom c (in_turn geom t first).0).1 ∷ undone rest)
   block_stops first c rest other none is =
       let cs : List Call = first ++ c ∷ rest in

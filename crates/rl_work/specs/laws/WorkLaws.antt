@@ -22,7 +22,7 @@ use Rattle.rl_volume.specs.Words.{volume_words}
 use Rattle.rl_volume.specs.Volume.{IsVolume}
 use Rattle.rl_volume.specs.Seen.{AgreesWith, AreNamed, next_word, value_or_zero, patched}
 use Rattle.rl_volume.proofs.Patches.{agrees_below, patched_none, none_before}
-use Rattle.rl_volume.specs.Decision.{written, decision}
+use Rattle.rl_volume.specs.Decision.{words_written, decision}
 use Rattle.rl_volume.proofs.Volumes.{inside, decided as decided_as}
 use Rattle.rl_volume.proofs.SeenLaws.{agrees_more as agrees_with_more}
 use Rattle.rl_volume.proofs.NextWord.{next_there, next_unseen}
@@ -32,7 +32,7 @@ use Rattle.rl_model.specs.declared.entry.Reply.TheVariants.{Undone}
 use Rattle.rl_work.specs.declared.stage.Stage.{Stage}
 use Rattle.rl_work.specs.declared.stage.Stage.TheVariants.{Rest, Begin, Read, Journal, Volume}
 use Rattle.rl_journal.specs.Journal.{Agrees, spelled}
-use Rattle.rl_journal.specs.Blocks.{AreParts, IsBlock, stops, in_turn, any_stops, undone, apply_block, batch_of, calls_of}
+use Rattle.rl_journal.specs.Blocks.{AreParts, IsBlock, stops, in_turn, any_stops, undone, apply_block, batch_number, calls_of}
 use Rattle.rl_journal.specs.laws.BlockLaws.{part_at}
 use Rattle.rl_journal.specs.Legal.{table_after, updates, IsLegalBlock, IsLegal}
 use Rattle.rl_journal.specs.Ranks.{IsOwn}
@@ -51,12 +51,12 @@ use Rattle.rl_work.specs.laws.RoomLaws.{place_left}
 use Rattle.rl_work.specs.laws.SideLaws.{the_transcript, stands, legal_kept, one_moves, side_stays, entry_joins}
 
 -- one write more
-written_one : (before : List ℕ) (ws : List Write) (i : ℕ) (w : Write) → slice_get ws i ≡ Some w → written before (take (i + 1) ws) ≡ slice_set (written before (take i ws)) w.word w.value
+written_one : (before : List ℕ) (ws : List Write) (i : ℕ) (w : Write) → slice_get ws i ≡ Some w → words_written before (take (i + 1) ws) ≡ slice_set (words_written before (take i ws)) w.word w.value
 written_one before [] i w get = absurd (cc)
 written_one before (v ∷ ws) zero w get = ap (λ z. slice_set before z.word z.value) (same_Some _ _ get)
 written_one before (v ∷ ws) (suc i) w get =
     let e : suc i + 1 ≡ suc (i + 1) = omega arith in
-    ap (λ n. written before (take n (v ∷ ws))) e ∙ written_one (slice_set before v.word v.value) ws i w get
+    ap (λ n. words_written before (take n (v ∷ ws))) e ∙ written_one (slice_set before v.word v.value) ws i w get
 
 -- the first of these calls has read these words, each when it wanted it
 abbrev IsNamedBy : Geom → List Call → List (ℕ × ℕ) → Type 0
@@ -167,7 +167,7 @@ module _ (site : Site) (words : List ℕ) (sides : List WorkSide) (g : WorkGood 
     -- such a side has the rank's transcript
     module _ (y : TheWork) (o : HasOpen site r y) (same : y.transcript ≡ x.work.transcript) (room : y.seen.room ≡ x.work.seen.room) where
       -- every call has its reply
-      module _ (replies_are : y.replies ≡ (apply_block site.geom (batch_in y) y.calls met).1) (makes : IsVolume site.geom site.shard (written g.before y.writes) (apply_block site.geom (batch_in y) y.calls met).0)
+      module _ (replies_are : y.replies ≡ (apply_block site.geom (batch_in y) y.calls met).1) (makes : IsVolume site.geom site.shard (words_written g.before y.writes) (apply_block site.geom (batch_in y) y.calls met).0)
           (inside_all : All (λ w. w.word < volume_words site.geom) y.writes) (long : length y.replies ≡ length y.calls) where
         abbrev es : List Entry
         es = entries_of site.shard r (batch_in y) y.seq count 0 y.calls y.replies
@@ -201,7 +201,7 @@ module _ (site : Site) (words : List ℕ) (sides : List WorkSide) (g : WorkGood 
               legal = block_legal is;
               mine = refl;
               inside = inside_all;
-              makes = subst (IsVolume site.geom site.shard (written g.before y.writes))
+              makes = subst (IsVolume site.geom site.shard (words_written g.before y.writes))
                   (ap (λ cs. (apply_block site.geom (batch_in y) cs met).0) (sym es_calls) ∙ sym (table_more site.geom g.journal es g.legal.journal_is r (batch_in y) y.seq (length g.journal) (block_is is))) makes;
             }
 
@@ -266,7 +266,7 @@ module _ (site : Site) (words : List ℕ) (sides : List WorkSide) (g : WorkGood 
         let runs : apply_block site.geom (batch_in y) y.calls met ≡ in_turn site.geom met y.calls = block_runs site.geom met y.calls some (λ other. ap any_stops (sym replies) ∙ p.none_stops other) in
         closes y o same room
         (replies ∙ ap (λ z. z.1) (sym runs))
-        (subst (λ (z : Table × List Reply). IsVolume site.geom site.shard (written g.before y.writes) z.0) (sym runs) (subst (λ cs. IsVolume site.geom site.shard (written g.before y.writes) (in_turn site.geom met cs).0) all p.makes))
+        (subst (λ (z : Table × List Reply). IsVolume site.geom site.shard (words_written g.before y.writes) z.0) (sym runs) (subst (λ cs. IsVolume site.geom site.shard (words_written g.before y.writes) (in_turn site.geom met cs).0) all p.makes))
         p.inside
         (ap length replies ∙ turn_length site.geom met y.calls)
         calls
@@ -277,9 +277,9 @@ module _ (site : Site) (words : List ℕ) (sides : List WorkSide) (g : WorkGood 
         let d : List Write × Reply = decision site.geom c (value_or_zero y.seen.pairs) in
         let here : slice_get (p.first ++ c ∷ rest) (length p.first) ≡ Some c = found_at p.first c rest in
         let of_shard : shard_of site.geom c ≡ site.shard = all_at (λ z. shard_of site.geom z ≡ site.shard) y.calls (length p.first) c o.of_shard (subst (λ z. slice_get z (length p.first) ≡ Some c) p.split here) in
-        let q = decided_as site.geom g.geom_fits c y.seen.pairs (written g.before y.writes) m
-        (record { volume = subst (λ z. IsVolume site.geom z (written g.before y.writes) m) (sym of_shard) p.makes; agrees = p.agrees; over = over }) in
-        let volume : IsVolume site.geom site.shard (written (written g.before y.writes) d.0) (apply site.geom c m).0 = subst (λ z. IsVolume site.geom z (written (written g.before y.writes) d.0) (apply site.geom c m).0) of_shard q.0 in
+        let q = decided_as site.geom g.geom_fits c y.seen.pairs (words_written g.before y.writes) m
+        (record { volume = subst (λ z. IsVolume site.geom z (words_written g.before y.writes) m) (sym of_shard) p.makes; agrees = p.agrees; over = over }) in
+        let volume : IsVolume site.geom site.shard (words_written (words_written g.before y.writes) d.0) (apply site.geom c m).0 = subst (λ z. IsVolume site.geom z (words_written (words_written g.before y.writes) d.0) (apply site.geom c m).0) of_shard q.0 in
         let answer : d.1 ≡ (apply site.geom c m).1 = q.1 in
         let inside_d : All (λ w. w.word < volume_words site.geom) d.0 = inside site.geom g.geom_fits c (value_or_zero y.seen.pairs) in
         elim (stops_block (length y.calls) d.1) as (λ b. stops_block (length y.calls) d.1 ≡ b →
@@ -289,7 +289,7 @@ module _ (site : Site) (words : List ℕ) (sides : List WorkSide) (g : WorkGood 
               let other : length (p.first ++ c ∷ rest) ≡ 1 → ⊥ = λ one. stop.0 (ap length (sym p.split) ∙ one) in
               let none : any_stops (in_turn site.geom met p.first).1 ≡ false = ap any_stops (sym p.replies_are) ∙ p.none_stops stop.0 in
               let stopped : apply_block site.geom (batch_in y) y.calls met ≡ (met, undone y.replies ++ d.1 ∷ undone rest) =
-              ap (λ cs. apply_block site.geom (batch_of (length cs)) cs met) (sym p.split) ∙ block_stops site.geom met p.first c rest other none (ap stops (sym answer) ∙ stop.1)
+              ap (λ cs. apply_block site.geom (batch_number (length cs)) cs met) (sym p.split) ∙ block_stops site.geom met p.first c rest other none (ap stops (sym answer) ∙ stop.1)
               ∙ ap (λ z. (met, undone (in_turn site.geom met p.first).1 ++ z ∷ undone rest)) (sym answer) ∙ ap (λ z. (met, undone z ++ d.1 ∷ undone rest)) (sym p.replies_are) in
               closes (with_stop y d.1 rest) o same room
               (ap (λ z. z.1) (sym stopped))
@@ -314,12 +314,12 @@ module _ (site : Site) (words : List ℕ) (sides : List WorkSide) (g : WorkGood 
                 replies_are = ap (λ z. z ++ d.1 ∷ []) p.replies_are ∙ ap (λ z. (in_turn site.geom met p.first).1 ++ z ∷ []) answer ∙ sym (turn_replies site.geom met p.first (c ∷ []));
                 none_stops = λ other. any_append y.replies (d.1 ∷ []) ∙ ap (λ b. b || (stops d.1 || false)) (p.none_stops other) ∙ ap (λ b. b || false) (goes_is (length y.calls) d.1 e other);
                 makes = subst (λ z. IsVolume site.geom site.shard z (in_turn site.geom met (p.first ++ c ∷ [])).0) (sym (written_append g.before y.writes d.0))
-                    (subst (IsVolume site.geom site.shard (written (written g.before y.writes) d.0)) (sym (turn_table site.geom met p.first c)) volume);
+                    (subst (IsVolume site.geom site.shard (words_written (words_written g.before y.writes) d.0)) (sym (turn_table site.geom met p.first c)) volume);
                 inside = All-append (λ w. w.word < volume_words site.geom) y.writes d.0 p.inside inside_d;
-                agrees = subst (AgreesWith (patched y.seen.pairs d.0)) (sym (written_append g.before y.writes d.0)) (agrees_below (volume_words site.geom) d.0 y.seen.pairs (written g.before y.writes) p.makes.size inside_d p.agrees);
+                agrees = subst (AgreesWith (patched y.seen.pairs d.0)) (sym (written_append g.before y.writes d.0)) (agrees_below (volume_words site.geom) d.0 y.seen.pairs (words_written g.before y.writes) p.makes.size inside_d p.agrees);
                 elsewhere = λ w unseen.
                     let q = patched_none d.0 y.seen.pairs w unseen in
-                    ap (λ z. slice_index z w) (written_append g.before y.writes d.0) ∙ q.1 (written g.before y.writes) ∙ p.elsewhere w q.0;
+                    ap (λ z. slice_index z w) (written_append g.before y.writes d.0) ∙ q.1 (words_written g.before y.writes) ∙ p.elsewhere w q.0;
               })
               (λ one. was_last rest (omega (arith, ap length p.split, length-append p.first (c ∷ rest))) (patched y.seen.pairs d.0))
         ] refl)
@@ -337,7 +337,7 @@ module _ (site : Site) (words : List ℕ) (sides : List WorkSide) (g : WorkGood 
   pub count_loaded : x.work.stage ≡ Begin → IsHolder x.standing → WorkGood site words (slice_set sides r (side_turned x.standing (seen_on site.geom site.shard r x.work (slice_index words count_word))))
   count_loaded stage holds =
       let f : FitsAt site words g.journal g.before r x Begin = subst (FitsAt site words g.journal g.before r x) stage (g.fits r x has) in
-      let pairs : AgreesWith x.work.seen.pairs (written g.before x.work.writes) = subst (λ z. AgreesWith z (written g.before x.work.writes)) (sym f.2) (λ w. tt) in
+      let pairs : AgreesWith x.work.seen.pairs (words_written g.before x.work.writes) = subst (λ z. AgreesWith z (words_written g.before x.work.writes)) (sym f.2) (λ w. tt) in
       let all : left_of x.work ≡ x.work.calls = ap (λ z. drop (length z) x.work.calls) f.3 in
       let none : HasDecided site g.journal g.before x.work (left_of x.work) =
       record {
@@ -345,10 +345,10 @@ module _ (site : Site) (words : List ℕ) (sides : List WorkSide) (g : WorkGood 
         split = all;
         replies_are = f.3;
         none_stops = λ other. ap any_stops f.3;
-        makes = subst (λ z. IsVolume site.geom site.shard (written g.before z) (table_after site.geom finite.empty g.journal)) (sym f.4) g.volume;
+        makes = subst (λ z. IsVolume site.geom site.shard (words_written g.before z) (table_after site.geom finite.empty g.journal)) (sym f.4) g.volume;
         inside = subst (All (λ w. w.word < volume_words site.geom)) (sym f.4) (All-nil (λ w. w.word < volume_words site.geom));
         agrees = pairs;
-        elsewhere = λ w unseen. ap (λ z. slice_index (written g.before z) w) f.4;
+        elsewhere = λ w unseen. ap (λ z. slice_index (words_written g.before z) w) f.4;
       } in
       read_keeps holds (ap is_writing stage) (slice_index words count_word) g.count (left_of x.work) x.work f.0 refl refl refl none (λ _. none_named site.geom (left_of x.work) x.work.seen.pairs f.2)
 
@@ -362,7 +362,7 @@ module _ (site : Site) (words : List ℕ) (sides : List WorkSide) (g : WorkGood 
       let pairs : List (ℕ × ℕ) = x.work.seen.pairs ++ (word, got) ∷ [] in
       let there : word < volume_words site.geom = next_there site.geom g.geom_fits f.call x.work.seen.pairs word f.next in
       let same : slice_index g.before word ≡ got = ap (λ z. slice_index z word) (sym (unwritten f.holds (ap is_writing stage))) ∙ volume_get site.geom words word there in
-      let still : slice_index (written g.before x.work.writes) word ≡ got = p.elsewhere word (next_unseen site.geom f.call x.work.seen.pairs word f.next) ∙ same in
+      let still : slice_index (words_written g.before x.work.writes) word ≡ got = p.elsewhere word (next_unseen site.geom f.call x.work.seen.pairs word f.next) ∙ same in
       let left : left_of x.work ≡ f.call ∷ f.rest = left_is p in
       read_keeps f.holds (ap is_writing stage) count f.found (left_of x.work) (with_seen x.work pairs) f.open_call refl refl refl
       (subst (IsPartly site g.journal g.before x.work.calls x.work.replies x.work.writes pairs) (sym left)
@@ -373,7 +373,7 @@ module _ (site : Site) (words : List ℕ) (sides : List WorkSide) (g : WorkGood 
         none_stops = p.none_stops;
         makes = p.makes;
         inside = p.inside;
-        agrees = agrees_with_more x.work.seen.pairs (written g.before x.work.writes) word got p.agrees still;
+        agrees = agrees_with_more x.work.seen.pairs (words_written g.before x.work.writes) word got p.agrees still;
         elsewhere = λ w unseen. p.elsewhere w (none_before x.work.seen.pairs word got w unseen);
       }))
       (λ one. subst (λ cs. IsNamedBy site.geom cs pairs) (sym left) (named_more site.geom f.call x.work.seen.pairs word got (f.named one) f.next))
@@ -395,7 +395,7 @@ module _ (site : Site) (words : List ℕ) (sides : List WorkSide) (g : WorkGood 
       let v : ℕ = x.work.at + length b in
       let vs : List ℕ = slice_set words count_word v in
       let all : take made x.work.writes ≡ x.work.writes = take_all made x.work.writes (none_past x.work.writes made last) in
-      let made_all : volume_of site.geom vs ≡ written g.before x.work.writes = volume_before site.geom words count_word v (omega arith) ∙ f.3 ∙ ap (written g.before) all in
+      let made_all : volume_of site.geom vs ≡ words_written g.before x.work.writes = volume_before site.geom words count_word v (omega arith) ∙ f.3 ∙ ap (words_written g.before) all in
       let t : List Entry = x.work.transcript.items in
       let there : slice_get (transcripts sides) r ≡ Some t = the_transcript site words sides g r x has in
       let whole : take (6 * length b) (spelled b) ≡ spelled b = take_all (6 * length b) (spelled b) (omega (arith, length_spelled b)) in
@@ -405,7 +405,7 @@ module _ (site : Site) (words : List ℕ) (sides : List WorkSide) (g : WorkGood 
       subst (Agrees words (journal_base site.geom)) (sym (spelled_append g.journal b)) (agrees_append words (journal_base site.geom) (spelled g.journal) (spelled b) g.spells kept_place) in
       let parts : AreParts r n.legal.batch x.work.seq (length g.journal) 0 b =
       subst (λ z. AreParts z n.legal.batch x.work.seq (length g.journal) 0 b) n.mine (subst (λ z. AreParts n.legal.rank n.legal.batch z (length g.journal) 0 b) d.same_seq n.legal.is.parts) in
-      writer_moves d.writes (record { standing = Leaving; work = (at_rest x.work).work }) vs (g.journal ++ b) (written g.before x.work.writes)
+      writer_moves d.writes (record { standing = Leaving; work = (at_rest x.work).work }) vs (g.journal ++ b) (words_written g.before x.work.writes)
       (length-set words count_word v)
       (get_or-set_other words count_word 0 v 0 (λ q. absurd (omega arith)))
       (get_or-set_same words count_word v 0 (count_there count_word (omega arith)) ∙ (let found = d.found in omega (arith, length-append g.journal b)))
@@ -434,7 +434,7 @@ module _ (site : Site) (words : List ℕ) (sides : List WorkSide) (g : WorkGood 
       let inside : w.word < volume_words site.geom = all_at (λ z. z.word < volume_words site.geom) x.work.writes made w n.inside next in
       let there : made < length x.work.writes = slice_get_within x.work.writes made w next in
       let y : WorkSide = record { standing = x.standing; work = at_stage x.work (Volume (made + 1)) } in
-      let new : volume_of site.geom vs ≡ written g.before (take (made + 1) x.work.writes) =
+      let new : volume_of site.geom vs ≡ words_written g.before (take (made + 1) x.work.writes) =
       volume_set site.geom words w.word w.value inside ∙ ap (λ z. slice_set z w.word w.value) f.3 ∙ sym (written_one g.before x.work.writes made w next) in
       writer_moves d.writes y vs g.journal g.before
       (length-set words (volume_base + w.word) w.value)

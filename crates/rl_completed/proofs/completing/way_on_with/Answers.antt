@@ -4,7 +4,7 @@ use Rattle.std.specs.List.{AllByRecursion}
 use Rattle.rl_ops.specs.declared.schedule.Turn.{Turn}
 use Rattle.rl_ops.specs.Schedule.{TurnFits, steps_of}
 use Rattle.rl_machine.specs.Running.{running}
-use Rattle.rl_machine.specs.Run.{run_of, ranks_of, steps_in}
+use Rattle.rl_machine.specs.Run.{run_of, ranks_of_turns, steps_in}
 use Rattle.rl_replay.proofs.SuitLaws.{sizes_suit}
 use Rattle.rl_completed.proofs.CompletingLaws.{steps_are, homes_there, ran, reached, completes, too_long}
 use Rattle.rl_completed.proofs.completing.way_on_with.Goals as goal
@@ -67,7 +67,7 @@ returns-then-way g c =
     let front : sum_by steps_of given ≤ 2000000 = c.requires.schedule.few in
     let behind = on.few in
     let few : steps_in given + steps_in more ≤ 2000000 = omega (arith, total, same, front, behind) in
-    completes g.C.ShardCore.defined c.args.place.now c.args.ops c.args.schedule.now more (running g.C.ShardCore.shard_table c.finish.new.machine) c.requires.unstopped (on.run ∙ ap (λ z. run_of z (ranks_of more)) run) c.requires.schedule on.whole there few (on.ended.0 c.if-way.true)
+    completes g.C.ShardCore.defined c.args.place.now c.args.ops c.args.schedule.now more (running g.C.ShardCore.shard_table c.finish.new.machine) c.requires.unstopped (on.run ∙ ap (λ z. run_of z (ranks_of_turns more)) run) c.requires.schedule on.whole there few (on.ended.0 c.if-way.true)
 
 pub returns : goal.returns
 returns g c =
@@ -83,5 +83,5 @@ returns g c =
     let front : sum_by steps_of given ≤ 2000000 = c.requires.schedule.few in
     let behind = on.all c.if-way.false in
     let full : steps_in given + steps_in more ≡ 2000000 = omega (arith, total, same, front, behind) in
-    too_long g.C.ShardCore.defined c.args.place.now c.args.ops c.args.schedule.now more (running g.C.ShardCore.shard_table c.finish.new.machine) c.requires.unstopped (on.run ∙ ap (λ z. run_of z (ranks_of more)) run) there full
+    too_long g.C.ShardCore.defined c.args.place.now c.args.ops c.args.schedule.now more (running g.C.ShardCore.shard_table c.finish.new.machine) c.requires.unstopped (on.run ∙ ap (λ z. run_of z (ranks_of_turns more)) run) there full
     (λ done. let ended = on.ended.1 done in let not = c.if-way.false in cc)

@@ -3,7 +3,7 @@ use Rattle.std.proofs.Common.{◌≡◌, ◌+◌, ◌-◌, ◌<◌, [], ◌∷�
 use Rattle.rl_step.specs.Answers.{steps_made}
 use Rattle.rl_ops.specs.declared.schedule.Turn.TheVariants as turn
 use Rattle.rl_machine.specs.Running.{running}
-use Rattle.rl_machine.specs.Run.{run_of, ranks_of, steps_in}
+use Rattle.rl_machine.specs.Run.{run_of, ranks_of_turns, steps_in}
 use Rattle.rl_drawing.specs.Drawing.{machine_of, IsFirst}
 use Rattle.rl_drawing.specs.Leads.{sees}
 use Rattle.rl_drawing.proofs.Leading.{steps_append, before_same}
@@ -41,7 +41,7 @@ returns-clause-stage g c =
     let few : c.in_ok-count.count < stage.left + 1 = c.in_ok-count.ensures.few in
     let fewer : (stage.left - c.in_ok-count.count) + c.in_ok-count.count ≡ stage.left = omega (arith, few) in
     stage_anew g.C.ShardCore.defined c.args.scene.place.now c.args.scene.ops.now (running g.C.ShardCore.shard_table stage.machine) _ stage.turns c.push.new.self (turn.Steps c.args.rank c.in_ok-count.count) stage.left (stage.left - c.in_ok-count.count)
-    c.requires.stage (c.in_ok-stage.ensures ∙ ap (λ ts. run_of (machine_of g.C.ShardCore.defined c.args.scene.place.now c.args.scene.ops.now) (ranks_of ts)) c.as_slice.ensures) c.in_ok-push.ensures.ok fewer c.requires.there
+    c.requires.stage (c.in_ok-stage.ensures ∙ ap (λ ts. run_of (machine_of g.C.ShardCore.defined c.args.scene.place.now c.args.scene.ops.now) (ranks_of_turns ts)) c.as_slice.ensures) c.in_ok-push.ensures.ok fewer c.requires.there
 
 pub returns-clause-draws : goal.returns-clause-draws
 returns-clause-draws g c =

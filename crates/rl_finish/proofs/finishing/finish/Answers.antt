@@ -2,7 +2,7 @@
 use Rattle.std.proofs.Common.{◌≡◌, ◌<◌, ◌++◌, ◌∷◌, [], length, sym, ap, ◌∙◌, subst, arith}
 use Rattle.rl_machine.specs.GoesNext.{GoesNext}
 use Rattle.rl_machine.specs.MachineEnding.{machine_left}
-use Rattle.rl_machine.specs.Run.{run_of, ranks_of, stepped}
+use Rattle.rl_machine.specs.Run.{run_of, ranks_of_turns, stepped}
 use Rattle.rl_machine.specs.Running.{running, cores_of}
 use Rattle.rl_finish.specs.WayOn.{IsWayOn}
 use Rattle.rl_finish.specs.laws.WayOnLaws.{way_more, run_more, on_err}
@@ -11,28 +11,28 @@ use Rattle.rl_finish.proofs.finishing.finish.Goals.{In_ok-step}
 use Rattle.rl_finish.proofs.finishing.finish.Given.{Over}
 
 -- the way is one step longer
-way : (g : Over) (c : In_ok-step g) → IsWayOn g.C.ShardGuiding.urgent (cores_of c.args.machine.now) (running g.C.ShardCore.shard_table c.args.machine.now) (ranks_of c.loop.turns.items ++ c.in-Some.rank ∷ [])
+way : (g : Over) (c : In_ok-step g) → IsWayOn g.C.ShardGuiding.urgent (cores_of c.args.machine.now) (running g.C.ShardCore.shard_table c.args.machine.now) (ranks_of_turns c.loop.turns.items ++ c.in-Some.rank ∷ [])
 way g c =
     let first = running g.C.ShardCore.shard_table c.args.machine.now in
-    let ranks = ranks_of c.loop.turns.items in
+    let ranks = ranks_of_turns c.loop.turns.items in
     let by_run = subst (λ m. GoesNext g.C.ShardGuiding.urgent (cores_of c.loop.machine) m c.in-Some.rank) c.loop.invariant.2 c.in-Some.ensures.next in
     way_more g.C.ShardGuiding.urgent (cores_of c.args.machine.now) first ranks c.in-Some.rank c.loop.invariant.3
     (subst (λ cores. GoesNext g.C.ShardGuiding.urgent cores (run_of first ranks) c.in-Some.rank) c.loop.invariant.0 by_run)
 
-run : (g : Over) (c : In_ok-step g) → running g.C.ShardCore.shard_table c.step.new.self ≡ run_of (running g.C.ShardCore.shard_table c.args.machine.now) (ranks_of c.loop.turns.items ++ c.in-Some.rank ∷ [])
+run : (g : Over) (c : In_ok-step g) → running g.C.ShardCore.shard_table c.step.new.self ≡ run_of (running g.C.ShardCore.shard_table c.args.machine.now) (ranks_of_turns c.loop.turns.items ++ c.in-Some.rank ∷ [])
 run g c =
     let first = running g.C.ShardCore.shard_table c.args.machine.now in
-    let ranks = ranks_of c.loop.turns.items in
+    let ranks = ranks_of_turns c.loop.turns.items in
     c.in_ok-step.ensures.stepped ∙ ap (λ m. stepped m c.in-Some.rank) c.loop.invariant.2 ∙ run_more first ranks c.in-Some.rank
 
 pub returns-in_err-step-clause-part : goal.returns-in_err-step-clause-part
 returns-in_err-step-clause-part g c =
-    on_err c.from_residual.result (ranks_of c.loop.turns.items, c.loop.invariant.3, ap (running g.C.ShardCore.shard_table) c.in_err-step.ensures.kept ∙ c.loop.invariant.2)
+    on_err c.from_residual.result (ranks_of_turns c.loop.turns.items, c.loop.invariant.3, ap (running g.C.ShardCore.shard_table) c.in_err-step.ensures.kept ∙ c.loop.invariant.2)
 
 pub returns-in_err-add_step-clause-part : goal.returns-in_err-add_step-clause-part
 returns-in_err-add_step-clause-part g c =
     let d = (goal.at.returns-in_err-add_step-clause-part g c).In_ok-step in
-    on_err c.from_residual-in_err-add_step.result (ranks_of c.loop.turns.items ++ c.in-Some.rank ∷ [], way g d, run g d)
+    on_err c.from_residual-in_err-add_step.result (ranks_of_turns c.loop.turns.items ++ c.in-Some.rank ∷ [], way g d, run g d)
 
 pub loop-preserved : goal.loop-preserved
 loop-preserved g c =

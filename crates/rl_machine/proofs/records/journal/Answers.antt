@@ -1,6 +1,6 @@
 -- One entry more.
 use Rattle.std.proofs.Common.{◌∷◌, [], ◌++◌, ap, sym, ◌∙◌}
-use Rattle.rl_machine.specs.Promises.{journal_on}
+use Rattle.rl_machine.specs.Promises.{shard_journal}
 use Rattle.rl_machine.specs.Running.{shard_run}
 use Rattle.rl_machine.specs.State.{shard_view}
 use Rattle.rl_asks.specs.laws.Filling.{take_next}
@@ -9,4 +9,4 @@ use Rattle.rl_machine.proofs.records.journal.Goals as goal
 pub loop-at-preserved : goal.loop-at-preserved
 loop-at-preserved g c =
     c.in_ok-push.ensures.items ∙ ap (λ es. es ++ c.update_at.result ∷ []) c.loop-at.invariant
-    ∙ sym (take_next (journal_on (shard_run g.C.ShardCore.shard_table (shard_view c.args.shard.now))) c.loop-at.at c.update_at.result c.update_at.ensures)
+    ∙ sym (take_next (shard_journal (shard_run g.C.ShardCore.shard_table (shard_view c.args.shard.now))) c.loop-at.at c.update_at.result c.update_at.ensures)

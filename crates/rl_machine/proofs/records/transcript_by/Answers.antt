@@ -1,7 +1,7 @@
 -- The core tells what the definition does, by the words and the view that it is given.
 use Rattle.std.proofs.Common.{◌∙◌, ap, sym, refl}
 use Rattle.std.proofs.lemmas.Result.{IfOk-weaker}
-use Rattle.rl_asks.specs.Desks.{entries_of}
+use Rattle.rl_asks.specs.Desks.{desk_entries}
 use Rattle.rl_machine.specs.ShardSteps.{desk_at, events_of}
 use Rattle.rl_machine.proofs.records.transcript_by.Goals as goal
 
@@ -18,5 +18,5 @@ returns g c =
     let s = c.args.shard.now in
     let T = g.C.ShardCore.shard_table s.core in
     let rank = c.args.rank in
-    IfOk-weaker c.transcript.result _ _ (λ told is. is ∙ ap (λ h. entries_of (T.desk h.words rank c.view-view.result.now)) c.words-words.ensures
-    ∙ sym (ap (λ o. entries_of (desk_at T s.flat.words.words rank o)) c.view-view.ensures)) c.transcript.ensures
+    IfOk-weaker c.transcript.result _ _ (λ told is. is ∙ ap (λ h. desk_entries (T.desk h.words rank c.view-view.result.now)) c.words-words.ensures
+    ∙ sym (ap (λ o. desk_entries (desk_at T s.flat.words.words rank o)) c.view-view.ensures)) c.transcript.ensures

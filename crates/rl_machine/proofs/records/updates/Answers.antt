@@ -2,7 +2,7 @@
 use Rattle.std.proofs.Common.{◌≡◌, ◌∙◌, ap, length, slice_index, arith}
 use Rattle.rl_step.specs.Do.{TheWindow}
 use Rattle.rl_asks.specs.laws.JournalLaws.{count_is, few_updates}
-use Rattle.rl_machine.specs.Promises.{journal_on}
+use Rattle.rl_machine.specs.Promises.{shard_journal}
 use Rattle.rl_machine.specs.Running.{shard_run}
 use Rattle.rl_machine.specs.State.{shard_view}
 use Rattle.rl_machine.specs.laws.JournalAt.{short, fits}
@@ -10,7 +10,7 @@ use Rattle.rl_machine.proofs.records.updates.Goals as goal
 use Rattle.rl_machine.proofs.records.updates.Goals.{After-value}
 use Rattle.rl_machine.proofs.records.updates.Given.{Over}
 
-count : (g : Over) (c : After-value g) → c.value.result ≡ length (journal_on (shard_run g.C.ShardCore.shard_table (shard_view c.args.shard.now)))
+count : (g : Over) (c : After-value g) → c.value.result ≡ length (shard_journal (shard_run g.C.ShardCore.shard_table (shard_view c.args.shard.now)))
 count g c =
     let s = c.args.shard.now in
     c.value.ensures ∙ ap (λ (h : TheWindow). slice_index h.words 1) c.words.ensures

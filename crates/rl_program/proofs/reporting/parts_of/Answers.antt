@@ -2,7 +2,7 @@ use Rattle.std.proofs.Common.{◌≡◌, ◌<◌, [], ◌∷◌, ◌++◌, lengt
 use Rattle.std.proofs.lemmas.List.{length-map, take_more}
 use Rattle.std.proofs.lemmas.Option.{slice_get-get_or, slice_get_within, get_or_from_slice_get}
 use Rattle.rl_machine.specs.Running.{running, shard_run}
-use Rattle.rl_program.specs.Replay.{part_of}
+use Rattle.rl_program.specs.Replay.{part_of_replay}
 use Rattle.rl_program.proofs.ReportLaws.{told_shards, told_there}
 use Rattle.rl_program.proofs.reporting.parts_of.Goals as goal
 
@@ -18,7 +18,7 @@ part_of-requires-clause-told g c =
 
 pub loop-shard-preserved : goal.loop-shard-preserved
 loop-shard-preserved g c =
-    let parts = map (part_of c.args.queues) (running g.C.ShardCore.shard_table c.args.machine.now).shards in
+    let parts = map (part_of_replay c.args.queues) (running g.C.ShardCore.shard_table c.args.machine.now).shards in
     let i = c.loop-shard.shard in
     let part = c.in_ok-part_of.field-0 in
     c.in_ok-push.ensures.items ∙ ap (λ l. l ++ part ∷ []) c.loop-shard.invariant

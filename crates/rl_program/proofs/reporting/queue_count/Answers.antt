@@ -3,7 +3,7 @@ use Rattle.std.proofs.lemmas.List.{length-map}
 use Rattle.rl_place.specs.declared.lock.Lock.{Lock}
 use Rattle.rl_place.specs.Numbering.{element_paths}
 use Rattle.rl_place.specs.Places.{ThePlace, IsProper}
-use Rattle.rl_history.specs.Naming.{queue_names, element_queue}
+use Rattle.rl_history.specs.Naming.{queue_names, element_queue_name}
 use Rattle.rl_history.proofs.NamingLaws.{few_queues}
 use Rattle.rl_program.proofs.reporting.queue_count.Goals as goal
 
@@ -18,10 +18,10 @@ pub overflow_cast-result : goal.overflow_cast-result
 overflow_cast-result c =
     let place = c.args.place.now in
     let elements = element_paths place.paths in
-    omega (arith, few_elements place _ c.in_ok-names-in-Mcs.field-0 (length elements) _ c.requires (ap (λ p. p.lock) (sym c.place.view_is) ∙ c.in-Mcs.is) (length-map elements (element_queue place.levels elements)) (ap length c.in_ok-names-in-Mcs.ensures) c.len.ensures)
+    omega (arith, few_elements place _ c.in_ok-names-in-Mcs.field-0 (length elements) _ c.requires (ap (λ p. p.lock) (sym c.place.view_is) ∙ c.in-Mcs.is) (length-map elements (element_queue_name place.levels elements)) (ap length c.in_ok-names-in-Mcs.ensures) c.len.ensures)
 
 pub overflow_cast-result-in-Rw : goal.overflow_cast-result-in-Rw
 overflow_cast-result-in-Rw c =
     let place = c.args.place.now in
     let elements = element_paths place.paths in
-    omega (arith, few_elements place _ c.in_ok-names-in-Rw.field-0 (length elements) _ c.requires (ap (λ p. p.lock) (sym c.place.view_is) ∙ c.in-Rw.is) (length-map elements (element_queue place.levels elements)) (ap length c.in_ok-names-in-Rw.ensures) c.len-in-Rw.ensures)
+    omega (arith, few_elements place _ c.in_ok-names-in-Rw.field-0 (length elements) _ c.requires (ap (λ p. p.lock) (sym c.place.view_is) ∙ c.in-Rw.is) (length-map elements (element_queue_name place.levels elements)) (ap length c.in_ok-names-in-Rw.ensures) c.len-in-Rw.ensures)

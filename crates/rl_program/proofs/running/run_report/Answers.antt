@@ -6,7 +6,7 @@ use Rattle.rl_ops.proofs.BatchLaws.{all_alone}
 use Rattle.rl_place.specs.LockWords.{name_of}
 use Rattle.rl_place.specs.Shapes.{shape_of, knobs_of}
 use Rattle.rl_run.specs.Made.{IsRunBy}
-use Rattle.rl_cores.specs.Kinds.{kind_of}
+use Rattle.rl_cores.specs.Kinds.{lock_kind_of}
 use Rattle.rl_program.proofs.running.run_report.Goals as goal
 
 pub run_all-requires-in-Mcs-clause-knobs : goal.run_all-requires-in-Mcs-clause-knobs
@@ -25,28 +25,28 @@ run_all-requires-in-Combine-clause-batches g c κs within none =
 
 pub returns-in-Spin-clause-made : goal.returns-in-Spin-clause-made
 returns-in-Spin-clause-made g c =
-    subst (λ l. IfOk c.run_all.result (λ report. IsRunBy (kind_of l).defined c.args.place.now c.args.ops report)) (sym (ap (λ p. p.lock) (sym c.place.view_is) ∙ c.in-Spin.is)) c.run_all.ensures.made
+    subst (λ l. IfOk c.run_all.result (λ report. IsRunBy (lock_kind_of l).defined c.args.place.now c.args.ops report)) (sym (ap (λ p. p.lock) (sym c.place.view_is) ∙ c.in-Spin.is)) c.run_all.ensures.made
 
 pub returns-in-Dmcs-clause-made : goal.returns-in-Dmcs-clause-made
 returns-in-Dmcs-clause-made g c =
-    subst (λ l. IfOk c.run_all-in-Dmcs.result (λ report. IsRunBy (kind_of l).defined c.args.place.now c.args.ops report)) (sym (ap (λ p. p.lock) (sym c.place.view_is) ∙ c.in-Dmcs.is)) c.run_all-in-Dmcs.ensures.made
+    subst (λ l. IfOk c.run_all-in-Dmcs.result (λ report. IsRunBy (lock_kind_of l).defined c.args.place.now c.args.ops report)) (sym (ap (λ p. p.lock) (sym c.place.view_is) ∙ c.in-Dmcs.is)) c.run_all-in-Dmcs.ensures.made
 
 pub returns-in-Alock-clause-made : goal.returns-in-Alock-clause-made
 returns-in-Alock-clause-made g c =
-    subst (λ l. IfOk c.run_all-in-Alock.result (λ report. IsRunBy (kind_of l).defined c.args.place.now c.args.ops report)) (sym (ap (λ p. p.lock) (sym c.place.view_is) ∙ c.in-Alock.is)) c.run_all-in-Alock.ensures.made
+    subst (λ l. IfOk c.run_all-in-Alock.result (λ report. IsRunBy (lock_kind_of l).defined c.args.place.now c.args.ops report)) (sym (ap (λ p. p.lock) (sym c.place.view_is) ∙ c.in-Alock.is)) c.run_all-in-Alock.ensures.made
 
 pub returns-in-Mcs-clause-made : goal.returns-in-Mcs-clause-made
 returns-in-Mcs-clause-made g c =
-    subst (λ l. IfOk c.run_all-in-Mcs.result (λ report. IsRunBy (kind_of l).defined c.args.place.now c.args.ops report)) (sym (ap (λ p. p.lock) (sym c.place.view_is) ∙ c.in-Mcs.is)) c.run_all-in-Mcs.ensures.made
+    subst (λ l. IfOk c.run_all-in-Mcs.result (λ report. IsRunBy (lock_kind_of l).defined c.args.place.now c.args.ops report)) (sym (ap (λ p. p.lock) (sym c.place.view_is) ∙ c.in-Mcs.is)) c.run_all-in-Mcs.ensures.made
 
 pub returns-in-Rw-clause-made : goal.returns-in-Rw-clause-made
 returns-in-Rw-clause-made g c =
-    subst (λ l. IfOk c.run_all-in-Rw.result (λ report. IsRunBy (kind_of l).defined c.args.place.now c.args.ops report)) (sym (ap (λ p. p.lock) (sym c.place.view_is) ∙ c.in-Rw.is)) c.run_all-in-Rw.ensures.made
+    subst (λ l. IfOk c.run_all-in-Rw.result (λ report. IsRunBy (lock_kind_of l).defined c.args.place.now c.args.ops report)) (sym (ap (λ p. p.lock) (sym c.place.view_is) ∙ c.in-Rw.is)) c.run_all-in-Rw.ensures.made
 
 pub returns-in-Seq-clause-made : goal.returns-in-Seq-clause-made
 returns-in-Seq-clause-made g c =
-    subst (λ l. IfOk c.run_all-in-Seq.result (λ report. IsRunBy (kind_of l).defined c.args.place.now c.args.ops report)) (sym (ap (λ p. p.lock) (sym c.place.view_is) ∙ c.in-Seq.is)) c.run_all-in-Seq.ensures.made
+    subst (λ l. IfOk c.run_all-in-Seq.result (λ report. IsRunBy (lock_kind_of l).defined c.args.place.now c.args.ops report)) (sym (ap (λ p. p.lock) (sym c.place.view_is) ∙ c.in-Seq.is)) c.run_all-in-Seq.ensures.made
 
 pub returns-in-Combine-clause-made : goal.returns-in-Combine-clause-made
 returns-in-Combine-clause-made g c =
-    subst (λ l. IfOk c.run_all-in-Combine.result (λ report. IsRunBy (kind_of l).defined c.args.place.now c.args.ops report)) (sym (ap (λ p. p.lock) (sym c.place.view_is) ∙ c.in-Combine.is)) c.run_all-in-Combine.ensures.made
+    subst (λ l. IfOk c.run_all-in-Combine.result (λ report. IsRunBy (lock_kind_of l).defined c.args.place.now c.args.ops report)) (sym (ap (λ p. p.lock) (sym c.place.view_is) ∙ c.in-Combine.is)) c.run_all-in-Combine.ensures.made

@@ -5,7 +5,7 @@ use Rattle.rl_step.specs.Answers.{steps_made}
 use Rattle.rl_ops.specs.declared.schedule.Turn.{Turn}
 use Rattle.rl_ops.specs.declared.schedule.Turn.TheVariants.{Steps}
 use Rattle.rl_ops.specs.Schedule.{steps_of}
-use Rattle.rl_machine.specs.Run.{run_of, turn_ranks, ranks_of, steps_in, AreThere}
+use Rattle.rl_machine.specs.Run.{run_of, turn_ranks, ranks_of_turns, steps_in, AreThere}
 use Rattle.rl_machine.specs.RunTransitions.{EachSays}
 use Rattle.rl_machine.specs.Start.{start_of}
 use Rattle.std.proofs.Math.Seq.{take-length}
@@ -39,7 +39,7 @@ loop-turn-preserved g c =
     let first = start_of g.C.ShardCore.defined c.args.shape.now c.args.knobs c.args.geom c.args.homes.now c.args.ops in
     let steps = turn_ranks t in
     let took = c.in_ok-take_turn.ensures in (
-      took.run ∙ ap (λ m. run_of m steps) c.loop-turn.invariant.0 ∙ sym (run_append first (ranks_of (take i ts)) steps) ∙ sym (ap (run_of first) (ranks-more ts i t at)),
+      took.run ∙ ap (λ m. run_of m steps) c.loop-turn.invariant.0 ∙ sym (run_append first (ranks_of_turns (take i ts)) steps) ∙ sym (ap (run_of first) (ranks-more ts i t at)),
       took.steps ∙ ap (λ n. n + steps_of t) c.loop-turn.invariant.1 ∙ sym (steps-more ts i t at),
       ap length took.calls ∙ c.loop-turn.invariant.2,
       took.many ∙ c.loop-turn.invariant.3 ∙ sym (ap length took.calls),
@@ -50,19 +50,19 @@ pub returns-clause-run : goal.returns-clause-run
 returns-clause-run g c =
     let first = start_of g.C.ShardCore.defined c.args.shape.now c.args.knobs c.args.geom c.args.homes.now c.args.ops in
     let done : c.loop-turn.turn-index ≡ length c.args.turns.now = omega arith in
-    c.loop-turn.invariant.0 ∙ ap (λ ts. run_of first (ranks_of ts)) (ap (λ n. take n c.args.turns.now) done ∙ take-length c.args.turns.now)
+    c.loop-turn.invariant.0 ∙ ap (λ ts. run_of first (ranks_of_turns ts)) (ap (λ n. take n c.args.turns.now) done ∙ take-length c.args.turns.now)
 
 pub returns-clause-further : goal.returns-clause-further
 returns-clause-further g c =
-    let there = subst (λ n. AreThere n (ranks_of c.args.turns.now)) (sym c.requires.ops.ranks_there) (ranks_there (length c.args.shape.now.node_of) c.args.turns.now c.requires.there) in
-    subst (λ m. EachSays g.C.ShardCore.promised c.args.shape.now c.args.knobs c.args.homes.now m (ranks_of c.args.turns.now)) c.in_ok-machine.ensures.made
-    (c.in_ok-machine.ensures.says (ranks_of c.args.turns.now) there)
+    let there = subst (λ n. AreThere n (ranks_of_turns c.args.turns.now)) (sym c.requires.ops.ranks_there) (ranks_there (length c.args.shape.now.node_of) c.args.turns.now c.requires.there) in
+    subst (λ m. EachSays g.C.ShardCore.promised c.args.shape.now c.args.knobs c.args.homes.now m (ranks_of_turns c.args.turns.now)) c.in_ok-machine.ensures.made
+    (c.in_ok-machine.ensures.says (ranks_of_turns c.args.turns.now) there)
 
 pub returns-clause-queues : goal.returns-clause-queues
 returns-clause-queues g c =
     let first = start_of g.C.ShardCore.defined c.args.shape.now c.args.knobs c.args.geom c.args.homes.now c.args.ops in
-    let there = subst (λ n. AreThere n (ranks_of c.args.turns.now)) (sym c.requires.ops.ranks_there) (ranks_there (length c.args.shape.now.node_of) c.args.turns.now c.requires.there) in
+    let there = subst (λ n. AreThere n (ranks_of_turns c.args.turns.now)) (sym c.requires.ops.ranks_there) (ranks_there (length c.args.shape.now.node_of) c.args.turns.now c.requires.there) in
     let done : c.loop-turn.turn-index ≡ length c.args.turns.now = omega arith in
-    let run = c.loop-turn.invariant.0 ∙ ap (λ ts. run_of first (ranks_of ts)) (ap (λ n. take n c.args.turns.now) done ∙ take-length c.args.turns.now) in
-    subst (EachKeepsQueues g.C.ShardCore.name c.args.shape.now c.args.knobs c.args.homes.now) (ap (λ m. run_of m (ranks_of c.args.turns.now)) c.in_ok-machine.ensures.made ∙ sym run)
-    (c.in_ok-machine.ensures.keeps (ranks_of c.args.turns.now) there)
+    let run = c.loop-turn.invariant.0 ∙ ap (λ ts. run_of first (ranks_of_turns ts)) (ap (λ n. take n c.args.turns.now) done ∙ take-length c.args.turns.now) in
+    subst (EachKeepsQueues g.C.ShardCore.name c.args.shape.now c.args.knobs c.args.homes.now) (ap (λ m. run_of m (ranks_of_turns c.args.turns.now)) c.in_ok-machine.ensures.made ∙ sym run)
+    (c.in_ok-machine.ensures.keeps (ranks_of_turns c.args.turns.now) there)

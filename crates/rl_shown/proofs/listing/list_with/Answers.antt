@@ -11,7 +11,7 @@ use Rattle.rl_ops.specs.declared.schedule.Turn.TheVariants.{Steps}
 use Rattle.rl_ops.specs.Schedule.{steps_of}
 use Rattle.rl_history.specs.Naming.{naming_of}
 use Rattle.rl_machine.specs.Running.{running}
-use Rattle.rl_machine.specs.Run.{steps_in, ranks_of, turn_ranks}
+use Rattle.rl_machine.specs.Run.{steps_in, ranks_of_turns, turn_ranks}
 use Rattle.rl_machine.specs.laws.ReplayLaws.{steps-more, steps-within}
 use Rattle.rl_machine.specs.Start.{start_of}
 use Rattle.rl_replay.proofs.SuitLaws.{sizes_suit}
@@ -73,5 +73,5 @@ returns g c =
     let done : c.loop-turn.turn-index ≡ length ts = omega arith in
     let all = ap (λ n. take n ts) done ∙ take-length ts ∙ c.as_slice-turns.ensures in
     c.in_ok-extend_from_slice.ensures.items
-    ∙ ap (λ z. z ++ (codes "end" ++ 10 ∷ [])) (c.loop-turn.invariant.0 ∙ ap (λ z. text_of (head_lines (naming_of place)) ++ text_of (step_lines place (naming_of place) c.args.window first (ranks_of z))) all)
-    ∙ the_text (naming_of place) (step_lines place (naming_of place) c.args.window first (ranks_of c.args.schedule.now.turns))
+    ∙ ap (λ z. z ++ (codes "end" ++ 10 ∷ [])) (c.loop-turn.invariant.0 ∙ ap (λ z. text_of (head_lines (naming_of place)) ++ text_of (step_lines place (naming_of place) c.args.window first (ranks_of_turns z))) all)
+    ∙ the_text (naming_of place) (step_lines place (naming_of place) c.args.window first (ranks_of_turns c.args.schedule.now.turns))

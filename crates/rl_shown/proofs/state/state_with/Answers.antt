@@ -3,7 +3,7 @@ use Rattle.std.proofs.Common.{◌≡◌, length, map, sum_by, IfOk, take, ap, sy
 use Rattle.rl_ops.specs.Schedule.{steps_of}
 use Rattle.rl_place.specs.Shapes.{shape_of, knobs_of}
 use Rattle.rl_machine.specs.Running.{Running, running}
-use Rattle.rl_machine.specs.Run.{ranks_of}
+use Rattle.rl_machine.specs.Run.{ranks_of_turns}
 use Rattle.rl_machine.specs.Start.{start_of}
 use Rattle.rl_shown.specs.Cores.{tables_of}
 use Rattle.rl_shown.specs.State.{machine_before, state_spelling}
@@ -14,13 +14,13 @@ pub machine_text-requires-clause-ranks : goal.machine_text-requires-clause-ranks
 machine_text-requires-clause-ranks g c =
     let place = c.args.place.now in
     let first = start_of g.C.ShardCore.defined (shape_of place) (knobs_of place.lock) place.geom place.homes c.args.ops in
-    ap (λ (m : Running _). length m.calls) c.in_ok-machine.ensures ∙ ap length (run_tables first (take c.args.step (ranks_of c.args.schedule.now.turns))).1 ∙ c.requires.calls.ranks_there
+    ap (λ (m : Running _). length m.calls) c.in_ok-machine.ensures ∙ ap length (run_tables first (take c.args.step (ranks_of_turns c.args.schedule.now.turns))).1 ∙ c.requires.calls.ranks_there
 
 pub machine_text-requires-clause-cores : goal.machine_text-requires-clause-cores
 machine_text-requires-clause-cores g c =
     let place = c.args.place.now in
     let first = start_of g.C.ShardCore.defined (shape_of place) (knobs_of place.lock) place.geom place.homes c.args.ops in
-    ap (map g.C.ShardCore.shard_table) c.as_slice-2.ensures.value ∙ c.in_ok-cores.ensures ∙ sym (run_tables first (take c.args.step (ranks_of c.args.schedule.now.turns))).0 ∙ ap tables_of (sym c.in_ok-machine.ensures)
+    ap (map g.C.ShardCore.shard_table) c.as_slice-2.ensures.value ∙ c.in_ok-cores.ensures ∙ sym (run_tables first (take c.args.step (ranks_of_turns c.args.schedule.now.turns))).0 ∙ ap tables_of (sym c.in_ok-machine.ensures)
 
 pub returns : goal.returns
 returns g c =

@@ -2,7 +2,7 @@ use Rattle.std.proofs.Common.{◌∙◌, ap, sym, subst}
 use Rattle.rl_model.specs.Call.{shard_of}
 use Rattle.rl_model.specs.Table.{apply}
 use Rattle.rl_volume.specs.Volume.{IsVolume}
-use Rattle.rl_volume.specs.Decision.{written, HasRead}
+use Rattle.rl_volume.specs.Decision.{words_written, HasRead}
 use Rattle.table_tests.proofs.volumes.done.Goals as goal
 
 pub returns-clause-volume : goal.returns-clause-volume
@@ -16,7 +16,7 @@ returns-clause-volume g c =
       over = c.read-loads.ensures.over;
     } in
     let kept = c.decide-writes.ensures.keeps words before read in
-    let made = c.make.ensures ∙ ap (written words) c.as_slice.ensures.value in (
+    let made = c.make.ensures ∙ ap (words_written words) c.as_slice.ensures.value in (
       (apply geom c.args.call before).0,
       subst (λ s. IsVolume geom s c.make.new.words (apply geom c.args.call before).0) c.requires.mine
           (subst (λ ws. IsVolume geom (shard_of geom c.args.call) ws (apply geom c.args.call before).0) (sym made) kept),

@@ -3,11 +3,11 @@ use Rattle.std.proofs.Common.{◌≤◌, ◌++◌, ◌∙◌, ap, sym, subst, le
 use Rattle.rl_queue.specs.Queue.{PlanFits, GotFits, turn_at}
 use Rattle.rl_alock.specs.declared.cohort.Cohort.{Cohort}
 use Rattle.rl_alock.specs.declared.cohort.Cohort.TheVariants.{Local, Remote}
-use Rattle.rl_alock.specs.declared.view.Entry.TheVariants.{Announce}
+use Rattle.rl_alock.specs.declared.view.SettleStage.TheVariants.{Announce}
 use Rattle.rl_alock.specs.declared.view.AlockView.{AlockView}
 use Rattle.rl_queue.specs.declared.view.QueueView.{QueueView}
 use Rattle.rl_step.specs.Lock.{Told}
-use Rattle.rl_alock.specs.Alock.{Cohorts, budget_in, cohorts_of, cohort_of, names_of, entry_of, told_turn}
+use Rattle.rl_alock.specs.Alock.{Cohorts, budget_in, cohorts_of, cohort_of, names_of, entry_events, told_turn}
 use Rattle.rl_alock.proofs.CodeLaws.{plan_away, learn_away, few_events, fits_at, got_fits_at}
 use Rattle.rl_alock.proofs.alock.AlockAlgo.learn.Goals as goal
 
@@ -36,7 +36,7 @@ enter-requires c =
 
 -- what a queue's turn makes of the rank
 abbrev entered : Told QueueView → Told AlockView
-entered u = record { view = record { queue = u.view; entry = Announce }; events = u.events ++ entry_of u.view.member u.view.phase; waits = u.waits }
+entered u = record { view = record { queue = u.view; entry = Announce }; events = u.events ++ entry_events u.view.member u.view.phase; waits = u.waits }
 
 pub returns-in_default : goal.returns-in_default
 returns-in_default c =

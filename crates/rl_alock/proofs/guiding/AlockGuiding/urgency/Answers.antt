@@ -6,7 +6,7 @@ use Rattle.rl_queue.specs.declared.view.Phase.TheVariants.{Settle}
 use Rattle.rl_queue.specs.Queue.{PlanFits, plan_at}
 use Rattle.rl_queue.specs.Urgency.{loaded, urgent_at}
 use Rattle.rl_queue.specs.laws.UrgencyLaws.{loaded_in, aims, load_there, load_fits}
-use Rattle.rl_alock.specs.declared.view.Entry.{Entry}
+use Rattle.rl_alock.specs.declared.view.SettleStage.{SettleStage}
 use Rattle.rl_alock.specs.Alock.{Cohorts, cohorts_of, cohort_of, names_of, ranks_of, alock_table, BoundsOvertaking}
 use Rattle.rl_alock.specs.Overtakes.{AlockBounded}
 use Rattle.rl_alock.specs.laws.AlockBounded.{bounded_laws}
@@ -14,7 +14,7 @@ use Rattle.rl_alock.specs.AlockUrgency.{rank_urgent}
 use Rattle.rl_alock.proofs.CodeLaws.{fits_at, plan_away}
 use Rattle.rl_alock.proofs.guiding.AlockGuiding.urgency.Goals as goal
 
-urgent_away : (K : Cohorts) (ws : List ℕ) (m : ℕ) (p : Phase) (st : Entry) → p ≢ Settle → rank_urgent K ws m p st ≡ urgent_at p (loaded ws (plan_at (names_of K (cohort_of K m)) m p))
+urgent_away : (K : Cohorts) (ws : List ℕ) (m : ℕ) (p : Phase) (st : SettleStage) → p ≢ Settle → rank_urgent K ws m p st ≡ urgent_at p (loaded ws (plan_at (names_of K (cohort_of K m)) m p))
 urgent_away K ws m Settle st ne = absurd (ne refl)
 urgent_away K ws m _ st ne = refl
 

@@ -2,7 +2,7 @@
 use Rattle.std.proofs.Common.{◌≡◌, ◌+◌, ◌≤◌, length, map, slice_get, take, Some, ap, sym, ◌∙◌, arith}
 use Rattle.std.proofs.lemmas.Option.{slice_get-get_or}
 use Rattle.rl_machine.specs.ShardSteps.{desk_at}
-use Rattle.rl_asks.specs.Desks.{entries_of}
+use Rattle.rl_asks.specs.Desks.{desk_entries}
 use Rattle.rl_asks.specs.RankGood.{entries_in}
 use Rattle.rl_machine.specs.laws.StateLaws.{IsThere, is_there}
 use Rattle.rl_machine.specs.laws.RecordLaws.{kept_in, one_shard_more, on_all_shards}
@@ -26,8 +26,8 @@ next : (g : Over) (c : After-entries g) →
     (c.loop-shard.done + length c.entries.result.now ≡ entries_in (map (kept_in g.C.ShardCore.shard_table c.args.rank) (take (c.loop-shard.shard-index + 1) c.args.self.now.shards.items))) × (c.loop-shard.done + length c.entries.result.now ≤ 20000)
 next g c =
     let item = c.shard-item.result in
-    let same : c.entries.result.now ≡ kept_in g.C.ShardCore.shard_table c.args.rank item = c.entries.ensures ∙ ap entries_of (sym (g.met.C.TellsAll.tells_all item.core item.flat.words.words c.args.rank c.view.result.now))
-    ∙ sym (ap (λ o. entries_of (desk_at (g.C.ShardCore.shard_table item.core) item.flat.words.words c.args.rank o)) c.view.ensures) in
+    let same : c.entries.result.now ≡ kept_in g.C.ShardCore.shard_table c.args.rank item = c.entries.ensures ∙ ap desk_entries (sym (g.met.C.TellsAll.tells_all item.core item.flat.words.words c.args.rank c.view.result.now))
+    ∙ sym (ap (λ o. desk_entries (desk_at (g.C.ShardCore.shard_table item.core) item.flat.words.words c.args.rank o)) c.view.ensures) in
     one_shard_more _ _ g.C.ShardCore.shard_table g.C.ShardCore.good g.C.ShardCore.cause g.C.ShardCore.further g.C.ShardCore.layout g.met.C.ShardCore.shard_laws c.args.self.now c.requires.good c.args.rank c.requires.there
     c.loop-shard.shard-index item c.loop-shard.done (length c.entries.result.now) (has g (goal.at.After-entries g c).After-shard-item) c.loop-shard.invariant (ap length same)
 

@@ -6,7 +6,7 @@ use Rattle.rl_queue.specs.Urgency.{loaded, urgent_at}
 use Rattle.rl_queue.specs.laws.UrgencyLaws.{loaded_in, aims, load_there, load_fits}
 use Rattle.rl_counter.specs.Counter.{busy}
 use Rattle.rl_counter.specs.declared.view.Doing.TheVariants.{Nothing}
-use Rattle.rl_rw.specs.Rw.{shared_of, groups, of_tree, plan_of, rw_table, KeepsBatches}
+use Rattle.rl_rw.specs.Rw.{shared_of, groups, behind_tree, plan_of, rw_table, KeepsBatches}
 use Rattle.rl_rw.specs.RwGood.{RwGood}
 use Rattle.rl_rw.specs.laws.RwLaws.{laws_of}
 use Rattle.rl_rw.specs.RwUrgency.{where_some, turn_of, tree_urgency, urgency_at}
@@ -34,7 +34,7 @@ returns-else-view c =
     let v = c.args.view in
     let K = shared_of s.tree.rooted s.counters.readers s.group in
     let n = levels_of s.tree.rooted.shape in
-    let size : ℕ = of_tree K + 2 * groups K in
+    let size : ℕ = behind_tree K + 2 * groups K in
     let ws : List ℕ = drop c.args.base c.args.words.now.words in
     c.at_queue.ensures ∙ ap (λ p. where_some (turn_of v.tree.phase) (urgent_at v.tree.phase (loaded ws p))) c.plan.ensures
     ∙ ap (λ w. where_some (turn_of v.tree.phase) (urgent_at v.tree.phase w))
