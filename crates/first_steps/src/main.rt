@@ -5,7 +5,7 @@ ghost use Rattle.std.specs.Prelude.{length};
 ghost use Rattle.rl_place.specs.Places.{IsProper};
 ghost use Rattle.rl_ops.specs.Ops.{OpsFit};
 
-use rl_cores::SpinCore;
+use rl_locks::SpinCore;
 use rl_machine::Machine;
 use rl_ops::{Ops, read_ops};
 use rl_place::{Place, read_place};

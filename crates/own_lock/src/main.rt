@@ -5,7 +5,7 @@
 use rl_machine::Machine;
 use rl_ops::read_ops;
 use rl_place::read_place;
-use rl_whole::Whole;
+use rl_rank::Whole;
 use rl_work::LockedWork;
 use ticket_lock::Ticket;
 

@@ -10,10 +10,10 @@ use Rattle.rl_model.specs.declared.call.Call.{Call}
 use Rattle.rl_model.specs.declared.entry.Reply.{Reply}
 use Rattle.rl_journal.specs.Blocks.{is_last}
 use Rattle.rl_place.specs.Places.{ThePlace}
-use Rattle.rl_history.specs.Reports.{TheShard}
-use Rattle.rl_history.specs.Lawful.{queues_at}
-use Rattle.rl_history.specs.Naming.{naming_of}
-use Rattle.rl_history.specs.Reports.{ShardFits}
+use Rattle.rl_report.specs.Reports.{TheShard}
+use Rattle.rl_report.specs.Lawful.{queues_at}
+use Rattle.rl_report.specs.Naming.{naming_of}
+use Rattle.rl_report.specs.Reports.{ShardFits}
 use Rattle.rl_check.specs.declared.illegal.Test.{Test}
 use Rattle.rl_check.specs.declared.illegal.Test.TheVariants as test
 use Rattle.rl_check.specs.Entries.{before, updates_before, table_before, IsOfShard, EntryIsInOrder, IsInBatch, IsAtPlace, HasReply}

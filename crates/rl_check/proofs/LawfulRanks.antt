@@ -10,7 +10,7 @@ use Rattle.rl_journal.specs.Legal.{blocks_joined}
 use Rattle.rl_journal.specs.laws.Lists.{all_at}
 use Rattle.rl_journal.specs.Ranks.{Follows, IsInOrder, IsEntryOf, IsRankInOrder}
 use Rattle.rl_ops.specs.Asked.{asked_of}
-use Rattle.rl_history.specs.declared.report.Done.{Done}
+use Rattle.rl_report.specs.declared.report.Done.{Done}
 use Rattle.rl_check.specs.declared.illegal.Test.{Test}
 use Rattle.rl_check.specs.declared.illegal.Test.TheVariants as test
 use Rattle.rl_check.specs.Ranks.{is_numbered, IsCalled, IsFresh, EndsWell, RankPasses}

@@ -17,11 +17,11 @@ use Rattle.rl_place.specs.Places.{ThePlace}
 use Rattle.rl_ops.specs.declared.ops.Ops.{Ops}
 use Rattle.rl_ops.specs.Asked.{asked_of}
 use Rattle.rl_ops.specs.Ops.{OpsFit, AreBlocks}
-use Rattle.rl_history.specs.declared.report.Done.{Done}
-use Rattle.rl_history.specs.Naming.{naming_of}
-use Rattle.rl_history.specs.Reports.{TheShard, TheReport, EntryFits, ShardFits, ReportFits}
-use Rattle.rl_history.specs.Lawful.{journal_among, transcript_in, queues_at, IsLawfulShard, IsLawful}
-use Rattle.rl_history.specs.Tallies.{trace_of_report}
+use Rattle.rl_report.specs.declared.report.Done.{Done}
+use Rattle.rl_report.specs.Naming.{naming_of}
+use Rattle.rl_report.specs.Reports.{TheShard, TheReport, EntryFits, ShardFits, ReportFits}
+use Rattle.rl_report.specs.Lawful.{journal_among, transcript_in, queues_at, IsLawfulShard, IsLawful}
+use Rattle.rl_report.specs.Tallies.{trace_of_report}
 use Rattle.rl_check.specs.declared.illegal.Group.TheVariants as group
 use Rattle.rl_check.specs.declared.illegal.Test.{Test}
 use Rattle.rl_check.specs.Shards.{TalliesHold, PairsHold, KeepsRules, EventsHold, ShardPasses}

@@ -16,8 +16,8 @@ use Rattle.rl_journal.specs.laws.HistoryPlaces.{places_told}
 use Rattle.rl_journal.specs.laws.HistorySorted.{history_sorted}
 use Rattle.rl_journal.specs.Ranks.{IsInOrder}
 use Rattle.rl_place.specs.Places.{ThePlace}
-use Rattle.rl_history.specs.Reports.{TheShard}
-use Rattle.rl_history.specs.Lawful.{journal_among, transcript_in, transcripts_in, queues_at}
+use Rattle.rl_report.specs.Reports.{TheShard}
+use Rattle.rl_report.specs.Lawful.{journal_among, transcript_in, transcripts_in, queues_at}
 use Rattle.rl_check.specs.declared.illegal.Test.{Test}
 use Rattle.rl_check.specs.declared.illegal.Test.TheVariants as test
 use Rattle.rl_check.specs.Entries.{before, StandsBefore}

@@ -20,9 +20,9 @@ use Rattle.rl_journal.specs.laws.HistorySorted.{history_sorted}
 use Rattle.rl_journal.specs.laws.Lists.{get_cases, get_left}
 use Rattle.rl_journal.specs.Ranks.{IsInOrder}
 use Rattle.rl_place.specs.Places.{ThePlace}
-use Rattle.rl_history.specs.Naming.{naming_of}
-use Rattle.rl_history.specs.Reports.{TheShard, ShardFits}
-use Rattle.rl_history.specs.Lawful.{journal_among, transcript_in, transcripts_in}
+use Rattle.rl_report.specs.Naming.{naming_of}
+use Rattle.rl_report.specs.Reports.{TheShard, ShardFits}
+use Rattle.rl_report.specs.Lawful.{journal_among, transcript_in, transcripts_in}
 use Rattle.rl_check.specs.declared.illegal.Test.{Test}
 use Rattle.rl_check.specs.declared.illegal.Test.TheVariants as test
 use Rattle.rl_check.specs.Entries.{updates_before, table_before}

@@ -16,9 +16,9 @@ use Rattle.rl_journal.specs.laws.BlockLaws.{block_done}
 use Rattle.rl_journal.specs.Legal.{updates, table_after, blocks_joined, IsLegalBlock, AreLegalFrom, IsLegalJournal}
 use Rattle.rl_journal.specs.laws.Lists.{filter_all}
 use Rattle.rl_place.specs.Places.{ThePlace}
-use Rattle.rl_history.specs.Naming.{naming_of}
-use Rattle.rl_history.specs.Reports.{TheShard, PartFits, ShardFits}
-use Rattle.rl_history.specs.Lawful.{journal_among}
+use Rattle.rl_report.specs.Naming.{naming_of}
+use Rattle.rl_report.specs.Reports.{TheShard, PartFits, ShardFits}
+use Rattle.rl_report.specs.Lawful.{journal_among}
 use Rattle.rl_check.specs.declared.illegal.Test.{Test}
 use Rattle.rl_check.specs.declared.illegal.Test.TheVariants as test
 use Rattle.rl_check.specs.Entries.{before, updates_before, table_before, GoesOnInBatch, IsFirstOfBlock, MayFollow, IsWholeBatch, EntryIsAnswered}

@@ -10,7 +10,7 @@ use Rattle.rl_model.proofs.Counts.{count-cons, sum_of_counts}
 use Rattle.rl_model.specs.declared.call.Call.{Call}
 use Rattle.rl_model.specs.declared.entry.Entry.{Entry}
 use Rattle.rl_ops.specs.Asked.{asked_of}
-use Rattle.rl_history.specs.declared.report.Done.{Done}
+use Rattle.rl_report.specs.declared.report.Done.{Done}
 use Rattle.rl_check.specs.declared.illegal.Test.{Test}
 use Rattle.rl_check.specs.declared.illegal.Test.TheVariants as test
 use Rattle.rl_check.specs.Ranks.{Stands, is_numbered, IsCalled, IsLatest, IsFreshAfter, IsDone, RankPasses}

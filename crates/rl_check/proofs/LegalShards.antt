@@ -11,8 +11,8 @@ use Rattle.rl_journal.specs.Blocks.{is_last}
 use Rattle.rl_journal.specs.Legal.{updates}
 use Rattle.rl_journal.specs.History.{Precedes, IsBeforeByRank, Each, IsSorted}
 use Rattle.rl_place.specs.Places.{ThePlace}
-use Rattle.rl_history.specs.Naming.{naming_of}
-use Rattle.rl_history.specs.Reports.{TheShard, EntryFits, PartFits, ShardFits}
+use Rattle.rl_report.specs.Naming.{naming_of}
+use Rattle.rl_report.specs.Reports.{TheShard, EntryFits, PartFits, ShardFits}
 use Rattle.rl_check.specs.declared.illegal.Test.{Test}
 use Rattle.rl_check.specs.declared.illegal.Test.TheVariants as test
 use Rattle.rl_check.specs.Entries.{before, updates_before, StandsBefore, IsFirstOfBlock, MayFollow}

@@ -18,10 +18,10 @@ use Rattle.rl_ops.specs.Asked.{asked_of, asked_after, batch_of}
 use Rattle.rl_check.proofs.RankLaws.{past_calls}
 use Rattle.rl_ops.specs.Blocks.{sizes_of}
 use Rattle.rl_ops.specs.Ops.{AreBlocks, EachOfBlocks, total_calls}
-use Rattle.rl_history.specs.declared.report.Done.{Done}
-use Rattle.rl_history.specs.Naming.{TheNaming}
-use Rattle.rl_history.specs.Reports.{TheShard, TheReport, EntryFits, ShardsFit}
-use Rattle.rl_history.specs.Lawful.{transcript_in}
+use Rattle.rl_report.specs.declared.report.Done.{Done}
+use Rattle.rl_report.specs.Naming.{TheNaming}
+use Rattle.rl_report.specs.Reports.{TheShard, TheReport, EntryFits, ShardsFit}
+use Rattle.rl_report.specs.Lawful.{transcript_in}
 use Rattle.rl_check.specs.declared.illegal.Test.{Test}
 use Rattle.rl_check.specs.declared.illegal.Test.TheVariants as test
 use Rattle.rl_check.specs.Faults.{number_of, is_of_events, IsEarlier}

@@ -14,7 +14,7 @@ use Rattle.rl_journal.specs.laws.BlockLaws.{part_at, size_pos, block_half, block
 use Rattle.rl_journal.specs.Legal.{updates, table_after, blocks_joined, IsLegalBlock}
 use Rattle.rl_journal.specs.History.{IsReplayed}
 use Rattle.rl_journal.specs.laws.Lists.{get_cases, get_left, filter_all}
-use Rattle.rl_history.specs.Lawful.{journal_among}
+use Rattle.rl_report.specs.Lawful.{journal_among}
 use Rattle.rl_check.specs.Entries.{before, table_before, IsFirstOfBlock, MayFollow, IsInBatch, EntryIsAnswered, HasReply}
 use Rattle.rl_check.specs.OneThread.{is_begun}
 use Rattle.rl_check.proofs.BatchLaws.{is_the_last, ends_here}

@@ -8,9 +8,9 @@ use Rattle.std.proofs.lemmas.Option.{same_Some, slice_get-get_or, get_or_from_sl
 use Rattle.rl_step.specs.declared.events.Event.{Event}
 use Rattle.rl_step.specs.declared.events.Event.TheVariants.{Join, Announce, Pass, Settle, Touch, EnterW, EnterR, LeaveW, LeaveR}
 use Rattle.rl_place.specs.Places.{ThePlace}
-use Rattle.rl_history.specs.Naming as naming
-use Rattle.rl_history.specs.Naming.{TheNaming, naming_of, EventFits}
-use Rattle.rl_history.specs.Reports.{TheShard, TheReport, EachAfter, StepFits, step_of, ShardFits, ShardsFit, ReportFits}
+use Rattle.rl_report.specs.Naming as naming
+use Rattle.rl_report.specs.Naming.{TheNaming, naming_of, EventFits}
+use Rattle.rl_report.specs.Reports.{TheShard, TheReport, EachAfter, StepFits, step_of, ShardFits, ShardsFit, ReportFits}
 use Rattle.rl_check.specs.declared.illegal.Test.{Test}
 use Rattle.rl_check.specs.Shards.{ShardPasses}
 use Rattle.rl_check.specs.Legal.{PassesOn}

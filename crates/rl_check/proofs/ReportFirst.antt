@@ -4,7 +4,7 @@ use Rattle.std.specs.Option.{is_some}
 use Rattle.std.proofs.lemmas.Option.{slice_get_within}
 use Rattle.rl_place.specs.Places.{ThePlace}
 use Rattle.rl_ops.specs.declared.ops.Ops.{Ops}
-use Rattle.rl_history.specs.Reports.{TheReport}
+use Rattle.rl_report.specs.Reports.{TheReport}
 use Rattle.rl_check.specs.declared.illegal.Group.{Group}
 use Rattle.rl_check.specs.declared.illegal.Group.TheVariants as group
 use Rattle.rl_check.specs.declared.illegal.Test.{Test}

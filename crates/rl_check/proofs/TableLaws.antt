@@ -18,7 +18,7 @@ use Rattle.rl_journal.specs.Blocks.{stops, any_stops, only_first, undone, in_tur
 use Rattle.rl_journal.specs.laws.BlockLaws.{half_append}
 use Rattle.rl_journal.specs.Legal.{updates}
 use Rattle.rl_journal.specs.laws.Lists.{get_cases, get_more_cases, filter_all}
-use Rattle.rl_history.specs.Lawful.{journal_among}
+use Rattle.rl_report.specs.Lawful.{journal_among}
 use Rattle.rl_check.specs.Entries.{before, table_before, IsWholeBatch, EntryIsAnswered}
 use Rattle.rl_check.specs.OneThread.{is_begun, BatchesFit, Tells, IsToldTo}
 use Rattle.rl_check.proofs.Places.{take_more, in_stretch, length_stretch}

@@ -6,7 +6,7 @@ use Rattle.std.proofs.lemmas.Option.{same_Some, slice_get_within}
 use Rattle.rl_word.specs.laws.Places.{some_at}
 use Rattle.rl_place.specs.Places.{ThePlace}
 use Rattle.rl_ops.specs.declared.ops.Ops.{Ops}
-use Rattle.rl_history.specs.Reports.{TheReport}
+use Rattle.rl_report.specs.Reports.{TheReport}
 use Rattle.rl_check.specs.declared.illegal.Group.TheVariants as group
 use Rattle.rl_check.specs.declared.illegal.Illegal.{Illegal}
 use Rattle.rl_check.specs.Faults.{IsFirstIn, IsFirst}

@@ -20,7 +20,7 @@ use Rattle.rl_word.specs.declared.locks.LockName.{LockName}
 use Rattle.rl_word.specs.declared.shapes.Knobs.{Knobs}
 use Rattle.rl_word.specs.Shapes.{TheShape}
 use Rattle.rl_step.specs.LockQueues.{queues_of}
-use Rattle.rl_history.specs.Tallies.{trace_of_report}
+use Rattle.rl_report.specs.Tallies.{trace_of_report}
 use Rattle.rl_check.specs.Shards.{EventsHold}
 use Rattle.rl_check.specs.Tallying.{queue_in}
 use Rattle.rl_check.proofs.Places.{take_more}

@@ -8,7 +8,7 @@ use Rattle.rl_model.specs.Table.{Table, apply}
 use Rattle.rl_journal.specs.Blocks.{apply_batch, calls_of, is_last}
 use Rattle.rl_journal.specs.Legal.{updates, table_after}
 use Rattle.rl_journal.specs.History.{IsBeforeByRank}
-use Rattle.rl_history.specs.Lawful.{journal_among}
+use Rattle.rl_report.specs.Lawful.{journal_among}
 
 -- ---- what stands before an entry
 

@@ -10,9 +10,9 @@ use Rattle.rl_model.specs.Table.{Table}
 use Rattle.rl_journal.specs.Tenures.{AreTallied}
 use Rattle.rl_place.specs.LockWords.{name_of}
 use Rattle.rl_place.specs.Places.{ThePlace}
-use Rattle.rl_history.specs.Reports.{TheShard}
-use Rattle.rl_history.specs.Tallies.{tallies_from, trace_of_report}
-use Rattle.rl_history.specs.Lawful.{queues_at}
+use Rattle.rl_report.specs.Reports.{TheShard}
+use Rattle.rl_report.specs.Tallies.{tallies_from, trace_of_report}
+use Rattle.rl_report.specs.Lawful.{queues_at}
 use Rattle.rl_check.specs.Entries.{updates_before, IsOfShard, EntryIsInOrder, IsInBatch, IsAtPlace, HasReply}
 use Rattle.rl_check.specs.Faults.{IsEarlier}
 use Rattle.rl_check.specs.Shards.{EventsHold}

@@ -7,11 +7,11 @@ use Rattle.rl_journal.specs.Ranks.{IsRankInOrder}
 use Rattle.rl_place.specs.Places.{ThePlace}
 use Rattle.rl_ops.specs.declared.ops.Ops.{Ops}
 use Rattle.rl_ops.specs.Asked.{asked_of, BeginsAt}
-use Rattle.rl_history.specs.declared.report.Done.{Done}
-use Rattle.rl_history.specs.Naming.{naming_of}
-use Rattle.rl_history.specs.Reports.{TheShard, TheReport, ReportFits}
-use Rattle.rl_history.specs.Lawful.{journal_among, transcript_in, transcripts_in, queues_at}
-use Rattle.rl_history.specs.Tallies.{tallies_from, trace_of_report}
+use Rattle.rl_report.specs.declared.report.Done.{Done}
+use Rattle.rl_report.specs.Naming.{naming_of}
+use Rattle.rl_report.specs.Reports.{TheShard, TheReport, ReportFits}
+use Rattle.rl_report.specs.Lawful.{journal_among, transcript_in, transcripts_in, queues_at}
+use Rattle.rl_report.specs.Tallies.{tallies_from, trace_of_report}
 use Rattle.rl_check.specs.Shards.{KeepsRules}
 
 -- the entries of a shard tell a history

@@ -3,10 +3,10 @@ use Rattle.std.specs.Prelude.{◌≡◌, ◌↔◌, ℕ, true, [], get_or, lengt
 use Rattle.rl_place.specs.Places.{ThePlace, IsProper}
 use Rattle.rl_ops.specs.declared.ops.Ops.{Ops}
 use Rattle.rl_ops.specs.Ops.{OpsFit}
-use Rattle.rl_history.specs.Naming.{naming_of}
-use Rattle.rl_history.specs.declared.report.Done.{Done}
-use Rattle.rl_history.specs.Reports.{TheShard, TheReport, ReportFits}
-use Rattle.rl_history.specs.Lawful.{IsLawful}
+use Rattle.rl_report.specs.Naming.{naming_of}
+use Rattle.rl_report.specs.declared.report.Done.{Done}
+use Rattle.rl_report.specs.Reports.{TheShard, TheReport, ReportFits}
+use Rattle.rl_report.specs.Lawful.{IsLawful}
 use Rattle.rl_check.specs.declared.illegal.Group.{Group}
 use Rattle.rl_check.specs.declared.illegal.Group.TheVariants as group
 use Rattle.rl_check.specs.declared.illegal.Test.{Test}

@@ -6,7 +6,7 @@ use Rattle.rl_model.specs.declared.entry.Reply.{Reply}
 use Rattle.rl_model.specs.declared.geom.Geom.{Geom}
 use Rattle.rl_model.specs.Table.{Table}
 use Rattle.rl_journal.specs.Blocks.{half_after, is_last}
-use Rattle.rl_history.specs.Lawful.{journal_among}
+use Rattle.rl_report.specs.Lawful.{journal_among}
 use Rattle.rl_check.specs.Entries.{before, IsInBatch, EntryIsAnswered, HasReply, IsWholeBatch}
 
 -- an entry leaves a batch begun

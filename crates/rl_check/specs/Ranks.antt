@@ -5,9 +5,9 @@ use Rattle.rl_model.specs.declared.entry.Entry.{Entry}
 use Rattle.rl_model.specs.Asked.{Asked}
 use Rattle.rl_journal.specs.Legal.{updates}
 use Rattle.rl_ops.specs.Asked.{asked_of, BeginsAt}
-use Rattle.rl_history.specs.declared.report.Done.{Done}
-use Rattle.rl_history.specs.Reports.{TheShard, TheReport}
-use Rattle.rl_history.specs.Lawful.{transcript_in}
+use Rattle.rl_report.specs.declared.report.Done.{Done}
+use Rattle.rl_report.specs.Reports.{TheShard, TheReport}
+use Rattle.rl_report.specs.Lawful.{transcript_in}
 use Rattle.rl_check.specs.declared.illegal.Test.{Test}
 use Rattle.rl_check.specs.declared.illegal.Test.TheVariants as test
 

@@ -10,13 +10,13 @@ ghost use Rattle.rl_model.specs.Table.{sum_below};
 ghost use Rattle.rl_place.specs.LockWords.{name_of};
 ghost use Rattle.rl_place.specs.Places.{IsProper as IsProperPlace};
 ghost use Rattle.rl_place.specs.Shapes.{shape_of};
-ghost use Rattle.rl_history.specs.Lawful.{queues_at};
+ghost use Rattle.rl_report.specs.Lawful.{queues_at};
 ghost use Rattle.rl_check.specs.Tallying.{IsTallied};
 ghost use Rattle.rl_check.specs.QueuesOf.{queue_of, queues_all};
 
-use rl_history::within;
 use rl_model::Entry;
 use rl_place::Place;
+use rl_report::within;
 use rl_step::Tally;
 use rl_word::{Element, Knobs, LockName, Shape};
 

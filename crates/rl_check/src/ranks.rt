@@ -11,9 +11,9 @@ ghost use Rattle.rl_check.specs.declared.slots.Slot.TheVariants.{One};
 
 use crate::illegal::{Group, Illegal, Test};
 use crate::slots::{Slot, own_of, slots_of};
-use rl_history::{Done, Report};
 use rl_model::{Call, Entry};
 use rl_ops::Ops;
+use rl_report::{Done, Report};
 use std::alloc::{AllocError as OutOfMemory, Global};
 
 // A place in a block: the size of the batch, which is 0 for a call alone, and the part.

@@ -1,12 +1,12 @@
 //! A rank's entries by number.
 ghost use Rattle.std.specs.Prelude.{◌≡◌, ◌<◌, ◌+◌, ◌++◌, filter, flat_map, take, length, IfOk, OnOk};
 ghost use Rattle.rl_journal.specs.Legal.{is_of};
-ghost use Rattle.rl_history.specs.Lawful.{transcript_in};
-ghost use Rattle.rl_history.specs.Reports.{TheShard};
+ghost use Rattle.rl_report.specs.Lawful.{transcript_in};
+ghost use Rattle.rl_report.specs.Reports.{TheShard};
 ghost use Rattle.rl_check.specs.Slots.{AreSlots, slot_with};
 
-use rl_history::ShardReport;
 use rl_model::Entry;
+use rl_report::ShardReport;
 use std::alloc::{AllocError as OutOfMemory, Global};
 
 /// What is found among a rank's entries of one number.

@@ -3,8 +3,8 @@ ghost use Rattle.std.specs.Prelude.{◌≡◌, ◌↔◌, ◌<◌, ◌≤◌, le
 ghost use Rattle.std.specs.List.{AllZip, range_with_len};
 ghost use Rattle.rl_place.specs.Places.{IsProper};
 ghost use Rattle.rl_ops.specs.Ops.{OpsFit};
-ghost use Rattle.rl_history.specs.Naming.{naming_of};
-ghost use Rattle.rl_history.specs.Reports.{ReportFits};
+ghost use Rattle.rl_report.specs.Naming.{naming_of};
+ghost use Rattle.rl_report.specs.Reports.{ReportFits};
 ghost use Rattle.rl_check.specs.Faults.{IsFirst, IsFirstIn};
 ghost use Rattle.rl_check.specs.Legal.{Passes, PassesOn, PassesBy, AreOfSomePlace};
 ghost use Rattle.rl_check.specs.Threads.{IsFirstOf};
@@ -14,9 +14,9 @@ use crate::illegal::Illegal;
 use crate::ranks::check_rank;
 use crate::shards::check_shard;
 use rayon::prelude::*;
-use rl_history::Report;
 use rl_ops::Ops;
 use rl_place::Place;
+use rl_report::Report;
 use std::alloc::{AllocError as OutOfMemory, Global};
 use std::thread::Threads;
 

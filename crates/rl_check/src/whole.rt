@@ -2,17 +2,17 @@
 ghost use Rattle.std.specs.Prelude.{◌≡◌, ◌<◌, length, IfOk};
 ghost use Rattle.rl_place.specs.Places.{IsProper};
 ghost use Rattle.rl_ops.specs.Ops.{OpsFit};
-ghost use Rattle.rl_history.specs.Naming.{naming_of};
-ghost use Rattle.rl_history.specs.Reports.{ReportFits};
+ghost use Rattle.rl_report.specs.Naming.{naming_of};
+ghost use Rattle.rl_report.specs.Reports.{ReportFits};
 ghost use Rattle.rl_check.specs.Faults.{IsFirst};
 ghost use Rattle.rl_check.specs.Legal.{Passes};
 
 use crate::illegal::Illegal;
 use crate::ranks::check_rank;
 use crate::shards::check_shard;
-use rl_history::Report;
 use rl_ops::Ops;
 use rl_place::Place;
+use rl_report::Report;
 use std::alloc::{AllocError as OutOfMemory, Global};
 
 /// The first test that a report fails: of the lowest shard that fails one, else of the lowest rank; nothing where all pass.

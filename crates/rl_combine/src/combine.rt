@@ -120,7 +120,10 @@ impl CombineWork {
                 word: VOLUME_BASE + word,
             }),
             CombineStage::Journal { made, .. } => self.store_journal(side, made),
-            CombineStage::Volume { made, .. } => Some(write_atom(side.count_after(), side.write_at(made))),
+            CombineStage::Volume { made, .. } => Some(write_atom(
+                side.count_after(),
+                side.write_at(made),
+            )),
             CombineStage::Answer { owner, made } => {
                 self.store_post(owner, ANSWER + made, answer_value(&side.entry, made))
             }
@@ -224,9 +227,13 @@ impl CombineWork {
                 side.seen.add(word, got);
                 self.read_on(side, owner);
             }
-            CombineStage::Journal { owner, made } => side.stage = CombineStage::after_journal(owner, made),
+            CombineStage::Journal { owner, made } => side.stage = CombineStage::after_journal(
+                owner, made,
+            ),
             CombineStage::Volume { owner, made } => side.write_on(owner, made),
-            CombineStage::Answer { owner, made } => side.stage = CombineStage::after_answer(owner, made),
+            CombineStage::Answer { owner, made } => side.stage = CombineStage::after_answer(
+                owner, made,
+            ),
             CombineStage::Mark { owner } => self.sweep_on(side, owner + 1),
             CombineStage::Collect { made } => side.collect_on(made, got),
             CombineStage::Lower => side.finish(self.shard, rank),

@@ -24,9 +24,9 @@ use Rattle.rl_machine.specs.Run.{run_of, stepped, turn_ranks, ranks_of_turns, st
 use Rattle.rl_machine.specs.MachineEnding.{AllDone}
 use Rattle.rl_machine.specs.laws.ReplayLaws.{stepped_one, run_append, ranks_there}
 use Rattle.rl_machine.specs.Start.{start_of}
-use Rattle.rl_cores.specs.Kinds.{Defined}
-use Rattle.rl_replay.specs.declared.complaint.Which.TheVariants as which
-use Rattle.rl_replay.specs.Reading.{refused_in, scheduled}
+use Rattle.rl_locks.specs.Kinds.{Defined}
+use Rattle.rl_inputs.specs.declared.complaint.Which.TheVariants as which
+use Rattle.rl_inputs.specs.Reading.{refused_in, scheduled}
 use Rattle.rl_finish.specs.WayOn.{HasSteps, AreWhole}
 use Rattle.rl_completed.specs.Completing.{is_stop, MakesSteps, machine_after, Completes, IsComplete, IsTooLong}
 

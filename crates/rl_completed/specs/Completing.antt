@@ -15,8 +15,8 @@ use Rattle.rl_machine.specs.Running.{Running}
 use Rattle.rl_machine.specs.Run.{run_of, ranks_of_turns, steps_in, AreThere}
 use Rattle.rl_machine.specs.MachineEnding.{AllDone}
 use Rattle.rl_machine.specs.Start.{start_of}
-use Rattle.rl_cores.specs.Kinds.{Defined}
-use Rattle.rl_replay.specs.Reading.{scheduled}
+use Rattle.rl_locks.specs.Kinds.{Defined}
+use Rattle.rl_inputs.specs.Reading.{scheduled}
 use Rattle.rl_completed.specs.declared.uncompleted.Reason.{Reason}
 use Rattle.rl_completed.specs.declared.uncompleted.Reason.TheVariants.{Stopped, Steps, Bytes}
 use Rattle.rl_completed.specs.declared.uncompleted.Uncompleted.{Uncompleted}

@@ -8,18 +8,18 @@ ghost use Rattle.rl_place.specs.Shapes.{shape_of, knobs_of};
 ghost use Rattle.rl_ops.specs.Ops.{OpsFit};
 ghost use Rattle.rl_ops.specs.Schedule.{ScheduleFits, schedule_spelling, steps_of};
 ghost use Rattle.rl_ops.specs.ScheduleReading.{IsReadAsSchedule};
-ghost use Rattle.rl_replay.specs.Reading.{SuitsLock};
-ghost use Rattle.rl_cores.specs.Kinds.{lock_kind_of};
+ghost use Rattle.rl_inputs.specs.Reading.{SuitsLock};
+ghost use Rattle.rl_locks.specs.Kinds.{lock_kind_of};
 ghost use Rattle.rl_completed.specs.Completing.{MakesSteps, IsComplete, IsWayOn, IsWhyNot, IsLong};
 
 use crate::stops::first_stop;
 use crate::uncompleted::{Reason, Uncompleted};
-use rl_asks::{Resting, ShardGuiding};
-use rl_cores::{CoreTask, Promising, over_lock};
+use rl_core::{Resting, ShardGuiding};
 use rl_finish::finish;
+use rl_locks::{CoreTask, Promising, over_lock};
 use rl_ops::{MOST_STEPS, Ops, Schedule, Turn, Turns, schedule_text};
 use rl_place::Place;
-use rl_rests::replay;
+use rl_replay::replay;
 use std::alloc::{AllocError as OutOfMemory, Global};
 
 /// A schedule file has at most this many bytes.

@@ -9,7 +9,7 @@ use Rattle.rl_ops.specs.declared.schedule.Turn.{Turn}
 use Rattle.rl_ops.specs.Schedule.{TurnFits, ScheduleFits}
 use Rattle.rl_machine.specs.Running.{Running}
 use Rattle.rl_machine.specs.Run.{run_of, ranks_of_turns, steps_in}
-use Rattle.rl_cores.specs.Kinds.{Defined}
+use Rattle.rl_locks.specs.Kinds.{Defined}
 use Rattle.rl_sketch.specs.declared.sketch.Ranks.{Ranks}
 use Rattle.rl_sketch.specs.declared.sketch.Ranks.TheVariants.{All, These}
 use Rattle.rl_sketch.specs.declared.sketch.Sight.TheVariants.{Words, Done, Out}

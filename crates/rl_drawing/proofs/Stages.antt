@@ -11,7 +11,7 @@ use Rattle.rl_ops.specs.Schedule.{TurnFits, steps_of}
 use Rattle.rl_machine.specs.Running.{Running}
 use Rattle.rl_machine.specs.Run.{stepped, run_of, turn_ranks, ranks_of_turns, steps_in}
 use Rattle.rl_machine.specs.laws.ReplayLaws.{stepped_one, run_append}
-use Rattle.rl_cores.specs.Kinds.{Defined}
+use Rattle.rl_locks.specs.Kinds.{Defined}
 use Rattle.rl_shown.proofs.FrontLaws.{ranks_append, ranks_long}
 use Rattle.rl_drawing.specs.Drawing.{machine_of}
 use Rattle.rl_drawing.specs.Leads.{OnStage}

@@ -12,7 +12,7 @@ use Rattle.rl_ops.specs.Schedule.{ScheduleFits}
 use Rattle.rl_machine.specs.Running.{Running}
 use Rattle.rl_machine.specs.Run.{stepped, run_of, turn_ranks, ranks_of_turns, steps_in}
 use Rattle.rl_machine.specs.Start.{start_of}
-use Rattle.rl_cores.specs.Kinds.{Defined}
+use Rattle.rl_locks.specs.Kinds.{Defined}
 use Rattle.rl_sketch.specs.declared.sketch.Ranks.TheVariants.{All}
 use Rattle.rl_sketch.specs.declared.sketch.Sight.TheVariants.{Done}
 use Rattle.rl_sketch.specs.declared.sketch.Course.{Course}

@@ -10,11 +10,11 @@ use Rattle.rl_ops.specs.declared.schedule.Turn.{Turn}
 use Rattle.rl_ops.specs.declared.schedule.Turn.TheVariants as turn
 use Rattle.rl_ops.specs.declared.schedule.TheConstants.{MOST_STEPS}
 use Rattle.rl_ops.specs.Schedule.{TurnFits, steps_of}
-use Rattle.rl_history.specs.Naming.{TheNaming, naming_of}
-use Rattle.rl_replay.specs.Reading.{SuitsLock}
+use Rattle.rl_report.specs.Naming.{TheNaming, naming_of}
+use Rattle.rl_inputs.specs.Reading.{SuitsLock}
 use Rattle.rl_machine.specs.Running.{Running}
 use Rattle.rl_machine.specs.Run.{run_of, ranks_of_turns, steps_in}
-use Rattle.rl_cores.specs.Kinds.{Defined}
+use Rattle.rl_locks.specs.Kinds.{Defined}
 use Rattle.rl_drawing.specs.declared.stage.Halt.{Halt}
 use Rattle.rl_drawing.specs.declared.stage.Halt.TheVariants.{Never, Memory}
 use Rattle.rl_drawing.specs.declared.looking.Sought.{Sought}

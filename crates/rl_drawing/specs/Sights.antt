@@ -1,8 +1,8 @@
 -- What a step of a rank shows.
 use Rattle.std.specs.Prelude.{ℕ, ◌==◌, List, [], ◌∷◌, length, nat_lt, slice_index, Bool, true, false, not, ◌&&◌, ◌||◌}
 use Rattle.rl_place.specs.Places.{ThePlace}
-use Rattle.rl_history.specs.Naming.{naming_of}
-use Rattle.rl_history.specs.Printing.{spaced}
+use Rattle.rl_report.specs.Naming.{naming_of}
+use Rattle.rl_report.specs.Printing.{spaced}
 use Rattle.rl_names.specs.StepWords.{step_words}
 use Rattle.rl_machine.specs.Running.{Running}
 use Rattle.rl_machine.specs.Run.{calls_by, has_open_call, done_of, stepped}

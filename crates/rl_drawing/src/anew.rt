@@ -11,10 +11,10 @@ ghost use Rattle.rl_drawing.specs.Drawing.{machine_of};
 ghost use Rattle.rl_drawing.specs.Leads.{SceneFits};
 
 use crate::looking::Scene;
-use rl_asks::Resting;
+use rl_core::Resting;
 use rl_machine::Machine;
 use rl_ops::Turn;
-use rl_rests::replay;
+use rl_replay::replay;
 use rl_shown::copied;
 use std::alloc::AllocError as OutOfMemory;
 

@@ -11,7 +11,7 @@ ghost use Rattle.rl_drawing.specs.Leads.{SceneFits, OnStage, sees, IsOf, Draws, 
 use crate::anew::machine_after;
 use crate::looking::{Scene, Sought, make_steps, steps_before};
 use crate::stage::{Halt, Stage};
-use rl_asks::Resting;
+use rl_core::Resting;
 use rl_ops::Turn;
 
 /// What each of several ranks does.

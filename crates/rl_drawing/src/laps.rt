@@ -13,8 +13,8 @@ ghost use Rattle.rl_drawing.specs.Leads.{SceneFits, OnStage, sees, Draws, DrawsT
 use crate::courses::{Each, go_each, go_one};
 use crate::looking::{Scene, Sought, is_over, step_looking};
 use crate::stage::{Halt, Stage};
-use rl_asks::Resting;
 use rl_chance::Generator;
+use rl_core::Resting;
 use rl_machine::Machine;
 use rl_ops::Turn;
 use std::alloc::AllocError as OutOfMemory;

@@ -9,12 +9,12 @@ ghost use Rattle.rl_drawing.specs.Drawing.{IsFirst};
 ghost use Rattle.rl_drawing.specs.Leads.{SceneFits, sees};
 
 use crate::stage::Halt;
-use rl_asks::ShardCore;
-use rl_history::Naming;
+use rl_core::ShardCore;
 use rl_machine::Machine;
 use rl_names::put_step;
 use rl_ops::Ops;
 use rl_place::Place;
+use rl_report::Naming;
 use rl_sketch::Sight;
 use std::alloc::{AllocError as OutOfMemory, Global};
 

@@ -2,7 +2,7 @@
 
 ghost use Rattle.std.specs.Prelude.{◌≡◌, ◌+◌, ◌-◌, ◌∷◌, ◌++◌, [], IfOk, OnOk};
 
-use rl_asks::ShardCore;
+use rl_core::ShardCore;
 use rl_machine::Machine;
 use rl_ops::{Turn, Turns};
 use std::alloc::{AllocError as OutOfMemory, AllocFailed};

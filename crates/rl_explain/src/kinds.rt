@@ -1,7 +1,7 @@
 //! The lines of the files, and what is known where one of them is read.
 
-use rl_history::Naming;
 use rl_place::Place;
+use rl_report::Naming;
 use rl_word::LockName;
 
 /// A line, by what it has to be.

@@ -6,8 +6,8 @@ use crate::keeping::{Kept, KeptText};
 use crate::refusals::{
     Explained, explain_calls, explain_place, explain_report, explain_schedule, place_in,
 };
-use rl_history::Naming;
 use rl_place::Place;
+use rl_report::Naming;
 use std::alloc::Global;
 use std::io::Eprint;
 

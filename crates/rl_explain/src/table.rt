@@ -3,8 +3,8 @@ ghost use Rattle.std.specs.Prelude.{◌≤◌};
 
 use crate::kinds::{Known, LineKind};
 use crate::wanted::Wanted;
-use rl_history::QueueName;
 use rl_place::lock_word;
+use rl_report::QueueName;
 use rl_text::{Line, Why, number};
 use rl_word::LockName;
 

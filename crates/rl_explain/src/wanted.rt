@@ -1,7 +1,7 @@
 //! What is wanted at a place of a file, in words.
 
 use crate::quoting::Quoted;
-use rl_history::QueueName;
+use rl_report::QueueName;
 use std::fmt;
 
 /// What has to stand at a place of a file.

@@ -3,7 +3,7 @@ use Rattle.std.specs.Prelude.{◌≢◌, ℕ, ◌<◌, List, [], ◌∷◌, ◌�
 use Rattle.rl_ops.specs.declared.schedule.Turn.{Turn}
 use Rattle.rl_ops.specs.declared.schedule.Turn.TheVariants.{Steps, Stop}
 use Rattle.rl_ops.specs.Schedule.{rank_of, TurnFits}
-use Rattle.rl_asks.specs.ShardGuiding.{UrgentOf}
+use Rattle.rl_core.specs.ShardGuiding.{UrgentOf}
 use Rattle.rl_machine.specs.Running.{Running}
 use Rattle.rl_machine.specs.Run.{stepped, ranks_of_turns, steps_in}
 use Rattle.rl_machine.specs.GoesNext.{GoesNext}

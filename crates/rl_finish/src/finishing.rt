@@ -9,7 +9,7 @@ ghost use Rattle.rl_machine.specs.Run.{run_of, ranks_of_turns, steps_in};
 ghost use Rattle.rl_machine.specs.Running.{running, cores_of};
 ghost use Rattle.rl_finish.specs.WayOn.{IsWayOn, AreWhole, HaveOneMore};
 
-use rl_asks::ShardGuiding;
+use rl_core::ShardGuiding;
 use rl_machine::Machine;
 use rl_ops::{Turn, Turns};
 use std::alloc::{AllocError as OutOfMemory, Global};

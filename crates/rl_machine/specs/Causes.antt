@@ -2,8 +2,8 @@
 use Rattle.std.specs.Prelude.{◌≡◌, ℕ, ◌≤◌, false, length, List, slice_get, slice_index, Option, Some, None}
 use Rattle.rl_step.specs.declared.events.Stepped.{Stepped}
 use Rattle.rl_step.specs.declared.events.Stepped.TheVariants.{Busy}
-use Rattle.rl_asks.specs.Answering.{AnswersNext}
-use Rattle.rl_asks.specs.ShardLaws.{CauseOf}
+use Rattle.rl_core.specs.Answering.{AnswersNext}
+use Rattle.rl_core.specs.ShardLaws.{CauseOf}
 use Rattle.rl_machine.specs.Running.{ShardRun, Running}
 use Rattle.rl_machine.specs.Run.{calls_by, place_of, has_open_call, only_counted, block_opened}
 

@@ -4,7 +4,7 @@ use Rattle.rl_step.specs.declared.events.Event.{Event}
 use Rattle.rl_step.specs.declared.events.Event.TheVariants.{Touch}
 use Rattle.rl_step.specs.Exclusion.{writers}
 use Rattle.rl_site.specs.Site.{lock_base}
-use Rattle.rl_asks.specs.Touches.{touches_of}
+use Rattle.rl_core.specs.Touches.{touches_of}
 use Rattle.rl_machine.specs.Running.{ShardRun, Running}
 use Rattle.rl_machine.specs.ShardSteps.{events_of}
 use Rattle.rl_machine.specs.Run.{stepped}

@@ -5,7 +5,7 @@ use Rattle.rl_word.specs.declared.shapes.Knobs.{Knobs}
 use Rattle.rl_step.specs.declared.events.Event.{Event}
 use Rattle.rl_step.specs.Transitions.{Transition}
 use Rattle.rl_step.specs.Batches.{HandsOn}
-use Rattle.rl_asks.specs.ShardLaws.{FurtherOf}
+use Rattle.rl_core.specs.ShardLaws.{FurtherOf}
 
 -- each core, with the home of its shard
 abbrev pub EachCore : {C : Type 0} → (ℕ → C → Type 0) → List ℕ → List C → Type 0

@@ -2,7 +2,7 @@
 -- open; else the first rank that has a call left.
 use Rattle.std.specs.Prelude.{◌≡◌, ◌⊎◌, ℕ, ◌<◌, Bool, true, false, List, length, slice_get, Some}
 use Rattle.rl_ending.specs.Guiding.{IsChosen}
-use Rattle.rl_asks.specs.ShardGuiding.{UrgentOf}
+use Rattle.rl_core.specs.ShardGuiding.{UrgentOf}
 use Rattle.rl_machine.specs.Running.{ShardRun, Running}
 use Rattle.rl_machine.specs.Run.{place_of, has_open_call, opens, IsAllClosed}
 

@@ -4,7 +4,7 @@ use Rattle.rl_model.specs.declared.call.Call.{Call}
 use Rattle.rl_machine.specs.Running.{ShardRun, Running}
 use Rattle.rl_machine.specs.Run.{calls_by, done_of, run_of, AreThere}
 use Rattle.rl_machine.specs.Causes.{IsFinished}
-use Rattle.rl_asks.specs.ShardEnding.{LeftOf}
+use Rattle.rl_core.specs.ShardEnding.{LeftOf}
 
 -- nobody has anything to do: no call is open, none is left, and each rank's entries are those of all its calls
 abbrev pub AllDone : {V : Type 0} → Running V → Type 0

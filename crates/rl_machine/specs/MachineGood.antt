@@ -5,14 +5,14 @@ use Rattle.rl_model.specs.declared.geom.Geom.{Geom}
 use Rattle.rl_step.specs.Lock.{Deed}
 use Rattle.rl_model.specs.Geom.{GeomFits}
 use Rattle.rl_ops.specs.Ops.{total_calls}
-use Rattle.rl_asks.specs.Asks.{AreBlocks, is_update_on}
-use Rattle.rl_asks.specs.ShardLaws.{GoodOf}
-use Rattle.rl_asks.specs.ShardTables.{ShardTable}
+use Rattle.rl_core.specs.Asks.{AreBlocks, is_update_on}
+use Rattle.rl_core.specs.ShardLaws.{GoodOf}
+use Rattle.rl_core.specs.ShardTables.{ShardTable}
 use Rattle.rl_machine.specs.Running.{ShardRun, Running, TheMachine, running, cores_of}
 use Rattle.rl_machine.specs.ShardSteps.{events_of}
 use Rattle.rl_machine.specs.EventOrder.{AreTold}
 use Rattle.rl_step.specs.Answers.{steps_made}
-use Rattle.rl_asks.specs.RankGood.{RankGood}
+use Rattle.rl_core.specs.RankGood.{RankGood}
 use Rattle.rl_machine.specs.Run.{desks_by, calls_by, sizes_by, place_of}
 
 module _ (C V : Type 0) (table : C → ShardTable V) (good : GoodOf C V) where

@@ -18,17 +18,17 @@ use Rattle.rl_step.specs.Queues.{QueueOf}
 use Rattle.rl_step.specs.LockQueues.{queues_of}
 use Rattle.rl_step.specs.QueuePromises.{KeepQueues, CountTenures}
 use Rattle.rl_model.specs.declared.entry.Entry.{Entry}
-use Rattle.rl_asks.specs.ShardTables.{journal_at, kept_in}
-use Rattle.rl_asks.specs.EventRanks.{AreByRanks}
-use Rattle.rl_asks.specs.Touches.{IsGuarded}
+use Rattle.rl_core.specs.ShardTables.{journal_at, kept_in}
+use Rattle.rl_core.specs.EventRanks.{AreByRanks}
+use Rattle.rl_core.specs.Touches.{IsGuarded}
 use Rattle.rl_site.specs.Site.{lock_base}
-use Rattle.rl_asks.specs.Domains.{IsCardAtom, IsLocalAtom, UsesCards, UsesLocals}
+use Rattle.rl_core.specs.Domains.{IsCardAtom, IsLocalAtom, UsesCards, UsesLocals}
 use Rattle.rl_machine.specs.Running.{ShardRun, Running}
 use Rattle.rl_machine.specs.ShardSteps.{events_of}
 use Rattle.rl_machine.specs.Changes.{OnlyWritersChange}
 use Rattle.rl_machine.specs.EventOrder.{AreOrdered, AreBefore}
 use Rattle.rl_ops.specs.Asked.{BeginsAt}
-use Rattle.rl_asks.specs.Asks.{asked_of}
+use Rattle.rl_core.specs.Asks.{asked_of}
 use Rattle.rl_machine.specs.Run.{calls_by, sizes_by, trace_of, kept_by, done_of, run_of, AreThere, IsAllClosed, IsShut}
 
 module _ {V : Type 0} where

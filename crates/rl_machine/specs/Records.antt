@@ -2,8 +2,8 @@
 use Rattle.std.specs.Prelude.{ℕ, List, [], slice_get, Option, Some, None}
 use Rattle.rl_model.specs.declared.entry.Entry.{Entry}
 use Rattle.rl_step.specs.Do.{TheWindow}
-use Rattle.rl_asks.specs.Desks.{desk_entries}
-use Rattle.rl_asks.specs.ShardTables.{ShardTable}
+use Rattle.rl_core.specs.Desks.{desk_entries}
+use Rattle.rl_core.specs.ShardTables.{ShardTable}
 use Rattle.rl_machine.specs.Running.{ShardRun, Running}
 use Rattle.rl_machine.specs.Run.{on_shard}
 use Rattle.rl_machine.specs.Promises.{shard_journal, transcripts_on}

@@ -3,9 +3,9 @@ use Rattle.std.specs.Prelude.{◌≡◌, ℕ, ◌<◌, ◌≤◌, true, length, 
 use Rattle.rl_step.specs.declared.events.Stepped.{Stepped}
 use Rattle.rl_step.specs.declared.events.Stepped.TheVariants.{Busy}
 use Rattle.rl_step.specs.Do.{TheWindow}
-use Rattle.rl_asks.specs.declared.round.Round.{Round}
-use Rattle.rl_asks.specs.Idle.{IdleWhile, IsNamed}
-use Rattle.rl_asks.specs.Rounds.{IsRound}
+use Rattle.rl_core.specs.declared.round.Round.{Round}
+use Rattle.rl_core.specs.Idle.{IdleWhile, IsNamed}
+use Rattle.rl_core.specs.Rounds.{IsRound}
 use Rattle.rl_machine.specs.declared.step_end.StepOutcome.{StepOutcome}
 use Rattle.rl_machine.specs.declared.step_end.StepOutcome.TheVariants.{GotOn, HeldOff, Waits, Finished}
 use Rattle.rl_machine.specs.Running.{ShardRun, Running}

@@ -1,8 +1,8 @@
 -- A machine under the rules of its cores: what laws of one kind of cores rest on.
 use Rattle.std.specs.Prelude.{◌≡◌, ℕ, true, List, slice_get, Some}
 use Rattle.rl_step.specs.Lock.{Deed}
-use Rattle.rl_asks.specs.ShardTables.{ShardTable}
-use Rattle.rl_asks.specs.ShardLaws.{GoodOf}
+use Rattle.rl_core.specs.ShardTables.{ShardTable}
+use Rattle.rl_core.specs.ShardLaws.{GoodOf}
 use Rattle.rl_machine.specs.Running.{ShardRun, Running}
 use Rattle.rl_machine.specs.Run.{place_of}
 use Rattle.rl_machine.specs.MachineGood.{IsShardOf}

@@ -9,11 +9,11 @@ use Rattle.rl_step.specs.Answers.{counted, steps_made}
 use Rattle.rl_ops.specs.declared.schedule.Turn.{Turn}
 use Rattle.rl_ops.specs.declared.schedule.Turn.TheVariants as turn
 use Rattle.rl_ops.specs.Schedule.{steps_of}
-use Rattle.rl_asks.specs.Asks.{block_from, block_shard, place_after}
-use Rattle.rl_asks.specs.Desks.{Desk}
+use Rattle.rl_core.specs.Asks.{block_from, block_shard, place_after}
+use Rattle.rl_core.specs.Desks.{Desk}
 use Rattle.rl_machine.specs.Running.{ShardRun, Running}
 use Rattle.rl_machine.specs.ShardSteps.{opened_on, atom_on, answer_on, open_on, desk_on, kept_on}
-use Rattle.rl_asks.specs.RankGood.{entries_in}
+use Rattle.rl_core.specs.RankGood.{entries_in}
 
 module _ {V : Type 0} where
   -- the shard with this number, if it is there, becomes what f makes of it

@@ -10,8 +10,8 @@ use Rattle.rl_step.specs.Lock.{Deed}
 use Rattle.rl_step.specs.Transitions.{Transition}
 use Rattle.rl_step.specs.Do.{TheWindow, do_atom, do_got}
 use Rattle.rl_machine.specs.Running.{ShardRun}
-use Rattle.rl_asks.specs.ShardTables.{ShardTable, transition_by}
-use Rattle.rl_asks.specs.Desks.{Desk, desk_entries, no_desk}
+use Rattle.rl_core.specs.ShardTables.{ShardTable, transition_by}
+use Rattle.rl_core.specs.Desks.{Desk, desk_entries, no_desk}
 
 -- the events without their numbers
 abbrev pub events_of : List (ℕ × Event) → List Event

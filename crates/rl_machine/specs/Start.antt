@@ -9,7 +9,7 @@ use Rattle.rl_ops.specs.declared.ops.Ops.{Ops}
 use Rattle.rl_ops.specs.Room.{calls_on, updates_on}
 use Rattle.rl_site.specs.Site.{Site}
 use Rattle.rl_machine.specs.Running.{ShardRun, Running}
-use Rattle.rl_asks.specs.ShardTables.{ShardTable, site_with, opening_held, first_views}
+use Rattle.rl_core.specs.ShardTables.{ShardTable, site_with, opening_held, first_views}
 
 -- the site of shard s, where the ranks have these calls: each rank may make as many updates as it has calls for on the shard
 abbrev pub site_of : Geom → List (List Call) → ℕ → Site

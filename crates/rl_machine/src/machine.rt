@@ -23,7 +23,7 @@ use crate::rest::count_more;
 use crate::start::{first_shards, none_opened};
 use crate::state::{MachineState, step};
 use crate::step_end::{StepEnd, what_is_told};
-use rl_asks::{ShardCore, TellsAll};
+use rl_core::{ShardCore, TellsAll};
 use rl_model::{Entry, Geom};
 use rl_ops::Ops;
 use rl_step::{Event, Stepped, Steps, Words};

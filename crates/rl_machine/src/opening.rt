@@ -7,7 +7,7 @@ ghost use Rattle.rl_machine.specs.Start.{first_shard};
 ghost use Rattle.rl_machine.specs.State.{running_shard};
 
 use crate::shard::ShardState;
-use rl_asks::{ShardCore, first_views, first_words};
+use rl_core::{ShardCore, first_views, first_words};
 use rl_step::{Flat, Words};
 use std::alloc::{AllocError as OutOfMemory, Global};
 

@@ -7,7 +7,7 @@ ghost use Rattle.rl_machine.specs.ShardSteps.{kept_on};
 ghost use Rattle.rl_machine.specs.State.{running_shard, IsGood};
 
 use crate::shard::ShardState;
-use rl_asks::ShardCore;
+use rl_core::ShardCore;
 use rl_journal::journal_entry;
 use rl_model::Entry;
 use rl_site::{COUNT_WORD, ENTRY_WORDS, journal_base};

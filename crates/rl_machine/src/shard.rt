@@ -3,12 +3,12 @@
 ghost use Rattle.std.specs.Prelude.{◌≡◌, ◌+◌, ◌<◌, ◌≤◌, ◌++◌, List, length, slice_set, vec_len, vec_capacity, false, IfOk, OnErr};
 ghost use Rattle.rl_step.specs.declared.events.Event.{Event as TheEvent};
 ghost use Rattle.rl_step.specs.Lock.{Deed};
-ghost use Rattle.rl_asks.specs.ShardLaws.{MayOpen};
+ghost use Rattle.rl_core.specs.ShardLaws.{MayOpen};
 ghost use Rattle.rl_machine.specs.ShardSteps.{numbered, opened_on, atom_on, answer_on};
 ghost use Rattle.rl_machine.specs.State.{shard_view, running_shard, IsGood, IsGoodFlat, OfView};
 
 use arrayvec::ArrayVec;
-use rl_asks::ShardCore;
+use rl_core::ShardCore;
 use rl_model::Call;
 use rl_step::{Event, Flat, Stepped, advance_flat};
 use std::alloc::AllocError as OutOfMemory;

@@ -9,12 +9,12 @@ ghost use Rattle.rl_ops.specs.Ops.{total_calls};
 ghost use Rattle.rl_machine.specs.Cores.{EachCore, EachHandsOn};
 ghost use Rattle.rl_machine.specs.Running.{shard_run, shard_cores};
 ghost use Rattle.rl_machine.specs.Start.{first_shard, start_of};
-ghost use Rattle.rl_asks.specs.ShardTables.{site_with};
+ghost use Rattle.rl_core.specs.ShardTables.{site_with};
 ghost use Rattle.rl_machine.specs.State.{shard_view, running_shard};
 
 use crate::opening::opening;
 use crate::shard::ShardState;
-use rl_asks::ShardCore;
+use rl_core::ShardCore;
 use rl_model::Geom;
 use rl_ops::{Ops, Room};
 use rl_site::Site;

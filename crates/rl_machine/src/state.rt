@@ -3,7 +3,7 @@
 ghost use Rattle.std.specs.Prelude.{ℕ, ◌≡◌, ◌+◌, ◌<◌, ◌≤◌, ◌-◌, ◌^◌, [], true, false, length, get_or, nat_lt, slice_get, slice_index, Some, IfOk, IfSome, OnErr};
 ghost use Rattle.rl_model.specs.Geom.{GeomFits};
 ghost use Rattle.rl_step.specs.Answers.{steps_made};
-ghost use Rattle.rl_asks.specs.Asks.{place_after, block_from};
+ghost use Rattle.rl_core.specs.Asks.{place_after, block_from};
 ghost use Rattle.rl_machine.specs.Run.{done_of, place_of, has_open_call, opens, atom_made, atom_answer, stepped, answer_of_step};
 ghost use Rattle.rl_machine.specs.Running.{running, cores_of};
 ghost use Rattle.rl_machine.specs.MachineGood.{IsMachine};
@@ -11,7 +11,7 @@ ghost use Rattle.rl_machine.specs.State.{running_shard, machine_view, IsGood};
 
 use crate::records::transcript_of;
 use crate::shard::{ShardState, atom_at, block_at};
-use rl_asks::{ShardCore, TellsAll, block_from, block_shard};
+use rl_core::{ShardCore, TellsAll, block_from, block_shard};
 use rl_model::{Call, Geom};
 use rl_ops::Ops;
 use rl_step::{Stepped, Steps};

@@ -4,8 +4,8 @@ use Rattle.std.proofs.lemmas.Grind.{flat_map-append}
 use Rattle.rl_step.specs.declared.events.Event.{Event}
 use Rattle.rl_step.specs.declared.events.Stepped.{Stepped}
 use Rattle.rl_place.specs.Places.{ThePlace}
-use Rattle.rl_history.specs.Naming.{TheNaming}
-use Rattle.rl_history.specs.Printing.{spaced}
+use Rattle.rl_report.specs.Naming.{TheNaming}
+use Rattle.rl_report.specs.Printing.{spaced}
 use Rattle.rl_machine.specs.NextAtoms.{next_by}
 use Rattle.rl_machine.specs.Running.{Running}
 use Rattle.rl_machine.specs.Run.{block_opened, place_of, trace_of, stepped, answer_of_step}

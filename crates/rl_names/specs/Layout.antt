@@ -6,7 +6,7 @@ use Rattle.rl_volume.specs.Words.{state_word, key_word, value_word, link_word, c
 use Rattle.rl_site.specs.Site.{count_word, volume_base, journal_base}
 use Rattle.rl_place.specs.LockWords.{name_of}
 use Rattle.rl_place.specs.Places.{ThePlace}
-use Rattle.rl_history.specs.Naming.{TheNaming}
+use Rattle.rl_report.specs.Naming.{TheNaming}
 use Rattle.rl_names.specs.declared.word_map.WordMap.{WordMap}
 use Rattle.rl_names.specs.declared.word_name.WordName.{WordName}
 use Rattle.rl_names.specs.declared.word_name.WordName.TheVariants as word

@@ -4,7 +4,7 @@ use Rattle.rl_word.specs.declared.acts.Atom.{Atom}
 use Rattle.rl_word.specs.declared.acts.Atom.TheVariants as atom
 use Rattle.rl_step.specs.declared.events.Stepped.{Stepped}
 use Rattle.rl_step.specs.declared.events.Stepped.TheVariants as answer
-use Rattle.rl_history.specs.Naming.{TheNaming, queue_word}
+use Rattle.rl_report.specs.Naming.{TheNaming, queue_word}
 use Rattle.rl_names.specs.declared.word_map.WordMap.{WordMap}
 use Rattle.rl_names.specs.declared.word_name.WordName.{WordName}
 use Rattle.rl_names.specs.declared.word_name.WordName.TheVariants as word

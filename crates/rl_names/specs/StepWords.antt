@@ -2,8 +2,8 @@
 use Rattle.std.specs.Prelude.{ℕ, List, [], ◌∷◌, ◌++◌, drop, filter, flat_map, length, ◌==◌, codes, decimal, Option, Some, None, if◌then◌else◌}
 use Rattle.rl_step.specs.declared.events.Event.{Event}
 use Rattle.rl_place.specs.Places.{ThePlace}
-use Rattle.rl_history.specs.Naming.{TheNaming}
-use Rattle.rl_history.specs.Spelling.{event_words, is_printed}
+use Rattle.rl_report.specs.Naming.{TheNaming}
+use Rattle.rl_report.specs.Spelling.{event_words, is_printed}
 use Rattle.rl_machine.specs.declared.machine.next_atoms.NextAtom.{NextAtom}
 use Rattle.rl_machine.specs.NextAtoms.{next_by, behind_journal}
 use Rattle.rl_machine.specs.Running.{Running}

@@ -2,13 +2,13 @@
 
 ghost use Rattle.std.specs.Prelude.{◌≡◌, ◌++◌, ◌∷◌, [], codes, decimal, OnOk};
 ghost use Rattle.rl_model.specs.Geom.{GeomFits};
-ghost use Rattle.rl_history.specs.Naming.{queue_word};
-ghost use Rattle.rl_history.specs.Printing.{spaced};
+ghost use Rattle.rl_report.specs.Naming.{queue_word};
+ghost use Rattle.rl_report.specs.Printing.{spaced};
 ghost use Rattle.rl_names.specs.Spelling.{post_part, name_words, word_words, found_words, atom_words, answer_words};
 
 use crate::word_map::WordMap;
 use crate::word_name::WordName;
-use rl_history::{Naming, put_value, put_word};
+use rl_report::{Naming, put_value, put_word};
 use rl_step::Stepped;
 use rl_word::Atom;
 use std::alloc::AllocError as OutOfMemory;

@@ -3,7 +3,7 @@
 ghost use Rattle.std.specs.Prelude.{ℕ, ◌≡◌, ◌+◌, ◌-◌, ◌<◌, ◌^◌, ◌++◌, drop, length, IfOk, OnOk};
 ghost use Rattle.rl_model.specs.Geom.{GeomFits};
 ghost use Rattle.rl_step.specs.Answers.{steps_made};
-ghost use Rattle.rl_history.specs.Printing.{spaced};
+ghost use Rattle.rl_report.specs.Printing.{spaced};
 ghost use Rattle.rl_machine.specs.Running.{running};
 ghost use Rattle.rl_machine.specs.Run.{place_of, stepped, answer_of_step};
 ghost use Rattle.rl_machine.specs.NextAtoms.{next_by};
@@ -11,10 +11,10 @@ ghost use Rattle.rl_names.specs.StepWords.{shard_words, told_words, events_words
 
 use crate::printing::{put_answer, put_atom};
 use crate::word_map::WordMap;
-use rl_asks::ShardCore;
-use rl_history::{Naming, is_printed, put_event, put_value, put_word};
+use rl_core::ShardCore;
 use rl_machine::Machine;
 use rl_place::Place;
+use rl_report::{Naming, is_printed, put_event, put_value, put_word};
 use rl_step::{Event, Stepped};
 use std::alloc::AllocError as OutOfMemory;
 

@@ -7,9 +7,9 @@ ghost use Rattle.rl_names.specs.Layout.{map_of, of_elements, before_ranks, ranks
 ghost use Rattle.rl_names.specs.Names as names;
 
 use crate::word_name::WordName;
-use rl_history::Naming;
 use rl_model::Geom;
 use rl_place::Place;
+use rl_report::Naming;
 use rl_site::{COUNT_WORD, ENTRY_WORDS, VOLUME_BASE, journal_base};
 use rl_word::LockName;
 

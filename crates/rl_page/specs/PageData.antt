@@ -10,11 +10,11 @@ use Rattle.rl_ops.specs.declared.schedule.Turn.{Turn}
 use Rattle.rl_ops.specs.declared.schedule.Turn.TheVariants as turn
 use Rattle.rl_ops.specs.Ops.{ops_spelling}
 use Rattle.rl_ops.specs.Schedule.{steps_of}
-use Rattle.rl_history.specs.Naming.{naming_of}
-use Rattle.rl_history.specs.Spelling.{report_spelling}
-use Rattle.rl_cores.specs.Kinds.{lock_kind_of}
+use Rattle.rl_report.specs.Naming.{naming_of}
+use Rattle.rl_report.specs.Spelling.{report_spelling}
+use Rattle.rl_locks.specs.Kinds.{lock_kind_of}
 use Rattle.rl_program.specs.Replay.{report_of_replay}
-use Rattle.rl_replay.specs.declared.replay.Replay.{Replay}
+use Rattle.rl_inputs.specs.declared.replay.Replay.{Replay}
 use Rattle.rl_viewer.specs.declared.asking.Window.{Window}
 use Rattle.rl_viewer.specs.Asking.{window_at}
 use Rattle.rl_shown.specs.State.{state_with}

@@ -5,8 +5,8 @@ ghost use Rattle.rl_text.specs.Spelling.{line_text, text_of};
 ghost use Rattle.rl_ops.specs.Schedule.{steps_of};
 ghost use Rattle.rl_page.specs.PageData.{shown_of, count_of, window_line, stop_line, stop_lines, own_lines};
 
-use rl_history::{put_value, put_word};
 use rl_ops::Turn;
+use rl_report::{put_value, put_word};
 use rl_shown::total_steps;
 use rl_viewer::Window;
 use std::alloc::{AllocError as OutOfMemory, Global};

@@ -4,21 +4,21 @@ ghost use Rattle.std.specs.Prelude.{◌≡◌, ◌≤◌, ◌++◌, length, IfOk
 ghost use Rattle.rl_place.specs.Places.{IsProper};
 ghost use Rattle.rl_ops.specs.Ops.{OpsFit};
 ghost use Rattle.rl_ops.specs.Schedule.{ScheduleFits};
-ghost use Rattle.rl_replay.specs.Reading.{SuitsLock};
-ghost use Rattle.rl_history.specs.Naming.{naming_of};
-ghost use Rattle.rl_history.specs.Spelling.{report_spelling};
-ghost use Rattle.rl_cores.specs.Kinds.{lock_kind_of};
+ghost use Rattle.rl_inputs.specs.Reading.{SuitsLock};
+ghost use Rattle.rl_report.specs.Naming.{naming_of};
+ghost use Rattle.rl_report.specs.Spelling.{report_spelling};
+ghost use Rattle.rl_locks.specs.Kinds.{lock_kind_of};
 ghost use Rattle.rl_program.specs.Replay.{report_of_replay};
 ghost use Rattle.rl_shown.specs.State.{state_with};
 ghost use Rattle.rl_shown.specs.Listing.{listing_with};
 ghost use Rattle.rl_page.specs.PageData.{files_text, replay_text, page_data, IsPageData};
 
 use crate::own_lines::{own_lines, shown_of};
-use rl_history::report_text;
+use rl_inputs::Replay;
 use rl_ops::{Ops, Schedule, ops_text};
 use rl_place::{Place, place_text, shape_text};
 use rl_program::replay_report;
-use rl_replay::Replay;
+use rl_report::report_text;
 use rl_shown::{copied, listing_text, state_text};
 use rl_viewer::{Viewer, Window};
 use std::alloc::{AllocError as OutOfMemory, Global};

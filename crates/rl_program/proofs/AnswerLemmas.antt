@@ -1,12 +1,12 @@
 -- The answers to what isn't a replay: to words that are no form, to `make` and to `show`.
 use Rattle.std.proofs.Common.{◌≡◌, ℕ, List, [], Option, Some, None, Result, Ok, Err, IfOk, Vec, Global, ap, sym, subst, ◌∙◌}
-use Rattle.rl_replay.specs.declared.complaint.Complaint.{Complaint}
+use Rattle.rl_inputs.specs.declared.complaint.Complaint.{Complaint}
 use Rattle.rl_program.specs.declared.complaint.Quit.{Quit}
-use Rattle.rl_replay.specs.declared.complaint.Stop.{Stop}
-use Rattle.rl_replay.specs.declared.complaint.Stop.TheVariants.{Refused}
+use Rattle.rl_inputs.specs.declared.complaint.Stop.{Stop}
+use Rattle.rl_inputs.specs.declared.complaint.Stop.TheVariants.{Refused}
 use Rattle.rl_program.specs.Command.{Asked, Make, Show, usage_text}
-use Rattle.rl_replay.specs.Files.{Texts, refused_line}
-use Rattle.rl_replay.specs.Reading.{WasRead}
+use Rattle.rl_inputs.specs.Files.{Texts, refused_line}
+use Rattle.rl_inputs.specs.Reading.{WasRead}
 use Rattle.rl_program.specs.Summary.{made_summary}
 use Rattle.rl_program.specs.Answer.{shown, TheAnswer, Gives, WasAnswered, answer_to}
 

@@ -5,14 +5,14 @@ use Rattle.std.proofs.lemmas.List.{length-replicate}
 use Rattle.rl_io.specs.Outside.{IsLonger}
 use Rattle.rl_place.specs.Places.{ThePlace}
 use Rattle.rl_ops.specs.declared.ops.Ops.{Ops}
-use Rattle.rl_history.specs.Reports.{TheReport}
-use Rattle.rl_replay.specs.declared.complaint.Stop.{Stop}
-use Rattle.rl_replay.specs.declared.complaint.Stop.TheVariants as stop
-use Rattle.rl_replay.specs.declared.complaint.Trouble.{Trouble}
-use Rattle.rl_replay.specs.declared.complaint.Trouble.TheVariants.{TooLong}
-use Rattle.rl_replay.specs.Reading.{Fits, WasRead, placed, called}
-use Rattle.rl_replay.specs.Reading as reading
-use Rattle.rl_replay.proofs.ReadLemmas.{fits_told}
+use Rattle.rl_report.specs.Reports.{TheReport}
+use Rattle.rl_inputs.specs.declared.complaint.Stop.{Stop}
+use Rattle.rl_inputs.specs.declared.complaint.Stop.TheVariants as stop
+use Rattle.rl_inputs.specs.declared.complaint.Trouble.{Trouble}
+use Rattle.rl_inputs.specs.declared.complaint.Trouble.TheVariants.{TooLong}
+use Rattle.rl_inputs.specs.Reading.{Fits, WasRead, placed, called}
+use Rattle.rl_inputs.specs.Reading as reading
+use Rattle.rl_inputs.proofs.ReadLemmas.{fits_told}
 use Rattle.rl_program.specs.declared.checking.Files.{Files}
 use Rattle.rl_program.specs.declared.checking.Files.TheVariants.{Spelled, Refused as Unread}
 use Rattle.rl_program.specs.declared.complaint.Quit.{Quit}

@@ -14,16 +14,16 @@ use Rattle.rl_journal.specs.laws.HistoryCounts.{same_entries}
 use Rattle.rl_step.specs.declared.events.Event.{Event}
 use Rattle.rl_step.specs.declared.events.Event.TheVariants.{Join, Announce, Pass, Settle, Touch, EnterW, EnterR, LeaveW, LeaveR}
 use Rattle.rl_step.specs.declared.tallies.Steps.{Steps}
-use Rattle.rl_history.specs.Spelling.{is_printed}
-use Rattle.rl_asks.specs.Desks.{desk_entries}
-use Rattle.rl_asks.specs.ShardTables.{ShardTable, kept_in}
+use Rattle.rl_report.specs.Spelling.{is_printed}
+use Rattle.rl_core.specs.Desks.{desk_entries}
+use Rattle.rl_core.specs.ShardTables.{ShardTable, kept_in}
 use Rattle.rl_machine.specs.Running.{ShardRun, Running}
 use Rattle.rl_machine.specs.ShardSteps.{desk_at, kept_on}
-use Rattle.rl_asks.specs.RankGood.{entries_in}
+use Rattle.rl_core.specs.RankGood.{entries_in}
 use Rattle.rl_machine.specs.Run.{on_shard, kept_by, trace_of}
 use Rattle.rl_machine.specs.Records.{journal_at, transcripts_at}
 use Rattle.rl_machine.specs.laws.RecordLaws.{kept_long}
-use Rattle.rl_asks.specs.laws.AskLaws.{few_calls}
+use Rattle.rl_core.specs.laws.AskLaws.{few_calls}
 use Rattle.rl_machine.specs.Promises.{shard_journal, transcripts_on, history_on, IsSound}
 use Rattle.rl_program.specs.declared.counts.ShardCounts.{ShardCounts}
 use Rattle.rl_program.specs.Replay.{part_of_replay, dones_from, report_in}

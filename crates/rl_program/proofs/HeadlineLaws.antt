@@ -3,19 +3,19 @@ use Rattle.std.proofs.Common.{lit≤, inl, inr, ◌≡◌, ◌<◌, ◌≤◌, �
 use Rattle.rl_place.specs.Places.{ThePlace}
 use Rattle.rl_ops.specs.declared.ops.Ops.{Ops}
 use Rattle.rl_ops.specs.declared.schedule.Schedule.{Schedule}
-use Rattle.rl_history.specs.Naming.{naming_of}
-use Rattle.rl_history.specs.Spelling.{report_spelling}
-use Rattle.rl_history.specs.Reading.{report_at}
+use Rattle.rl_report.specs.Naming.{naming_of}
+use Rattle.rl_report.specs.Spelling.{report_spelling}
+use Rattle.rl_report.specs.Reading.{report_at}
 use Rattle.rl_check.specs.LawfulReplays.{IsLawfulReplay}
 use Rattle.rl_check.specs.Legal.{IsLegalReport}
 use Rattle.rl_io.specs.Outside.{Appends}
-use Rattle.rl_replay.specs.declared.complaint.Complaint.{Complaint}
-use Rattle.rl_replay.specs.declared.complaint.Which.{Which}
+use Rattle.rl_inputs.specs.declared.complaint.Complaint.{Complaint}
+use Rattle.rl_inputs.specs.declared.complaint.Which.{Which}
 use Rattle.rl_program.specs.Command.{Asked, Replay, Make, Show}
 use Rattle.rl_program.specs.Replay.{report_of_replay}
-use Rattle.rl_replay.specs.Files.{Texts, name_of}
+use Rattle.rl_inputs.specs.Files.{Texts, name_of}
 use Rattle.rl_program.specs.Headline.{KeepsPromises, IsReplay}
-use Rattle.rl_replay.specs.Reading.{placed, called, scheduled}
+use Rattle.rl_inputs.specs.Reading.{placed, called, scheduled}
 use Rattle.rl_program.specs.Answer.{shown, TheAnswer, replayed, answer_to, answer_in, KeepsItsPromises, WasAnswered, IsDone}
 use Rattle.rl_program.proofs.SpelledLaws.{PlaceRead, place_read, calls_read, schedule_read}
 

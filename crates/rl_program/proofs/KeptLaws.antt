@@ -9,7 +9,7 @@ use Rattle.rl_journal.specs.Legal.{IsLegal}
 use Rattle.rl_journal.specs.History.{IsReplayedByOneThread}
 use Rattle.rl_journal.specs.Ranks.{IsRankInOrder}
 use Rattle.rl_step.specs.LockQueues.{lock_under}
-use Rattle.rl_history.proofs.QueueLaws.{under_queues}
+use Rattle.rl_report.proofs.QueueLaws.{under_queues}
 use Rattle.rl_place.specs.LockWords.{name_of}
 use Rattle.rl_place.specs.Places.{ThePlace}
 use Rattle.rl_place.specs.Shapes.{shape_of, knobs_of}
@@ -18,16 +18,16 @@ use Rattle.rl_ops.specs.declared.schedule.Schedule.{Schedule}
 use Rattle.rl_ops.specs.declared.schedule.Turn.{Turn}
 use Rattle.std.specs.FinMap as finite
 use Rattle.rl_site.specs.Site.{Site}
-use Rattle.rl_asks.specs.ShardTables.{ShardTable}
+use Rattle.rl_core.specs.ShardTables.{ShardTable}
 use Rattle.rl_machine.specs.Running.{Running}
-use Rattle.rl_asks.specs.Asks.{asked_of}
+use Rattle.rl_core.specs.Asks.{asked_of}
 use Rattle.rl_machine.specs.Start.{start_of}
 use Rattle.rl_machine.specs.laws.StartLaws.{shards_length}
 use Rattle.rl_machine.specs.Run.{calls_by, run_of, ranks_of_turns, done_of, kept_by}
 use Rattle.rl_machine.specs.RunTransitions.{EachSays}
 use Rattle.rl_machine.specs.Promises.{shard_journal, transcripts_on, history_on, IsSound, KeepsQueues, EachKeepsQueues}
-use Rattle.rl_cores.specs.Kinds.{Defined, Promised}
-use Rattle.rl_cores.specs.OnShards.{OfShard, EachShard}
+use Rattle.rl_locks.specs.Kinds.{Defined, Promised}
+use Rattle.rl_locks.specs.OnShards.{OfShard, EachShard}
 use Rattle.rl_program.specs.Replay.{start_with, run_with}
 use Rattle.rl_program.specs.Headline.{IsKept}
 use Rattle.rl_program.proofs.RunLaws.{table_in, IsAlike, run_alike}

@@ -18,8 +18,8 @@ use Rattle.rl_ops.specs.declared.schedule.Turn.{Turn}
 use Rattle.rl_ops.specs.declared.schedule.Turn.TheVariants as turn
 use Rattle.rl_ops.specs.Schedule.{ScheduleFits, steps_of}
 use Rattle.rl_site.specs.Site.{Site}
-use Rattle.rl_asks.specs.ShardTables.{ShardTable}
-use Rattle.rl_history.proofs.QueueLaws.{under_queues}
+use Rattle.rl_core.specs.ShardTables.{ShardTable}
+use Rattle.rl_report.proofs.QueueLaws.{under_queues}
 use Rattle.rl_machine.specs.Running.{ShardRun, Running}
 use Rattle.rl_machine.specs.Run.{stepped, run_of, ranks_of_turns, turn_ranks, steps_in}
 use Rattle.rl_machine.specs.Start.{site_of, start_of}

@@ -17,9 +17,9 @@ use Rattle.rl_text.specs.Spelling.{text_of}
 use Rattle.rl_site.specs.Site.{Site}
 use Rattle.rl_machine.specs.Running.{ShardRun, Running}
 use Rattle.rl_machine.specs.Start.{site_of, start_of}
-use Rattle.rl_asks.specs.laws.Filling.{first_length}
+use Rattle.rl_core.specs.laws.Filling.{first_length}
 use Rattle.rl_machine.specs.laws.StartLaws.{shard_first, shards_length}
-use Rattle.rl_cores.specs.Kinds.{Defined, alock}
+use Rattle.rl_locks.specs.Kinds.{Defined, alock}
 use Rattle.rl_program.specs.Replay.{start_with, queue_count, report_in}
 use Rattle.rl_program.specs.Generate.{made_place, made_ops}
 use Rattle.rl_program.specs.Laps.{all_laps}

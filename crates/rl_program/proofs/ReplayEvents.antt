@@ -12,13 +12,13 @@ use Rattle.rl_step.specs.laws.QueueLemmas.{is_within, within_from}
 use Rattle.rl_step.specs.QueuePromises.{KeepBudgets}
 use Rattle.rl_ops.specs.declared.schedule.TheConstants.{MOST_STEPS}
 use Rattle.rl_place.specs.Places.{ThePlace, IsProper}
-use Rattle.rl_asks.specs.EventRanks.{IsByRank, AreByRanks}
-use Rattle.rl_history.specs.Naming.{EventFits, naming_of}
-use Rattle.rl_history.specs.Reports.{EachAfter, StepFits, step_of}
-use Rattle.rl_history.specs.Spelling.{is_printed}
-use Rattle.rl_history.specs.Tallies.{tallies_from, trace_of_report}
-use Rattle.rl_history.specs.Lawful.{queues_at}
-use Rattle.rl_history.proofs.MemberLaws.{member_named}
+use Rattle.rl_core.specs.EventRanks.{IsByRank, AreByRanks}
+use Rattle.rl_report.specs.Naming.{EventFits, naming_of}
+use Rattle.rl_report.specs.Reports.{EachAfter, StepFits, step_of}
+use Rattle.rl_report.specs.Spelling.{is_printed}
+use Rattle.rl_report.specs.Tallies.{tallies_from, trace_of_report}
+use Rattle.rl_report.specs.Lawful.{queues_at}
+use Rattle.rl_report.proofs.MemberLaws.{member_named}
 use Rattle.rl_machine.specs.EventOrder.{AreOrdered, AreBefore}
 use Rattle.rl_check.specs.Shards.{KeepsRules}
 use Rattle.rl_program.specs.Replay.{AreCohortsOf}

@@ -4,20 +4,20 @@ use Rattle.std.proofs.lemmas.Result.{err_from_is_err_and}
 use Rattle.rl_place.specs.Places.{ThePlace}
 use Rattle.rl_ops.specs.declared.ops.Ops.{Ops}
 use Rattle.rl_ops.specs.declared.schedule.Schedule.{Schedule}
-use Rattle.rl_history.specs.Naming.{naming_of}
-use Rattle.rl_history.specs.Spelling.{report_spelling}
-use Rattle.rl_history.specs.Reading.{report_at}
+use Rattle.rl_report.specs.Naming.{naming_of}
+use Rattle.rl_report.specs.Spelling.{report_spelling}
+use Rattle.rl_report.specs.Reading.{report_at}
 use Rattle.rl_check.specs.LawfulReplays.{IsLawfulReplay}
 use Rattle.rl_check.specs.Legal.{IsLegalReport}
 use Rattle.rl_program.specs.Replay.{report_of_replay}
 use Rattle.rl_program.specs.Headline.{IsReplay, KeepsPromises}
-use Rattle.rl_replay.specs.declared.complaint.Complaint.{Complaint}
-use Rattle.rl_replay.specs.declared.complaint.Stop.{Stop}
-use Rattle.rl_replay.specs.declared.complaint.Stop.TheVariants as stop
-use Rattle.rl_replay.specs.Files.{Names}
-use Rattle.rl_replay.specs.Reading.{◌>>=◌, Fits, EndsEarly, Ends, WasRead, placed, called, scheduled}
+use Rattle.rl_inputs.specs.declared.complaint.Complaint.{Complaint}
+use Rattle.rl_inputs.specs.declared.complaint.Stop.{Stop}
+use Rattle.rl_inputs.specs.declared.complaint.Stop.TheVariants as stop
+use Rattle.rl_inputs.specs.Files.{Names}
+use Rattle.rl_inputs.specs.Reading.{◌>>=◌, Fits, EndsEarly, Ends, WasRead, placed, called, scheduled}
 use Rattle.rl_program.specs.Answer.{WasReplayed, replayed}
-use Rattle.rl_replay.proofs.ReadLemmas.{fits_told}
+use Rattle.rl_inputs.proofs.ReadLemmas.{fits_told}
 use Rattle.rl_program.proofs.HeadlineLaws.{is_replay}
 
 -- a step that ends early ends all that follows

@@ -18,16 +18,16 @@ use Rattle.rl_place.specs.Places.{ThePlace, IsProper}
 use Rattle.rl_ops.specs.declared.ops.Ops.{Ops}
 use Rattle.rl_ops.specs.Asked.{BeginsAt}
 use Rattle.rl_ops.specs.Ops.{OpsFit}
-use Rattle.rl_asks.specs.EventRanks.{AreByRanks}
-use Rattle.rl_asks.specs.Asks.{asked_of}
-use Rattle.rl_asks.specs.Desks.{desk_entries}
-use Rattle.rl_asks.specs.RankGood.{entries_in}
-use Rattle.rl_asks.specs.ShardTables.{ShardTable, kept_in}
-use Rattle.rl_history.specs.declared.report.Done.{Done}
-use Rattle.rl_history.specs.Naming.{naming_of}
-use Rattle.rl_history.specs.Reports.{TheShard, TheReport, EntryFits, TallyFits, ShardFits, ShardsFit, DoneFits, ReportFits}
-use Rattle.rl_history.specs.Tallies.{tallies_from, trace_of_report}
-use Rattle.rl_history.specs.Lawful.{journal_among, transcript_in, transcripts_in, queues_at}
+use Rattle.rl_core.specs.EventRanks.{AreByRanks}
+use Rattle.rl_core.specs.Asks.{asked_of}
+use Rattle.rl_core.specs.Desks.{desk_entries}
+use Rattle.rl_core.specs.RankGood.{entries_in}
+use Rattle.rl_core.specs.ShardTables.{ShardTable, kept_in}
+use Rattle.rl_report.specs.declared.report.Done.{Done}
+use Rattle.rl_report.specs.Naming.{naming_of}
+use Rattle.rl_report.specs.Reports.{TheShard, TheReport, EntryFits, TallyFits, ShardFits, ShardsFit, DoneFits, ReportFits}
+use Rattle.rl_report.specs.Tallies.{tallies_from, trace_of_report}
+use Rattle.rl_report.specs.Lawful.{journal_among, transcript_in, transcripts_in, queues_at}
 use Rattle.rl_machine.specs.Running.{ShardRun, Running}
 use Rattle.rl_machine.specs.ShardSteps.{events_of, desk_at, kept_on}
 use Rattle.rl_machine.specs.laws.RecordLaws.{kept_long}

@@ -6,7 +6,7 @@ use Rattle.rl_word.specs.declared.acts.Atom.{Atom}
 use Rattle.rl_model.specs.declared.call.Call.{Call}
 use Rattle.rl_ops.specs.declared.schedule.Turn.{Turn}
 use Rattle.rl_ops.specs.Schedule.{steps_of}
-use Rattle.rl_asks.specs.ShardTables.{ShardTable}
+use Rattle.rl_core.specs.ShardTables.{ShardTable}
 use Rattle.rl_machine.specs.Running.{ShardRun, Running}
 use Rattle.rl_step.specs.Do.{do_got}
 use Rattle.rl_machine.specs.ShardSteps.{opened_at, makes, made_at}

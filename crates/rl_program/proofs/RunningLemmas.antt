@@ -9,22 +9,22 @@ use Rattle.rl_journal.specs.laws.HistoryLaws.{replayed}
 use Rattle.rl_place.specs.Places.{ThePlace, IsProper}
 use Rattle.rl_ops.specs.declared.ops.Ops.{Ops}
 use Rattle.rl_ops.specs.Ops.{OpsFit}
-use Rattle.rl_history.specs.Naming.{naming_of}
-use Rattle.rl_history.specs.Reports.{TheShard, TheReport}
-use Rattle.rl_history.specs.Spelling.{report_spelling}
-use Rattle.rl_history.specs.Reading.{report_at}
-use Rattle.rl_history.specs.Lawful.{IsLawful, journal_among, transcripts_in}
+use Rattle.rl_report.specs.Naming.{naming_of}
+use Rattle.rl_report.specs.Reports.{TheShard, TheReport}
+use Rattle.rl_report.specs.Spelling.{report_spelling}
+use Rattle.rl_report.specs.Reading.{report_at}
+use Rattle.rl_report.specs.Lawful.{IsLawful, journal_among, transcripts_in}
 use Rattle.rl_run.specs.Made.{IsRunBy}
-use Rattle.rl_cores.specs.Kinds.{lock_kind_of}
+use Rattle.rl_locks.specs.Kinds.{lock_kind_of}
 use Rattle.rl_check.specs.Legal.{LegalIsLawful}
-use Rattle.rl_replay.specs.declared.complaint.Stop.{Stop}
-use Rattle.rl_replay.specs.declared.complaint.Stop.TheVariants as stop
+use Rattle.rl_inputs.specs.declared.complaint.Stop.{Stop}
+use Rattle.rl_inputs.specs.declared.complaint.Stop.TheVariants as stop
 use Rattle.rl_program.specs.Command.{RunNames}
-use Rattle.rl_replay.specs.Files.{Texts}
+use Rattle.rl_inputs.specs.Files.{Texts}
 use Rattle.rl_program.specs.RunHeadline.{IsRun}
-use Rattle.rl_replay.specs.Reading.{WasRead, placed, called}
+use Rattle.rl_inputs.specs.Reading.{WasRead, placed, called}
 use Rattle.rl_program.specs.RunAnswer.{run_read, WasRun}
-use Rattle.rl_replay.proofs.ReadLemmas.{fits_told}
+use Rattle.rl_inputs.proofs.ReadLemmas.{fits_told}
 use Rattle.rl_program.proofs.ReplayLemmas.{stops_at}
 use Rattle.rl_program.proofs.SpelledLaws.{PlaceRead, place_read, calls_read}
 

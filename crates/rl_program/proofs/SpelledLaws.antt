@@ -15,10 +15,10 @@ use Rattle.rl_ops.specs.Schedule.{ScheduleFits, schedule_spelling}
 use Rattle.rl_ops.specs.ScheduleReading.{schedule_at}
 use Rattle.rl_ops.proofs.OpsLaws.{ops-takes}
 use Rattle.rl_ops.proofs.ScheduleLaws.{schedule-takes}
-use Rattle.rl_replay.specs.declared.complaint.Which.{Which}
-use Rattle.rl_replay.specs.declared.complaint.Which.TheVariants as which
-use Rattle.rl_replay.specs.declared.complaint.Complaint.{Complaint}
-use Rattle.rl_replay.specs.Reading.{◌>>=◌, within, refused_in, as_done, placed, called, scheduled}
+use Rattle.rl_inputs.specs.declared.complaint.Which.{Which}
+use Rattle.rl_inputs.specs.declared.complaint.Which.TheVariants as which
+use Rattle.rl_inputs.specs.declared.complaint.Complaint.{Complaint}
+use Rattle.rl_inputs.specs.Reading.{◌>>=◌, within, refused_in, as_done, placed, called, scheduled}
 
 -- what follows a step that went well
 pub step_ok : {A B : Type 0} (r : Result A Complaint) (f : A → Result B Complaint) (y : B) → (r >>= f) ≡ Ok y → (x : A) × (r ≡ Ok x) × (f x ≡ Ok y)

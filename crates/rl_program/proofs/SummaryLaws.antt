@@ -3,7 +3,7 @@ use Rattle.std.proofs.Common.{◌≡◌, ℕ, List, [], ◌∷◌, ◌++◌, cod
 use Rattle.std.proofs.lemmas.Grind.{flat_map-append}
 use Rattle.rl_text.specs.Spelling.{line_text, text_of}
 use Rattle.rl_step.specs.declared.tallies.Steps.{Steps}
-use Rattle.rl_history.specs.Spelling.{steps_lines}
+use Rattle.rl_report.specs.Spelling.{steps_lines}
 use Rattle.rl_program.specs.declared.counts.ShardCounts.{ShardCounts}
 use Rattle.rl_program.specs.Summary.{TheCounts, shard_lines, sizes_words, done_words, summary_lines}
 

@@ -1,20 +1,20 @@
 -- What the program answers to the words of its command line, for the bytes of the files that they name.
 use Rattle.std.specs.Prelude.{◌≡◌, ◌≢◌, ◌≤◌, ◌<◌, ◌⊎◌, ℕ, List, take, length, Bool, IsTrue, Option, Some, None, Result, Ok, Err, IfOk}
 use Rattle.rl_place.specs.ShapeText.{shape_spelling}
-use Rattle.rl_history.specs.Naming.{naming_of}
-use Rattle.rl_history.specs.Spelling.{report_spelling}
+use Rattle.rl_report.specs.Naming.{naming_of}
+use Rattle.rl_report.specs.Spelling.{report_spelling}
 use Rattle.rl_program.specs.Replay.{report_of_replay}
-use Rattle.rl_replay.specs.Files.{Names, Texts, name_of, refused_line}
+use Rattle.rl_inputs.specs.Files.{Names, Texts, name_of, refused_line}
 use Rattle.rl_program.specs.Headline.{IsReplay}
 use Rattle.std.specs.Global.{Vec}
 use Rattle.rl_io.specs.Outside.{Appends, GoesOn}
-use Rattle.rl_replay.specs.declared.complaint.Which.{Which}
-use Rattle.rl_replay.specs.declared.complaint.Complaint.{Complaint}
-use Rattle.rl_replay.specs.declared.complaint.Stop.{Stop}
+use Rattle.rl_inputs.specs.declared.complaint.Which.{Which}
+use Rattle.rl_inputs.specs.declared.complaint.Complaint.{Complaint}
+use Rattle.rl_inputs.specs.declared.complaint.Stop.{Stop}
 use Rattle.rl_program.specs.declared.complaint.Quit.{Quit}
 use Rattle.rl_program.specs.declared.complaint.Quit.TheVariants as quit
 use Rattle.rl_program.specs.Command.{Asked, Replay, Make, Show, form_of, usage_text}
-use Rattle.rl_replay.specs.Reading.{◌>>=◌, placed, called, scheduled, Fits, Ends}
+use Rattle.rl_inputs.specs.Reading.{◌>>=◌, placed, called, scheduled, Fits, Ends}
 use Rattle.rl_program.specs.Summary.{made_summary}
 
 -- a status, and the bytes that belong to it

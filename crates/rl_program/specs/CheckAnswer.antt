@@ -6,15 +6,15 @@ use Rattle.rl_text.specs.Spelling.{line_text}
 use Rattle.rl_text.specs.declared.causes.Refusal.{Refusal}
 use Rattle.rl_place.specs.Places.{ThePlace, IsProper}
 use Rattle.rl_ops.specs.Ops.{OpsFit}
-use Rattle.rl_history.specs.Naming.{naming_of}
-use Rattle.rl_history.specs.Reports.{TheReport, ReportFits}
-use Rattle.rl_history.specs.Reading.{report_at}
-use Rattle.rl_replay.specs.declared.complaint.Trouble.{Trouble}
-use Rattle.rl_replay.specs.declared.complaint.Trouble.TheVariants.{TooLong, Refused}
-use Rattle.rl_replay.specs.declared.complaint.Stop.{Stop}
-use Rattle.rl_replay.specs.declared.complaint.Stop.TheVariants as stop
-use Rattle.rl_replay.specs.Files.{refused_line}
-use Rattle.rl_replay.specs.Reading.{placed, called, Fits}
+use Rattle.rl_report.specs.Naming.{naming_of}
+use Rattle.rl_report.specs.Reports.{TheReport, ReportFits}
+use Rattle.rl_report.specs.Reading.{report_at}
+use Rattle.rl_inputs.specs.declared.complaint.Trouble.{Trouble}
+use Rattle.rl_inputs.specs.declared.complaint.Trouble.TheVariants.{TooLong, Refused}
+use Rattle.rl_inputs.specs.declared.complaint.Stop.{Stop}
+use Rattle.rl_inputs.specs.declared.complaint.Stop.TheVariants as stop
+use Rattle.rl_inputs.specs.Files.{refused_line}
+use Rattle.rl_inputs.specs.Reading.{placed, called, Fits}
 use Rattle.rl_check.specs.declared.illegal.Group.{Group}
 use Rattle.rl_check.specs.declared.illegal.Group.TheVariants as group
 use Rattle.rl_check.specs.declared.illegal.Illegal.{Illegal}

@@ -2,7 +2,7 @@
 use Rattle.std.specs.Prelude.{ℕ, ◌≤◌, List, [], ◌∷◌, ◌++◌, codes, nat_le, ◌&&◌, Option, Some, None, if◌then◌else◌}
 use Rattle.std.specs.Str.{bytes_eq}
 use Rattle.rl_text.specs.Number.{number_of}
-use Rattle.rl_replay.specs.Files.{Names, named}
+use Rattle.rl_inputs.specs.Files.{Names, named}
 use Rattle.rl_program.specs.declared.command.RunFiles.{RunFiles}
 use Rattle.rl_program.specs.declared.command.Form.{Form}
 use Rattle.rl_program.specs.declared.command.Form.TheVariants as form

@@ -13,21 +13,21 @@ use Rattle.rl_ops.specs.declared.ops.Ops.{Ops}
 use Rattle.rl_ops.specs.declared.schedule.Schedule.{Schedule}
 use Rattle.rl_ops.specs.Ops.{SpellsOps}
 use Rattle.rl_ops.specs.Schedule.{ScheduleFits, schedule_spelling}
-use Rattle.rl_replay.specs.Files.{Texts}
-use Rattle.rl_history.specs.Naming.{naming_of}
-use Rattle.rl_history.specs.Spelling.{report_spelling}
-use Rattle.rl_history.specs.Reading.{report_at}
+use Rattle.rl_inputs.specs.Files.{Texts}
+use Rattle.rl_report.specs.Naming.{naming_of}
+use Rattle.rl_report.specs.Spelling.{report_spelling}
+use Rattle.rl_report.specs.Reading.{report_at}
 use Rattle.rl_check.specs.LawfulReplays.{IsLawfulReplay}
 use Rattle.rl_check.specs.Legal.{IsLegalReport}
 use Rattle.rl_machine.specs.Running.{ShardRun, Running}
 use Rattle.rl_machine.specs.ShardSteps.{events_of}
-use Rattle.rl_asks.specs.Asks.{asked_of}
+use Rattle.rl_core.specs.Asks.{asked_of}
 use Rattle.rl_machine.specs.Run.{ranks_of_turns, done_of, kept_by}
 use Rattle.rl_machine.specs.RunTransitions.{EachSays}
 use Rattle.rl_machine.specs.Promises.{shard_journal, transcripts_on, history_on, EachKeepsQueues, KeepsGuarded}
 use Rattle.rl_machine.specs.Changes.{OnlyWritersChange}
-use Rattle.rl_cores.specs.Kinds.{Defined, Promised, lock_kind_of}
-use Rattle.rl_cores.specs.OnShards.{OfShard}
+use Rattle.rl_locks.specs.Kinds.{Defined, Promised, lock_kind_of}
+use Rattle.rl_locks.specs.OnShards.{OfShard}
 use Rattle.rl_program.specs.Replay.{start_with, run_with, report_of_replay}
 
 -- of each shard of a machine

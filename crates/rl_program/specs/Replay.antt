@@ -8,18 +8,18 @@ use Rattle.rl_place.specs.Shapes.{shape_of, knobs_of}
 use Rattle.rl_ops.specs.declared.ops.Ops.{Ops}
 use Rattle.rl_ops.specs.declared.schedule.Schedule.{Schedule}
 use Rattle.rl_ops.specs.declared.schedule.TheConstants.{MOST_STEPS}
-use Rattle.rl_history.specs.declared.report.Done.{Done}
-use Rattle.rl_history.specs.Lawful.{queues_at}
-use Rattle.rl_history.specs.Naming.{has_cohorts, naming_of}
-use Rattle.rl_history.specs.Reports.{TheShard, TheReport, ReplyFits, TallyFits}
-use Rattle.rl_history.specs.Spelling.{is_printed}
-use Rattle.rl_history.specs.Tallies.{tallies_from}
+use Rattle.rl_report.specs.declared.report.Done.{Done}
+use Rattle.rl_report.specs.Lawful.{queues_at}
+use Rattle.rl_report.specs.Naming.{has_cohorts, naming_of}
+use Rattle.rl_report.specs.Reports.{TheShard, TheReport, ReplyFits, TallyFits}
+use Rattle.rl_report.specs.Spelling.{is_printed}
+use Rattle.rl_report.specs.Tallies.{tallies_from}
 use Rattle.rl_machine.specs.Running.{ShardRun, Running}
 use Rattle.rl_machine.specs.ShardSteps.{events_of}
 use Rattle.rl_machine.specs.Start.{start_of}
 use Rattle.rl_machine.specs.Run.{done_of, run_of, ranks_of_turns}
 use Rattle.rl_machine.specs.Promises.{shard_journal, history_on}
-use Rattle.rl_cores.specs.Kinds.{Defined, lock_kind_of}
+use Rattle.rl_locks.specs.Kinds.{Defined, lock_kind_of}
 
 -- ---- the run
 

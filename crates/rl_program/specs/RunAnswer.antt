@@ -4,16 +4,16 @@ use Rattle.std.specs.Global.{Vec}
 use Rattle.rl_place.specs.Places.{ThePlace}
 use Rattle.rl_ops.specs.declared.ops.Ops.{Ops}
 use Rattle.rl_io.specs.Outside.{Appends, GoesOn}
-use Rattle.rl_replay.specs.declared.complaint.Which.{Which}
-use Rattle.rl_replay.specs.declared.complaint.Which.TheVariants as which
-use Rattle.rl_replay.specs.declared.complaint.Complaint.{Complaint}
-use Rattle.rl_replay.specs.declared.complaint.Stop.{Stop}
+use Rattle.rl_inputs.specs.declared.complaint.Which.{Which}
+use Rattle.rl_inputs.specs.declared.complaint.Which.TheVariants as which
+use Rattle.rl_inputs.specs.declared.complaint.Complaint.{Complaint}
+use Rattle.rl_inputs.specs.declared.complaint.Stop.{Stop}
 use Rattle.rl_program.specs.declared.complaint.Quit.{Quit}
 use Rattle.rl_program.specs.Command.{RunNames}
-use Rattle.rl_replay.specs.Files.{Texts}
+use Rattle.rl_inputs.specs.Files.{Texts}
 use Rattle.rl_program.specs.RunHeadline.{IsRun}
-use Rattle.rl_replay.specs.Reading.{◌>>=◌, placed, called, Fits, EndsEarly}
-use Rattle.rl_replay.specs.Files.{refused_line}
+use Rattle.rl_inputs.specs.Reading.{◌>>=◌, placed, called, Fits, EndsEarly}
+use Rattle.rl_inputs.specs.Files.{refused_line}
 use Rattle.rl_program.specs.Answer.{TheAnswer}
 
 -- a file of a run by its name; a run has no schedule

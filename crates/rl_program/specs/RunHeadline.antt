@@ -6,15 +6,15 @@ use Rattle.rl_place.specs.Places.{ThePlace, IsProper}
 use Rattle.rl_place.specs.Spelling.{place_spelling}
 use Rattle.rl_ops.specs.declared.ops.Ops.{Ops}
 use Rattle.rl_ops.specs.Ops.{SpellsOps}
-use Rattle.rl_history.specs.Naming.{naming_of}
-use Rattle.rl_history.specs.Reports.{TheShard, TheReport}
-use Rattle.rl_history.specs.Spelling.{report_spelling}
-use Rattle.rl_history.specs.Reading.{report_at}
-use Rattle.rl_history.specs.Lawful.{IsLawful}
+use Rattle.rl_report.specs.Naming.{naming_of}
+use Rattle.rl_report.specs.Reports.{TheShard, TheReport}
+use Rattle.rl_report.specs.Spelling.{report_spelling}
+use Rattle.rl_report.specs.Reading.{report_at}
+use Rattle.rl_report.specs.Lawful.{IsLawful}
 use Rattle.rl_check.specs.Legal.{IsLegalReport}
 use Rattle.rl_run.specs.Made.{IsRunBy}
-use Rattle.rl_cores.specs.Kinds.{lock_kind_of}
-use Rattle.rl_replay.specs.Files.{Texts}
+use Rattle.rl_locks.specs.Kinds.{lock_kind_of}
+use Rattle.rl_inputs.specs.Files.{Texts}
 
 -- These texts are run: they spell a placement and calls, and this text is a report of all these calls that is lawful for them. It is a
 -- report that is read again, and a check finds it legal.

@@ -6,13 +6,13 @@ use Rattle.rl_model.specs.declared.call.Call.{Call}
 use Rattle.rl_model.specs.declared.call.Call.TheVariants.{Get}
 use Rattle.rl_step.specs.declared.events.Event.{Event}
 use Rattle.rl_step.specs.declared.events.Event.TheVariants.{Settle, Pass}
-use Rattle.rl_history.specs.declared.report.Done.{Done}
-use Rattle.rl_history.specs.Reports.{TheShard, TheReport}
-use Rattle.rl_history.specs.Spelling.{steps_lines}
+use Rattle.rl_report.specs.declared.report.Done.{Done}
+use Rattle.rl_report.specs.Reports.{TheShard, TheReport}
+use Rattle.rl_report.specs.Spelling.{steps_lines}
 use Rattle.rl_step.specs.declared.tallies.Steps.{Steps}
 use Rattle.rl_machine.specs.Running.{Running}
 use Rattle.rl_program.specs.declared.counts.ShardCounts.{ShardCounts}
-use Rattle.rl_cores.specs.Kinds.{alock}
+use Rattle.rl_locks.specs.Kinds.{alock}
 use Rattle.rl_program.specs.Replay.{start_with, queue_count, report_in}
 use Rattle.rl_program.specs.Generate.{made_place, made_ops}
 use Rattle.rl_program.specs.Laps.{all_laps}

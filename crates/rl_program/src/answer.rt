@@ -1,6 +1,6 @@
 // What the program answers: a status, and the bytes that belong to it.
 ghost use Rattle.std.specs.Prelude.{◌≡◌, ◌≢◌, ◌≤◌, map, string_bytes, IsTrue, IfOk, IfErr, Ok, Err, Option, Some};
-ghost use Rattle.rl_replay.specs.Files.{named, refused_line};
+ghost use Rattle.rl_inputs.specs.Files.{named, refused_line};
 ghost use Rattle.rl_program.specs.Command.{Replay, Make, Show, form_of, usage_text};
 ghost use Rattle.rl_program.specs.Answer.{MayRead, NamesNoFile, TheAnswer, RisesWithFault, WasAnswered};
 
@@ -9,8 +9,8 @@ use crate::complaint::Quit;
 use crate::making::made_summary;
 use crate::replaying::replayed;
 use crate::showing::shown;
+use rl_inputs::{Files, Stop, Trouble, refusal_line};
 use rl_io::Source;
-use rl_replay::{Files, Stop, Trouble, refusal_line};
 use std::alloc::{AllocError, Global};
 use std::marker::Model;
 

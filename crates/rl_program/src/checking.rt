@@ -3,8 +3,8 @@ ghost use Rattle.std.specs.Prelude.{◌≡◌, ◌≢◌, ◌<◌, IfOk, IsTrue,
 ghost use Rattle.std.specs.List.{join_with_byte};
 ghost use Rattle.rl_text.specs.Printing.{Puts};
 ghost use Rattle.rl_place.specs.Places.{IsProper};
-ghost use Rattle.rl_history.specs.Naming.{naming_of};
-ghost use Rattle.rl_history.specs.Reports.{ReportFits};
+ghost use Rattle.rl_report.specs.Naming.{naming_of};
+ghost use Rattle.rl_report.specs.Reports.{ReportFits};
 ghost use Rattle.rl_program.specs.Answer.{RisesWithFault};
 ghost use Rattle.rl_program.specs.CheckAnswer.{MayReadCheck, WasCheckAnswered, check_named, group_words, verdict, IsStopped, WasReported, AreProper, WereChecked, IsCheckStatus, IsOut};
 
@@ -12,11 +12,11 @@ use crate::answer::{Answer, refused};
 use crate::command::CheckFiles;
 use crate::complaint::Quit;
 use rl_check::{Group, Illegal, check_all, check_one};
-use rl_history::{Report, read_report};
+use rl_inputs::{Stop, Trouble, read_called, read_placed};
 use rl_io::{Failed, ReadErr, Sink, Source, read_file, write_all};
 use rl_ops::Ops;
 use rl_place::Place;
-use rl_replay::{Stop, Trouble, read_called, read_placed};
+use rl_report::{Report, read_report};
 use rl_text::{TextErr, put_number};
 use std::alloc::{AllocError as OutOfMemory, Global};
 use std::thread::Threads;

@@ -5,9 +5,9 @@ ghost use Rattle.rl_text.specs.Number.{number_of};
 ghost use Rattle.rl_program.specs.Command.{AskFits, asked, run_named, run_of, run_of_two, make_of, form_of, form_of_one as form_of_one_at, form_of_three as form_of_three_at};
 ghost use Rattle.rl_program.specs.CheckAnswer.{check_named, check_of, check_of_three};
 
+use rl_inputs::Files;
 use rl_ops::MOST_CALLS;
 use rl_place::MOST_RANKS;
-use rl_replay::Files;
 use rl_text::number;
 
 /// The files that a run names, in the order in which they are read.

@@ -9,11 +9,11 @@ ghost use Rattle.rl_program.specs.Replay.{queue_count, dones_from, report_in};
 ghost use Rattle.rl_program.specs.Summary.{is_get as is_get_at, is_settle as is_settle_at, is_pass as is_pass_at, all_done as all_done_at, counts_in};
 ghost use Rattle.rl_program.specs.Counting.{counts_on, IsSmall};
 
-use rl_asks::TellsAll;
-use rl_history::Done;
+use rl_core::TellsAll;
 use rl_machine::{Machine, soundness};
 use rl_model::{Call, Entry};
 use rl_place::Place;
+use rl_report::Done;
 use rl_step::{Event, Steps};
 use std::alloc::{AllocError as OutOfMemory, Global};
 use std::marker::Model;

@@ -1,12 +1,12 @@
 //! Laps: the ranks of a machine take turns, one step each, again and again.
 ghost use Rattle.std.specs.Prelude.{◌≡◌, true, ◌≤◌, ◌<◌, length, IfOk};
 ghost use Rattle.rl_machine.specs.Running.{running};
-ghost use Rattle.rl_rests.specs.Rested.{AllRested};
+ghost use Rattle.rl_replay.specs.Rested.{AllRested};
 ghost use Rattle.rl_program.specs.Laps.{has_work as has_work_at, any_has_work as any_has_work_at, may_step as may_step_at, goes_on as goes_on_at, turns, all_laps};
 
-use rl_asks::{Resting, ShardCore};
+use rl_core::{Resting, ShardCore};
 use rl_machine::Machine;
-use rl_rests::{LastRest, no_rests, take_steps};
+use rl_replay::{LastRest, no_rests, take_steps};
 use std::alloc::{AllocError as OutOfMemory, Global};
 
 /// Whether a rank has an open call, or one left.

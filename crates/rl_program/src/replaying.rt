@@ -8,23 +8,23 @@ ghost use Rattle.rl_ops.specs.Ops.{OpsFit};
 ghost use Rattle.rl_ops.specs.Schedule.{ScheduleFits};
 ghost use Rattle.rl_check.specs.LawfulReplays.{IsLawfulReplay};
 ghost use Rattle.rl_check.specs.Legal.{IsLegalReport};
-ghost use Rattle.rl_replay.specs.Files.{named};
+ghost use Rattle.rl_inputs.specs.Files.{named};
 ghost use Rattle.rl_program.specs.Command.{Replay};
 ghost use Rattle.rl_program.specs.Replay.{run_with, report_in, queue_count, report_of_replay};
 ghost use Rattle.rl_program.specs.Headline.{IsKept, KeepsPromises};
-ghost use Rattle.rl_replay.specs.Reading.{RisesWithFault, SuitsLock};
+ghost use Rattle.rl_inputs.specs.Reading.{RisesWithFault, SuitsLock};
 ghost use Rattle.rl_program.specs.Answer.{MayRead, WasReplayed};
 
 use crate::reporting::report_of_machine;
-use rl_asks::{Resting, ShardGuiding};
 use rl_check::report_laws;
-use rl_cores::{CoreTask, Promising, over_lock, ways_of_machine};
-use rl_history::{Report, report_text};
+use rl_core::{Resting, ShardGuiding};
+use rl_inputs::{Files, Stop, read_called, read_placed, read_scheduled};
 use rl_io::Source;
+use rl_locks::{CoreTask, Promising, over_lock, ways_of_machine};
 use rl_ops::{Ops, Schedule};
 use rl_place::Place;
-use rl_replay::{Files, Stop, read_called, read_placed, read_scheduled};
-use rl_rests::replay;
+use rl_replay::replay;
+use rl_report::{Report, report_text};
 use std::alloc::{AllocError as OutOfMemory, Global};
 
 /// The report of a replay with this core, which is that of the placement's lock.

@@ -1,19 +1,19 @@
 //! The report of a machine.
 ghost use Rattle.std.specs.Prelude.{◌≡◌, ◌↔◌, ◌<◌, ◌^◌, ℕ, [], All, length, filter, get_or, map, slice_get, false, IsTrue, IfOk, Some};
 ghost use Rattle.rl_place.specs.Places.{IsProper};
-ghost use Rattle.rl_history.specs.Spelling.{is_printed};
-ghost use Rattle.rl_asks.specs.RankGood.{entries_in};
+ghost use Rattle.rl_report.specs.Spelling.{is_printed};
+ghost use Rattle.rl_core.specs.RankGood.{entries_in};
 ghost use Rattle.rl_machine.specs.Running.{running};
 ghost use Rattle.rl_machine.specs.Promises.{transcripts_on};
 ghost use Rattle.rl_machine.specs.Records.{transcripts_at};
 ghost use Rattle.rl_program.specs.Counting.{lists_in};
 ghost use Rattle.rl_program.specs.Replay.{queue_count, part_of_replay, dones_from, report_in, NumbersFit};
 
-use rl_asks::ShardCore;
-use rl_history::{Done, Report, ShardReport, merge, tallies};
+use rl_core::ShardCore;
 use rl_machine::{Machine, soundness};
 use rl_model::Entry;
 use rl_place::{Lock, Place};
+use rl_report::{Done, Report, ShardReport, merge, tallies};
 use rl_run::{replies_fit, tallies_fit};
 use rl_step::Event;
 use std::alloc::{AllocError as OutOfMemory, Global};

@@ -2,23 +2,23 @@
 ghost use Rattle.std.specs.Prelude.{◌≡◌, length, IfOk, Some};
 ghost use Rattle.rl_place.specs.Places.{IsProper};
 ghost use Rattle.rl_ops.specs.Ops.{OpsFit};
-ghost use Rattle.rl_history.specs.Lawful.{IsLawful};
+ghost use Rattle.rl_report.specs.Lawful.{IsLawful};
 ghost use Rattle.rl_run.specs.Made.{IsRunBy};
-ghost use Rattle.rl_cores.specs.Kinds.{lock_kind_of};
-ghost use Rattle.rl_replay.specs.Reading.{RisesWithFault, SuitsLock};
+ghost use Rattle.rl_locks.specs.Kinds.{lock_kind_of};
+ghost use Rattle.rl_inputs.specs.Reading.{RisesWithFault, SuitsLock};
 ghost use Rattle.rl_program.specs.Command.{run_named};
 ghost use Rattle.rl_program.specs.RunAnswer.{MayReadRun, WasRun};
 
 use crate::command::RunFiles;
 use rl_check::report_laws;
-use rl_cores::{
+use rl_inputs::{Stop, read_called, read_placed};
+use rl_io::{Gate, Source};
+use rl_locks::{
     AlockCore, CombineCore, DmcsCore, McsCore, RwCore, SeqCore, SpinCore, settings_suit,
 };
-use rl_history::{Report, report_text};
-use rl_io::{Gate, Source};
 use rl_ops::Ops;
 use rl_place::{Lock, Place};
-use rl_replay::{Stop, read_called, read_placed};
+use rl_report::{Report, report_text};
 use rl_run::run_all;
 use std::alloc::{AllocError as OutOfMemory, Global};
 use std::sync::Wait;

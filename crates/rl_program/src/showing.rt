@@ -1,11 +1,11 @@
 //! The shape of the placement in a file.
 ghost use Rattle.std.specs.Prelude.{IsTrue};
-ghost use Rattle.rl_replay.specs.Reading.{WasRead, RisesWithFault};
+ghost use Rattle.rl_inputs.specs.Reading.{WasRead, RisesWithFault};
 ghost use Rattle.rl_program.specs.Answer.{shown};
 
+use rl_inputs::{Stop, read_placed};
 use rl_io::Source;
 use rl_place::shape_text;
-use rl_replay::{Stop, read_placed};
 use std::alloc::Global;
 
 /// The text of the shape of the placement in a file, with any lock.

@@ -6,7 +6,7 @@ ghost use Rattle.rl_text.specs.Spelling.{line_text, text_of};
 ghost use Rattle.rl_program.specs.Summary.{shard_words, shard_lines, sizes_words, done_words, summary_lines};
 
 use crate::counts::{RunCounts, ShardCounts};
-use rl_history::put_end;
+use rl_report::put_end;
 use rl_text::put_number;
 use std::alloc::{AllocError as OutOfMemory, Global};
 

@@ -32,7 +32,6 @@ pub struct QueueNames {
 }
 
 impl Model for QueueNames {
-
     ghost Value = { TheQueueNames };
 
     ghost view = { λ a. record { queue = a.queue; tail = a.tail; tail_class = a.tail_class; next = a.next.items; status = a.status.items; budget = a.budget } };

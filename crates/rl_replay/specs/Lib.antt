@@ -1,3 +1,3 @@
--- to be believed, in reading order
-pub mod Reading
-pub mod Files
+-- to be believed
+pub mod Rested
+pub mod laws

@@ -1,25 +1,19 @@
-//! What a replay is made of: its three files, read one after the other and refused at the first fault.
+//! Whole replays of a machine over any core: the steps of a schedule, where those of a rank that is known to rest are counted at once.
 //!
-//! - The **files** ([`Files`]) are a placement, calls and a schedule, by name. A **complaint** ([`Complaint`]) says which of
-//!   them is refused, and why; [`refusal_line`] is the line that tells it.
-//! - [`read_placed`], [`read_called`] and [`read_scheduled`] read one file each, and [`read_replay`] all three as a
-//!   [`Replay`].
-//! - [`words`] are those of the command line, and [`say_why`] says on standard error why a status has no output, with the system's reason.
+//! - A rank *rests* with an answer where its next step counts the answer and changes nothing else (`Rests` of `rl_machine`): while another
+//!   rank is in the card that it takes, or the word that it waits for has the value that it had, or once all its calls are done.
+//! - A rank goes in a *round* of two loads where each leads it to the other: while both words have their values, so many of its steps
+//!   change at most what it sees (`Round` of `rl_core`).
+//! - A *note* ([`LastRest`]) says of a rank where it was seen to rest or to go in a round; it outlasts the steps of other ranks.
 //!
-//! The promise: what is read is what the bytes spell, or the first complaint, for every source; a fault is blamed on the
-//! source exactly where its count of faults rose. `specs/Reading.antt` and `specs/Files.antt` say it.
-//!
-//! Not said here: what is made of the files.
+//! Promise, for every core: `replay` is the definition's run of the schedule's ranks (`run_of`), however many steps were counted at once.
+//! Not said here: that a rank ever rests; a core that sees nothing is stepped in full.
 #![tactic(auto)]
 
-mod command_line;
-mod complaint;
-mod files;
-mod reading;
-mod replay;
+mod last_rest;
+mod noted;
+mod rounds;
+mod runs;
 
-pub use command_line::{say_why, words};
-pub use complaint::{Complaint, Stop, Trouble, Which};
-pub use files::{Files, refusal_line};
-pub use reading::{read_called, read_placed, read_scheduled};
-pub use replay::{Replay, read_replay};
+pub use last_rest::{LastRest, no_rests};
+pub use runs::{replay, take_steps};

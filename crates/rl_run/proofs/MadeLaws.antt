@@ -7,16 +7,16 @@ use Rattle.rl_word.specs.Acts.{Layout}
 use Rattle.rl_word.specs.Shapes.{TheShape}
 use Rattle.rl_word.specs.laws.Places.{get_map_back, some_at}
 use Rattle.rl_word.specs.declared.shapes.Knobs.{Knobs}
-use Rattle.rl_asks.specs.ShardTables.{ShardTable, site_with}
-use Rattle.rl_asks.specs.ShardLaws.{GoodOf}
+use Rattle.rl_core.specs.ShardTables.{ShardTable, site_with}
+use Rattle.rl_core.specs.ShardLaws.{GoodOf}
 use Rattle.rl_place.specs.Places.{ThePlace, IsProper}
 use Rattle.rl_place.specs.Shapes.{shape_of, knobs_of}
 use Rattle.rl_ops.specs.declared.ops.Ops.{Ops}
 use Rattle.rl_ops.specs.Ops.{OpsFit}
 use Rattle.rl_ops.specs.Room.{updates_on}
 use Rattle.rl_site.specs.Site.{Site}
-use Rattle.rl_history.specs.declared.report.Done.{Done}
-use Rattle.rl_history.specs.Reports.{TheShard}
+use Rattle.rl_report.specs.declared.report.Done.{Done}
+use Rattle.rl_report.specs.Reports.{TheShard}
 use Rattle.rl_shard.specs.declared.closed.Closed.{Closed}
 use Rattle.rl_shard.specs.declared.shard.Shard.{Shard}
 use Rattle.rl_shard.specs.Reached.{IsLeftBehind}

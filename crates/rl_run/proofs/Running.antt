@@ -9,10 +9,10 @@ use Rattle.rl_model.specs.declared.call.Call.{Call}
 use Rattle.rl_model.specs.declared.geom.Geom.{Geom}
 use Rattle.rl_journal.specs.laws.Lists.{all_at}
 use Rattle.rl_journal.specs.Ranks.{IsRankInOrder}
-use Rattle.rl_asks.specs.ShardTables.{ShardTable}
-use Rattle.rl_asks.specs.ShardLaws.{GoodOf}
-use Rattle.rl_asks.specs.Asks.{asked_of}
-use Rattle.rl_asks.specs.RankGood.{entries_in}
+use Rattle.rl_core.specs.ShardTables.{ShardTable}
+use Rattle.rl_core.specs.ShardLaws.{GoodOf}
+use Rattle.rl_core.specs.Asks.{asked_of}
+use Rattle.rl_core.specs.RankGood.{entries_in}
 use Rattle.rl_shard.specs.declared.shard.Shard.{Shard}
 use Rattle.rl_shard.specs.declared.seat.Seat.{Seat}
 use Rattle.rl_shard.specs.declared.closed.Closed.{Closed}

@@ -11,8 +11,8 @@ use Rattle.rl_word.specs.declared.locks.LockName.{LockName}
 use Rattle.rl_word.specs.declared.shapes.Knobs.{Knobs}
 use Rattle.rl_model.specs.declared.call.Call.{Call}
 use Rattle.rl_model.specs.declared.geom.Geom.{Geom}
-use Rattle.rl_asks.specs.ShardTables.{ShardTable, site_with}
-use Rattle.rl_asks.specs.ShardLaws.{GoodOf}
+use Rattle.rl_core.specs.ShardTables.{ShardTable, site_with}
+use Rattle.rl_core.specs.ShardLaws.{GoodOf}
 use Rattle.rl_step.specs.LockQueues.{queues_of, readers_share, lock_under, spares_gets}
 use Rattle.rl_place.specs.LockWords.{name_of}
 use Rattle.rl_place.specs.Places.{ThePlace, IsProper}
@@ -23,11 +23,11 @@ use Rattle.rl_journal.specs.Blocks.{is_tenure}
 use Rattle.rl_site.specs.Site.{Site}
 use Rattle.std.specs.Prelude.{Bool, false, slice_index}
 use Rattle.rl_ops.specs.Ops.{OpsFit, EachOfBlocks, total_calls}
-use Rattle.rl_asks.specs.laws.OpsBridge.{each_blocks}
-use Rattle.rl_asks.specs.laws.AskLaws.{few_calls}
-use Rattle.rl_history.specs.declared.report.Done.{Done}
-use Rattle.rl_history.specs.Reports.{TheShard}
-use Rattle.rl_history.specs.Lawful.{IsLawful}
+use Rattle.rl_core.specs.laws.OpsBridge.{each_blocks}
+use Rattle.rl_core.specs.laws.AskLaws.{few_calls}
+use Rattle.rl_report.specs.declared.report.Done.{Done}
+use Rattle.rl_report.specs.Reports.{TheShard}
+use Rattle.rl_report.specs.Lawful.{IsLawful}
 use Rattle.rl_shard.specs.declared.closed.Closed.{Closed}
 use Rattle.rl_shard.specs.declared.shard.Shard.{Shard}
 use Rattle.rl_shard.specs.declared.seat.Seat.{Seat}

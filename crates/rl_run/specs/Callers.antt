@@ -8,11 +8,11 @@ use Rattle.rl_model.specs.declared.geom.Geom.{Geom}
 use Rattle.rl_journal.specs.Ranks.{IsRankInOrder}
 use Rattle.rl_step.specs.declared.events.Stepped.{Stepped}
 use Rattle.rl_step.specs.declared.events.Stepped.TheVariants.{Finished}
-use Rattle.rl_asks.specs.ShardTables.{ShardTable}
-use Rattle.rl_asks.specs.ShardLaws.{GoodOf, CauseOf}
+use Rattle.rl_core.specs.ShardTables.{ShardTable}
+use Rattle.rl_core.specs.ShardLaws.{GoodOf, CauseOf}
 use Rattle.rl_site.specs.Site.{Site}
-use Rattle.rl_asks.specs.Asks.{asked_of, block_from, block_shard}
-use Rattle.rl_asks.specs.RankGood.{entries_in}
+use Rattle.rl_core.specs.Asks.{asked_of, block_from, block_shard}
+use Rattle.rl_core.specs.RankGood.{entries_in}
 use Rattle.rl_shard.specs.declared.shard.Shard.{Shard}
 use Rattle.rl_shard.specs.declared.seat.Seat.{Seat}
 use Rattle.rl_shard.specs.Shards.{IsOf, IsClosed, core_at, table_at, view_at, desk_at, entries_at, rank_at, steps_at, next_at}

@@ -5,9 +5,9 @@ use Rattle.rl_model.specs.declared.call.Call.{Call}
 use Rattle.rl_model.specs.declared.geom.Geom.{Geom}
 use Rattle.rl_model.specs.Geom.{GeomFits}
 use Rattle.rl_site.specs.Site.{Site}
-use Rattle.rl_asks.specs.Asks.{is_on, AreBlocks, place_after, is_update_on}
-use Rattle.rl_asks.specs.Desks.{Desk}
-use Rattle.rl_asks.specs.RankGood.{RankGood}
+use Rattle.rl_core.specs.Asks.{is_on, AreBlocks, place_after, is_update_on}
+use Rattle.rl_core.specs.Desks.{Desk}
+use Rattle.rl_core.specs.RankGood.{RankGood}
 use Rattle.rl_run.specs.Rows.{IsRow}
 
 -- the shard is the table's one of this number, and the rank may make there as many updates as it has, or more

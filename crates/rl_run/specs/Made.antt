@@ -7,9 +7,9 @@ use Rattle.rl_place.specs.Places.{ThePlace}
 use Rattle.rl_place.specs.Shapes.{shape_of, knobs_of}
 use Rattle.rl_ops.specs.declared.ops.Ops.{Ops}
 use Rattle.rl_ops.specs.Room.{updates_on}
-use Rattle.rl_history.specs.Reports.{TheReport}
+use Rattle.rl_report.specs.Reports.{TheReport}
 use Rattle.rl_site.specs.Site.{Site}
-use Rattle.rl_asks.specs.ShardTables.{ShardTable, site_with}
+use Rattle.rl_core.specs.ShardTables.{ShardTable, site_with}
 use Rattle.rl_shard.specs.Reached.{IsLeftBehind}
 use Rattle.rl_run.specs.Told.{ToldShard, report_of}
 

@@ -6,15 +6,15 @@ use Rattle.rl_word.specs.declared.shapes.Knobs.{Knobs}
 use Rattle.rl_model.specs.declared.call.Call.{Call}
 use Rattle.rl_model.specs.declared.entry.Entry.{Entry}
 use Rattle.rl_model.specs.declared.geom.Geom.{Geom}
-use Rattle.rl_asks.specs.ShardTables.{ShardTable, site_with}
-use Rattle.rl_asks.specs.ShardLaws.{GoodOf}
+use Rattle.rl_core.specs.ShardTables.{ShardTable, site_with}
+use Rattle.rl_core.specs.ShardLaws.{GoodOf}
 use Rattle.rl_place.specs.Places.{ThePlace}
 use Rattle.rl_place.specs.Shapes.{shape_of, knobs_of}
 use Rattle.rl_ops.specs.declared.ops.Ops.{Ops}
 use Rattle.rl_ops.specs.Room.{updates_on}
 use Rattle.rl_journal.specs.Ranks.{IsRankInOrder}
-use Rattle.rl_asks.specs.Asks.{is_on, asked_of}
-use Rattle.rl_asks.specs.RankGood.{entries_in}
+use Rattle.rl_core.specs.Asks.{is_on, asked_of}
+use Rattle.rl_core.specs.RankGood.{entries_in}
 use Rattle.rl_site.specs.Site.{Site}
 use Rattle.rl_shard.specs.declared.closed.Closed.{Closed}
 use Rattle.rl_shard.specs.declared.shard.Shard.{Shard}

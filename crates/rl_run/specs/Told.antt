@@ -12,10 +12,10 @@ use Rattle.rl_place.specs.LockWords.{name_of}
 use Rattle.rl_place.specs.Places.{ThePlace}
 use Rattle.rl_ops.specs.declared.ops.Ops.{Ops}
 use Rattle.rl_ops.specs.Asked.{asked_of}
-use Rattle.rl_asks.specs.RankGood.{entries_in}
-use Rattle.rl_history.specs.declared.report.Done.{Done}
-use Rattle.rl_history.specs.Reports.{TheShard, TheReport, ReplyFits, TallyFits}
-use Rattle.rl_history.specs.Lawful.{queues_at}
+use Rattle.rl_core.specs.RankGood.{entries_in}
+use Rattle.rl_report.specs.declared.report.Done.{Done}
+use Rattle.rl_report.specs.Reports.{TheShard, TheReport, ReplyFits, TallyFits}
+use Rattle.rl_report.specs.Lawful.{queues_at}
 
 -- what a closed shard tells
 pub record ToldShard : Type 0 where

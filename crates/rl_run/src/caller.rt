@@ -6,7 +6,7 @@ ghost use Rattle.rl_run.specs.Callers.{IsCaller, IsReady, IsAtEnd, AllClosed, Ha
 
 use crate::waiting::Patience;
 use arrayvec::ArrayVec;
-use rl_asks::{ShardCore, block_from, block_shard};
+use rl_core::{ShardCore, block_from, block_shard};
 use rl_io::{Gate, OpenGate};
 use rl_model::{Call, Geom};
 use rl_shard::{Seat, Shard};

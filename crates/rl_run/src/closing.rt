@@ -9,7 +9,7 @@ ghost use Rattle.rl_run.specs.Runs.{IsShutSeat};
 
 use crate::caller::Caller;
 use crate::rows::first_seats;
-use rl_asks::ShardCore;
+use rl_core::ShardCore;
 use rl_shard::{Closed, Seat, Shard};
 use std::alloc::{AllocError as OutOfMemory, Global};
 

@@ -11,7 +11,7 @@ ghost use Rattle.rl_run.specs.Runs.{AreNew, HaveBegun, CallerMayWork, made_of, w
 
 use crate::caller::Caller;
 use crate::rows::deal_seats;
-use rl_asks::ShardCore;
+use rl_core::ShardCore;
 use rl_model::{Call, Geom};
 use rl_ops::Ops;
 use rl_place::Place;

@@ -1,12 +1,12 @@
 //! The report of closed shards.
 
 ghost use Rattle.std.specs.Prelude.{◌≡◌, ◌<◌, ◌^◌, All, map, IfOk, vec_len};
-ghost use Rattle.rl_history.specs.Reports.{ReplyFits, TallyFits};
+ghost use Rattle.rl_report.specs.Reports.{ReplyFits, TallyFits};
 ghost use Rattle.rl_run.specs.Runs.{told};
 ghost use Rattle.rl_run.specs.Told.{ToldNumbersFit, part_of};
 
-use rl_history::{ShardReport, merge};
 use rl_model::Entry;
+use rl_report::{ShardReport, merge};
 use rl_shard::Closed;
 use rl_step::Tally;
 use std::alloc::{AllocError as OutOfMemory, Global};

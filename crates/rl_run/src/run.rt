@@ -7,7 +7,7 @@ ghost use Rattle.rl_run.specs.Runs.{AreCallers, HasRun};
 use crate::caller::Caller;
 use crate::closing::{close_all, rows_of};
 use crate::working::work_all;
-use rl_asks::ShardCore;
+use rl_core::ShardCore;
 use rl_io::Gate;
 use rl_shard::{Closed, Shard};
 use std::alloc::{AllocError as OutOfMemory, Global};

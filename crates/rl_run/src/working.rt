@@ -4,7 +4,7 @@ ghost use Rattle.std.specs.Prelude.{◌≡◌, All, map};
 ghost use Rattle.rl_run.specs.Callers.{IsCaller, IsAtEnd, who};
 
 use crate::caller::Caller;
-use rl_asks::ShardCore;
+use rl_core::ShardCore;
 use rl_io::Gate;
 use rl_shard::Shard;
 use std::sync::Wait;

@@ -13,9 +13,9 @@ use Rattle.rl_journal.specs.Legal.{table_after, IsLegalJournal}
 use Rattle.rl_volume.specs.Words.{volume_words}
 use Rattle.rl_volume.specs.Volume.{IsVolume}
 use Rattle.rl_site.specs.Site.{places, journal_base, lock_base}
-use Rattle.rl_asks.specs.ShardTables.{ShardTable, journal_at}
-use Rattle.rl_asks.specs.ShardLaws.{ShardCoreLaws}
-use Rattle.rl_asks.specs.laws.JournalLaws.{count_is, few_updates, place_low, update_is, part_fits}
+use Rattle.rl_core.specs.ShardTables.{ShardTable, journal_at}
+use Rattle.rl_core.specs.ShardLaws.{ShardCoreLaws}
+use Rattle.rl_core.specs.laws.JournalLaws.{count_is, few_updates, place_low, update_is, part_fits}
 use Rattle.rl_shard.specs.Closing.{IsLeft}
 
 module _ (V : Type 0) (T : ShardTable V) (good : TheWindow → List V → List Event → List Deed → Type 0) (cause : TheWindow → V → Option Atom → Stepped → Type 0) (further : List Event → List Deed → Type 0) (layout : Layout) (laws : ShardCoreLaws T good cause further layout) (words : List ℕ) (is : IsLeft T good words) where

@@ -23,10 +23,10 @@ use Rattle.rl_journal.specs.History.{history, IsSorted}
 use Rattle.rl_journal.specs.laws.HistoryCounts.{same_entries}
 use Rattle.rl_journal.specs.Ranks.{IsOwn}
 use Rattle.rl_site.specs.Opens.{IsOwnTranscript}
-use Rattle.rl_asks.specs.Desks.{desk_entries}
-use Rattle.rl_asks.specs.Standings.{leaves}
-use Rattle.rl_asks.specs.ShardTables.{ShardTable, journal_at, kept_in}
-use Rattle.rl_asks.specs.ShardLaws.{ShardCoreLaws, IsSeated, AllShut}
+use Rattle.rl_core.specs.Desks.{desk_entries}
+use Rattle.rl_core.specs.Standings.{leaves}
+use Rattle.rl_core.specs.ShardTables.{ShardTable, journal_at, kept_in}
+use Rattle.rl_core.specs.ShardLaws.{ShardCoreLaws, IsSeated, AllShut}
 use Rattle.rl_shard.specs.declared.counting.CountedView.{CountedView}
 use Rattle.rl_shard.specs.Tallies.{full, tally_at}
 use Rattle.rl_shard.specs.Queues.{is_had_by, settled_if, tenures_of, AreTallied}

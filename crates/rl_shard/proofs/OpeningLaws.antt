@@ -20,15 +20,15 @@ use Rattle.rl_step.specs.Do.{TheWindow}
 use Rattle.rl_site.specs.Site.{Site, lock_base}
 use Rattle.rl_site.specs.Opens.{opening_words}
 use Rattle.rl_site.specs.laws.OpeningLaws.{opening_size}
-use Rattle.rl_asks.specs.ShardTables.{ShardTable, site_with, opening_held, first_views}
-use Rattle.rl_asks.specs.ShardLaws.{GoodOf, CauseOf, FurtherOf, LawsOf, ShardCoreLaws, IsLaidAtSite, IsNewDesk}
+use Rattle.rl_core.specs.ShardTables.{ShardTable, site_with, opening_held, first_views}
+use Rattle.rl_core.specs.ShardLaws.{GoodOf, CauseOf, FurtherOf, LawsOf, ShardCoreLaws, IsLaidAtSite, IsNewDesk}
 use Rattle.rl_shard.specs.declared.counting.CountedView.{CountedView}
 use Rattle.rl_shard.specs.Tallies.{no_tally, tally_at}
 use Rattle.rl_shard.specs.Queues.{AreMembersThere}
 use Rattle.rl_shard.specs.Reached.{IsReached}
 use Rattle.rl_shard.specs.Counting.{whole_of, rooms_of, settled_by, passed_by, first_counted, CountGood}
 use Rattle.rl_shard.specs.Starts.{IsStart}
-use Rattle.rl_asks.specs.laws.Filling.{views_next, first_at, first_length}
+use Rattle.rl_core.specs.laws.Filling.{views_next, first_at, first_length}
 
 -- a view with a tally of nothing for each queue
 abbrev pub fresh : {V : Type 0} → ℕ → V → CountedView V

@@ -3,8 +3,8 @@ use Rattle.std.proofs.Common.{◌≡◌, ℕ, List, [], ◌∷◌, length, map, 
 use Rattle.std.proofs.lemmas.List.{length-map}
 use Rattle.rl_word.specs.laws.Places.{get_map, get_map_back}
 use Rattle.rl_word.specs.Acts.{Layout}
-use Rattle.rl_asks.specs.ShardTables.{ShardTable}
-use Rattle.rl_asks.specs.ShardLaws.{GoodOf}
+use Rattle.rl_core.specs.ShardTables.{ShardTable}
+use Rattle.rl_core.specs.ShardLaws.{GoodOf}
 use Rattle.rl_window.specs.declared.knows.Knows.TheVariants.{Root}
 use Rattle.rl_window.specs.declared.window.WinSeat.{WinSeat}
 use Rattle.rl_window.specs.Seats.{IsSeatOf, IsKept, IsAll, AreKept, HasSeats, all_given, view_of}

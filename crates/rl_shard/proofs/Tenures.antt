@@ -12,7 +12,7 @@ use Rattle.rl_step.specs.declared.events.Event.{Event}
 use Rattle.rl_step.specs.declared.events.Event.TheVariants as event
 use Rattle.rl_step.specs.Queues.{QueueOf, count, tenures, settled}
 use Rattle.rl_journal.specs.Blocks.{is_tenure}
-use Rattle.rl_asks.specs.Standings.{one_if, leaves}
+use Rattle.rl_core.specs.Standings.{one_if, leaves}
 use Rattle.rl_shard.specs.Queues.{is_had_by}
 
 -- a number, if the test is met

@@ -3,7 +3,7 @@ use Rattle.std.proofs.Common.{◌≡◌, ◌≢◌, ◌<◌, ◌+◌, ℕ, zero,
 use Rattle.std.specs.Prelude.{◌⊎◌, slice_get, Some}
 use Rattle.std.proofs.Common.{inl, inr}
 use Rattle.std.proofs.lemmas.List.Sums.{sum_by-append, sum_by-cons}
-use Rattle.rl_asks.specs.laws.Filling.{take_next}
+use Rattle.rl_core.specs.laws.Filling.{take_next}
 use Rattle.rl_step.specs.declared.tallies.Tally.{Tally}
 use Rattle.rl_shard.specs.declared.seat.Seat.{Seat}
 use Rattle.rl_shard.specs.Tallies.{full, tally_at}

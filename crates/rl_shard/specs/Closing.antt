@@ -7,9 +7,9 @@ use Rattle.rl_step.specs.declared.tallies.Tally.{Tally}
 use Rattle.rl_step.specs.Lock.{Deed}
 use Rattle.rl_step.specs.Do.{TheWindow}
 use Rattle.rl_journal.specs.Legal.{table_after}
-use Rattle.rl_asks.specs.Desks.{desk_entries}
-use Rattle.rl_asks.specs.ShardTables.{ShardTable, journal_at}
-use Rattle.rl_asks.specs.ShardLaws.{AllShut}
+use Rattle.rl_core.specs.Desks.{desk_entries}
+use Rattle.rl_core.specs.ShardTables.{ShardTable, journal_at}
+use Rattle.rl_core.specs.ShardLaws.{AllShut}
 use Rattle.rl_window.specs.declared.window.WinSeat.{WinSeat}
 use Rattle.rl_shard.specs.declared.seat.Seat.{Seat}
 use Rattle.rl_shard.specs.declared.closed.Closed.{Closed}

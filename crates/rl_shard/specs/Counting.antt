@@ -7,8 +7,8 @@ use Rattle.rl_step.specs.Lock.{Deed}
 use Rattle.rl_step.specs.Do.{TheWindow}
 use Rattle.rl_step.specs.Core.{CoreTable, Turned}
 use Rattle.rl_step.specs.Queues.{QueueOf, settled, passed}
-use Rattle.rl_asks.specs.ShardTables.{ShardTable, first_views}
-use Rattle.rl_asks.specs.ShardLaws.{GoodOf}
+use Rattle.rl_core.specs.ShardTables.{ShardTable, first_views}
+use Rattle.rl_core.specs.ShardLaws.{GoodOf}
 use Rattle.rl_shard.specs.Reached.{IsReached}
 use Rattle.rl_shard.specs.declared.counting.Counting.{Counting}
 use Rattle.rl_shard.specs.declared.counting.CountedView.{CountedView}

@@ -8,8 +8,8 @@ use Rattle.rl_step.specs.declared.events.Standing.TheVariants.{Asking, Writer}
 use Rattle.rl_step.specs.Lock.{IsHolder}
 use Rattle.rl_site.specs.Site.{lock_base}
 use Rattle.rl_site.specs.Opens.{IsGetAlone}
-use Rattle.rl_asks.specs.Touches.{NamesWord}
-use Rattle.rl_asks.specs.ShardTables.{ShardTable}
+use Rattle.rl_core.specs.Touches.{NamesWord}
+use Rattle.rl_core.specs.ShardTables.{ShardTable}
 use Rattle.rl_shard.specs.declared.counting.CountedView.{CountedView}
 use Rattle.rl_shard.specs.Counting.{standing_of}
 

@@ -5,7 +5,7 @@ use lib.ListN.{get_elem?}
 use Rattle.atomic_table.specs.Table.{State}
 use Rattle.rl_step.specs.declared.events.Standing.TheVariants.{Writer}
 use Rattle.rl_step.specs.Lock.{IsHolder}
-use Rattle.rl_asks.specs.ShardTables.{ShardTable}
+use Rattle.rl_core.specs.ShardTables.{ShardTable}
 use Rattle.rl_window.specs.declared.knows.Knows.{Knows}
 use Rattle.rl_window.specs.declared.knows.Knows.TheVariants.{Rank}
 use Rattle.rl_window.specs.declared.knows.RankKnows.{RankKnows}

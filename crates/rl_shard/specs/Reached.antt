@@ -11,9 +11,9 @@ use Rattle.rl_step.specs.Do.{TheWindow, do_atom, do_got}
 use Rattle.rl_step.specs.Queues.{settled, passed}
 use Rattle.rl_journal.specs.Legal.{table_after}
 use Rattle.rl_journal.specs.Tenures.{tally_at}
-use Rattle.rl_asks.specs.Desks.{desk_entries}
-use Rattle.rl_asks.specs.ShardTables.{ShardTable, opening_held, first_views, journal_at}
-use Rattle.rl_asks.specs.ShardLaws.{MayOpen}
+use Rattle.rl_core.specs.Desks.{desk_entries}
+use Rattle.rl_core.specs.ShardTables.{ShardTable, opening_held, first_views, journal_at}
+use Rattle.rl_core.specs.ShardLaws.{MayOpen}
 
 module _ {V : Type 0} (T : ShardTable V) where
   -- The ranks' machines, of this table, come to these words and cards, views and events: from the opening on so many nodes, where each rank has

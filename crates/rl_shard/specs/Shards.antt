@@ -5,9 +5,9 @@ use Rattle.rl_word.specs.declared.acts.Atom.{Atom}
 use Rattle.rl_model.specs.declared.entry.Entry.{Entry}
 use Rattle.rl_model.specs.Geom.{GeomFits}
 use Rattle.rl_step.specs.declared.tallies.Tally.{Tally}
-use Rattle.rl_asks.specs.Desks.{Desk, desk_entries}
-use Rattle.rl_asks.specs.ShardTables.{ShardTable}
-use Rattle.rl_asks.specs.ShardLaws.{GoodOf}
+use Rattle.rl_core.specs.Desks.{Desk, desk_entries}
+use Rattle.rl_core.specs.ShardTables.{ShardTable}
+use Rattle.rl_core.specs.ShardLaws.{GoodOf}
 use Rattle.rl_window.specs.Seats.{IsSeatOf, IsKept, HasSeats, core_of, view_of, seat_rank, table_steps}
 use Rattle.rl_shard.specs.declared.shard.Shard.{Shard}
 use Rattle.rl_shard.specs.declared.seat.Seat.{Seat}

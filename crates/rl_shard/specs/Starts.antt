@@ -3,8 +3,8 @@ use Rattle.std.specs.Prelude.{◌≡◌, ◌<◌, ◌≤◌, ◌^◌, ℕ, ◌+�
 use Rattle.rl_word.specs.Acts.{Layout}
 use Rattle.rl_model.specs.Geom.{GeomFits}
 use Rattle.rl_site.specs.Site.{lock_base}
-use Rattle.rl_asks.specs.ShardTables.{ShardTable, opening_held}
-use Rattle.rl_asks.specs.ShardLaws.{GoodOf}
+use Rattle.rl_core.specs.ShardTables.{ShardTable, opening_held}
+use Rattle.rl_core.specs.ShardLaws.{GoodOf}
 use Rattle.rl_shard.specs.declared.counting.CountedView.{CountedView}
 use Rattle.rl_shard.specs.Counting.{first_counted, counting_rule}
 

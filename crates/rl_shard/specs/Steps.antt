@@ -7,11 +7,11 @@ use Rattle.rl_step.specs.declared.events.Stepped.{Stepped}
 use Rattle.rl_step.specs.Lock.{Deed}
 use Rattle.rl_step.specs.Do.{TheWindow}
 use Rattle.rl_step.specs.Core.{Performs}
-use Rattle.rl_asks.specs.Desks.{Turns}
-use Rattle.rl_asks.specs.Answering.{AnswersNext}
-pub use Rattle.rl_asks.specs.Standings.{IsUnhindered}
-use Rattle.rl_asks.specs.ShardTables.{ShardTable}
-use Rattle.rl_asks.specs.ShardLaws.{GoodOf, CauseOf}
+use Rattle.rl_core.specs.Desks.{Turns}
+use Rattle.rl_core.specs.Answering.{AnswersNext}
+pub use Rattle.rl_core.specs.Standings.{IsUnhindered}
+use Rattle.rl_core.specs.ShardTables.{ShardTable}
+use Rattle.rl_core.specs.ShardLaws.{GoodOf, CauseOf}
 use Rattle.rl_shard.specs.declared.shard.Shard.{Shard}
 use Rattle.rl_shard.specs.declared.seat.Seat.{Seat}
 use Rattle.rl_shard.specs.declared.counting.CountedView.{CountedView}

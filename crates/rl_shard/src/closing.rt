@@ -3,7 +3,7 @@
 ghost use Rattle.std.specs.Prelude.{◌≡◌, ◌+◌, ◌*◌, ◌<◌, ◌≤◌, ◌++◌, ℕ, [], length, map, min, sum, take, slice_get, slice_index, Some, IfOk, vec_items, vec_len, vec_capacity};
 ghost use Rattle.std.specs.FinMap as finite;
 ghost use Rattle.rl_site.specs.Site.{journal_base};
-ghost use Rattle.rl_asks.specs.ShardTables.{journal_at};
+ghost use Rattle.rl_core.specs.ShardTables.{journal_at};
 ghost use Rattle.rl_shard.specs.Tallies.{full};
 ghost use Rattle.rl_shard.specs.Shards.{IsShardOf, table_at, tallies_at};
 ghost use Rattle.rl_shard.specs.Ends.{all_settled, all_passed};
@@ -13,7 +13,7 @@ use crate::closed::Closed;
 use crate::counting::{CountedView, Counting};
 use crate::seat::Seat;
 use crate::shard::Shard;
-use rl_asks::ShardCore;
+use rl_core::ShardCore;
 use rl_journal::journal_entry;
 use rl_model::Entry;
 use rl_site::{COUNT_WORD, ENTRY_WORDS, VOLUME_BASE, journal_base};

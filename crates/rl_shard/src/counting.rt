@@ -7,7 +7,7 @@ ghost use Rattle.rl_shard.specs.laws.CountingLaws.{counting_laws};
 
 use crate::tallies::Tallies;
 use arrayvec::ArrayVec;
-use rl_asks::ShardCore;
+use rl_core::ShardCore;
 use rl_model::Call;
 use rl_step::{Core, Event, Plan, Stepped};
 use rl_word::Atom;

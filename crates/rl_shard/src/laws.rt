@@ -2,8 +2,8 @@
 
 ghost use Rattle.std.specs.Prelude.{◌≡◌, List, map, Some};
 ghost use Rattle.rl_step.specs.Do.{TheWindow};
-ghost use Rattle.rl_asks.specs.Domains.{IsCardAtom, IsLocalAtom, UsesCards, UsesLocals};
-ghost use Rattle.rl_asks.specs.Standings.{AloneIn};
+ghost use Rattle.rl_core.specs.Domains.{IsCardAtom, IsLocalAtom, UsesCards, UsesLocals};
+ghost use Rattle.rl_core.specs.Standings.{AloneIn};
 ghost use Rattle.rl_window.specs.declared.knows.Setup.{Setup};
 ghost use Rattle.rl_window.specs.Rule.{IsRuled};
 ghost use Rattle.rl_shard.specs.Live.{LiveExclude};
@@ -12,7 +12,7 @@ ghost use Rattle.rl_shard.specs.Counting.{CountsKeepBudgets, counting_rule, stan
 ghost use Rattle.rl_shard.specs.Shards.{IsOf, counting_at, table_at, counted_at, rank_at, next_at};
 
 use crate::shard::Shard;
-use rl_asks::ShardCore;
+use rl_core::ShardCore;
 
 /// Exclusion: in each state of the window that meets its rule, and so between any two table steps, one rank at most is in as a
 /// writer, and none as a reader beside it. The same of the seats that are live: while the window's table keeps its rule, which each of its

@@ -1,7 +1,7 @@
 //! A shard of the hash table, whose window threads share, and a seat on it for each rank.
 //!
 //! - A *shard* (`Shard`) is one part of the table behind a lock of its own: a window of words and cards (`rl_window`) under the
-//!   rule of a rank's machine on one shard (`ShardCore` of `rl_asks`).
+//!   rule of a rank's machine on one shard (`ShardCore` of `rl_core`).
 //! - A *seat* (`Seat`) is the one right to act as a rank on the shard. Whoever has a seat and a `&Shard` opens a *block*, which is
 //!   a call alone or the calls of a batch, and steps until no block is open; in a thread of its own too.
 //! - A rank's *tallies* (`Tallies`) are how often its own acts settled and passed each queue of the lock. A shard's core keeps

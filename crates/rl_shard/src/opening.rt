@@ -6,7 +6,7 @@ ghost use Rattle.rl_shard.specs.Counting.{first_counted};
 
 use crate::counting::CountedView;
 use crate::tallies::Tallies;
-use rl_asks::ShardCore;
+use rl_core::ShardCore;
 use std::alloc::{AllocError as OutOfMemory, Global};
 
 /// The views of all ranks, each with room for so many entries, and with a tally of nothing for each of so many queues.

@@ -3,7 +3,7 @@
 ghost use Rattle.std.specs.Prelude.{◌≡◌, ◌↔◌, ◌∷◌, [], Some, None, false, length};
 ghost use Rattle.rl_step.specs.declared.events.Stepped.TheVariants.{Finished};
 ghost use Rattle.rl_site.specs.Opens.{IsOpen};
-ghost use Rattle.rl_asks.specs.Desks.{OpensBlock};
+ghost use Rattle.rl_core.specs.Desks.{OpensBlock};
 ghost use Rattle.rl_shard.specs.Tallies.{tally_at};
 ghost use Rattle.rl_shard.specs.Shards.{IsOf, IsClosed, core_at, table_at, view_at, desk_at, tallies_at, entries_at, rank_at, steps_at, next_at};
 ghost use Rattle.rl_shard.specs.Steps.{Makes, CauseAt, TurnsAt, IsUnhindered};
@@ -12,7 +12,7 @@ use crate::counting::Counting;
 use crate::shard::Shard;
 use crate::stepping::step;
 use arrayvec::ArrayVec;
-use rl_asks::ShardCore;
+use rl_core::ShardCore;
 use rl_model::{Call, Entry};
 use rl_step::{Event, Stepped, Tally};
 use rl_window::WinSeat;

@@ -4,7 +4,7 @@ ghost use Rattle.std.specs.Prelude.{◌≡◌, ◌≤◌, ◌<◌, ◌^◌, leng
 ghost use Rattle.rl_model.specs.Geom.{GeomFits};
 ghost use Rattle.rl_word.specs.Shapes.{IsProper, layout_of};
 ghost use Rattle.rl_step.specs.LockQueues.{queues_of};
-ghost use Rattle.rl_asks.specs.ShardTables.{site_with};
+ghost use Rattle.rl_core.specs.ShardTables.{site_with};
 ghost use Rattle.rl_window.specs.Seats.{HasSeats};
 ghost use Rattle.rl_shard.specs.Counting.{counting_rule, first_counted};
 ghost use Rattle.rl_shard.specs.Shards.{IsShardOf, AreOf, AreClosed, core_at, table_at, counting_at, counted_at};
@@ -16,7 +16,7 @@ use crate::closing::{Parts, finish, give_seats, take_parts, take_seats};
 use crate::counting::{CountedView, Counting};
 use crate::opening::first_views;
 use crate::seat::Seat;
-use rl_asks::{ShardCore, first_words};
+use rl_core::{ShardCore, first_words};
 use rl_model::Geom;
 use rl_ops::Room;
 use rl_site::Site;

@@ -11,8 +11,8 @@ use Rattle.rl_model.specs.declared.geom.Geom.{Geom}
 use Rattle.rl_step.specs.Core.{CoreTable, CoreLaws}
 use Rattle.rl_step.specs.Do.{TheWindow}
 use Rattle.rl_site.specs.Site.{Site, lock_base}
-use Rattle.rl_asks.specs.ShardTables.{ShardTable}
-use Rattle.rl_asks.specs.ShardLaws.{GoodOf, CauseOf, FurtherOf, LawsOf}
+use Rattle.rl_core.specs.ShardTables.{ShardTable}
+use Rattle.rl_core.specs.ShardLaws.{GoodOf, CauseOf, FurtherOf, LawsOf}
 use Rattle.rl_machine.specs.Running.{ShardRun, Running}
 use Rattle.rl_machine.specs.Ruled.{AreRuled}
 use Rattle.rl_machine.specs.ShardSteps.{events_of, opened_at, makes, made_at}
@@ -23,7 +23,7 @@ use Rattle.rl_machine.specs.Records.{window_of}
 use Rattle.rl_machine.specs.NextAtoms.{behind_journal}
 use Rattle.rl_text.specs.Spelling.{text_of}
 use Rattle.rl_place.specs.Places.{ThePlace}
-use Rattle.rl_history.specs.Naming.{TheNaming}
+use Rattle.rl_report.specs.Naming.{TheNaming}
 use Rattle.rl_names.specs.declared.word_map.WordMap.{WordMap}
 use Rattle.rl_names.specs.Layout.{map_of}
 use Rattle.rl_shown.specs.Cores.{tables_of}

@@ -13,14 +13,14 @@ use Rattle.rl_ops.specs.declared.ops.Ops.{Ops}
 use Rattle.rl_ops.specs.declared.schedule.Turn.{Turn}
 use Rattle.rl_ops.specs.Schedule.{steps_of}
 use Rattle.rl_step.specs.Answers.{steps_made}
-use Rattle.rl_history.specs.Naming.{TheNaming}
-use Rattle.rl_history.specs.Printing.{spaced}
-use Rattle.rl_history.proofs.Lines.{join-spaced}
+use Rattle.rl_report.specs.Naming.{TheNaming}
+use Rattle.rl_report.specs.Printing.{spaced}
+use Rattle.rl_report.proofs.Lines.{join-spaced}
 use Rattle.rl_machine.specs.Running.{Running}
 use Rattle.rl_machine.specs.Run.{stepped, run_of, turn_ranks, ranks_of_turns, steps_in}
 use Rattle.rl_machine.specs.laws.ReplayLaws.{run_append, replicate-end, ranks-more}
 use Rattle.rl_machine.specs.Start.{start_of}
-use Rattle.rl_cores.specs.Kinds.{Defined}
+use Rattle.rl_locks.specs.Kinds.{Defined}
 use Rattle.rl_viewer.specs.declared.asking.Window.{Window}
 use Rattle.rl_viewer.specs.Asking.{is_in}
 use Rattle.rl_shown.specs.Listing.{step_lines, step_line, shown, head_lines, listing_text}

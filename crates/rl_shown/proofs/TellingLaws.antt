@@ -6,10 +6,10 @@ use Rattle.std.proofs.lemmas.Grind.{flat_map-append}
 use Rattle.std.proofs.lemmas.List.FromFn.{map-range_with_len_more}
 use Rattle.std.proofs.lemmas.List.{append-nil}
 use Rattle.rl_text.specs.Spelling.{line_text, text_of}
-use Rattle.rl_history.specs.Printing.{spaced}
-use Rattle.rl_history.proofs.Lines.{join-spaced}
+use Rattle.rl_report.specs.Printing.{spaced}
+use Rattle.rl_report.proofs.Lines.{join-spaced}
 use Rattle.rl_place.specs.Places.{ThePlace}
-use Rattle.rl_history.specs.Naming.{TheNaming, naming_of}
+use Rattle.rl_report.specs.Naming.{TheNaming, naming_of}
 use Rattle.rl_machine.specs.Running.{Running}
 use Rattle.rl_shown.specs.State.{lines_of_shard, card_lines, rank_lines, body_lines}
 use Rattle.rl_shown.proofs.ListingLaws.{text-append}

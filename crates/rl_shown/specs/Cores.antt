@@ -1,6 +1,6 @@
 -- Cores by themselves, which are those of a machine's shards.
 use Rattle.std.specs.Prelude.{◌≡◌, List, map}
-use Rattle.rl_asks.specs.ShardTables.{ShardTable}
+use Rattle.rl_core.specs.ShardTables.{ShardTable}
 use Rattle.rl_machine.specs.Running.{ShardRun, Running}
 
 -- the tables of a machine's shards

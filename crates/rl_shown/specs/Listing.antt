@@ -8,14 +8,14 @@ use Rattle.rl_place.specs.Places.{ThePlace}
 use Rattle.rl_place.specs.Shapes.{shape_of, knobs_of}
 use Rattle.rl_ops.specs.declared.ops.Ops.{Ops}
 use Rattle.rl_ops.specs.declared.schedule.Schedule.{Schedule}
-use Rattle.rl_history.specs.Naming.{TheNaming, naming_of}
+use Rattle.rl_report.specs.Naming.{TheNaming, naming_of}
 use Rattle.rl_names.specs.StepWords.{step_words}
 use Rattle.rl_machine.specs.Running.{Running}
 use Rattle.rl_machine.specs.Whereabouts.{standing_by}
 use Rattle.rl_machine.specs.Run.{stepped, ranks_of_turns}
 use Rattle.rl_machine.specs.Start.{start_of}
-use Rattle.rl_cores.specs.Kinds.{Defined, lock_kind_of}
-use Rattle.rl_replay.specs.declared.replay.Replay.{Replay}
+use Rattle.rl_locks.specs.Kinds.{Defined, lock_kind_of}
+use Rattle.rl_inputs.specs.declared.replay.Replay.{Replay}
 use Rattle.rl_viewer.specs.declared.asking.Window.{Window}
 use Rattle.rl_viewer.specs.Asking.{is_in}
 

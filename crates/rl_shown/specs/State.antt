@@ -10,7 +10,7 @@ use Rattle.rl_ops.specs.declared.ops.Ops.{Ops}
 use Rattle.rl_ops.specs.declared.schedule.Schedule.{Schedule}
 use Rattle.rl_ops.specs.Schedule.{steps_of}
 use Rattle.rl_site.specs.Site.{lock_base}
-use Rattle.rl_history.specs.Naming.{TheNaming, naming_of}
+use Rattle.rl_report.specs.Naming.{TheNaming, naming_of}
 use Rattle.rl_names.specs.declared.word_map.WordMap.{WordMap}
 use Rattle.rl_names.specs.declared.word_name.WordName.{WordName}
 use Rattle.rl_names.specs.declared.word_name.WordName.TheVariants as word
@@ -21,8 +21,8 @@ use Rattle.rl_machine.specs.Running.{ShardRun, Running}
 use Rattle.rl_machine.specs.Run.{on_shard, place_of, done_of, run_of, ranks_of_turns}
 use Rattle.rl_machine.specs.Start.{start_of}
 use Rattle.rl_machine.specs.Whereabouts.{standing_by, card_by}
-use Rattle.rl_cores.specs.Kinds.{Defined, lock_kind_of}
-use Rattle.rl_replay.specs.declared.replay.Replay.{Replay}
+use Rattle.rl_locks.specs.Kinds.{Defined, lock_kind_of}
+use Rattle.rl_inputs.specs.declared.replay.Replay.{Replay}
 use Rattle.rl_viewer.specs.declared.asking.Window.{Window}
 use Rattle.rl_shown.specs.Listing.{shown}
 

@@ -5,11 +5,11 @@ ghost use Rattle.rl_word.specs.Shapes.{IsProper as IsProperShape};
 ghost use Rattle.rl_place.specs.Places.{IsProper};
 ghost use Rattle.rl_place.specs.Shapes.{shape_of, knobs_of};
 ghost use Rattle.rl_ops.specs.Ops.{OpsFit};
-ghost use Rattle.rl_asks.specs.ShardTables.{site_with};
+ghost use Rattle.rl_core.specs.ShardTables.{site_with};
 ghost use Rattle.rl_machine.specs.Start.{start_of};
 ghost use Rattle.rl_shown.specs.Cores.{HaveTables, tables_of};
 
-use rl_asks::ShardCore;
+use rl_core::ShardCore;
 use rl_ops::{Ops, Room};
 use rl_place::Place;
 use rl_site::Site;

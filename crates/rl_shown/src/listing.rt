@@ -7,19 +7,19 @@ ghost use Rattle.rl_place.specs.Places.{IsProper};
 ghost use Rattle.rl_place.specs.Shapes.{shape_of, knobs_of};
 ghost use Rattle.rl_ops.specs.Ops.{OpsFit};
 ghost use Rattle.rl_ops.specs.Schedule.{ScheduleFits};
-ghost use Rattle.rl_replay.specs.Reading.{SuitsLock};
-ghost use Rattle.rl_cores.specs.Kinds.{lock_kind_of};
+ghost use Rattle.rl_inputs.specs.Reading.{SuitsLock};
+ghost use Rattle.rl_locks.specs.Kinds.{lock_kind_of};
 ghost use Rattle.rl_text.specs.Spelling.{text_of};
 ghost use Rattle.rl_shown.specs.Listing.{head_lines, listing_with, IsListing};
 
 use crate::stepping::{Scene, take_turn};
-use rl_asks::{Resting, ShardCore, ShardGuiding};
-use rl_cores::{CoreTask, Promising, over_lock};
-use rl_history::{Naming, put_word};
+use rl_core::{Resting, ShardCore, ShardGuiding};
+use rl_inputs::Replay;
+use rl_locks::{CoreTask, Promising, over_lock};
 use rl_machine::Machine;
 use rl_ops::{Ops, Schedule};
 use rl_place::Place;
-use rl_replay::Replay;
+use rl_report::{Naming, put_word};
 use rl_viewer::{Viewer, Window};
 use std::alloc::{AllocError as OutOfMemory, Global};
 

@@ -8,9 +8,9 @@ ghost use Rattle.rl_machine.specs.Running.{running};
 ghost use Rattle.rl_machine.specs.Whereabouts.{standing_by, card_by};
 ghost use Rattle.rl_shown.specs.State.{standing_word, card_line, card_lines, told_line, rank_line, rank_lines};
 
-use rl_asks::ShardCore;
-use rl_history::{put_value, put_word};
+use rl_core::ShardCore;
 use rl_machine::Machine;
+use rl_report::{put_value, put_word};
 use rl_step::Standing;
 use std::alloc::{AllocError as OutOfMemory, Global};
 

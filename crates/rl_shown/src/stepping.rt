@@ -7,15 +7,15 @@ ghost use Rattle.rl_step.specs.Answers.{steps_made};
 ghost use Rattle.rl_ops.specs.Schedule.{TurnFits, steps_of};
 ghost use Rattle.rl_machine.specs.Running.{running};
 ghost use Rattle.rl_machine.specs.Run.{stepped, run_of, turn_ranks};
-ghost use Rattle.rl_history.specs.Printing.{spaced};
+ghost use Rattle.rl_report.specs.Printing.{spaced};
 ghost use Rattle.rl_shown.specs.Listing.{is_out, out_word, step_line, step_lines};
 
-use rl_asks::ShardCore;
-use rl_history::{Naming, put_value, put_word};
+use rl_core::ShardCore;
 use rl_machine::Machine;
 use rl_names::put_step;
 use rl_ops::Turn;
 use rl_place::Place;
+use rl_report::{Naming, put_value, put_word};
 use rl_step::{Standing, Steps};
 use rl_text::put_number;
 use rl_viewer::Window;

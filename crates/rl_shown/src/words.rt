@@ -8,11 +8,11 @@ ghost use Rattle.rl_machine.specs.Running.{running};
 ghost use Rattle.rl_shown.specs.State.{is_told, word_line, word_lines, words_lines, lines_of_shard};
 ghost use Rattle.rl_shown.specs.Cores.{HaveTables, tables_of};
 
-use rl_asks::ShardCore;
-use rl_history::{Naming, put_value, put_word};
+use rl_core::ShardCore;
 use rl_machine::{Machine, rules};
 use rl_names::{WordMap, WordName, put_name};
 use rl_place::Place;
+use rl_report::{Naming, put_value, put_word};
 use rl_step::Words;
 use std::alloc::AllocError as OutOfMemory;
 

@@ -7,8 +7,8 @@ ghost use Rattle.rl_check.specs.OneThread.{BatchesFit, Tells};
 use crate::places::entry_line;
 use crate::reasons::{BatchPart, Reason};
 use rl_check::{Test, is_begun, one_thread};
-use rl_history::Report;
 use rl_model::{Entry, Geom, Reply};
+use rl_report::Report;
 use std::alloc::{AllocError as OutOfMemory, Global};
 
 /// How many of these entries are updates.

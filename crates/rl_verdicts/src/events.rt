@@ -3,7 +3,7 @@
 use crate::places::behind_queues;
 use crate::reasons::Reason;
 use rl_check::Queues;
-use rl_history::Report;
+use rl_report::Report;
 use rl_step::Event;
 
 /// As many ranks as there may be.

@@ -11,10 +11,10 @@ use crate::shards::reason_of_shard;
 use crate::spelling::SpelledCall;
 use rl_check::{Group, Illegal, Queues, Test};
 use rl_explain::Quoted;
-use rl_history::{Naming, Report, ShardReport};
 use rl_model::Call;
 use rl_ops::Ops;
 use rl_place::Place;
+use rl_report::{Naming, Report, ShardReport};
 use std::alloc::{AllocError as OutOfMemory, Global};
 use std::fmt;
 

@@ -5,7 +5,7 @@
 //! - [`say_verdict`] reads the kept texts of a check again, and writes the verdict to standard error, in one line.
 //!
 //! The numbers that are due come from what the tests themselves call: `one_thread` and `Queues` of `rl_check`, and `tallies` of
-//! `rl_history`.
+//! `rl_report`.
 //! Promise: it returns, whatever the report is. What a verdict says of each test is held against bent reports by `scripts/check-refusals`.
 #![tactic(auto)]
 

@@ -1,6 +1,6 @@
 //! Where the parts of a report stand in its text, as lines counted from 1.
 
-use rl_history::{Report, ShardReport};
+use rl_report::{Report, ShardReport};
 
 /// How many lines the part of a shard has.
 fn lines_of(part: &ShardReport) -> usize {

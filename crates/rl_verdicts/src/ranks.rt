@@ -4,9 +4,9 @@ use crate::places::{entry_line, rank_line};
 use crate::reasons::Reason;
 use crate::shards::Told;
 use rl_check::Test;
-use rl_history::{Done, Report};
 use rl_model::{Call, Entry};
 use rl_ops::Ops;
+use rl_report::{Done, Report};
 
 /// An entry, and its line.
 #[derive(Clone, Copy)]

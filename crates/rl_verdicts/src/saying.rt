@@ -2,15 +2,15 @@
 ghost use Rattle.std.specs.Prelude.{◌≡◌, length};
 ghost use Rattle.rl_place.specs.Places.{IsProper};
 ghost use Rattle.rl_ops.specs.Ops.{OpsFit};
-ghost use Rattle.rl_history.specs.Naming.{naming_of};
-ghost use Rattle.rl_history.specs.Reports.{ReportFits};
+ghost use Rattle.rl_report.specs.Naming.{naming_of};
+ghost use Rattle.rl_report.specs.Reports.{ReportFits};
 
 use crate::explaining::explain_fault;
 use rl_check::check_one;
 use rl_explain::{Kept, KeptText, place_in};
-use rl_history::{Naming, Report, read_report};
 use rl_ops::{Ops, read_ops};
 use rl_place::Place;
+use rl_report::{Naming, Report, read_report};
 use rl_text::TEXT_LIMIT;
 use std::alloc::{AllocError as OutOfMemory, Global};
 use std::io::Eprint;

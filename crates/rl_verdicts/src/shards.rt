@@ -8,8 +8,8 @@ use crate::entries::updates_among;
 use crate::places::{behind_queues, queue_line, shard_line};
 use crate::reasons::Reason;
 use rl_check::{Queues, Test, one_thread};
-use rl_history::{Report, ShardReport, tallies, within};
 use rl_model::Geom;
+use rl_report::{Report, ShardReport, tallies, within};
 use rl_step::Tally;
 use std::alloc::{AllocError as OutOfMemory, Global};
 

@@ -2,10 +2,10 @@
 use Rattle.std.proofs.Common.{◌≡◌, ◌≢◌, ◌≤◌, ℕ, List, [], length, take, Option, Some, None, Result, Ok, Err, refl, sym, subst, ⊎_elim, arith}
 use Rattle.std.specs.Global.{Vec}
 use Rattle.rl_io.specs.Outside.{Appends, GoesOn}
-use Rattle.rl_replay.specs.declared.complaint.Complaint.{Complaint}
-use Rattle.rl_replay.specs.declared.complaint.Stop.TheVariants.{Refused}
-use Rattle.rl_replay.specs.declared.replay.Replay.{Replay}
-use Rattle.rl_replay.specs.Files.{Texts, name_of, spelled, refused_line}
+use Rattle.rl_inputs.specs.declared.complaint.Complaint.{Complaint}
+use Rattle.rl_inputs.specs.declared.complaint.Stop.TheVariants.{Refused}
+use Rattle.rl_inputs.specs.declared.replay.Replay.{Replay}
+use Rattle.rl_inputs.specs.Files.{Texts, name_of, spelled, refused_line}
 use Rattle.rl_viewer.specs.declared.asking.Window.{Window}
 use Rattle.rl_viewer.specs.Asking.{TheAsked}
 use Rattle.rl_viewer.specs.Answer.{Answers, IsAnswer, AreTold, IsDone, IsOf, WasShown}

@@ -2,11 +2,11 @@
 use Rattle.std.specs.Prelude.{◌≡◌, ◌≢◌, ◌≤◌, ◌⊎◌, ℕ, List, take, length, Bool, Option, Some, None, Result, Ok, Err}
 use Rattle.std.specs.Global.{Vec}
 use Rattle.rl_io.specs.Outside.{Appends, GoesOn}
-use Rattle.rl_replay.specs.declared.complaint.Complaint.{Complaint}
-use Rattle.rl_replay.specs.declared.complaint.Stop.{Stop}
-use Rattle.rl_replay.specs.declared.replay.Replay.{Replay}
-use Rattle.rl_replay.specs.Reading.{EndsEarly}
-use Rattle.rl_replay.specs.Files.{Texts, AreTexts, MayOpenFiles, name_of, spelled, refused_line}
+use Rattle.rl_inputs.specs.declared.complaint.Complaint.{Complaint}
+use Rattle.rl_inputs.specs.declared.complaint.Stop.{Stop}
+use Rattle.rl_inputs.specs.declared.replay.Replay.{Replay}
+use Rattle.rl_inputs.specs.Reading.{EndsEarly}
+use Rattle.rl_inputs.specs.Files.{Texts, AreTexts, MayOpenFiles, name_of, spelled, refused_line}
 use Rattle.rl_viewer.specs.declared.asking.Window.{Window}
 use Rattle.rl_viewer.specs.Asking.{TheAsked}
 

@@ -1,7 +1,7 @@
 -- What the words of the command line ask for.
 use Rattle.std.specs.Prelude.{ℕ, List, [], ◌∷◌, Bool, ◌&&◌, nat_lt, nat_le, Option, Some, None, if◌then◌else◌}
 use Rattle.rl_text.specs.Number.{number_of}
-use Rattle.rl_replay.specs.Files.{Names, named}
+use Rattle.rl_inputs.specs.Files.{Names, named}
 use Rattle.rl_viewer.specs.declared.asking.Asked.{Asked}
 use Rattle.rl_viewer.specs.declared.asking.Window.{Window}
 

@@ -4,8 +4,8 @@ ghost use Rattle.std.specs.Option.{option_map};
 ghost use Rattle.rl_text.specs.Number.{number_of};
 ghost use Rattle.rl_viewer.specs.Asking.{is_in, window_by, moment_by, the_asked, asked_by, asked_before};
 
+use rl_inputs::Files;
 use rl_ops::MOST_STEPS;
-use rl_replay::Files;
 use rl_text::number;
 
 /// Steps: those from `from` on and before `to`.

@@ -5,16 +5,16 @@ ghost use Rattle.rl_io.specs.Outside.{Appends, GoesOn};
 ghost use Rattle.rl_place.specs.Places.{IsProper};
 ghost use Rattle.rl_ops.specs.Ops.{OpsFit};
 ghost use Rattle.rl_ops.specs.Schedule.{ScheduleFits};
-ghost use Rattle.rl_replay.specs.declared.replay.Replay.{Replay};
-ghost use Rattle.rl_replay.specs.Reading.{RisesWithFault, SuitsLock};
-ghost use Rattle.rl_replay.specs.Files.{named, MayOpenFiles};
+ghost use Rattle.rl_inputs.specs.declared.replay.Replay.{Replay};
+ghost use Rattle.rl_inputs.specs.Reading.{RisesWithFault, SuitsLock};
+ghost use Rattle.rl_inputs.specs.Files.{named, MayOpenFiles};
 ghost use Rattle.rl_viewer.specs.declared.asking.Window.{Window};
 ghost use Rattle.rl_viewer.specs.Asking.{the_asked, asked_by};
 ghost use Rattle.rl_viewer.specs.Answer.{MayRead, WasShown, IsDone};
 
 use crate::asking::{Asked, Window, asked_in};
+use rl_inputs::{Replay, Stop, read_replay, refusal_line};
 use rl_io::{Failed, Sink, Source, write_all};
-use rl_replay::{Replay, Stop, read_replay, refusal_line};
 use std::alloc::{AllocError as OutOfMemory, Global};
 
 /// A program that shows a replay.

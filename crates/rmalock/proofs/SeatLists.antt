@@ -8,9 +8,9 @@ use Rattle.rl_word.specs.Shapes.{TheShape, IsProper}
 use Rattle.rl_word.specs.laws.Places.{get_set_cases, some_at}
 use Rattle.rl_place.specs.Places.{ThePlace}
 use Rattle.rl_place.specs.Shapes.{shape_of}
-use Rattle.rl_asks.specs.ShardTables.{ShardTable, first_views}
-use Rattle.rl_asks.specs.ShardLaws.{GoodOf}
-use Rattle.rl_asks.specs.laws.Filling.{first_length}
+use Rattle.rl_core.specs.ShardTables.{ShardTable, first_views}
+use Rattle.rl_core.specs.ShardLaws.{GoodOf}
+use Rattle.rl_core.specs.laws.Filling.{first_length}
 use Rattle.rl_shard.specs.declared.shard.Shard.{Shard}
 use Rattle.rl_shard.specs.declared.seat.Seat.{Seat}
 use Rattle.rl_shard.specs.Counting.{first_counted}

@@ -6,11 +6,11 @@ ghost use Rattle.rl_place.specs.LockWords.{name_of};
 ghost use Rattle.rl_place.specs.Places.{IsProper};
 ghost use Rattle.rl_place.specs.Shapes.{shape_of, knobs_of};
 ghost use Rattle.rl_ops.specs.Ops.{OpsFit};
-ghost use Rattle.rl_replay.specs.Reading.{SuitsLock};
+ghost use Rattle.rl_inputs.specs.Reading.{SuitsLock};
 ghost use Rattle.rl_run.specs.Runs.{AreCallers};
 
 use crate::signs::answer_sign;
-use rl_asks::ShardCore;
+use rl_core::ShardCore;
 use rl_ops::Ops;
 use rl_place::Place;
 use rl_run::{Caller, begin_all};

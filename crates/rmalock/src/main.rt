@@ -31,9 +31,9 @@ mod trials;
 mod way_tests;
 
 use rl_explain::{KeptFiles, Third, say_refusal};
+use rl_inputs::{say_why, words};
 use rl_io::{OpenGate, RealFiles, RealOut};
 use rl_program::rmalock;
-use rl_replay::{say_why, words};
 use rl_verdicts::say_verdict;
 use std::alloc::AllocError as OutOfMemory;
 use std::process::ExitCode;

@@ -1,8 +1,8 @@
 //! A report that is read back as it was written.
 
 use crate::answers::{answer_alone, look, three_files};
-use rl_history::{read_report, report_text};
 use rl_place::read_place;
+use rl_report::{read_report, report_text};
 use rl_text::{TEXT_LIMIT, TextErr};
 use std::alloc::Global;
 

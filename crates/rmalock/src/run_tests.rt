@@ -7,10 +7,10 @@ use crate::schedules::{
     place_of, ranks_of, told_of,
 };
 use crossbeam_utils::Backoff;
-use rl_history::{Report, read_report};
 use rl_io::{FixedSink, Gate, OpenGate};
 use rl_model::{Entry, Reply};
 use rl_place::read_place;
+use rl_report::{Report, read_report};
 use rl_text::{TEXT_LIMIT, TextErr};
 use std::alloc::{AllocError as OutOfMemory, Global};
 use std::process::Abort;

@@ -6,14 +6,14 @@ ghost use Rattle.rl_model.specs.Call.{shard_of};
 ghost use Rattle.rl_model.specs.Geom.{GeomFits};
 ghost use Rattle.rl_place.specs.Places.{IsProper};
 ghost use Rattle.rl_place.specs.Shapes.{shape_of, knobs_of};
-ghost use Rattle.rl_cores.specs.Fresh.{IsFresh};
+ghost use Rattle.rl_locks.specs.Fresh.{IsFresh};
 ghost use Rattle.rl_shard.specs.Shards.{IsOf, IsShardOf, AreOf, AreClosed, rank_at};
 
 use crate::schedules::one_shard;
 use crate::signs::{answer_sign, answers_alone};
 use crate::trials::{look_same, read_both, trial};
-use rl_asks::{Resting, ShardCore, ShardGuiding};
-use rl_cores::{
+use rl_core::{Resting, ShardCore, ShardGuiding};
+use rl_locks::{
     AlockCore, CombineCore, CoreTask, DmcsCore, McsCore, Promising, RwCore, SeqCore, SpinCore,
     over_lock, settings_suit,
 };

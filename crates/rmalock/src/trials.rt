@@ -7,12 +7,12 @@ ghost use Rattle.rl_place.specs.Places.{IsProper};
 ghost use Rattle.rl_place.specs.Shapes.{shape_of, knobs_of};
 ghost use Rattle.rl_ops.specs.Ops.{OpsFit};
 ghost use Rattle.rl_step.specs.Answers.{steps_made};
-ghost use Rattle.rl_replay.specs.Reading.{SuitsLock};
+ghost use Rattle.rl_inputs.specs.Reading.{SuitsLock};
 
 use crate::callers::told_by;
 use crate::signs::{answers_alone, told};
-use rl_asks::{Resting, ShardCore, ShardGuiding};
-use rl_cores::{CoreTask, Promising, over_lock};
+use rl_core::{Resting, ShardCore, ShardGuiding};
+use rl_locks::{CoreTask, Promising, over_lock};
 use rl_machine::Machine;
 use rl_model::Entry;
 use rl_ops::{Ops, read_ops};

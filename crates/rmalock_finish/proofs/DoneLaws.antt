@@ -1,7 +1,7 @@
 -- What was written is what belongs to the words.
 use Rattle.std.proofs.Common.{◌≡◌, ◌≢◌, ◌≤◌, ℕ, List, [], length, take, Option, Some, None, Ok, sym, subst, ⊎_elim, arith}
 use Rattle.rl_io.specs.Outside.{Appends, GoesOn}
-use Rattle.rl_replay.specs.Files.{Names, Texts, spelled}
+use Rattle.rl_inputs.specs.Files.{Names, Texts, spelled}
 use Rattle.rmalock_finish.specs.declared.answering.Answer.{Answer}
 use Rattle.rmalock_finish.specs.Answer.{usage_text, Answers, IsAnswer, AreTold, IsDone, WasAnswered}
 

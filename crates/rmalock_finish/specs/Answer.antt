@@ -1,10 +1,10 @@
 -- What the program answers: the schedule made complete of the replay that the files spell, and else the line that says why there is none.
 use Rattle.std.specs.Prelude.{◌≡◌, ◌≢◌, ◌≤◌, ◌<◌, ◌⊎◌, ℕ, List, [], ◌∷◌, ◌++◌, codes, take, length, Bool, Option, Some, None, Result, Ok, Err, IfOk}
 use Rattle.rl_io.specs.Outside.{Appends, GoesOn}
-use Rattle.rl_replay.specs.declared.complaint.Complaint.{Complaint}
-use Rattle.rl_replay.specs.declared.replay.Replay.{Replay}
-use Rattle.rl_replay.specs.Files.{Names, Texts, AreTexts, MayOpenFiles, name_of, spelled, refused_line}
-use Rattle.rl_cores.specs.Kinds.{lock_kind_of}
+use Rattle.rl_inputs.specs.declared.complaint.Complaint.{Complaint}
+use Rattle.rl_inputs.specs.declared.replay.Replay.{Replay}
+use Rattle.rl_inputs.specs.Files.{Names, Texts, AreTexts, MayOpenFiles, name_of, spelled, refused_line}
+use Rattle.rl_locks.specs.Kinds.{lock_kind_of}
 use Rattle.rl_completed.specs.declared.uncompleted.Reason.{Reason}
 use Rattle.rl_completed.specs.Completing.{IsComplete, IsReason, reason_line}
 use Rattle.rmalock_finish.specs.declared.answering.Answer.{Answer}

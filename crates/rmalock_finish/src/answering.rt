@@ -5,14 +5,14 @@ ghost use Rattle.rl_io.specs.Outside.{Appends, GoesOn};
 ghost use Rattle.rl_place.specs.Places.{IsProper};
 ghost use Rattle.rl_ops.specs.Ops.{OpsFit};
 ghost use Rattle.rl_ops.specs.Schedule.{ScheduleFits};
-ghost use Rattle.rl_replay.specs.Reading.{SuitsLock};
-ghost use Rattle.rl_replay.specs.Files.{named, MayOpenFiles};
+ghost use Rattle.rl_inputs.specs.Reading.{SuitsLock};
+ghost use Rattle.rl_inputs.specs.Files.{named, MayOpenFiles};
 ghost use Rattle.rmalock_finish.specs.declared.answering.Unanswered.TheVariants.{Memory};
 ghost use Rattle.rmalock_finish.specs.Answer.{asked_by, AnswersReplay, IsDone, MayRead, RisesWithFault, WasAnswered};
 
 use rl_completed::{Uncompleted, completed, reason_line};
+use rl_inputs::{Files, Replay, Stop, read_replay, refusal_line};
 use rl_io::{Failed, Sink, Source, write_all};
-use rl_replay::{Files, Replay, Stop, read_replay, refusal_line};
 use std::alloc::{AllocError, AllocError as OutOfMemory, Global};
 
 /// The one line that says which words are a form.

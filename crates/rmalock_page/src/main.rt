@@ -7,8 +7,8 @@ mod answering;
 
 use crate::answering::page_replay;
 use rl_explain::{KeptFiles, Third, say_refusal};
+use rl_inputs::{say_why, words};
 use rl_io::{RealFiles, RealOut};
-use rl_replay::{say_why, words};
 use std::alloc::AllocError as OutOfMemory;
 use std::process::ExitCode;
 use std::rt::{Env, Files};

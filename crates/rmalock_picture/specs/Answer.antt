@@ -1,6 +1,6 @@
 -- What the program answers: a picture, whose bytes are left open, and else what every viewer answers.
 use Rattle.std.specs.Prelude.{ℕ, List, codes, ◌++◌, ◌∷◌, [], Option}
-use Rattle.rl_replay.specs.declared.replay.Replay.{Replay}
+use Rattle.rl_inputs.specs.declared.replay.Replay.{Replay}
 use Rattle.rl_viewer.specs.declared.asking.Window.{Window}
 use Rattle.rl_viewer.specs.Asking.{TheAsked}
 use Rattle.rl_viewer.specs.Answer as viewer

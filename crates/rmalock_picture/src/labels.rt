@@ -3,7 +3,7 @@
 use crate::lanes::{Happening, Mark};
 use crate::scale::Scale;
 use crate::svg::Px;
-use rl_history::{Naming, QueueName};
+use rl_report::{Naming, QueueName};
 use rl_step::Event;
 use std::alloc::{AllocError as OutOfMemory, Global};
 use std::fmt;

@@ -20,8 +20,8 @@ mod tests;
 
 use crate::picturing::draw_replay;
 use rl_explain::{KeptFiles, Third, say_refusal};
+use rl_inputs::{say_why, words};
 use rl_io::{RealFiles, RealOut};
-use rl_replay::{say_why, words};
 use std::alloc::AllocError as OutOfMemory;
 use std::process::ExitCode;
 use std::rt::{Env, Files};

@@ -6,10 +6,10 @@ ghost use Rattle.rmalock_picture.specs.Answer.{IsPicture, IsDone};
 
 use crate::drawing::{Scene, draw};
 use crate::recording::record;
-use rl_history::Naming;
+use rl_inputs::Replay;
 use rl_io::{Sink, Source};
 use rl_ops::Schedule;
-use rl_replay::Replay;
+use rl_report::Naming;
 use rl_viewer::{Viewer, Window, show_replay};
 use std::alloc::{AllocError as OutOfMemory, Global};
 

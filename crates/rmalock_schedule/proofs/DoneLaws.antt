@@ -1,11 +1,11 @@
 -- What was written is what belongs to the words.
 use Rattle.std.proofs.Common.{◌≡◌, ◌≢◌, ◌≤◌, ℕ, List, [], length, take, Option, Some, None, Result, Ok, Err, refl, sym, subst, ⊎_elim, arith}
 use Rattle.rl_io.specs.Outside.{Appends, GoesOn}
-use Rattle.rl_replay.specs.declared.complaint.Complaint.{Complaint}
-use Rattle.rl_replay.specs.declared.complaint.Stop.{Stop}
-use Rattle.rl_replay.specs.declared.complaint.Stop.TheVariants as stop
-use Rattle.rl_replay.specs.Reading.{Ends}
-use Rattle.rl_replay.specs.Files.{Names, Texts, name_of, refused_line}
+use Rattle.rl_inputs.specs.declared.complaint.Complaint.{Complaint}
+use Rattle.rl_inputs.specs.declared.complaint.Stop.{Stop}
+use Rattle.rl_inputs.specs.declared.complaint.Stop.TheVariants as stop
+use Rattle.rl_inputs.specs.Reading.{Ends}
+use Rattle.rl_inputs.specs.Files.{Names, Texts, name_of, refused_line}
 use Rattle.rmalock_schedule.specs.declared.reading.Sketched.{Sketched}
 use Rattle.rmalock_schedule.specs.declared.answering.Answer.{Answer}
 use Rattle.rmalock_schedule.specs.Answer.{usage_text, spelled, IsDrawnAs, Answers, IsAnswer, AreTold, IsDone, IsOf, WereRead, WasDrawn}

@@ -3,14 +3,14 @@ use Rattle.std.proofs.Common.{◌≡◌, ℕ, List, [], Option, Result, Ok, Err,
 use Rattle.rl_place.specs.Places.{ThePlace}
 use Rattle.rl_ops.specs.declared.ops.Ops.{Ops}
 use Rattle.rl_sketch.specs.declared.sketch.Sketch.{Sketch}
-use Rattle.rl_replay.specs.declared.complaint.Complaint.{Complaint}
-use Rattle.rl_replay.specs.declared.complaint.Stop.{Stop}
-use Rattle.rl_replay.specs.declared.complaint.Stop.TheVariants as stop
+use Rattle.rl_inputs.specs.declared.complaint.Complaint.{Complaint}
+use Rattle.rl_inputs.specs.declared.complaint.Stop.{Stop}
+use Rattle.rl_inputs.specs.declared.complaint.Stop.TheVariants as stop
 use Rattle.rmalock_schedule.specs.declared.reading.Sketched.{Sketched}
-use Rattle.rl_replay.specs.Reading.{◌>>=◌, Fits, EndsEarly, Ends, WasRead, placed, called}
-use Rattle.rl_replay.specs.Files.{Names}
+use Rattle.rl_inputs.specs.Reading.{◌>>=◌, Fits, EndsEarly, Ends, WasRead, placed, called}
+use Rattle.rl_inputs.specs.Files.{Names}
 use Rattle.rmalock_schedule.specs.Answer.{WereRead, spelled, sketched}
-use Rattle.rl_replay.proofs.ReadLemmas.{fits_told}
+use Rattle.rl_inputs.proofs.ReadLemmas.{fits_told}
 
 -- a step that ends early ends all that follows
 stops_at : {Y : Type 0} (why : Stop) (told : Result Y Complaint) (next : Y → Result Sketched Complaint) → EndsEarly why told → EndsEarly why (told >>= next)

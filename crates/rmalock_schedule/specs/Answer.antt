@@ -4,12 +4,12 @@ use Rattle.rl_io.specs.Outside.{Appends, GoesOn}
 use Rattle.rl_text.specs.Spelling.{line_text}
 use Rattle.rl_place.specs.Places.{ThePlace}
 use Rattle.rl_ops.specs.Schedule.{schedule_spelling}
-use Rattle.rl_replay.specs.declared.complaint.Which.TheVariants.{Schedule}
-use Rattle.rl_replay.specs.declared.complaint.Complaint.{Complaint}
-use Rattle.rl_replay.specs.declared.complaint.Stop.{Stop}
-use Rattle.rl_replay.specs.Reading.{◌>>=◌, EndsEarly, Ends, within, refused_in, placed, called}
-use Rattle.rl_replay.specs.Files.{Names, Texts, AreTexts, MayOpenFiles, name_of, refused_line}
-use Rattle.rl_cores.specs.Kinds.{lock_kind_of}
+use Rattle.rl_inputs.specs.declared.complaint.Which.TheVariants.{Schedule}
+use Rattle.rl_inputs.specs.declared.complaint.Complaint.{Complaint}
+use Rattle.rl_inputs.specs.declared.complaint.Stop.{Stop}
+use Rattle.rl_inputs.specs.Reading.{◌>>=◌, EndsEarly, Ends, within, refused_in, placed, called}
+use Rattle.rl_inputs.specs.Files.{Names, Texts, AreTexts, MayOpenFiles, name_of, refused_line}
+use Rattle.rl_locks.specs.Kinds.{lock_kind_of}
 use Rattle.rl_sketch.specs.declared.sketch.Sketch.{Sketch}
 use Rattle.rl_drawing.specs.declared.outcome.Drawn.{Drawn}
 use Rattle.rl_drawing.specs.declared.outcome.Drawn.TheVariants.{Whole, Never}

@@ -3,17 +3,17 @@ ghost use Rattle.std.specs.Prelude.{◌≡◌, ◌≢◌, ◌<◌, ◌≤◌, �
 ghost use Rattle.rl_io.specs.Outside.{Appends, GoesOn};
 ghost use Rattle.rl_place.specs.Places.{IsProper};
 ghost use Rattle.rl_ops.specs.Ops.{OpsFit};
-ghost use Rattle.rl_replay.specs.Reading.{RisesWithFault, SuitsLock};
-ghost use Rattle.rl_replay.specs.Files.{named, MayOpenFiles};
+ghost use Rattle.rl_inputs.specs.Reading.{RisesWithFault, SuitsLock};
+ghost use Rattle.rl_inputs.specs.Files.{named, MayOpenFiles};
 ghost use Rattle.rl_sketch.specs.Sketch.{SketchFits};
 ghost use Rattle.rmalock_schedule.specs.Answer.{asked_by, never_line, IsTold, IsDrawnAs, MayRead, IsDone, WasDrawn};
 
 use crate::asking::asked_in;
 use crate::reading::{Sketched, read_files};
 use rl_drawing::{Drawn, drawn};
+use rl_inputs::{Files, Stop, refusal_line};
 use rl_io::{Failed, Sink, Source, write_all};
 use rl_ops::schedule_text;
-use rl_replay::{Files, Stop, refusal_line};
 use rl_text::put_number;
 use std::alloc::{AllocError as OutOfMemory, Global};
 

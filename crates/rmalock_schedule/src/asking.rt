@@ -1,10 +1,10 @@
 //! The words of the command line.
 ghost use Rattle.std.specs.Prelude.{◌≡◌, map, string_bytes};
 ghost use Rattle.std.specs.Option.{option_map};
-ghost use Rattle.rl_replay.specs.Files.{named};
+ghost use Rattle.rl_inputs.specs.Files.{named};
 ghost use Rattle.rmalock_schedule.specs.Answer.{asked_by};
 
-use rl_replay::Files;
+use rl_inputs::Files;
 
 /// The files that the words `PLACE CALLS SKETCH` name; the sketch stands in the schedule's place. Nothing where they are other words.
 pub fn asked_in(words: &[String]) -> Option<Files<'_>>

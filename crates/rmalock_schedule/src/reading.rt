@@ -3,16 +3,16 @@ ghost use Rattle.std.specs.Prelude.{◌≡◌, ◌<◌, ◌≤◌, IsTrue, IfOk,
 ghost use Rattle.rl_io.specs.Outside.{SameFiles};
 ghost use Rattle.rl_place.specs.Places.{IsProper};
 ghost use Rattle.rl_ops.specs.Ops.{OpsFit};
-ghost use Rattle.rl_replay.specs.Reading.{WasRead, RisesWithFault, SuitsLock, within, stopped_in};
-ghost use Rattle.rl_replay.specs.Files.{named, MayOpenFiles};
-ghost use Rattle.rl_replay.specs.declared.complaint.Which.TheVariants.{Schedule};
+ghost use Rattle.rl_inputs.specs.Reading.{WasRead, RisesWithFault, SuitsLock, within, stopped_in};
+ghost use Rattle.rl_inputs.specs.Files.{named, MayOpenFiles};
+ghost use Rattle.rl_inputs.specs.declared.complaint.Which.TheVariants.{Schedule};
 ghost use Rattle.rl_sketch.specs.Sketch.{SketchFits};
 ghost use Rattle.rmalock_schedule.specs.Answer.{sketched, WereRead};
 
+use rl_inputs::{Complaint, Files, Stop, Trouble, Which, read_called, read_placed};
 use rl_io::{ReadErr, Source, read_file};
 use rl_ops::Ops;
 use rl_place::Place;
-use rl_replay::{Complaint, Files, Stop, Trouble, Which, read_called, read_placed};
 use rl_sketch::{Sketch, read_sketch};
 use rl_text::TextErr;
 use std::alloc::Global;

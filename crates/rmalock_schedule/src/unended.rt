@@ -8,7 +8,7 @@ ghost use Rattle.rl_place.specs.LockWords.{name_of};
 ghost use Rattle.rl_place.specs.Places.{IsProper};
 ghost use Rattle.rl_ops.specs.Ops.{OpsFit};
 ghost use Rattle.rl_ops.specs.Schedule.{ScheduleFits};
-ghost use Rattle.rl_replay.specs.Reading.{SuitsLock};
+ghost use Rattle.rl_inputs.specs.Reading.{SuitsLock};
 ghost use Rattle.rl_sketch.specs.Sketch.{SketchFits};
 
 use rl_drawing::{Drawn, drawn};

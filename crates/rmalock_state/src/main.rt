@@ -10,8 +10,8 @@ mod tests;
 
 use crate::answering::tell_state;
 use rl_explain::{KeptFiles, Third, say_refusal};
+use rl_inputs::{say_why, words};
 use rl_io::{RealFiles, RealOut};
-use rl_replay::{say_why, words};
 use std::alloc::AllocError as OutOfMemory;
 use std::process::ExitCode;
 use std::rt::{Env, Files};

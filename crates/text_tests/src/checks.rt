@@ -2,8 +2,8 @@
 
 use crate::samples::{ALOCK, SPIN, place_of};
 use rl_check::{Group, Illegal, Test, check_all, check_one, check_rank, check_shard, report_laws};
-use rl_history::read_report;
 use rl_ops::read_ops;
+use rl_report::read_report;
 use rl_text::{TEXT_LIMIT, TextErr};
 use std::test::*;
 use std::thread::Threads;

@@ -1,8 +1,8 @@
 //! The forms of text, and tables of texts that they refuse.
 
 use crate::samples::place_of;
-use rl_history::read_report;
 use rl_ops::{read_ops, read_schedule};
+use rl_report::read_report;
 use rl_text::{Refusal, TEXT_LIMIT, TextErr, Why};
 use std::alloc::{AllocError as OutOfMemory, Global};
 use std::process::Abort;

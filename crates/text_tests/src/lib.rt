@@ -2,7 +2,7 @@
 //! report; and of the one-thread table, whose replies a report tells.
 //!
 //! The crate holds nothing but tests, and nothing stands on it. It tests `rl_io` (`files`), `rl_text` (`lines`), `rl_model`
-//! (`table`), `rl_place` (`places`, `place_faults`), `rl_ops` (`calls`, `batches`, `schedules`), `rl_history` (`reports`,
+//! (`table`), `rl_place` (`places`, `place_faults`), `rl_ops` (`calls`, `batches`, `schedules`), `rl_report` (`reports`,
 //! `report_faults`, `merging`), `rl_check` (`checks`) and `rl_names` (`names`) by their public calls.
 //!
 //! The values that are expected were worked out by hand from what the formats say (FORMATS in `docs/`), or are the outside's own, as

@@ -2,8 +2,8 @@
 
 use crate::reports::{tally, update};
 use crate::samples::put;
-use rl_history::{merge, within};
 use rl_model::{Call, Entry, Reply};
+use rl_report::{merge, within};
 use std::test::*;
 
 // Two ranks' gets, holds and updates: ordered by the updates before them, reads before the update, then by rank.

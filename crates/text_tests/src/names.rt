@@ -1,8 +1,8 @@
 //! The names of all words of small shards, by what stands where.
 
-use rl_history::Naming;
 use rl_names::{WordMap, put_name};
 use rl_place::read_place;
+use rl_report::Naming;
 use rl_text::{TEXT_LIMIT, TextErr};
 use std::alloc::Global;
 use std::test::*;

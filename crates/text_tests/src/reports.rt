@@ -6,8 +6,8 @@ use crate::report_texts::{
     SHARDS, SHARDS_REPORT, SPIN_REPORT, TREE_REPORT,
 };
 use crate::samples::{ALOCK, SPIN, TREE, place_of, put};
-use rl_history::{Done, Report, ShardReport, read_report, report_text, tallies};
 use rl_model::{Call, Entry, Reply};
+use rl_report::{Done, Report, ShardReport, read_report, report_text, tallies};
 use rl_step::{Event, Steps, Tally};
 use rl_text::{TEXT_LIMIT, TextErr, Why};
 use std::alloc::{AllocError as OutOfMemory, Global};

@@ -13,8 +13,8 @@ mod trying;
 
 use crate::reading::read_cases;
 use crate::trying::{Tried, try_case};
+use rl_inputs::words;
 use rl_io::{RealFiles, read_file};
-use rl_replay::words;
 use std::process::ExitCode;
 use std::rt::{Env, Files};
 use std::sync::Wait;

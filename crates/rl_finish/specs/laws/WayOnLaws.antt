@@ -7,7 +7,7 @@ use Rattle.std.proofs.lemmas.Option.{same_Some, slice_get-get_or}
 use Rattle.rl_ops.specs.declared.schedule.Turn.{Turn}
 use Rattle.rl_ops.specs.declared.schedule.Turn.TheVariants.{Steps, Stop}
 use Rattle.rl_ops.specs.Schedule.{TurnFits, rank_of, steps_of}
-use Rattle.rl_asks.specs.ShardGuiding.{UrgentOf}
+use Rattle.rl_core.specs.ShardGuiding.{UrgentOf}
 use Rattle.rl_machine.specs.Running.{Running}
 use Rattle.rl_machine.specs.Run.{stepped, run_of, turn_ranks, ranks_of_turns, steps_in}
 use Rattle.rl_machine.specs.laws.ReplayLaws.{run_append, replicate-end}

@@ -7,8 +7,8 @@ use Rattle.rl_model.specs.declared.call.Call.{Call}
 use Rattle.rl_model.specs.declared.geom.Geom.{Geom}
 use Rattle.rl_model.specs.Asked.{Asked}
 use Rattle.rl_ops.specs.Asked.{batch_of, BeginsAt}
-use Rattle.rl_asks.specs.Asks.{AreBlocks, sizes_in, asked_after, asked_of}
-use Rattle.rl_asks.specs.RankGood.{AsksNext}
+use Rattle.rl_core.specs.Asks.{AreBlocks, sizes_in, asked_after, asked_of}
+use Rattle.rl_core.specs.RankGood.{AsksNext}
 
 -- a size that begins a block, at a place of a list
 abbrev BeginsBlock : List ℕ → ℕ → Type 0

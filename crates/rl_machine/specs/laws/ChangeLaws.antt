@@ -10,9 +10,9 @@ use Rattle.rl_step.specs.Answers.{steps_made}
 use Rattle.rl_step.specs.Do.{TheWindow, do_got}
 use Rattle.rl_step.specs.Exclusion.{writers}
 use Rattle.rl_site.specs.Site.{lock_base}
-use Rattle.rl_asks.specs.Asks.{block_shard}
-use Rattle.rl_asks.specs.laws.TouchLaws.{only_writers}
-use Rattle.rl_asks.specs.ShardTables.{ShardTable}
+use Rattle.rl_core.specs.Asks.{block_shard}
+use Rattle.rl_core.specs.laws.TouchLaws.{only_writers}
+use Rattle.rl_core.specs.ShardTables.{ShardTable}
 use Rattle.rl_machine.specs.Running.{ShardRun, Running}
 use Rattle.rl_machine.specs.ShardSteps.{events_of, opened_at, opened_on, makes, made_at, atom_on}
 use Rattle.rl_machine.specs.Run.{changed_if, place_of, opens, next_block, opened_if, block_opened, stepped}

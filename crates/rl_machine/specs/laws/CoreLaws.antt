@@ -18,9 +18,9 @@ use Rattle.rl_step.specs.Transitions.{Transition}
 use Rattle.rl_step.specs.Batches.{AreShown, HandsOn}
 use Rattle.rl_ops.specs.Ops.{total_calls}
 use Rattle.rl_site.specs.Site.{Site}
-use Rattle.rl_asks.specs.laws.OpsBridge.{CanBegin}
-use Rattle.rl_asks.specs.ShardTables.{ShardTable}
-use Rattle.rl_asks.specs.ShardLaws.{GoodOf, CauseOf, FurtherOf, LawsOf, IsLaidAtSite}
+use Rattle.rl_core.specs.laws.OpsBridge.{CanBegin}
+use Rattle.rl_core.specs.ShardTables.{ShardTable}
+use Rattle.rl_core.specs.ShardLaws.{GoodOf, CauseOf, FurtherOf, LawsOf, IsLaidAtSite}
 use Rattle.rl_machine.specs.Running.{ShardRun, Running, TheShard, TheMachine, shard_run, running, cores_of}
 use Rattle.rl_machine.specs.ShardSteps.{events_of}
 use Rattle.rl_machine.specs.Start.{site_of, first_shards, start}

@@ -4,11 +4,11 @@ use Rattle.std.proofs.Common.{subst}
 use Rattle.rl_word.specs.Acts.{Layout}
 use Rattle.rl_step.specs.declared.events.Stepped.{Stepped}
 use Rattle.rl_step.specs.Do.{TheWindow}
-use Rattle.rl_asks.specs.declared.round.Round.{Round}
-use Rattle.rl_asks.specs.Idle.{IdleWhile, IsNamed}
-use Rattle.rl_asks.specs.Rounds.{IsRound}
-use Rattle.rl_asks.specs.ShardTables.{ShardTable}
-use Rattle.rl_asks.specs.ShardLaws.{GoodOf, CauseOf, FurtherOf, LawsOf}
+use Rattle.rl_core.specs.declared.round.Round.{Round}
+use Rattle.rl_core.specs.Idle.{IdleWhile, IsNamed}
+use Rattle.rl_core.specs.Rounds.{IsRound}
+use Rattle.rl_core.specs.ShardTables.{ShardTable}
+use Rattle.rl_core.specs.ShardLaws.{GoodOf, CauseOf, FurtherOf, LawsOf}
 use Rattle.rl_machine.specs.declared.shard.ShardState.{ShardState}
 use Rattle.rl_machine.specs.declared.state.MachineState.{MachineState}
 use Rattle.rl_machine.specs.Running.{shard_run, running}

@@ -4,8 +4,8 @@ use Rattle.rl_word.specs.Acts.{Layout}
 use Rattle.rl_model.specs.Geom.{GeomFits}
 use Rattle.rl_journal.specs.Legal.{IsLegalJournal}
 use Rattle.rl_site.specs.Site.{places, lock_base}
-use Rattle.rl_asks.specs.ShardTables.{ShardTable, journal_at}
-use Rattle.rl_asks.specs.ShardLaws.{GoodOf, CauseOf, FurtherOf, LawsOf}
+use Rattle.rl_core.specs.ShardTables.{ShardTable, journal_at}
+use Rattle.rl_core.specs.ShardLaws.{GoodOf, CauseOf, FurtherOf, LawsOf}
 use Rattle.rl_machine.specs.declared.shard.ShardState.{ShardState}
 use Rattle.rl_machine.specs.ShardSteps.{events_of}
 use Rattle.rl_machine.specs.State.{IsGood}

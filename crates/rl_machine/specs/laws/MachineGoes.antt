@@ -9,9 +9,9 @@ use Rattle.rl_model.specs.declared.call.Call.{Call}
 use Rattle.rl_step.specs.declared.events.Stepped.{Stepped}
 use Rattle.rl_step.specs.Answers.{counted, steps_made}
 use Rattle.rl_step.specs.Lock.{Deed}
-use Rattle.rl_asks.specs.laws.AskLaws.{inside}
-use Rattle.rl_asks.specs.ShardTables.{ShardTable}
-use Rattle.rl_asks.specs.ShardLaws.{GoodOf, CauseOf, FurtherOf, LawsOf, IsSeated, AllShut, ShardCoreLaws}
+use Rattle.rl_core.specs.laws.AskLaws.{inside}
+use Rattle.rl_core.specs.ShardTables.{ShardTable}
+use Rattle.rl_core.specs.ShardLaws.{GoodOf, CauseOf, FurtherOf, LawsOf, IsSeated, AllShut, ShardCoreLaws}
 use Rattle.rl_machine.specs.Running.{ShardRun, Running}
 use Rattle.rl_machine.specs.ShardSteps.{events_of, opened_at, opened_on, makes, made_at, atom_on, answer_on, open_at, open_on}
 use Rattle.rl_machine.specs.Run.{changed, changed_if, on_shard, calls_by, sizes_by, place_of, has_open_call, opens, opened_if, atom_made, stepped, IsAllClosed}
@@ -23,7 +23,7 @@ use Rattle.rl_machine.specs.laws.RestLaws.{open_shuts}
 use Rattle.rl_machine.specs.laws.SoundLaws.{is_sound}
 use Rattle.rl_machine.specs.laws.StepCauses.{none_left, shut_done}
 use Rattle.rl_ending.specs.laws.Reach.{Nearer}
-use Rattle.rl_asks.specs.ShardEnding.{LeftOf, EndsOf, ShardEnds, Lessens}
+use Rattle.rl_core.specs.ShardEnding.{LeftOf, EndsOf, ShardEnds, Lessens}
 use Rattle.rl_machine.specs.MachineEnding.{AllDone, unopened, shards_left, machine_left}
 use Rattle.rl_machine.specs.laws.MachineSums.{shards_turned, is_part, unopened_turned, atom_less, block_less, some_or_none}
 

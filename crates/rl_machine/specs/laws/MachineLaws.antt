@@ -14,13 +14,13 @@ use Rattle.rl_step.specs.Answers.{counted, steps_made}
 use Rattle.rl_step.specs.Do.{do_got}
 use Rattle.rl_step.specs.Lock.{Deed}
 use Rattle.rl_site.specs.Opens.{IsOpen}
-use Rattle.rl_asks.specs.Asks.{block_shard, place_after, is_update_on}
-use Rattle.rl_asks.specs.laws.AskLaws.{NextBlock, next_of_blocks, size_is, block_is, block_at, stands_at}
-use Rattle.rl_asks.specs.Desks.{Desk, IsDesk, OpensBlock, Turns}
-use Rattle.rl_asks.specs.RankGood.{RankGood}
-use Rattle.rl_asks.specs.laws.RankLaws.{closed_all, all_done, block_fits, rank_opens, rank_turns}
-use Rattle.rl_asks.specs.ShardTables.{ShardTable}
-use Rattle.rl_asks.specs.ShardLaws.{GoodOf, CauseOf, FurtherOf, LawsOf, MayOpen, IsSeated, IsDeskOf, ShardCoreLaws}
+use Rattle.rl_core.specs.Asks.{block_shard, place_after, is_update_on}
+use Rattle.rl_core.specs.laws.AskLaws.{NextBlock, next_of_blocks, size_is, block_is, block_at, stands_at}
+use Rattle.rl_core.specs.Desks.{Desk, IsDesk, OpensBlock, Turns}
+use Rattle.rl_core.specs.RankGood.{RankGood}
+use Rattle.rl_core.specs.laws.RankLaws.{closed_all, all_done, block_fits, rank_opens, rank_turns}
+use Rattle.rl_core.specs.ShardTables.{ShardTable}
+use Rattle.rl_core.specs.ShardLaws.{GoodOf, CauseOf, FurtherOf, LawsOf, MayOpen, IsSeated, IsDeskOf, ShardCoreLaws}
 use Rattle.rl_machine.specs.Running.{ShardRun, Running}
 use Rattle.rl_machine.specs.ShardSteps.{events_of, numbered, opened_at, opened_on, makes, made_at, atom_on, deeds_to, deeds_at, deeds_on, desk_at, desk_on, open_at, open_on}
 use Rattle.rl_machine.specs.Run.{desks_by, changed, changed_if, on_shard, calls_by, sizes_by, place_of, has_open_call, opens, opened_if, block_opened, atom_answer, atom_made, stepped, run_of, AreThere}

@@ -10,12 +10,12 @@ use Rattle.rl_step.specs.declared.events.Stepped.TheVariants.{Finished}
 use Rattle.rl_step.specs.declared.tallies.Steps.{Steps}
 use Rattle.rl_step.specs.Answers.{counted, steps_made}
 use Rattle.rl_step.specs.Lock.{Deed}
-use Rattle.rl_asks.specs.ShardLaws.{GoodOf, CauseOf, FurtherOf, LawsOf}
-use Rattle.rl_asks.specs.ShardTables.{ShardTable}
+use Rattle.rl_core.specs.ShardLaws.{GoodOf, CauseOf, FurtherOf, LawsOf}
+use Rattle.rl_core.specs.ShardTables.{ShardTable}
 use Rattle.rl_machine.specs.Running.{ShardRun, Running}
 use Rattle.rl_machine.specs.ShardSteps.{opened_on, atom_on, answer_on}
-use Rattle.rl_asks.specs.Asks.{block_shard, place_after}
-use Rattle.rl_asks.specs.laws.AskLaws.{block_is, block_at, stands_at}
+use Rattle.rl_core.specs.Asks.{block_shard, place_after}
+use Rattle.rl_core.specs.laws.AskLaws.{block_is, block_at, stands_at}
 use Rattle.rl_machine.specs.Run.{changed, changed_if, on_shard, calls_by, sizes_by, place_of, opens, opened_if, block_opened, atom_made, atom_answer, stepped, answer_of_step}
 use Rattle.rl_machine.specs.MachineGood.{MachineGood}
 use Rattle.rl_machine.specs.laws.MachineLaws.{OpensAt, opens_at}

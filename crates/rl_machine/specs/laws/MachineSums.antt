@@ -7,7 +7,7 @@ use Rattle.std.proofs.lemmas.Bool.{cases_Bool, cases_lt}
 use Rattle.rl_model.specs.declared.call.Call.{Call}
 use Rattle.rl_machine.specs.Running.{ShardRun}
 use Rattle.std.proofs.lemmas.List.Sums.{sum_by-cons}
-use Rattle.rl_asks.specs.ShardEnding.{LeftOf}
+use Rattle.rl_core.specs.ShardEnding.{LeftOf}
 use Rattle.rl_machine.specs.MachineEnding.{unopened, shards_left}
 
 module _ {C V : Type 0} (left : LeftOf C V) where

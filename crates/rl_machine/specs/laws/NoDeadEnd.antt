@@ -3,15 +3,15 @@ use Rattle.std.specs.Prelude.{◌≡◌, ◌⊎◌, ℕ, ◌<◌, List, [], ◌�
 use Rattle.std.proofs.Common.{◌∙◌, ap, subst, arith}
 use Rattle.rl_word.specs.Acts.{Layout}
 use Rattle.rl_step.specs.Lock.{Deed}
-use Rattle.rl_asks.specs.ShardTables.{ShardTable}
-use Rattle.rl_asks.specs.ShardLaws.{GoodOf, CauseOf, FurtherOf, LawsOf}
+use Rattle.rl_core.specs.ShardTables.{ShardTable}
+use Rattle.rl_core.specs.ShardLaws.{GoodOf, CauseOf, FurtherOf, LawsOf}
 use Rattle.rl_machine.specs.Running.{Running}
 use Rattle.rl_machine.specs.Run.{stepped, run_of, AreThere}
 use Rattle.rl_machine.specs.laws.RunActs.{step_acts, run_acts}
 use Rattle.rl_machine.specs.MachineGood.{MachineGood}
 use Rattle.rl_machine.specs.laws.MachineLaws.{stepped_good, stepped_calls, run_good}
 use Rattle.rl_ending.specs.laws.Reach as reach
-use Rattle.rl_asks.specs.ShardEnding.{LeftOf, EndsOf}
+use Rattle.rl_core.specs.ShardEnding.{LeftOf, EndsOf}
 use Rattle.rl_machine.specs.MachineEnding.{AllDone, CanFinish, CanFinishIn, machine_left}
 use Rattle.rl_machine.specs.laws.MachineGoes.{machine_goes}
 

@@ -6,13 +6,13 @@ use Rattle.rl_word.specs.laws.Places.{one_at}
 use Rattle.rl_model.specs.declared.call.Call.{Call}
 use Rattle.rl_step.specs.declared.events.Stepped.{Stepped}
 use Rattle.rl_step.specs.Answers.{counted, steps_made}
-use Rattle.rl_asks.specs.ShardLaws.{MayOpen, GoodOf, CauseOf, FurtherOf, LawsOf}
-use Rattle.rl_asks.specs.ShardTables.{ShardTable}
+use Rattle.rl_core.specs.ShardLaws.{MayOpen, GoodOf, CauseOf, FurtherOf, LawsOf}
+use Rattle.rl_core.specs.ShardTables.{ShardTable}
 use Rattle.rl_machine.specs.declared.shard.ShardState.{ShardState}
 use Rattle.rl_machine.specs.declared.state.MachineState.{MachineState}
 use Rattle.rl_machine.specs.Running.{ShardRun, Running, shard_run, running, cores_of}
-use Rattle.rl_asks.specs.Asks.{block_from, block_shard, place_after}
-use Rattle.rl_asks.specs.laws.AskLaws.{size_is, block_is, block_at, stands_at, inside, is_begun, few_calls}
+use Rattle.rl_core.specs.Asks.{block_from, block_shard, place_after}
+use Rattle.rl_core.specs.laws.AskLaws.{size_is, block_is, block_at, stands_at, inside, is_begun, few_calls}
 use Rattle.rl_machine.specs.ShardSteps.{opened_on, atom_on, answer_on}
 use Rattle.rl_machine.specs.Run.{changed_if, calls_by, sizes_by, opens, opened_if, next_block, stepped, answer_of_step}
 use Rattle.rl_machine.specs.laws.MachineLaws.{OpensAt, opens_at}

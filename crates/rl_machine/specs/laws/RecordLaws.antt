@@ -6,11 +6,11 @@ use Rattle.std.proofs.lemmas.Option.{same_Some}
 use Rattle.rl_word.specs.Acts.{Layout}
 use Rattle.rl_word.specs.laws.Places.{some_at}
 use Rattle.rl_model.specs.declared.entry.Entry.{Entry}
-use Rattle.rl_asks.specs.laws.AskLaws.{few_calls}
-use Rattle.rl_asks.specs.RankGood.{entries_in}
-use Rattle.rl_asks.specs.ShardTables.{ShardTable, kept_in as kept_from}
-use Rattle.rl_asks.specs.ShardLaws.{GoodOf, CauseOf, FurtherOf, LawsOf}
-use Rattle.rl_asks.specs.Desks.{desk_entries}
+use Rattle.rl_core.specs.laws.AskLaws.{few_calls}
+use Rattle.rl_core.specs.RankGood.{entries_in}
+use Rattle.rl_core.specs.ShardTables.{ShardTable, kept_in as kept_from}
+use Rattle.rl_core.specs.ShardLaws.{GoodOf, CauseOf, FurtherOf, LawsOf}
+use Rattle.rl_core.specs.Desks.{desk_entries}
 use Rattle.rl_machine.specs.declared.shard.ShardState.{ShardState}
 use Rattle.rl_machine.specs.declared.state.MachineState.{MachineState}
 use Rattle.rl_machine.specs.Running.{ShardRun, Running, shard_run, running, cores_of}

@@ -10,14 +10,14 @@ use Rattle.rl_step.specs.declared.tallies.Steps.{Steps}
 use Rattle.rl_step.specs.Answers.{counted, steps_made}
 use Rattle.rl_step.specs.Do.{do_got}
 use Rattle.rl_step.specs.Lock.{Deed}
-use Rattle.rl_asks.specs.ShardLaws.{GoodOf}
-use Rattle.rl_asks.specs.ShardTables.{ShardTable}
+use Rattle.rl_core.specs.ShardLaws.{GoodOf}
+use Rattle.rl_core.specs.ShardTables.{ShardTable}
 use Rattle.rl_machine.specs.Running.{ShardRun, Running, TheMachine}
 use Rattle.rl_machine.specs.ShardSteps.{numbered, makes, made_at, atom_on, answer_to, answer_at, answer_on}
 use Rattle.rl_machine.specs.Run.{changed, changed_if, on_shard, place_of, opens, opened_if, atom_answer, atom_made, run_of}
 use Rattle.rl_machine.specs.laws.EventOrderLaws.{told_more}
 use Rattle.rl_machine.specs.MachineGood.{MachineGood, IsMachine}
-use Rattle.rl_asks.specs.Idle.{IsIdle}
+use Rattle.rl_core.specs.Idle.{IsIdle}
 use Rattle.rl_machine.specs.Rest.{counted_more, with_steps, RestsWith}
 
 -- no more of an answer, and one more before the others

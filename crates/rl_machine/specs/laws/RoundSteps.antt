@@ -9,11 +9,11 @@ use Rattle.rl_step.specs.declared.events.Stepped.TheVariants.{Finished}
 use Rattle.rl_step.specs.declared.tallies.Steps.{Steps}
 use Rattle.rl_step.specs.Answers.{counted, steps_made}
 use Rattle.rl_step.specs.Do.{do_got}
-use Rattle.rl_asks.specs.declared.round.Leg.{Leg}
-use Rattle.rl_asks.specs.declared.round.Round.{Round}
-use Rattle.rl_asks.specs.Rounds.{leg_answer, turned_round, Makes, GoesBy}
-use Rattle.rl_asks.specs.ShardLaws.{GoodOf}
-use Rattle.rl_asks.specs.ShardTables.{ShardTable}
+use Rattle.rl_core.specs.declared.round.Leg.{Leg}
+use Rattle.rl_core.specs.declared.round.Round.{Round}
+use Rattle.rl_core.specs.Rounds.{leg_answer, turned_round, Makes, GoesBy}
+use Rattle.rl_core.specs.ShardLaws.{GoodOf}
+use Rattle.rl_core.specs.ShardTables.{ShardTable}
 use Rattle.rl_machine.specs.declared.shard.ShardState.{ShardState}
 use Rattle.rl_machine.specs.declared.state.MachineState.{MachineState}
 use Rattle.rl_machine.specs.Running.{ShardRun, Running, shard_run, running, viewed}

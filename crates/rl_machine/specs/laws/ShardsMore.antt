@@ -5,7 +5,7 @@ use Rattle.rl_model.specs.declared.call.Call.{Call}
 use Rattle.rl_model.specs.declared.geom.Geom.{Geom}
 use Rattle.rl_ops.specs.Room.{calls_on}
 use Rattle.rl_site.specs.Site.{Site}
-use Rattle.rl_asks.specs.ShardTables.{ShardTable}
+use Rattle.rl_core.specs.ShardTables.{ShardTable}
 use Rattle.rl_machine.specs.declared.shard.ShardState.{ShardState}
 use Rattle.rl_machine.specs.Running.{shard_run, shard_cores}
 use Rattle.rl_machine.specs.Start.{site_of, first_shard, first_shards}

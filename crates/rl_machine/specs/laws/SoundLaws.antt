@@ -9,13 +9,13 @@ use Rattle.rl_journal.specs.Ranks.{IsRankInOrder}
 use Rattle.rl_journal.specs.laws.HistoryLaws.{replayed}
 use Rattle.rl_step.specs.Lock.{Deed}
 use Rattle.rl_step.specs.QueuePromises.{CountTenures}
-use Rattle.rl_asks.specs.Asks.{asked_of}
-use Rattle.rl_asks.specs.EventRanks.{AreByRanks}
+use Rattle.rl_core.specs.Asks.{asked_of}
+use Rattle.rl_core.specs.EventRanks.{AreByRanks}
 use Rattle.rl_ops.specs.Asked.{BeginsAt}
-use Rattle.rl_asks.specs.Desks.{Desk, desk_entries}
-use Rattle.rl_asks.specs.RankGood.{entries_in}
-use Rattle.rl_asks.specs.ShardTables.{ShardTable}
-use Rattle.rl_asks.specs.ShardLaws.{GoodOf, CauseOf, FurtherOf, LawsOf}
+use Rattle.rl_core.specs.Desks.{Desk, desk_entries}
+use Rattle.rl_core.specs.RankGood.{entries_in}
+use Rattle.rl_core.specs.ShardTables.{ShardTable}
+use Rattle.rl_core.specs.ShardLaws.{GoodOf, CauseOf, FurtherOf, LawsOf}
 use Rattle.rl_machine.specs.Running.{ShardRun, Running}
 use Rattle.rl_machine.specs.ShardSteps.{events_of, desk_at, desk_on, kept_on, open_at, open_on}
 use Rattle.rl_machine.specs.Run.{desks_by, on_shard, calls_by, sizes_by, place_of, kept_by, done_of, block_opened, IsAllClosed, IsShut}

@@ -11,12 +11,12 @@ use Rattle.rl_model.specs.Geom.{GeomFits}
 use Rattle.rl_step.specs.Lock.{Deed}
 use Rattle.rl_ops.specs.Room.{calls_on, updates_on}
 use Rattle.rl_site.specs.Site.{Site, lock_base}
-use Rattle.rl_asks.specs.Asks.{AreBlocks, place_after}
-use Rattle.rl_asks.specs.RankGood.{IsFreshDesk, RankGood}
-use Rattle.rl_asks.specs.laws.RankLaws.{rank_begins}
-use Rattle.rl_asks.specs.ShardTables.{ShardTable}
-use Rattle.rl_asks.specs.ShardLaws.{GoodOf, CauseOf, FurtherOf, LawsOf, IsLaidAtSite, IsSeated, IsDeskOf, IsNewDesk, ShardCoreLaws}
-use Rattle.rl_asks.specs.laws.Filling.{first_at, first_length}
+use Rattle.rl_core.specs.Asks.{AreBlocks, place_after}
+use Rattle.rl_core.specs.RankGood.{IsFreshDesk, RankGood}
+use Rattle.rl_core.specs.laws.RankLaws.{rank_begins}
+use Rattle.rl_core.specs.ShardTables.{ShardTable}
+use Rattle.rl_core.specs.ShardLaws.{GoodOf, CauseOf, FurtherOf, LawsOf, IsLaidAtSite, IsSeated, IsDeskOf, IsNewDesk, ShardCoreLaws}
+use Rattle.rl_core.specs.laws.Filling.{first_at, first_length}
 use Rattle.rl_machine.specs.Running.{ShardRun, Running}
 use Rattle.rl_machine.specs.ShardSteps.{desk_at, desk_on}
 use Rattle.rl_machine.specs.Run.{desks_by}

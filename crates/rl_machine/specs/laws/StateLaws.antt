@@ -4,11 +4,11 @@ use Rattle.std.proofs.Common.{sym, ◌∙◌, ap, subst, arith}
 use Rattle.std.proofs.lemmas.List.{length-map}
 use Rattle.std.proofs.lemmas.Option.{slice_get_within}
 use Rattle.rl_word.specs.laws.Places.{get_map, map_set, set_same_get, some_at}
-use Rattle.rl_asks.specs.ShardLaws.{GoodOf}
-use Rattle.rl_asks.specs.ShardTables.{ShardTable}
+use Rattle.rl_core.specs.ShardLaws.{GoodOf}
+use Rattle.rl_core.specs.ShardTables.{ShardTable}
 use Rattle.rl_machine.specs.declared.shard.ShardState.{ShardState}
 use Rattle.rl_machine.specs.declared.state.MachineState.{MachineState}
-use Rattle.rl_asks.specs.laws.OpsBridge.{few_updates}
+use Rattle.rl_core.specs.laws.OpsBridge.{few_updates}
 use Rattle.rl_machine.specs.Running.{TheShard, shard_run, running, cores_of}
 use Rattle.rl_machine.specs.MachineGood.{IsMachine}
 use Rattle.rl_machine.specs.State.{shard_view, machine_view, IsGood}

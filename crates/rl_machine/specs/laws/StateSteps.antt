@@ -8,8 +8,8 @@ use Rattle.rl_step.specs.declared.events.Stepped.TheVariants.{Busy, Finished}
 use Rattle.rl_step.specs.Answers.{steps_made}
 use Rattle.rl_step.specs.Lock.{Deed}
 use Rattle.rl_ops.specs.Ops.{total_calls}
-use Rattle.rl_asks.specs.ShardLaws.{GoodOf, CauseOf, FurtherOf, LawsOf}
-use Rattle.rl_asks.specs.ShardTables.{ShardTable}
+use Rattle.rl_core.specs.ShardLaws.{GoodOf, CauseOf, FurtherOf, LawsOf}
+use Rattle.rl_core.specs.ShardTables.{ShardTable}
 use Rattle.rl_machine.specs.Running.{Running, TheMachine, running, cores_of}
 use Rattle.rl_machine.specs.Causes.{StepCause, StepTells, IsFinished, OnlyCountsBusy}
 use Rattle.rl_machine.specs.Run.{opens, opened_if, block_opened, only_counted, atom_answer, atom_made, stepped, answer_of_step}

@@ -12,21 +12,21 @@ use Rattle.rl_step.specs.declared.events.Stepped.TheVariants.{Busy, Finished}
 use Rattle.rl_step.specs.Answers.{counted, steps_made}
 use Rattle.rl_step.specs.Lock.{Deed}
 use Rattle.rl_step.specs.Do.{TheWindow}
-use Rattle.rl_asks.specs.Asks.{block_shard}
-use Rattle.rl_asks.specs.laws.AskLaws.{NextBlock, next_of_blocks, block_is, block_at}
-use Rattle.rl_asks.specs.Desks.{Desk, desk_entries}
-use Rattle.rl_asks.specs.RankGood.{RankGood, entries_in}
-use Rattle.rl_asks.specs.laws.RankLaws.{all_done}
-use Rattle.rl_asks.specs.ShardTables.{ShardTable}
-use Rattle.rl_asks.specs.ShardLaws.{GoodOf, CauseOf, FurtherOf, LawsOf, MayOpen, IsSeated, ShardCoreLaws}
+use Rattle.rl_core.specs.Asks.{block_shard}
+use Rattle.rl_core.specs.laws.AskLaws.{NextBlock, next_of_blocks, block_is, block_at}
+use Rattle.rl_core.specs.Desks.{Desk, desk_entries}
+use Rattle.rl_core.specs.RankGood.{RankGood, entries_in}
+use Rattle.rl_core.specs.laws.RankLaws.{all_done}
+use Rattle.rl_core.specs.ShardTables.{ShardTable}
+use Rattle.rl_core.specs.ShardLaws.{GoodOf, CauseOf, FurtherOf, LawsOf, MayOpen, IsSeated, ShardCoreLaws}
 use Rattle.rl_machine.specs.Running.{ShardRun, Running}
 use Rattle.rl_machine.specs.ShardSteps.{events_of, opened_at, opened_on, makes, made_at, atom_on, answer_to, answer_at, answer_on, desk_at, desk_on, open_at, open_on, kept_on}
 use Rattle.rl_machine.specs.Run.{desks_by, changed, changed_if, on_shard, calls_by, sizes_by, place_of, has_open_call, opens, next_block, opened_if, block_opened, atom_answer, only_counted, atom_made, stepped, answer_of_step}
 use Rattle.rl_machine.specs.MachineGood.{MachineGood}
 use Rattle.rl_machine.specs.laws.MachineLaws.{Found, found_at, laws_of, seated, not_open, OpensAt, opens_at, block_good, opened_calls}
 use Rattle.rl_machine.specs.laws.SoundLaws.{kept_desks}
-use Rattle.rl_asks.specs.Answering.{AnswersNext}
-use Rattle.rl_asks.specs.Idle.{IsIdle}
+use Rattle.rl_core.specs.Answering.{AnswersNext}
+use Rattle.rl_core.specs.Idle.{IsIdle}
 use Rattle.rl_machine.specs.Rest.{RestsWith}
 use Rattle.rl_machine.specs.laws.RestLaws.{idle_makes, idle_rests}
 use Rattle.rl_machine.specs.Causes.{cause_at, cause_on, AtomCause, StepCause, StepTells, IsFinished}

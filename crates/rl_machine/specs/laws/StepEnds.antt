@@ -5,9 +5,9 @@ use Rattle.rl_word.specs.Acts.{Layout}
 use Rattle.rl_step.specs.declared.events.Stepped.{Stepped}
 use Rattle.rl_step.specs.declared.events.Stepped.TheVariants as answer
 use Rattle.rl_step.specs.Lock.{Deed}
-use Rattle.rl_asks.specs.Idle.{IsIdle}
-use Rattle.rl_asks.specs.ShardTables.{ShardTable}
-use Rattle.rl_asks.specs.ShardLaws.{GoodOf, CauseOf, FurtherOf, LawsOf}
+use Rattle.rl_core.specs.Idle.{IsIdle}
+use Rattle.rl_core.specs.ShardTables.{ShardTable}
+use Rattle.rl_core.specs.ShardLaws.{GoodOf, CauseOf, FurtherOf, LawsOf}
 use Rattle.rl_machine.specs.Running.{ShardRun, Running, TheMachine, running, cores_of}
 use Rattle.rl_machine.specs.Run.{place_of, block_opened, atom_answer, stepped, answer_of_step}
 use Rattle.rl_machine.specs.MachineGood.{MachineGood, IsMachine}

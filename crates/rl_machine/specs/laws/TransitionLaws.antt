@@ -11,9 +11,9 @@ use Rattle.rl_step.specs.Lock.{Deed}
 use Rattle.rl_step.specs.Transitions.{Transition}
 use Rattle.rl_step.specs.Batches.{AreShown}
 use Rattle.rl_step.specs.laws.BatchLaws.{shown_next}
-use Rattle.rl_asks.specs.ShardTables.{ShardTable}
-use Rattle.rl_asks.specs.ShardTables.{transition_by}
-use Rattle.rl_asks.specs.ShardLaws.{GoodOf, CauseOf, FurtherOf, LawsOf}
+use Rattle.rl_core.specs.ShardTables.{ShardTable}
+use Rattle.rl_core.specs.ShardTables.{transition_by}
+use Rattle.rl_core.specs.ShardLaws.{GoodOf, CauseOf, FurtherOf, LawsOf}
 use Rattle.rl_machine.specs.Running.{ShardRun, Running}
 use Rattle.rl_machine.specs.ShardSteps.{events_of, deeds_to, deeds_at, deeds_on, transition_of, transitions_at, transitions_by}
 use Rattle.rl_machine.specs.Run.{on_shard, place_of, opens, block_opened, stepped, AreThere}

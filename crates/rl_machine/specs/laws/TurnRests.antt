@@ -6,13 +6,13 @@ use Rattle.rl_step.specs.declared.events.Stepped.TheVariants.{Busy, Finished}
 use Rattle.rl_step.specs.declared.tallies.Steps.{Steps}
 use Rattle.rl_step.specs.Answers.{counted}
 use Rattle.rl_step.specs.Lock.{Deed}
-use Rattle.rl_asks.specs.ShardTables.{ShardTable}
-use Rattle.rl_asks.specs.ShardLaws.{GoodOf, CauseOf, FurtherOf, LawsOf}
+use Rattle.rl_core.specs.ShardTables.{ShardTable}
+use Rattle.rl_core.specs.ShardLaws.{GoodOf, CauseOf, FurtherOf, LawsOf}
 use Rattle.rl_machine.specs.Running.{ShardRun, Running}
 use Rattle.rl_machine.specs.Run.{calls_by, has_open_call, opens, block_opened, atom_answer, only_counted, stepped, answer_of_step}
 use Rattle.rl_machine.specs.laws.ReplayLaws.{counts_one}
 use Rattle.rl_machine.specs.MachineGood.{MachineGood}
-use Rattle.rl_asks.specs.Idle.{IsIdle}
+use Rattle.rl_core.specs.Idle.{IsIdle}
 use Rattle.rl_machine.specs.Rest.{RestsWith, with_steps}
 use Rattle.rl_machine.specs.laws.RestLaws.{idle_rests, open_shuts, good_with}
 use Rattle.rl_machine.specs.laws.StepCauses.{Stands, stands_there, answer_there, open_there, next_shut, held_idle, held_not_free, busy_takes, fine_opened, still_there, step_busy, step_finished, finished_rests}

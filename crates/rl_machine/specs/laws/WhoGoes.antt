@@ -7,10 +7,10 @@ use Rattle.rl_word.specs.Acts.{Layout}
 use Rattle.rl_word.specs.laws.Places.{some_at}
 use Rattle.rl_step.specs.Lock.{Deed}
 use Rattle.rl_ending.specs.Guiding.{IsChosen, NoneUrgent}
-use Rattle.rl_asks.specs.ShardTables.{ShardTable}
-use Rattle.rl_asks.specs.ShardLaws.{GoodOf, CauseOf, FurtherOf, LawsOf}
-use Rattle.rl_asks.specs.ShardEnding.{LeftOf, EndsOf}
-use Rattle.rl_asks.specs.ShardGuiding.{UrgentOf, GuidesOf, ShardGuides}
+use Rattle.rl_core.specs.ShardTables.{ShardTable}
+use Rattle.rl_core.specs.ShardLaws.{GoodOf, CauseOf, FurtherOf, LawsOf}
+use Rattle.rl_core.specs.ShardEnding.{LeftOf, EndsOf}
+use Rattle.rl_core.specs.ShardGuiding.{UrgentOf, GuidesOf, ShardGuides}
 use Rattle.rl_machine.specs.declared.state.MachineState.{MachineState}
 use Rattle.rl_machine.specs.Running.{ShardRun, Running}
 use Rattle.rl_machine.specs.ShardSteps.{events_of}

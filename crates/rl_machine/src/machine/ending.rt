@@ -4,7 +4,7 @@ ghost use Rattle.rl_machine.specs.MachineEnding.{CanFinish, CanAlwaysFinish, Can
 ghost use Rattle.rl_machine.specs.Running.{running, cores_of};
 
 use crate::machine::Machine;
-use rl_asks::ShardEnding;
+use rl_core::ShardEnding;
 
 /// From every state of the machine, whatever schedule led to it, some steps lead to the end of all calls of all ranks: so many at most as
 /// are left to do. And so it is after any further steps. There is nothing to run.

@@ -13,7 +13,7 @@ ghost use Rattle.rl_machine.specs.State.{machine_view, IsGood};
 use crate::machine::Machine;
 use crate::shard::ShardState;
 use crate::state::MachineState;
-use rl_asks::{ShardCore, ShardGuiding};
+use rl_core::{ShardCore, ShardGuiding};
 
 /// A rank that goes on, and how urgently: the smaller number goes first.
 #[derive(Clone, Copy)]

@@ -12,7 +12,7 @@ ghost use Rattle.rl_machine.specs.NextAtoms.{next_on, next_by, behind_journal};
 use crate::machine::Machine;
 use crate::shard::{ShardState, open_on};
 use crate::state::{MachineState, next_block, note_place};
-use rl_asks::{ShardCore, block_shard, lock_base};
+use rl_core::{ShardCore, block_shard, lock_base};
 use rl_step::Words;
 use rl_word::Atom;
 

@@ -6,7 +6,7 @@ ghost use Rattle.rl_machine.specs.Ruled.{AreRuled};
 ghost use Rattle.rl_machine.specs.Running.{running, cores_of};
 
 use crate::machine::Machine;
-use rl_asks::ShardCore;
+use rl_core::ShardCore;
 
 /// At every moment each shard meets the rule of its core, and a rank whose block is open on a shard stands there. What holds of all
 /// states under the rule of one kind of cores so holds of each machine of that kind. There is nothing to run.

@@ -2,7 +2,7 @@
 
 ghost use Rattle.std.specs.Prelude.{◌≡◌, ◌-◌, ◌<◌, ◌^◌, length, slice_set, IfSome};
 ghost use Rattle.rl_step.specs.Answers.{steps_made};
-ghost use Rattle.rl_asks.specs.Rounds.{turned_round};
+ghost use Rattle.rl_core.specs.Rounds.{turned_round};
 ghost use Rattle.rl_machine.specs.Running.{running, cores_of, viewed};
 ghost use Rattle.rl_machine.specs.Run.{stepped};
 ghost use Rattle.rl_machine.specs.State.{running_shard, machine_view, OfView};
@@ -12,7 +12,7 @@ ghost use Rattle.rl_machine.specs.Rested.{RestsAt, IsInRound, GoesRound};
 use crate::machine::Machine;
 use crate::shard::ShardState;
 use crate::state::MachineState;
-use rl_asks::{Resting, Round};
+use rl_core::{Resting, Round};
 use rl_step::{Flat, Stepped};
 
 /// A shard on which a rank is in a call, and how its next steps there are answered.

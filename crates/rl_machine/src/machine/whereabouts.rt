@@ -9,7 +9,7 @@ ghost use Rattle.rl_machine.specs.Whereabouts.{standing_by, card_by};
 
 use crate::machine::Machine;
 use crate::state::MachineState;
-use rl_asks::ShardCore;
+use rl_core::ShardCore;
 use rl_step::Standing;
 
 impl<C: ShardCore> MachineState<C> {

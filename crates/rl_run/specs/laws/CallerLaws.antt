@@ -5,14 +5,14 @@ use Rattle.rl_word.specs.laws.Places.{get_set_same, set_same_get}
 use Rattle.rl_word.specs.Acts.{Layout}
 use Rattle.rl_model.specs.declared.call.Call.{Call}
 use Rattle.rl_model.specs.declared.geom.Geom.{Geom}
-use Rattle.rl_asks.specs.ShardTables.{ShardTable}
-use Rattle.rl_asks.specs.ShardLaws.{GoodOf, CauseOf, FurtherOf, LawsOf}
+use Rattle.rl_core.specs.ShardTables.{ShardTable}
+use Rattle.rl_core.specs.ShardLaws.{GoodOf, CauseOf, FurtherOf, LawsOf}
 use Rattle.rl_site.specs.Opens.{IsOpen}
 use Rattle.rl_journal.specs.Ranks.{IsRankInOrder}
-use Rattle.rl_asks.specs.Asks.{asked_of}
-use Rattle.rl_asks.specs.Desks.{IsDesk, desk_entries}
-use Rattle.rl_asks.specs.RankGood.{entries_in}
-use Rattle.rl_asks.specs.Asks.{block_from, block_shard}
+use Rattle.rl_core.specs.Asks.{asked_of}
+use Rattle.rl_core.specs.Desks.{IsDesk, desk_entries}
+use Rattle.rl_core.specs.RankGood.{entries_in}
+use Rattle.rl_core.specs.Asks.{block_from, block_shard}
 use Rattle.rl_shard.specs.declared.shard.Shard.{Shard}
 use Rattle.rl_shard.specs.declared.seat.Seat.{Seat}
 use Rattle.rl_shard.specs.Shards.{IsOf, IsClosed, table_at, view_at, desk_at, entries_at, rank_at}

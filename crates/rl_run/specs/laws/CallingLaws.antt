@@ -9,11 +9,11 @@ use Rattle.rl_model.specs.declared.geom.Geom.{Geom}
 use Rattle.rl_journal.specs.Ranks.{IsRankInOrder}
 use Rattle.rl_site.specs.Site.{Site}
 use Rattle.rl_site.specs.Opens.{IsOpen}
-use Rattle.rl_asks.specs.Asks.{is_on, place_after, asked_of, block_from, block_shard}
-use Rattle.rl_asks.specs.laws.AskLaws.{NextBlock, next_of_blocks, size_is, block_is, inside, block_at, stands_at, is_begun}
-use Rattle.rl_asks.specs.Desks.{Desk, IsDesk, OpensBlock, Turns, desk_entries}
-use Rattle.rl_asks.specs.RankGood.{RankGood, entries_in}
-use Rattle.rl_asks.specs.laws.RankLaws.{rank_begins, closed_all, all_done, block_fits, rank_opens, rank_turns}
+use Rattle.rl_core.specs.Asks.{is_on, place_after, asked_of, block_from, block_shard}
+use Rattle.rl_core.specs.laws.AskLaws.{NextBlock, next_of_blocks, size_is, block_is, inside, block_at, stands_at, is_begun}
+use Rattle.rl_core.specs.Desks.{Desk, IsDesk, OpensBlock, Turns, desk_entries}
+use Rattle.rl_core.specs.RankGood.{RankGood, entries_in}
+use Rattle.rl_core.specs.laws.RankLaws.{rank_begins, closed_all, all_done, block_fits, rank_opens, rank_turns}
 use Rattle.rl_run.specs.laws.RowLaws.{row_after}
 use Rattle.rl_run.specs.Calling.{desks_of, AllClosedAt, IsMine, IsCallerAt, IsReadyAt}
 

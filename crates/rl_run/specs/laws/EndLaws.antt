@@ -12,8 +12,8 @@ use Rattle.rl_word.specs.laws.Places.{get_map, get_map_back, some_at}
 use Rattle.rl_model.specs.declared.call.Call.{Call}
 use Rattle.rl_model.specs.declared.entry.Entry.{Entry}
 use Rattle.rl_model.specs.declared.geom.Geom.{Geom}
-use Rattle.rl_asks.specs.ShardTables.{ShardTable, site_with}
-use Rattle.rl_asks.specs.ShardLaws.{GoodOf}
+use Rattle.rl_core.specs.ShardTables.{ShardTable, site_with}
+use Rattle.rl_core.specs.ShardLaws.{GoodOf}
 use Rattle.rl_step.specs.LockQueues.{queues_of, readers_share, lock_under, spares_gets}
 use Rattle.rl_journal.specs.Blocks.{is_tenure}
 use Rattle.rl_journal.specs.History.{Each, AreOwn}
@@ -28,15 +28,15 @@ use Rattle.rl_ops.specs.declared.ops.Ops.{Ops}
 use Rattle.rl_ops.specs.Room.{updates_on}
 use Rattle.rl_site.specs.Site.{Site}
 use Rattle.rl_ops.specs.Ops.{OpsFit}
-use Rattle.rl_asks.specs.Asks.{asked_of}
-use Rattle.rl_asks.specs.RankGood.{entries_in}
+use Rattle.rl_core.specs.Asks.{asked_of}
+use Rattle.rl_core.specs.RankGood.{entries_in}
 use Rattle.rl_shard.specs.declared.closed.Closed.{Closed}
 use Rattle.rl_shard.specs.declared.shard.Shard.{Shard}
 use Rattle.rl_shard.specs.declared.seat.Seat.{Seat}
 use Rattle.rl_shard.specs.Shards.{table_at, entries_at}
 use Rattle.rl_shard.specs.Ends.{IsEnd, transcripts_of, history_of}
-use Rattle.rl_history.specs.Lawful.{queues_at}
-use Rattle.rl_history.proofs.QueueLaws.{under_queues}
+use Rattle.rl_report.specs.Lawful.{queues_at}
+use Rattle.rl_report.proofs.QueueLaws.{under_queues}
 use Rattle.rl_run.specs.declared.caller.Caller.{Caller}
 use Rattle.rl_run.specs.laws.RowLaws.{ends_long}
 use Rattle.rl_run.specs.Told.{told_of, IsClosedShard, IsRankDone, AreClosedShards}

@@ -18,10 +18,10 @@ use Rattle.rl_place.specs.Places.{ThePlace}
 use Rattle.rl_ops.specs.declared.ops.Ops.{Ops}
 use Rattle.rl_ops.specs.Ops.{AreBlocks, EachOfBlocks, OpsFit, total_calls}
 use Rattle.rl_ops.specs.Asked.{asked_of}
-use Rattle.rl_asks.specs.RankGood.{entries_in}
-use Rattle.rl_history.specs.Naming.{naming_of}
-use Rattle.rl_history.specs.Reports.{EntryFits, ReplyFits}
-use Rattle.rl_history.specs.Lawful.{journal_among, transcripts_in}
+use Rattle.rl_core.specs.RankGood.{entries_in}
+use Rattle.rl_report.specs.Naming.{naming_of}
+use Rattle.rl_report.specs.Reports.{EntryFits, ReplyFits}
+use Rattle.rl_report.specs.Lawful.{journal_among, transcripts_in}
 use Rattle.rl_run.specs.Told.{ToldShard, told_of}
 use Rattle.rl_run.specs.laws.ToldLaws.{no_such, kept_there, one_of_all, AskedFits, asked_fit, at_most_all, count_all, few_entries, is_beyond, ranks_there, transcripts_are}
 

@@ -19,10 +19,10 @@ use Rattle.rl_place.specs.Places.{ThePlace, IsProper}
 use Rattle.rl_ops.specs.declared.ops.Ops.{Ops}
 use Rattle.rl_ops.specs.Ops.{OpsFit, total_calls}
 use Rattle.rl_ops.specs.Asked.{asked_of}
-use Rattle.rl_history.specs.Naming.{naming_of}
-use Rattle.rl_history.specs.Reports.{TheShard, EntryFits, TallyFits, ShardFits, ShardsFit, DoneFits}
-use Rattle.rl_history.specs.Lawful.{journal_among, transcript_in, transcripts_in, IsLawfulShard, IsLawful}
-use Rattle.rl_history.proofs.QueueLaws.{queues_long}
+use Rattle.rl_report.specs.Naming.{naming_of}
+use Rattle.rl_report.specs.Reports.{TheShard, EntryFits, TallyFits, ShardFits, ShardsFit, DoneFits}
+use Rattle.rl_report.specs.Lawful.{journal_among, transcript_in, transcripts_in, IsLawfulShard, IsLawful}
+use Rattle.rl_report.proofs.QueueLaws.{queues_long}
 use Rattle.rl_run.specs.laws.EntriesFit.{HasTranscripts, HasDone, same_journal, same_transcripts, rank_of_it, as_many, few_here, few_updates, entry_fits}
 use Rattle.rl_run.specs.laws.RowLaws.{same_maps}
 use Rattle.rl_run.specs.Told.{ToldShard, told_of, part_of, report_of, ToldNumbersFit, IsClosedShard, AreClosedShards}

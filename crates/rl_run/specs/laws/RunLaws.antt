@@ -9,15 +9,15 @@ use Rattle.rl_word.specs.declared.shapes.Knobs.{Knobs}
 use Rattle.rl_word.specs.laws.Places.{get_map, get_map_back}
 use Rattle.rl_model.specs.declared.call.Call.{Call}
 use Rattle.rl_model.specs.declared.geom.Geom.{Geom}
-use Rattle.rl_asks.specs.ShardTables.{ShardTable, site_with, first_views}
-use Rattle.rl_asks.specs.ShardLaws.{GoodOf, IsNewDesk}
-use Rattle.rl_asks.specs.laws.Filling.{first_at, first_length}
+use Rattle.rl_core.specs.ShardTables.{ShardTable, site_with, first_views}
+use Rattle.rl_core.specs.ShardLaws.{GoodOf, IsNewDesk}
+use Rattle.rl_core.specs.laws.Filling.{first_at, first_length}
 use Rattle.rl_model.specs.Geom.{GeomFits}
 use Rattle.rl_journal.specs.laws.Lists.{all_at, get_more_cases}
 use Rattle.rl_ops.specs.Room.{calls_on, updates_on}
-use Rattle.rl_asks.specs.Asks.{is_on, AreBlocks}
+use Rattle.rl_core.specs.Asks.{is_on, AreBlocks}
 use Rattle.rl_site.specs.Site.{Site}
-use Rattle.rl_asks.specs.Desks.{desk_entries}
+use Rattle.rl_core.specs.Desks.{desk_entries}
 use Rattle.rl_shard.specs.declared.shard.Shard.{Shard}
 use Rattle.rl_shard.specs.declared.seat.Seat.{Seat}
 use Rattle.rl_shard.specs.declared.counting.CountedView.{CountedView}

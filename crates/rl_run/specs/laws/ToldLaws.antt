@@ -21,9 +21,9 @@ use Rattle.rl_ops.specs.CallSpelling.{CallFits}
 use Rattle.rl_ops.specs.Blocks.{AreOneBlock, sizes_of}
 use Rattle.rl_ops.specs.Ops.{AreBlocks}
 use Rattle.rl_ops.specs.Asked.{asked_after, asked_of}
-use Rattle.rl_asks.specs.RankGood.{entries_in}
-use Rattle.rl_history.specs.Reports.{PartFits, EachAfter, PairFits, pair_key}
-use Rattle.rl_history.specs.Lawful.{transcripts_in}
+use Rattle.rl_core.specs.RankGood.{entries_in}
+use Rattle.rl_report.specs.Reports.{PartFits, EachAfter, PairFits, pair_key}
+use Rattle.rl_report.specs.Lawful.{transcripts_in}
 
 -- ---- lists
 

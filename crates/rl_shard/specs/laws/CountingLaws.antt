@@ -14,9 +14,9 @@ use Rattle.rl_step.specs.Core.{CoreTable, CoreLaws, Plans, MayBe, MayGet, home_a
 use Rattle.rl_step.specs.Queues.{settled, passed}
 use Rattle.rl_step.specs.laws.QueueLemmas.{settled-append, passed-append}
 use Rattle.std.specs.Prelude.{Option}
-use Rattle.rl_asks.specs.Desks.{Desk, Turns}
-use Rattle.rl_asks.specs.ShardTables.{ShardTable}
-use Rattle.rl_asks.specs.ShardLaws.{ShardCoreLaws, IsSeated, MayOpen}
+use Rattle.rl_core.specs.Desks.{Desk, Turns}
+use Rattle.rl_core.specs.ShardTables.{ShardTable}
+use Rattle.rl_core.specs.ShardLaws.{ShardCoreLaws, IsSeated, MayOpen}
 use Rattle.rl_shard.specs.declared.counting.CountedView.{CountedView}
 use Rattle.rl_shard.specs.Tallies.{tally_at, all_noted}
 use Rattle.rl_shard.specs.Reached.{IsReached}

@@ -6,8 +6,8 @@ use Rattle.rl_word.specs.declared.acts.Atom.TheVariants as atom
 use Rattle.rl_model.specs.declared.call.Call.{Call}
 use Rattle.rl_step.specs.declared.events.Event.{Event}
 use Rattle.rl_step.specs.declared.events.Standing.{Standing}
-use Rattle.rl_asks.specs.Touches.{IsGuarded}
-use Rattle.rl_asks.specs.ShardTables.{ShardTable}
+use Rattle.rl_core.specs.Touches.{IsGuarded}
+use Rattle.rl_core.specs.ShardTables.{ShardTable}
 use Rattle.rl_shard.specs.Guards.{NamesAs}
 
 -- so does a rank whose atom is guarded

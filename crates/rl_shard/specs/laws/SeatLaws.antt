@@ -10,11 +10,11 @@ use Rattle.rl_step.specs.declared.events.Stepped.TheVariants.{Finished}
 use Rattle.rl_step.specs.Lock.{Deed}
 use Rattle.rl_step.specs.Do.{TheWindow}
 use Rattle.rl_step.specs.Core.{Performs}
-use Rattle.rl_asks.specs.Desks.{Desk, IsDesk, OpensBlock, Turns}
-use Rattle.rl_asks.specs.Answering.{AnswersTo, AnswersNext}
-use Rattle.rl_asks.specs.Standings.{IsUnhindered}
-use Rattle.rl_asks.specs.ShardTables.{ShardTable}
-use Rattle.rl_asks.specs.ShardLaws.{GoodOf, CauseOf, FurtherOf, LawsOf, ShardCoreLaws, IsSeated, IsDeskOf, MayOpen}
+use Rattle.rl_core.specs.Desks.{Desk, IsDesk, OpensBlock, Turns}
+use Rattle.rl_core.specs.Answering.{AnswersTo, AnswersNext}
+use Rattle.rl_core.specs.Standings.{IsUnhindered}
+use Rattle.rl_core.specs.ShardTables.{ShardTable}
+use Rattle.rl_core.specs.ShardLaws.{GoodOf, CauseOf, FurtherOf, LawsOf, ShardCoreLaws, IsSeated, IsDeskOf, MayOpen}
 use Rattle.rl_window.specs.declared.window.Window.{Window}
 use Rattle.rl_window.specs.declared.window.WinSeat.{WinSeat}
 use Rattle.rl_window.specs.Rule.{Keeps}

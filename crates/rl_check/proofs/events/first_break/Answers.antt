@@ -1,6 +1,6 @@
 use Rattle.std.proofs.Common.{sym, subst, take}
 use Rattle.std.proofs.lemmas.Option.{slice_get-get_or}
-use Rattle.rl_history.specs.Tallies.{trace_of_report}
+use Rattle.rl_report.specs.Tallies.{trace_of_report}
 use Rattle.rl_check.specs.QueuesOf.{queues_all}
 use Rattle.rl_check.specs.Watching.{Sees}
 use Rattle.rl_check.proofs.WatchLaws.{keeps, all_hold, trace_more, first_broken}

@@ -1,5 +1,5 @@
 use Rattle.std.proofs.Common.{take}
-use Rattle.rl_history.specs.Tallies.{trace_of_report}
+use Rattle.rl_report.specs.Tallies.{trace_of_report}
 use Rattle.rl_check.specs.QueuesOf.{queues_all}
 use Rattle.rl_check.specs.Watching.{Sees}
 use Rattle.rl_check.proofs.events.first_break.Given as goal

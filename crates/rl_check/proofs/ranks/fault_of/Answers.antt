@@ -2,8 +2,8 @@ use Rattle.std.proofs.Common.{◌<◌, ap, sym, subst, ◌∙◌, arith, length,
 use Rattle.std.specs.Option.{is_some}
 use Rattle.std.specs.List.{flat_map}
 use Rattle.rl_model.specs.declared.entry.Entry.{Entry}
-use Rattle.rl_history.specs.Reports.{TheShard}
-use Rattle.rl_history.specs.Lawful.{transcript_in}
+use Rattle.rl_report.specs.Reports.{TheShard}
+use Rattle.rl_report.specs.Lawful.{transcript_in}
 use Rattle.rl_check.specs.Ranks.{Stands}
 use Rattle.rl_check.proofs.RankFirst.{as_many_sizes, sized, few_calls, shards_there, rank_some, rank_few, rank_done, rank_not, read_there}
 use Rattle.rl_check.proofs.ranks.fault_of.Goals as goal

@@ -2,8 +2,8 @@ use Rattle.std.proofs.Common.{◌≡◌, ap, sym, ◌∙◌, arith, length, slic
 use Rattle.rl_step.specs.Queues.{QueueOf}
 use Rattle.rl_check.specs.Finding.{FoundOfReplay, FoundBehind}
 use Rattle.rl_check.specs.Watching.{IsThere}
-use Rattle.rl_history.proofs.NamingLaws.{few_queues}
-use Rattle.rl_history.proofs.QueueLaws.{queues_long}
+use Rattle.rl_report.proofs.NamingLaws.{few_queues}
+use Rattle.rl_report.proofs.QueueLaws.{queues_long}
 use Rattle.rl_check.proofs.ReportFacts.{events_there}
 use Rattle.rl_check.proofs.shards.fault_behind.Goals as goal
 

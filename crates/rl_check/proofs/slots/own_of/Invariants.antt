@@ -1,7 +1,7 @@
 use Rattle.std.proofs.Common.{◌≡◌, take}
 use Rattle.std.specs.List.{flat_map}
-use Rattle.rl_history.specs.Reports.{TheShard}
-use Rattle.rl_history.specs.Lawful.{transcript_in}
+use Rattle.rl_report.specs.Reports.{TheShard}
+use Rattle.rl_report.specs.Lawful.{transcript_in}
 use Rattle.rl_check.proofs.slots.own_of.Given as goal
 
 abbrev pub invariant-loop-part : goal.invariant-loop-part

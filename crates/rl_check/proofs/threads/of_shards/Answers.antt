@@ -4,8 +4,8 @@ use Rattle.rayon.specs.Numbers.{nat_range}
 use Rattle.rayon.proofs.ListFacts.{IfOk-then}
 use Rattle.rayon.proofs.ToStd.{nat_range-All}
 use Rattle.rl_place.specs.Places.{IsProper}
-use Rattle.rl_history.specs.Naming.{naming_of}
-use Rattle.rl_history.specs.Reports.{ReportFits}
+use Rattle.rl_report.specs.Naming.{naming_of}
+use Rattle.rl_report.specs.Reports.{ReportFits}
 use Rattle.rl_check.specs.Threads.{Found}
 use Rattle.rl_check.specs.Faults.{IsFirstIn}
 use Rattle.rl_check.specs.Legal.{PassesOn}

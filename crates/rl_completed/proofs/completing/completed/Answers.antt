@@ -2,7 +2,7 @@
 use Rattle.std.proofs.Common.{List, ◌++◌, ap, sym, subst, ◌∙◌}
 use Rattle.rl_ops.specs.declared.schedule.Turn.{Turn}
 use Rattle.rl_ops.specs.declared.schedule.Schedule.{Schedule}
-use Rattle.rl_cores.specs.Kinds.{lock_kind_of}
+use Rattle.rl_locks.specs.Kinds.{lock_kind_of}
 use Rattle.rl_completed.specs.Completing.{Completes}
 use Rattle.rl_completed.proofs.CompletingLaws.{complete_ok}
 use Rattle.rl_completed.proofs.completing.completed.Goals as goal

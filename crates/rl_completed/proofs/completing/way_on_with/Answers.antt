@@ -5,7 +5,7 @@ use Rattle.rl_ops.specs.declared.schedule.Turn.{Turn}
 use Rattle.rl_ops.specs.Schedule.{TurnFits, steps_of}
 use Rattle.rl_machine.specs.Running.{running}
 use Rattle.rl_machine.specs.Run.{run_of, ranks_of_turns, steps_in}
-use Rattle.rl_replay.proofs.SuitLaws.{sizes_suit}
+use Rattle.rl_inputs.proofs.SuitLaws.{sizes_suit}
 use Rattle.rl_completed.proofs.CompletingLaws.{steps_are, homes_there, ran, reached, completes, too_long}
 use Rattle.rl_completed.proofs.completing.way_on_with.Goals as goal
 

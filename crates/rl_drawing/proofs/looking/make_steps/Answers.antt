@@ -1,7 +1,7 @@
 -- One step more.
 use Rattle.std.proofs.Common.{arith}
 use Rattle.rl_machine.specs.Running.{running}
-use Rattle.rl_rests.specs.laws.RunLaws.{made_after, there_after, next}
+use Rattle.rl_replay.specs.laws.RunLaws.{made_after, there_after, next}
 use Rattle.rl_drawing.proofs.looking.make_steps.Goals as goal
 
 pub step-requires-clause-there : goal.step-requires-clause-there

@@ -3,7 +3,7 @@ use Rattle.std.proofs.Common.{◌≡◌, false, replicate, ap, sym, ◌∙◌, a
 use borrow.Author.Count.{below_more}
 use Rattle.rl_machine.specs.Running.{running}
 use Rattle.rl_machine.specs.Run.{run_of}
-use Rattle.rl_rests.specs.laws.RunLaws.{made_after, there_after, next}
+use Rattle.rl_replay.specs.laws.RunLaws.{made_after, there_after, next}
 use Rattle.rl_drawing.specs.Leads.{sees}
 use Rattle.rl_drawing.proofs.looking.steps_before.Goals as goal
 

@@ -3,7 +3,7 @@ use Rattle.std.proofs.Common.{◌∷◌, [], ◌++◌, ap, sym, ◌∙◌}
 use Rattle.rl_machine.specs.Promises.{shard_journal}
 use Rattle.rl_machine.specs.Running.{shard_run}
 use Rattle.rl_machine.specs.State.{shard_view}
-use Rattle.rl_asks.specs.laws.Filling.{take_next}
+use Rattle.rl_core.specs.laws.Filling.{take_next}
 use Rattle.rl_machine.proofs.records.journal.Goals as goal
 
 pub loop-at-preserved : goal.loop-at-preserved

@@ -3,7 +3,7 @@ use Rattle.std.proofs.Common.{◌≡◌, ◌+◌, ◌*◌, ◌≤◌, length, sl
 use Rattle.rl_model.specs.Geom.{GeomFits}
 use Rattle.rl_step.specs.Do.{TheWindow}
 use Rattle.rl_site.specs.Site.{journal_base, lock_base}
-use Rattle.rl_asks.specs.laws.JournalLaws.{place_low}
+use Rattle.rl_core.specs.laws.JournalLaws.{place_low}
 use Rattle.rl_machine.specs.laws.JournalAt.{short, all_words, fits, geom_fits}
 use Rattle.rl_machine.proofs.records.journal_word.Goals as goal
 use Rattle.rl_machine.proofs.records.journal_word.Goals.{After-journal_base}

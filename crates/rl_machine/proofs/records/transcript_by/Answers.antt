@@ -1,7 +1,7 @@
 -- The core tells what the definition does, by the words and the view that it is given.
 use Rattle.std.proofs.Common.{◌∙◌, ap, sym, refl}
 use Rattle.std.proofs.lemmas.Result.{IfOk-weaker}
-use Rattle.rl_asks.specs.Desks.{desk_entries}
+use Rattle.rl_core.specs.Desks.{desk_entries}
 use Rattle.rl_machine.specs.ShardSteps.{desk_at, events_of}
 use Rattle.rl_machine.proofs.records.transcript_by.Goals as goal
 

@@ -3,7 +3,7 @@ use Rattle.std.proofs.Common.{◌≡◌, ◌<◌, ◌∷◌, [], ◌++◌, map, 
 use Rattle.std.proofs.lemmas.List.{map-append}
 use Rattle.rl_model.specs.declared.entry.Entry.{Entry}
 use Rattle.std.proofs.Math.Seq.{take-length}
-use Rattle.rl_asks.specs.laws.Filling.{take_next}
+use Rattle.rl_core.specs.laws.Filling.{take_next}
 use Rattle.rl_machine.specs.Promises.{transcripts_on}
 use Rattle.rl_machine.specs.ShardSteps.{kept_on}
 use Rattle.rl_machine.specs.State.{running_shard}

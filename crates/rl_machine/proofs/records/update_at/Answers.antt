@@ -2,7 +2,7 @@
 use Rattle.std.proofs.Common.{◌≡◌, ◌+◌, ◌*◌, ◌/◌, ◌<◌, ◌^◌, [], ◌∷◌, slice_index, Some, ap, sym, ◌∙◌, subst, arith}
 use Rattle.rl_journal.specs.Journal.{entry_of, six_from}
 use Rattle.rl_site.specs.Site.{journal_base}
-use Rattle.rl_asks.specs.laws.JournalLaws.{update_is, part_fits}
+use Rattle.rl_core.specs.laws.JournalLaws.{update_is, part_fits}
 use Rattle.rl_machine.specs.laws.JournalAt.{short, legal}
 use Rattle.rl_machine.proofs.records.update_at.Goals as goal
 

@@ -1,7 +1,7 @@
 -- The count is the length of the journal.
 use Rattle.std.proofs.Common.{◌≡◌, ◌∙◌, ap, length, slice_index, arith}
 use Rattle.rl_step.specs.Do.{TheWindow}
-use Rattle.rl_asks.specs.laws.JournalLaws.{count_is, few_updates}
+use Rattle.rl_core.specs.laws.JournalLaws.{count_is, few_updates}
 use Rattle.rl_machine.specs.Promises.{shard_journal}
 use Rattle.rl_machine.specs.Running.{shard_run}
 use Rattle.rl_machine.specs.State.{shard_view}

@@ -2,7 +2,7 @@
 use Rattle.std.proofs.Common.{◌≤◌, length, ap, sym, ◌∙◌, subst, arith}
 use Rattle.std.specs.List.{sum}
 use Rattle.rl_model.specs.Geom.{GeomFits}
-use Rattle.rl_asks.specs.ShardTables.{site_with}
+use Rattle.rl_core.specs.ShardTables.{site_with}
 use Rattle.rl_machine.specs.laws.StartLaws.{few_words}
 use Rattle.rl_machine.proofs.start.first_shard.Goals as goal
 

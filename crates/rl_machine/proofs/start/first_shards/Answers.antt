@@ -10,9 +10,9 @@ use Rattle.rl_machine.specs.Cores.{EachCore}
 use Rattle.rl_machine.specs.laws.CoreLaws.{core_more, home_there}
 use Rattle.rl_machine.specs.laws.ShardsMore.{shards_more, cores_more, length_cores, length_more}
 use Rattle.rl_site.specs.Site.{Site}
-use Rattle.rl_asks.specs.ShardTables.{site_with}
+use Rattle.rl_core.specs.ShardTables.{site_with}
 use Rattle.std.proofs.Math.Seq.{take-length}
-use Rattle.rl_asks.specs.laws.OpsBridge.{few_updates}
+use Rattle.rl_core.specs.laws.OpsBridge.{few_updates}
 use Rattle.rl_machine.specs.Running.{shard_run, shard_cores}
 use Rattle.rl_machine.specs.Start.{first_shard, first_shards, site_of}
 use Rattle.rl_machine.specs.State.{shard_view}

@@ -1,5 +1,5 @@
 use Rattle.std.proofs.Common.{◌≡◌, ◌++◌, take}
-use Rattle.rl_history.specs.Printing.{spaced}
+use Rattle.rl_report.specs.Printing.{spaced}
 use Rattle.rl_names.specs.StepWords.{events_words}
 use Rattle.rl_names.proofs.stepping.put_events.Given as goal
 

@@ -1,8 +1,8 @@
 -- The report, the state and the listing, one behind the other.
 use Rattle.std.proofs.Common.{ap, ◌∙◌}
-use Rattle.rl_history.specs.Naming.{naming_of}
-use Rattle.rl_history.specs.Spelling.{report_spelling}
-use Rattle.rl_cores.specs.Kinds.{lock_kind_of}
+use Rattle.rl_report.specs.Naming.{naming_of}
+use Rattle.rl_report.specs.Spelling.{report_spelling}
+use Rattle.rl_locks.specs.Kinds.{lock_kind_of}
 use Rattle.rl_program.specs.Replay.{report_of_replay}
 use Rattle.rl_shown.specs.State.{state_with}
 use Rattle.rl_shown.specs.Listing.{listing_with}

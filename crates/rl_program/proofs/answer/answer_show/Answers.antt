@@ -1,6 +1,6 @@
 use Rattle.std.proofs.Common.{Err, Vec, Global, ℕ, subst}
 use Rattle.std.proofs.lemmas.Result.{err_from_is_err_and}
-use Rattle.rl_replay.specs.Reading.{WasRead}
+use Rattle.rl_inputs.specs.Reading.{WasRead}
 use Rattle.rl_program.specs.Answer.{shown}
 use Rattle.rl_program.proofs.AnswerLemmas.{was_shown, was_refused, not_shown}
 use Rattle.rl_program.proofs.answer.answer_show.Goals as goal

@@ -1,5 +1,5 @@
 use Rattle.std.proofs.Common.{◌<◌, [], ◌∷◌, ◌++◌, length, take, ap, sym, ◌∙◌, arith}
-use Rattle.rl_history.specs.declared.report.Done.{Done}
+use Rattle.rl_report.specs.declared.report.Done.{Done}
 use Rattle.rl_machine.specs.Running.{running}
 use Rattle.rl_machine.specs.Run.{done_of}
 use Rattle.rl_program.specs.Replay.{dones_from}

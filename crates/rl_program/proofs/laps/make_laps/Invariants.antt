@@ -1,6 +1,6 @@
 use Rattle.std.proofs.Common.{◌≡◌, length}
 use Rattle.rl_machine.specs.Running.{running}
-use Rattle.rl_rests.specs.Rested.{AllRested}
+use Rattle.rl_replay.specs.Rested.{AllRested}
 use Rattle.rl_program.specs.Laps.{laps}
 use Rattle.rl_program.proofs.laps.make_laps.Given as goal
 

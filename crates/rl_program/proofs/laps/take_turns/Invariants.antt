@@ -1,7 +1,7 @@
 -- The ranks so far have taken their turns, and what is noted of each rank is true.
 use Rattle.std.proofs.Common.{◌≡◌, length}
 use Rattle.rl_machine.specs.Running.{running}
-use Rattle.rl_rests.specs.Rested.{AllRested}
+use Rattle.rl_replay.specs.Rested.{AllRested}
 use Rattle.rl_program.specs.Laps.{turns}
 use Rattle.rl_program.proofs.laps.take_turns.Given as goal
 

@@ -3,9 +3,9 @@ use Rattle.std.proofs.lemmas.List.{length-map}
 use Rattle.rl_ops.specs.Schedule.{steps_of}
 use Rattle.rl_machine.specs.Running.{running, shard_run}
 use Rattle.rl_machine.specs.Promises.{IsSound}
-use Rattle.rl_cores.specs.OnShards.{EachShard}
+use Rattle.rl_locks.specs.OnShards.{EachShard}
 use Rattle.rl_program.specs.Replay.{report_in, queue_count, run_with}
-use Rattle.rl_replay.proofs.SuitLaws.{sizes_suit}
+use Rattle.rl_inputs.proofs.SuitLaws.{sizes_suit}
 use Rattle.rl_program.proofs.RunLaws.{steps_are, where_ok}
 use Rattle.rl_program.proofs.KeptLaws.{ran, says_is, keeps_is, same_calls, each_shard, is_kept}
 use Rattle.rl_program.proofs.MachineOf.{machine_of}

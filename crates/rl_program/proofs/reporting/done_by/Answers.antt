@@ -2,7 +2,7 @@
 use Rattle.std.proofs.Common.{◌≡◌, ◌<◌, ◌≤◌, ◌+◌, ℕ, List, [], get_or, length, map, slice_get, take, vec_len, Some, Vec, Global, ap, sym, ◌∙◌, arith, rules}
 use Rattle.std.proofs.lemmas.Option.{slice_get-get_or}
 use Rattle.rl_model.specs.declared.entry.Entry.{Entry}
-use Rattle.rl_asks.specs.RankGood.{entries_in}
+use Rattle.rl_core.specs.RankGood.{entries_in}
 use Rattle.rl_program.specs.Counting.{lists_in}
 use Rattle.rl_program.proofs.ReportLaws.{one_more}
 use Rattle.rl_program.proofs.reporting.done_by.Goals as goal

@@ -1,5 +1,5 @@
 use Rattle.std.proofs.Common.{◌≡◌, [], get_or, map, take}
-use Rattle.rl_asks.specs.RankGood.{entries_in}
+use Rattle.rl_core.specs.RankGood.{entries_in}
 use Rattle.rl_program.specs.Counting.{lists_in}
 use Rattle.rl_program.proofs.reporting.done_by.Given as goal
 

@@ -1,7 +1,7 @@
 use Rattle.std.proofs.Common.{ℕ, get_or, sym, subst, ◌∙◌}
 use Rattle.std.proofs.lemmas.Option.{same_Some, slice_get-get_or}
 use borrow.Author.Count.{below_more}
-use Rattle.rl_history.specs.Reports.{TheShard}
+use Rattle.rl_report.specs.Reports.{TheShard}
 use Rattle.rl_program.specs.Replay.{NumbersFit}
 use Rattle.rl_program.proofs.reporting.parts_fit.Goals as goal
 

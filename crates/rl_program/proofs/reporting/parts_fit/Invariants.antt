@@ -1,5 +1,5 @@
 use Rattle.std.proofs.Common.{ℕ, ◌<◌, get_or}
-use Rattle.rl_history.specs.Reports.{TheShard}
+use Rattle.rl_report.specs.Reports.{TheShard}
 use Rattle.rl_program.specs.Replay.{NumbersFit}
 use Rattle.rl_program.proofs.reporting.parts_fit.Given as goal
 

@@ -3,8 +3,8 @@ use Rattle.std.proofs.lemmas.List.{length-map}
 use Rattle.rl_place.specs.declared.lock.Lock.{Lock}
 use Rattle.rl_place.specs.Numbering.{element_paths}
 use Rattle.rl_place.specs.Places.{ThePlace, IsProper}
-use Rattle.rl_history.specs.Naming.{queue_names, element_queue_name}
-use Rattle.rl_history.proofs.NamingLaws.{few_queues}
+use Rattle.rl_report.specs.Naming.{queue_names, element_queue_name}
+use Rattle.rl_report.proofs.NamingLaws.{few_queues}
 use Rattle.rl_program.proofs.reporting.queue_count.Goals as goal
 
 -- a tree has a queue for each element, and they are few

@@ -1,5 +1,5 @@
 use Rattle.std.proofs.Common.{◌≡◌, filter, take}
-use Rattle.rl_history.specs.Spelling.{is_printed}
+use Rattle.rl_report.specs.Spelling.{is_printed}
 use Rattle.rl_program.proofs.reporting.without_touches.Given as goal
 
 -- the events so far, but for touches

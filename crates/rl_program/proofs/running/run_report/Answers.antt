@@ -6,7 +6,7 @@ use Rattle.rl_ops.proofs.BatchLaws.{all_alone}
 use Rattle.rl_place.specs.LockWords.{name_of}
 use Rattle.rl_place.specs.Shapes.{shape_of, knobs_of}
 use Rattle.rl_run.specs.Made.{IsRunBy}
-use Rattle.rl_cores.specs.Kinds.{lock_kind_of}
+use Rattle.rl_locks.specs.Kinds.{lock_kind_of}
 use Rattle.rl_program.proofs.running.run_report.Goals as goal
 
 pub run_all-requires-in-Mcs-clause-knobs : goal.run_all-requires-in-Mcs-clause-knobs

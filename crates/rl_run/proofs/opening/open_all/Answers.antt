@@ -6,8 +6,8 @@ use Rattle.rl_ops.specs.Room.{calls_on, updates_on, AreRooms}
 use Rattle.rl_ops.specs.laws.RoomLaws.{first_room}
 use Rattle.rl_shard.specs.Counting.{first_counted}
 use Rattle.rl_shard.specs.Shards.{core_at, table_at, IsShardOf}
-use Rattle.rl_asks.specs.laws.OpsBridge.{few_updates}
-use Rattle.rl_asks.specs.ShardTables.{site_with}
+use Rattle.rl_core.specs.laws.OpsBridge.{few_updates}
+use Rattle.rl_core.specs.ShardTables.{site_with}
 use Rattle.rl_run.specs.laws.RunLaws.{new_none, new_more, column_long}
 use Rattle.rl_run.specs.Runs.{AreNew}
 use Rattle.rl_run.proofs.opening.open_all.Goals as goal

@@ -1,6 +1,6 @@
 use Rattle.std.proofs.Common.{ℕ, ◌<◌, get_or}
 use Rattle.rl_model.specs.declared.entry.Entry.{Entry}
-use Rattle.rl_history.specs.Reports.{ReplyFits}
+use Rattle.rl_report.specs.Reports.{ReplyFits}
 use Rattle.rl_run.proofs.reporting.replies_fit.Given as goal
 
 abbrev pub invariant-loop-entry : goal.invariant-loop-entry

@@ -2,8 +2,8 @@
 use Rattle.std.proofs.Common.{◌≡◌, ◌<◌, ◌∷◌, [], ◌++◌, length, take, vec_len, ap, sym, ◌∙◌, arith, rules}
 use Rattle.std.proofs.lemmas.List.{length-take-le}
 use Rattle.std.proofs.Math.Seq.{take-length}
-use Rattle.rl_asks.specs.ShardTables.{journal_at}
-use Rattle.rl_asks.specs.laws.Filling.{take_next}
+use Rattle.rl_core.specs.ShardTables.{journal_at}
+use Rattle.rl_core.specs.laws.Filling.{take_next}
 use Rattle.rl_shard.proofs.ClosingLaws.{left_small, left_count, left_few}
 use Rattle.rl_shard.proofs.closing.read_journal.Goals as goal
 

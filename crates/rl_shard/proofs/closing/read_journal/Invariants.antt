@@ -1,6 +1,6 @@
 -- The entries so far are the first of the journal.
 use Rattle.std.proofs.Common.{◌≡◌, ◌≤◌, sum, take, vec_capacity}
-use Rattle.rl_asks.specs.ShardTables.{journal_at}
+use Rattle.rl_core.specs.ShardTables.{journal_at}
 use Rattle.rl_shard.proofs.closing.read_journal.Given as goal
 
 abbrev pub invariant-loop-at : goal.invariant-loop-at

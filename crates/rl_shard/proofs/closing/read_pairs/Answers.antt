@@ -4,7 +4,7 @@ use Rattle.std.specs.FinMap as finite
 use Rattle.rl_journal.specs.Legal.{table_after}
 use Rattle.rl_volume.specs.Words.{volume_words}
 use Rattle.rl_volume.specs.Volume.{IsVolume}
-use Rattle.rl_asks.specs.ShardTables.{journal_at}
+use Rattle.rl_core.specs.ShardTables.{journal_at}
 use Rattle.rl_shard.proofs.ClosingLaws.{left_volume}
 use Rattle.rl_shard.proofs.closing.read_pairs.Goals as goal
 use Rattle.rl_shard.proofs.closing.read_pairs.Goals.{After-volume_words}

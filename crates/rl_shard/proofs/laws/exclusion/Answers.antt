@@ -1,9 +1,9 @@
 -- Who stands as a holder is alone, by the core's laws.
 use Rattle.std.proofs.Common.{◌≡◌, ◌+◌, List, [], ◌∷◌, map, Some, ap, refl, sym, ◌∙◌, subst}
-use Rattle.rl_asks.specs.ShardTables.{ShardTable}
+use Rattle.rl_core.specs.ShardTables.{ShardTable}
 use Rattle.rl_word.specs.laws.Places.{get_map}
-use Rattle.rl_asks.specs.Standings.{AloneIn}
-use Rattle.rl_asks.specs.laws.TouchLaws.{beside}
+use Rattle.rl_core.specs.Standings.{AloneIn}
+use Rattle.rl_core.specs.laws.TouchLaws.{beside}
 use Rattle.rl_window.specs.declared.knows.Knows.TheVariants.{Rank}
 use Rattle.rl_shard.specs.declared.counting.CountedView.{CountedView}
 use Rattle.rl_shard.specs.Counting.{whole_of, standing_of, counting_rule}

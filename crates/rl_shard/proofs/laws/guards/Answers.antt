@@ -6,7 +6,7 @@ use Rattle.rl_shard.specs.laws.CountingLaws as counting
 use Rattle.rl_shard.specs.laws.Guards.{guarded_names}
 use Rattle.rl_shard.specs.Shards.{core_at, view_at, rank_at}
 use Rattle.rl_shard.specs.laws.SeatLaws.{seen, seen_seated}
-use Rattle.rl_asks.specs.laws.TouchLaws.{alone_there}
+use Rattle.rl_core.specs.laws.TouchLaws.{alone_there}
 use Rattle.rl_shard.proofs.laws.guards.Goals as goal
 
 pub returns-clause-ranks : goal.returns-clause-ranks

@@ -8,8 +8,8 @@ use Rattle.rl_place.specs.Shapes.{shape_of, knobs_of}
 use Rattle.rl_ops.specs.Room.{updates_on, AreRooms}
 use Rattle.rl_ops.specs.laws.RoomLaws.{first_room}
 use Rattle.rl_site.specs.Site.{Site}
-use Rattle.rl_asks.specs.ShardTables.{site_with}
-use Rattle.rl_asks.specs.laws.OpsBridge.{few_updates}
+use Rattle.rl_core.specs.ShardTables.{site_with}
+use Rattle.rl_core.specs.laws.OpsBridge.{few_updates}
 use Rattle.rl_machine.specs.Running.{ShardRun}
 use Rattle.rl_machine.specs.Start.{first_shards, site_of}
 use Rattle.rl_shown.proofs.CoresLaws.{tables_more, cores_more}

@@ -9,12 +9,12 @@ use Rattle.rl_place.specs.Shapes.{shape_of, knobs_of}
 use Rattle.rl_ops.specs.declared.schedule.Turn.{Turn}
 use Rattle.rl_ops.specs.declared.schedule.Turn.TheVariants.{Steps}
 use Rattle.rl_ops.specs.Schedule.{steps_of}
-use Rattle.rl_history.specs.Naming.{naming_of}
+use Rattle.rl_report.specs.Naming.{naming_of}
 use Rattle.rl_machine.specs.Running.{running}
 use Rattle.rl_machine.specs.Run.{steps_in, ranks_of_turns, turn_ranks}
 use Rattle.rl_machine.specs.laws.ReplayLaws.{steps-more, steps-within}
 use Rattle.rl_machine.specs.Start.{start_of}
-use Rattle.rl_replay.proofs.SuitLaws.{sizes_suit}
+use Rattle.rl_inputs.proofs.SuitLaws.{sizes_suit}
 use Rattle.rl_shown.specs.Listing.{head_lines, step_lines}
 use Rattle.rl_shown.proofs.ListingLaws.{steps_are, turn_more, run_turn, start_is, the_text}
 use Rattle.rl_shown.proofs.listing.list_with.Goals as goal

@@ -2,7 +2,7 @@ use Rattle.std.proofs.Common.{◌≡◌, ◌++◌, length, take}
 use Rattle.rl_step.specs.Answers.{steps_made}
 use Rattle.rl_text.specs.Spelling.{text_of}
 use Rattle.rl_place.specs.Shapes.{shape_of, knobs_of}
-use Rattle.rl_history.specs.Naming.{naming_of}
+use Rattle.rl_report.specs.Naming.{naming_of}
 use Rattle.rl_machine.specs.Running.{running}
 use Rattle.rl_machine.specs.Run.{run_of, ranks_of_turns, steps_in}
 use Rattle.rl_machine.specs.Start.{start_of}

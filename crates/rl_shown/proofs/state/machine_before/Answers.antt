@@ -6,7 +6,7 @@ use Rattle.rl_word.specs.Shapes.{TheShape}
 use Rattle.rl_ops.specs.Schedule.{TurnFits}
 use Rattle.rl_machine.specs.Running.{running}
 use Rattle.rl_machine.specs.Run.{ranks_of_turns}
-use Rattle.rl_replay.proofs.SuitLaws.{sizes_suit}
+use Rattle.rl_inputs.proofs.SuitLaws.{sizes_suit}
 use Rattle.rl_shown.proofs.ListingLaws.{run_first}
 use Rattle.rl_shown.proofs.state.machine_before.Goals as goal
 

@@ -1,5 +1,5 @@
 -- The head, the body and the end.
-use Rattle.rl_history.specs.Naming.{naming_of}
+use Rattle.rl_report.specs.Naming.{naming_of}
 use Rattle.rl_machine.specs.Running.{running}
 use Rattle.rl_shown.specs.State.{head_lines, body_lines}
 use Rattle.rl_shown.proofs.TellingLaws.{closed}

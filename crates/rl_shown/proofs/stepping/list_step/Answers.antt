@@ -3,7 +3,7 @@ use Rattle.std.proofs.Common.{◌++◌, ◌∷◌, decimal, ap, ◌∙◌}
 use Rattle.rl_step.specs.Answers.{steps_made}
 use Rattle.rl_machine.specs.Running.{running}
 use Rattle.rl_machine.specs.Whereabouts.{standing_by}
-use Rattle.rl_history.specs.Printing.{spaced}
+use Rattle.rl_report.specs.Printing.{spaced}
 use Rattle.rl_names.specs.StepWords.{step_words}
 use Rattle.rl_shown.specs.Listing.{out_word, out_words}
 use Rattle.rl_shown.proofs.ListingLaws.{line_is, words_more}

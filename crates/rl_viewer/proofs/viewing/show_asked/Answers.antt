@@ -1,7 +1,7 @@
 -- Each answer is the one that belongs to the words and the files.
 use Rattle.std.proofs.Common.{Err, refl, sym, ap, ◌∙◌, subst}
 use Rattle.std.specs.Option.{option_map}
-use Rattle.rl_replay.specs.Files.{refused_line}
+use Rattle.rl_inputs.specs.Files.{refused_line}
 use Rattle.rl_viewer.specs.Asking.{the_asked}
 use Rattle.rl_viewer.specs.Answer.{WasShown}
 use Rattle.rl_viewer.proofs.DoneLaws.{no_form, was_shown, was_refused}

@@ -1,6 +1,6 @@
 -- The callers have begun, and a step leaves each as one that may go on.
 use Rattle.std.proofs.Common.{sym, subst}
-use Rattle.rl_replay.proofs.SuitLaws.{sizes_suit}
+use Rattle.rl_inputs.proofs.SuitLaws.{sizes_suit}
 use Rattle.rl_run.specs.Runs.{AreCallers}
 use Rattle.rmalock.proofs.callers.told_by.Goals as goal
 use Rattle.rmalock.proofs.callers.told_by.Goals.{then-rank-len+in_ok-answer_sign+in_ok-push_str+in_ok-push_str-2, else-rank-len}

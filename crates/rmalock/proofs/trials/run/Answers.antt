@@ -1,5 +1,5 @@
 -- Where the lock does no batches there is none.
-use Rattle.rl_replay.proofs.SuitLaws.{sizes_suit}
+use Rattle.rl_inputs.proofs.SuitLaws.{sizes_suit}
 use Rattle.rmalock.proofs.trials.run.Goals as goal
 
 pub new-requires-clause-batches : goal.new-requires-clause-batches

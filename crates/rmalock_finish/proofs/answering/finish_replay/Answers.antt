@@ -1,7 +1,7 @@
 -- Each answer is the one that belongs to the words and the files.
 use Rattle.std.proofs.Common.{sym, ap, refl, ◌∙◌}
 use Rattle.std.specs.Option.{option_map}
-use Rattle.rl_replay.specs.Files.{named}
+use Rattle.rl_inputs.specs.Files.{named}
 use Rattle.rmalock_finish.proofs.DoneLaws.{no_form, was_answered}
 use Rattle.rmalock_finish.proofs.answering.finish_replay.Goals as goal
 

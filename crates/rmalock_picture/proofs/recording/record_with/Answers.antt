@@ -3,7 +3,7 @@ use Rattle.std.proofs.Common.{length, ap, ◌∙◌, arith, rules}
 use Rattle.std.proofs.lemmas.Grind.{common_steps}
 use Rattle.rl_place.specs.Places.{ThePlace}
 use Rattle.rl_step.specs.Answers.{steps_made}
-use Rattle.rl_replay.proofs.SuitLaws.{sizes_suit}
+use Rattle.rl_inputs.proofs.SuitLaws.{sizes_suit}
 use Rattle.rmalock_picture.proofs.recording.record_with.Goals as goal
 
 pub loop-turn-init : goal.loop-turn-init

@@ -1,7 +1,7 @@
 -- Each answer is the one that belongs to the words and the files.
 use Rattle.std.proofs.Common.{Err, refl, sym, ap, ◌∙◌, subst}
 use Rattle.std.specs.Option.{option_map}
-use Rattle.rl_replay.specs.Files.{named, refused_line}
+use Rattle.rl_inputs.specs.Files.{named, refused_line}
 use Rattle.rmalock_schedule.specs.Answer.{WasDrawn}
 use Rattle.rmalock_schedule.proofs.DoneLaws.{no_form, was_shown, was_refused}
 use Rattle.rmalock_schedule.proofs.answering.schedule_sketch.Goals as goal

@@ -1,6 +1,6 @@
 use Rattle.std.proofs.Common.{◌∙◌, subst, Ok, Err}
 use Rattle.std.proofs.lemmas.Result.{err_from_is_err_and}
-use Rattle.rl_replay.specs.Reading.{WasRead, called}
+use Rattle.rl_inputs.specs.Reading.{WasRead, called}
 use Rattle.rmalock_schedule.specs.Answer.{sketched}
 use Rattle.rmalock_schedule.proofs.ReadLaws.{place_stops, calls_stop, sketch_stops, all_read}
 use Rattle.rmalock_schedule.proofs.reading.read_files.Goals as goal

@@ -1,7 +1,7 @@
 use Rattle.std.proofs.Common.{ap, sym, subst, ◌∙◌, Err}
-use Rattle.rl_replay.specs.declared.complaint.Which.TheVariants.{Schedule}
-use Rattle.rl_replay.specs.Reading.{WasRead, within}
-use Rattle.rl_replay.proofs.ReadLemmas.{was_fault, was_memory, was_longer}
+use Rattle.rl_inputs.specs.declared.complaint.Which.TheVariants.{Schedule}
+use Rattle.rl_inputs.specs.Reading.{WasRead, within}
+use Rattle.rl_inputs.proofs.ReadLemmas.{was_fault, was_memory, was_longer}
 use Rattle.rmalock_schedule.proofs.reading.read_within.Goals as goal
 
 pub returns-in-Err-Fault-clause-read : goal.returns-in-Err-Fault-clause-read

@@ -3,7 +3,7 @@ use Rattle.std.proofs.Common.{◌≡◌, ◌≤◌, List, [], length, map, get_o
 use Rattle.std.proofs.lemmas.List.{length-map, get_or-map}
 use Rattle.rl_model.specs.declared.call.Call.{Call}
 use Rattle.rl_ops.specs.Ops.{total_calls}
-use Rattle.rl_asks.specs.laws.AskLaws.{few_calls}
+use Rattle.rl_core.specs.laws.AskLaws.{few_calls}
 use Rattle.rl_machine.proofs.machine.Machine.given.Goals as goal
 
 pub overflow_cast-result : goal.overflow_cast-result

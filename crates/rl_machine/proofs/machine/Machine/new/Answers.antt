@@ -10,7 +10,7 @@ use Rattle.rl_machine.specs.Run.{run_of}
 use Rattle.rl_machine.specs.RunTransitions.{SaysOn}
 use Rattle.rl_machine.specs.Promises.{KeepsQueues}
 use Rattle.rl_machine.specs.laws.CoreLaws.{is_machine, are_cores, all_cores, says_on, queues_on}
-use Rattle.rl_asks.specs.laws.OpsBridge.{can_begin}
+use Rattle.rl_core.specs.laws.OpsBridge.{can_begin}
 use Rattle.rl_machine.specs.Running.{ShardRun, Running, TheMachine, cores_of}
 use Rattle.rl_machine.specs.Start.{first_shards}
 use Rattle.rl_machine.specs.State.{shard_view}

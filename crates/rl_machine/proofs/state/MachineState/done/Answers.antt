@@ -2,8 +2,8 @@
 use Rattle.std.proofs.Common.{◌≡◌, ◌+◌, ◌≤◌, length, map, slice_get, take, Some, ap, sym, ◌∙◌, arith}
 use Rattle.std.proofs.lemmas.Option.{slice_get-get_or}
 use Rattle.rl_machine.specs.ShardSteps.{desk_at}
-use Rattle.rl_asks.specs.Desks.{desk_entries}
-use Rattle.rl_asks.specs.RankGood.{entries_in}
+use Rattle.rl_core.specs.Desks.{desk_entries}
+use Rattle.rl_core.specs.RankGood.{entries_in}
 use Rattle.rl_machine.specs.laws.StateLaws.{IsThere, is_there}
 use Rattle.rl_machine.specs.laws.RecordLaws.{kept_in, one_shard_more, on_all_shards}
 use Rattle.rl_machine.proofs.state.MachineState.done.Goals as goal

@@ -1,6 +1,6 @@
 -- The entries on the shards so far are counted.
 use Rattle.std.proofs.Common.{◌≡◌, map, take}
-use Rattle.rl_asks.specs.RankGood.{entries_in}
+use Rattle.rl_core.specs.RankGood.{entries_in}
 use Rattle.rl_machine.specs.laws.RecordLaws.{kept_in}
 use Rattle.rl_machine.proofs.state.MachineState.done_of.Given as goal
 

@@ -1,7 +1,7 @@
 use Rattle.std.proofs.Common.{◌≡◌, ◌+◌, ◌<◌, ◌≤◌, length, slice_get, slice_index, Some, refl, ap, sym, subst, ◌∙◌, arith}
 use Rattle.std.proofs.lemmas.Option.{slice_get-get_or}
 use Rattle.rl_word.specs.laws.Places.{get_set_same}
-use Rattle.rl_asks.specs.Asks.{block_from, block_shard}
+use Rattle.rl_core.specs.Asks.{block_from, block_shard}
 use Rattle.rl_shard.specs.Shards.{table_at, view_at}
 use Rattle.rl_run.specs.laws.CallerLaws.{seat_is, next_there, can_open}
 use Rattle.rl_run.proofs.caller.Caller.open_next.Goals as goal

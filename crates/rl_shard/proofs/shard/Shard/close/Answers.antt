@@ -1,7 +1,7 @@
 -- The window takes the seats, and what it gives is filled in.
 use Rattle.std.proofs.Common.{◌≡◌, ◌<◌, ◌∙◌, ◌++◌, length, map, slice_get, Some, vec_len, sym, ap, subst, rules, arith}
 use Rattle.rl_window.specs.Seats.{view_of}
-use Rattle.rl_asks.specs.ShardTables.{journal_at}
+use Rattle.rl_core.specs.ShardTables.{journal_at}
 use Rattle.rl_shard.specs.Shards.{tallies_at}
 use Rattle.rl_shard.specs.Closing.{inner_of, seated, IsLeft, AreTotals, entries_in, pairs_left}
 use Rattle.rl_shard.proofs.SeatLists.{all_inner, kept_inner, inner_views, seated_inner}

@@ -2,7 +2,7 @@
 use Rattle.std.proofs.Common.{◌≡◌, ◌∙◌, length, map, sym, ap, subst, rules}
 use Rattle.std.specs.Prelude.{IfOk}
 use Rattle.rl_step.specs.LockQueues.{queues_of}
-use Rattle.rl_asks.specs.ShardTables.{site_with}
+use Rattle.rl_core.specs.ShardTables.{site_with}
 use Rattle.rl_shard.specs.Counting.{first_counted}
 use Rattle.rl_shard.specs.Shards.{IsShardOf, table_at, counted_at}
 use Rattle.rl_shard.specs.Starts.{IsStart}

@@ -3,7 +3,7 @@ use Rattle.std.proofs.Common.{◌≡◌, ◌≤◌, ◌∙◌, length, replicate
 use Rattle.std.specs.Prelude.{Result, Ok, Err, IfOk}
 use Rattle.rl_model.specs.Geom.{GeomFits}
 use Rattle.rl_window.specs.Seats.{HasSeats}
-use Rattle.rl_asks.specs.ShardTables.{opening_held}
+use Rattle.rl_core.specs.ShardTables.{opening_held}
 use Rattle.rl_shard.specs.Counting.{counting_rule, first_counted}
 use Rattle.rl_shard.proofs.OpeningLaws.{counted_length, words_some}
 use Rattle.rl_shard.proofs.SeatLists.{seats_closed}

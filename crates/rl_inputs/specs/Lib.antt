@@ -1,0 +1,3 @@
+-- to be believed, in reading order
+pub mod Reading
+pub mod Files

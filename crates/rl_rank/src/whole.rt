@@ -1,0 +1,331 @@
+//! A rank's whole machine over any lock and any way of working.
+
+ghost use Rattle.std.specs.Prelude.{◌≡◌, ◌↔◌, ◌++◌, ◌+◌, ◌<◌, ◌≤◌, ℕ, [], false, None, Some, length, sum, IfOk};
+ghost use Rattle.rl_model.specs.Geom.{GeomFits};
+ghost use Rattle.rl_word.specs.Shapes.{IsProper, layout_of};
+ghost use Rattle.rl_step.specs.Core.{MayBe};
+ghost use Rattle.rl_step.specs.Batches.{HandsOn};
+ghost use Rattle.rl_work.specs.Ways.{AsksOut};
+ghost use Rattle.rl_rank.specs.Domains.{KeepsToCards, KeepsToLocals};
+ghost use Rattle.rl_rank.specs.Opening.{first_view, opened_in};
+ghost use Rattle.rl_rank.specs.Running.{lock_at, tables, goods, good_at, lock_with, kinds};
+ghost use Rattle.rl_rank.specs.Split.{asked_act, card_of, card_word, word_home};
+ghost use Rattle.rl_site.specs.Site.{site_of};
+ghost use Rattle.rl_rank.specs.Whole.{whole_table, planned_in, next_of, is_at_work, is_open, rule_of, touch_by, departure_by, followed};
+ghost use Rattle.rl_rank.specs.laws.WholeLaws.{whole_laws};
+
+use crate::card_state::CardState;
+use crate::effect::Effect;
+use crate::shift::{shift, shift_answer};
+use crate::side::Side;
+use crate::split::{answer, card_word, effect, next_atom, word_planned};
+use arrayvec::ArrayVec;
+use rl_model::{Call, Geom};
+use rl_site::{ENTRY_WORDS, Site, journal_base};
+use rl_step::{Algo, Core, Event, Plan, Standing, Stepped};
+use rl_word::{Act, Atom, Knobs, Shape};
+use rl_work::{Follow, Work};
+use std::alloc::{AllocError as OutOfMemory, Global};
+
+/// What a rank knows between two of its atoms.
+#[derive(Drop)]
+pub struct WholeView<V: Copy, K: Drop> {
+    /// The lock's side of it.
+    pub side: Side<V>,
+    /// The rank's number.
+    pub rank: u32,
+    /// Its side of the work of its calls, with its transcript.
+    pub work: K,
+}
+
+/// A rank's machine for one shard: the lock, whose words stand in the window from `base` on, and the work of a block.
+#[derive(Drop)]
+pub struct Whole<A: Algo, W: Work> {
+    /// The shard's lock.
+    pub algo: A,
+    /// How its blocks are done.
+    pub work: W,
+    /// The window's number of the lock's first word.
+    pub base: u32,
+    /// The node that the words before the lock's live on.
+    pub home: u32,
+}
+
+/// Tells the events of an atom of the work: the touch, if it is one, and the holder's leave where the block is over with it. None was told
+/// before.
+#[inline(always)]
+fn tell_work(
+    rank: u32,
+    standing: Standing,
+    touch: Option<bool>,
+    follow: Follow,
+    events: &mut ArrayVec<Event, 8>,
+)
+    requires { events.old.items ≡ [] }
+    ensures { events.new.items ≡ touch_by rank touch ++ departure_by rank standing follow }
+{
+    if let Some(write) = touch {
+        events.push(Event::Touch { rank, write });
+    }
+    if let Follow::Over = follow {
+        match standing {
+            Standing::Writer => events.push(Event::LeaveW { rank }),
+            Standing::Reader => events.push(Event::LeaveR { rank }),
+            _ => {}
+        }
+    }
+}
+
+/// Whether a rank that stands so, and is there in a split act, is in a call.
+fn at_work(standing: Standing, card: CardState) -> bool
+    ensures { result ≡ is_at_work standing card }
+{
+    match standing {
+        Standing::Out => match card {
+            CardState::Free => false,
+            CardState::InCard | CardState::Loaded { .. } | CardState::ToLeave { .. } => true,
+        },
+        Standing::Asking | Standing::Writer | Standing::Reader | Standing::Leaving => true,
+    }
+}
+
+impl<A: Algo, W: Work> Whole<A, W> {
+    /// The home of a planned act's word, where the card state asks for it, and else 0.
+    #[inline(always)]
+    fn plan_home(&self, plan: Option<Act>, card: CardState) -> u32
+        requires { (word : ℕ) → card_word plan card ≡ Some word → word < (A.table self.now.algo).size }
+        ensures { result ≡ word_home (A.table self.now.algo) (card_word plan card) }
+    {
+        match card_word(plan, card) {
+            Some(word) => self.algo.spot(word).home,
+            None => 0,
+        }
+    }
+
+    /// The act that a view plans, where the card state asks for it.
+    #[inline(always)]
+    fn asked_act(&self, view: &WholeView<A::View, W::Side>) -> Option<Act>
+        requires { MayBe (rule_of (tables A.table W.table) (goods A.good W.good) A.layout self.now) view.now }
+        ensures { result ≡ asked_act ((A.table self.now.algo).plan view.now.side.view) view.now.side.card }
+    {
+        match view.side.card {
+            CardState::ToLeave { .. } => None,
+            CardState::Free | CardState::InCard | CardState::Loaded { .. } => {
+                self.algo.plan(view.side.view)
+            }
+        }
+    }
+
+    /// Changes the lock's view as an atom of the work wants it, of a rank that stands so.
+    #[inline(always)]
+    fn follow(&self, view: &mut A::View, standing: Standing, follow: Follow)
+        requires stands { standing ≡ (A.table self.now.algo).standing view.old }
+        requires asks { AsksOut follow standing }
+        ensures { view.new ≡ followed (A.table self.now.algo) view.old follow }
+    {
+        match follow {
+            Follow::On => {}
+            Follow::Ask(mode) => *view = self.algo.ask(*view, mode),
+            Follow::Over => {
+                if let Standing::Writer | Standing::Reader = standing {
+                    *view = self.algo.leave(*view);
+                }
+            }
+        }
+    }
+
+    /// The act that a view plans and the home of its word, each where the card state asks for it.
+    #[inline(always)]
+    fn planned(&self, view: &WholeView<A::View, W::Side>) -> Plan
+        requires { MayBe (rule_of (tables A.table W.table) (goods A.good W.good) A.layout self.now) view.now }
+        ensures { result ≡ planned_in (lock_at (tables A.table W.table) self.now).table view.now }
+    {
+        let act = self.asked_act(view);
+        let home = self.plan_home(act, view.side.card);
+        Plan { act, home }
+    }
+}
+
+impl<A: Algo, W: Work> Core for Whole<A, W> {
+    type View = WholeView<A::View, W::Side>;
+
+    ghost table = { λ c. whole_table (lock_at (tables A.table W.table) c) c.home };
+
+    ghost plan_of = { λ c. planned_in (lock_at (tables A.table W.table) c).table };
+
+    ghost rule = { rule_of (tables A.table W.table) (goods A.good W.good) A.layout };
+
+    #[inline(always)]
+    fn next(&self, view: &WholeView<A::View, W::Side>) -> Option<(Atom, Plan)> {
+        let plan = self.planned(view);
+        match next_atom(plan.home, plan.act, view.side.card) {
+            Some(atom) => Some((shift(self.base, atom), plan)),
+            None => match self.algo.standing(view.side.view) {
+                Standing::Out | Standing::Writer | Standing::Reader => {
+                    Some((self.work.next(view.rank, &view.work)?, plan))
+                }
+                Standing::Asking | Standing::Leaving => None,
+            },
+        }
+    }
+
+    #[inline(always)]
+    fn after(
+        &self,
+        view: &mut WholeView<A::View, W::Side>,
+        plan: Plan,
+        got: u64,
+        events: &mut ArrayVec<Event, 8>,
+    ) -> Stepped {
+        match effect(plan.home, plan.act, view.side.card, got) {
+            Effect::Work => {
+                let rank = view.rank;
+                let standing = self.algo.standing(view.side.view);
+                let touch = self.work.touch(&view.work);
+                let step = self.work.after(rank, &mut view.work, got);
+                tell_work(rank, standing, touch, step.follow, events);
+                view.side.card = CardState::Free;
+                self.follow(&mut view.side.view, standing, step.follow);
+                step.stepped
+            }
+            Effect::Stay { card, stepped } => {
+                view.side.card = card;
+                stepped
+            }
+            Effect::Learn { card, told, lost } => {
+                let waits = self.algo.learn(&mut view.side.view, told, events);
+                view.side.card = card;
+                shift_answer(self.base, answer(plan.act, told, lost, waits))
+            }
+        }
+    }
+
+    fn home(&self, word: u32) -> u32 {
+        if word < self.base {
+            self.home
+        } else if word - self.base < self.algo.words() {
+            self.algo.spot(word - self.base).home
+        } else {
+            self.work.home(word - self.base - self.algo.words())
+        }
+    }
+
+    ghost laws = { λ c. whole_laws _ _ (lock_at (tables A.table W.table) c) (good_at (goods A.good W.good) c) (A.further c.algo) (A.layout c.algo) (record { lock = A.laws c.algo; work = W.laws c.work }) c.home };
+}
+
+/// The places of a journal: one for each update of each rank.
+fn places(rooms: &[u32]) -> u32
+    requires few { sum rooms.now ≤ 20000 }
+    ensures { result ≡ sum rooms.now }
+{
+    rooms.iter().sum()
+}
+
+impl<A: Algo, W: Work> Whole<A, W> {
+    /// The machine of a shard whose home is this node of a proper shape, over the lock that the settings make. At most 20,000 updates may
+    /// be made on it in all. Refused only for want of memory.
+    pub fn new(
+        alloc: Global,
+        shape: &Shape,
+        knobs: Knobs,
+        home: u32,
+        site: Site,
+    ) -> Result<Whole<A, W>, OutOfMemory>
+        requires proper { IsProper shape.now }
+        requires knobs { A.suits_knobs shape.now knobs }
+        requires home { home < shape.now.nodes }
+        requires fits { GeomFits site.geom }
+        requires few { sum site.rooms.items ≤ 20000 }
+        requires ranks { length site.rooms.items ≡ length shape.now.node_of }
+        ensures lock { IfOk result (λ c. lock_at (tables A.table W.table) c ≡ lock_with (kinds A.defined W.defined shape.now home knobs) (site_of site)) }
+        ensures promised { IfOk result (λ c. HandsOn (A.further c.algo) (A.promised shape.now home knobs)) }
+        ensures layout { IfOk result (λ c. A.layout c.algo ≡ layout_of shape.now) }
+        ensures home { IfOk result (λ c. c.home ≡ home) }
+    {
+        let algo = A::make(alloc, shape, home, knobs)?;
+        let base = journal_base(site.geom) + ENTRY_WORDS * places(site.rooms.as_slice());
+        let behind = base + algo.words();
+        Ok(Whole {
+            work: W::make(alloc, shape, home, site, behind)?,
+            algo,
+            base,
+            home,
+        })
+    }
+
+    /// A rank's view before its first call, with room for so many entries in its transcript. Refused only for want of memory.
+    pub fn first_view(
+        &self,
+        alloc: Global,
+        rank: u32,
+        room: u32,
+    ) -> Result<WholeView<A::View, W::Side>, OutOfMemory>
+        requires fits { GeomFits (W.table self.now.work).site.geom }
+        requires there { rank < length (A.layout self.now.algo).node_of }
+        ensures { IfOk result (λ x. x ≡ first_view (lock_at (tables A.table W.table) self.now) room rank) }
+    {
+        Ok(WholeView {
+            side: Side {
+                view: self.algo.first(rank),
+                card: CardState::Free,
+            },
+            rank,
+            work: self.work.first(alloc, rank, room)?,
+        })
+    }
+
+    /// Whether a call of the view is open: it is until its last atom was made, a card's Leave among them.
+    #[inline(always)]
+    pub fn has_open(&self, view: &WholeView<A::View, W::Side>) -> bool
+        requires { MayBe (rule_of (tables A.table W.table) (goods A.good W.good) A.layout self.now) view.now }
+        ensures open { result ≡ is_open (lock_at (tables A.table W.table) self.now) view.now }
+        ensures atoms { (result ≡ false) ↔ (next_of (lock_at (tables A.table W.table) self.now) view.now ≡ None) }
+    {
+        at_work(self.algo.standing(view.side.view), view.side.card) || self.work.is_open(&view.work)
+    }
+
+    /// Opens a block, where none is open: a call alone, or the calls of a batch. `seq` is the number of its first call. The
+    /// lock is asked for in the mode that the work says, or not yet, where the work begins without it. Takes no memory. That the rule
+    /// stays is promised only of a block that the rank may open (`MayOpen`).
+    #[inline(always)]
+    pub fn ask_for(&self, view: &mut WholeView<A::View, W::Side>, calls: &[Call], seq: u32)
+        requires few { length calls.now ≤ 8 }
+        requires closed { next_of (lock_at (tables A.table W.table) self.now) view.old ≡ None }
+        requires possible { MayBe (rule_of (tables A.table W.table) (goods A.good W.good) A.layout self.now) view.old }
+        ensures { view.new ≡ opened_in (lock_at (tables A.table W.table) self.now) calls.now seq view.old }
+    {
+        if let Some(mode) = self.work.asks(calls) {
+            view.side.view = self.algo.ask(view.side.view, mode);
+        }
+        self.work.open(view.rank, &mut view.work, calls, seq);
+    }
+}
+
+impl<A: Algo, W: Work> Whole<A, W> {
+    /// The node of the card that a rank with this view is in.
+    pub fn card_node(&self, view: &WholeView<A::View, W::Side>) -> Option<u32>
+        requires { MayBe (rule_of (tables A.table W.table) (goods A.good W.good) A.layout self.now) view.now }
+        ensures { result ≡ card_of (A.table self.now.algo) view.now.side }
+    {
+        match view.side.card {
+            CardState::Free => None,
+            CardState::ToLeave { node } => Some(node),
+            CardState::InCard | CardState::Loaded { .. } => {
+                let plan = self.algo.plan(view.side.view);
+                match word_planned(plan) {
+                    Some(word) => Some(self.algo.spot(word).home),
+                    None => None,
+                }
+            }
+        }
+    }
+}
+
+/// Two domains: a rank's next atom is one of a card only where the lock lets the rank make acts through cards, and a local
+/// compare-and-swap only where it lets the rank make one. There is nothing to run.
+pub fn domains<A: Algo, W: Work>(core: &Whole<A, W>)
+    ensures cards { KeepsToCards (lock_at (tables A.table W.table) core.now) (rule_of (tables A.table W.table) (goods A.good W.good) A.layout core.now) }
+    ensures locals { KeepsToLocals (lock_at (tables A.table W.table) core.now) (rule_of (tables A.table W.table) (goods A.good W.good) A.layout core.now) }
+{
+    let _ = &core.algo;
+}

@@ -1,0 +1,33 @@
+-- A card with a rank in it shows that the rank which takes it is held off; and so many steps of it are so many answers counted.
+use Rattle.std.proofs.Common.{◌≡◌, ◌==◌, ◌-◌, ◌<◌, ℕ, false, length, slice_index, sym, ◌∙◌, subst, refl}
+use Rattle.rl_step.specs.declared.events.Stepped.TheVariants.{Busy}
+use Rattle.rl_step.specs.Do.{TheWindow}
+use Rattle.rl_machine.specs.Running.{running}
+use Rattle.rl_replay.specs.laws.RestedLaws.{window_at, still_rests, counted_run, keeps_with, not_free, shards_there}
+use Rattle.rl_replay.proofs.noted.rest_held_off.Goals as goal
+use Rattle.rl_replay.proofs.noted.rest_held_off.Goals.{After-words}
+use Rattle.rl_replay.proofs.noted.rest_held_off.Given.{Over}
+
+pub words-requires : goal.words-requires
+words-requires g c = shards_there g.C.ShardCore.shard_table c.args.machine.now c.args.shard c.requires.rested.shard c.requires.rested.has
+
+-- the window is that of the shard
+held : (g : Over) (c : After-words g) → c.words.result.now ≡ c.requires.rested.shard.held
+held g c = window_at (running g.C.ShardCore.shard_table c.args.machine.now) c.args.shard c.requires.rested.shard c.words.result.now c.requires.rested.has c.words.ensures
+
+pub card-requires : goal.card-requires
+card-requires g c = subst (λ h. c.args.node < length h.cards) (sym (held g (goal.at.card-requires g c).After-words)) c.requires.rested.named
+
+pub returns-clause-run : goal.returns-clause-run
+returns-clause-run g c = λ _.
+    let h = c.words.result.now in
+    let card : ℕ = slice_index h.cards c.args.node in
+    let some : (card == 0) ≡ false = not_free card (λ none. c.if-card-eq0.false (c.card.ensures ∙ none)) in
+    let m = running g.C.ShardCore.shard_table c.args.machine.now in
+    let rests = still_rests m c.args._rank c.args.shard (Busy c.args.node 0) (Busy c.args.node (card - 1)) c.requires.rested
+    (subst (λ (w : TheWindow). ((slice_index w.cards c.args.node == 0) ≡ false) × (Busy c.args.node (card - 1) ≡ Busy c.args.node (slice_index w.cards c.args.node - 1))) (held g (goal.at.returns-clause-run g c).After-words) (some, refl)) in
+    counted_run m (running g.C.ShardCore.shard_table c.count_more.new.self) c.args._rank c.args.count (Busy c.args.node (card - 1)) rests c.count_more.ensures.counted
+
+pub returns-clause-noted : goal.returns-clause-noted
+returns-clause-noted g c =
+    keeps_with g.C.Resting.with_sight (running g.C.ShardCore.shard_table c.args.machine.now) (running g.C.ShardCore.shard_table c.count_more.new.self) _ c.count_more.ensures.counted

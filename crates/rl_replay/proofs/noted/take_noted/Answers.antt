@@ -1,0 +1,51 @@
+-- What was noted of the rank says what its steps are, and the others rest where they did.
+use Rattle.std.proofs.Common.{◌≡◌, ◌<◌, Bool, true, false, length, slice_set, ap, sym, refl, subst, arith}
+use Rattle.rl_machine.specs.Running.{running}
+use Rattle.rl_replay.specs.Rested.{Rested, AllRested}
+use Rattle.rl_replay.specs.laws.RestedLaws.{all_noted, all_set, noted_at}
+use Rattle.rl_replay.proofs.noted.take_noted.Goals as goal
+
+pub rest_held_off-requires-clause-rested : goal.rest_held_off-requires-clause-rested
+rest_held_off-requires-clause-rested g c =
+    let m = running g.C.ShardCore.shard_table c.args.machine.now in
+    let there = c.requires.there in
+    let many = c.requires.many in
+    let low : c.args.rank < length c.args.rests.now.items = omega arith in
+    subst (Rested g.C.Resting.with_sight m c.args.rank) c.in-HeldOff.is (noted_at g.C.Resting.with_sight m c.args.rests.now.items c.args.rank c.index.result.now low c.index.ensures c.requires.rested)
+
+pub go_round-requires : goal.go_round-requires
+go_round-requires g c =
+    let m = running g.C.ShardCore.shard_table c.args.machine.now in
+    let there = c.requires.there in
+    let many = c.requires.many in
+    let low : c.args.rank < length c.args.rests.now.items = omega arith in
+    record { there = there; few = c.requires.few; in_round = noted_at g.C.Resting.with_sight m c.args.rests.now.items c.args.rank c.index_mut.result.now low c.index_mut.ensures.value c.requires.rested }
+
+pub rest-requires : goal.rest-requires
+rest-requires g c =
+    let m = running g.C.ShardCore.shard_table c.args.machine.now in
+    let there = c.requires.there in
+    let many = c.requires.many in
+    let low : c.args.rank < length c.args.rests.now.items = omega arith in
+    record { few = c.requires.few; rested = noted_at g.C.Resting.with_sight m c.args.rests.now.items c.args.rank c.index-3.result.now low c.index-3.ensures c.requires.rested }
+
+-- so it is either way
+both : {P : Type 0} (b : Bool) → (b ≡ true → P) → (b ≡ false → P) → P
+both true is isnt = is refl
+both false is isnt = isnt refl
+
+pub returns-in-Round-clause-rested : goal.returns-in-Round-clause-rested
+returns-in-Round-clause-rested g c =
+    let see = g.C.Resting.with_sight in
+    let old = running g.C.ShardCore.shard_table c.args.machine.now in
+    let rests = c.args.rests.now.items in
+    let rank = c.args.rank in
+    let last = c.go_round.new.last in
+    let went = c.go_round.ensures in
+    both c.go_round.result
+    (λ went_on.
+    subst (λ u. AllRested see u (slice_set rests rank last)) (sym (went.run went_on))
+    (all_noted see old rests rank c.args.count last (subst (λ u. Rested see u rank last) (went.run went_on) went.in_round) c.requires.rested))
+    (λ stood.
+    let kept = ap (running g.C.ShardCore.shard_table) (went.kept stood) in
+    subst (λ u. AllRested see u (slice_set rests rank last)) (sym kept) (all_set see old rests rank last (subst (λ u. Rested see u rank last) kept went.in_round) c.requires.rested))

@@ -1,3 +1,0 @@
--- to be believed
-pub mod Rested
-pub mod laws
