@@ -11,7 +11,7 @@ HEADLINES = [HEADLINE + "IsReplay", "rl_program.RunHeadline.IsRun"]
 
 def rows(house):
     """The rows of the table: how each is called, and what it names."""
-    kinds = [it for it in house.modules["rl_locks", "Kinds"].items.values() if it.code()[0].endswith(" %s : Kind" % it.name)]
+    kinds = [it for it in house.modules["rl_locks", "Kinds"].items.values() if it.code()[0].endswith(" %s : LockKind" % it.name)]
     return [
         ("exclusion, of a trace", ["rl_step.Exclusion.IsExclusive"]),
         ("what a machine promises", ["rl_machine.Promises.IsSound"]),
