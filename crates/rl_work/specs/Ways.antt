@@ -24,7 +24,7 @@ use Rattle.rl_work.specs.declared.follow.Follow.TheVariants.{On, Ask, Over}
 use Rattle.rl_work.specs.declared.follow.WorkStep.{WorkStep}
 use Rattle.rl_site.specs.Site.{Site, lock_base, places, volume_of, journal_by}
 use Rattle.rl_site.specs.Transcript.{TheTranscript}
-use Rattle.rl_site.specs.Opens.{IsOpen, IsOwnTranscript, Tells, opening_words}
+use Rattle.rl_site.specs.Opens.{IsGetAlone, IsOpen, IsOwnTranscript, Tells, opening_words}
 
 -- how a rank stands, and its side of the work
 pub record WorkSide (K : Type 0) : Type 0 where

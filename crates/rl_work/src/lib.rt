@@ -13,7 +13,8 @@
 //! are read back as the journal, journal and transcripts are legal, the history is in order, and no rank runs out of room. The code
 //! does what the definitions say, and takes no memory after the start. It has no dead end ([`WorkEnding`]): each of its atoms leaves less
 //! to do.
-//! Not said here: how a rank comes to hold the lock.
+//! Not said here: where the count, the volume and the journal lie, and what a transcript is (`rl_site`); how a rank comes to hold
+//! the lock.
 #![tactic(auto)]
 
 mod ending;
