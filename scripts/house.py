@@ -5,6 +5,7 @@ import glob, os, re
 from here import TOP
 from house_specs import TOKEN, Module, Scope, free_in
 from house_code import Code, CodeItem, split_types
+from house_tables import Tables
 
 KINDS = ("struct", "enum", "const", "type")
 
@@ -43,7 +44,7 @@ class House:
     def __init__(self, top=TOP, known=None):
         self.top, self.crates = top, crates_in_order()
         self.modules, self.codes, self.items, self.types, self.traits, self.impls, self.models = {}, {}, {}, {}, {}, {}, {}
-        self.cited, self.std = {}, {}
+        self.cited, self.std, self.tables = {}, {}, None
         for crate in self.crates:
             if known and not os.path.isdir(os.path.join(top, "crates", crate)):
                 for mine, theirs in ((self.modules, known.modules), (self.codes, known.codes)):
@@ -308,8 +309,9 @@ class House:
                     if member in impl.members:
                         yield impl.members[member].key, ()
 
-    def cone(self, roots):
-        """All that these nodes rest on, each with the one that cites it first, and which of these names are the kit's."""
+    def cone(self, roots, read=None):
+        """All that these nodes rest on, each with the one that cites it first, and which of these names are the kit's. Where the fields of tables are
+        given that are read, it is without the others."""
         why, outside, todo = {it: None for it in roots}, set(), list(roots)
         for node in todo:
             if self.items[node[0]].kind == "lemma":
@@ -317,10 +319,22 @@ class House:
             for other in self.rests_on(node):
                 if other[0] not in self.items:
                     outside.add(other[0])
-                elif other not in why:
+                    continue
+                other = other if read is None else (self.add(self.tables.part_of(self.items[other[0]], read)).key, other[1])
+                if other not in why:
                     why[other] = node
                     todo.append(other)
         return why, outside
+
+    def cone_of_statements(self, roots):
+        """The cone of definitions that are named, without the fields of tables that nothing in it reads (house_tables)."""
+        self.tables, read = self.tables or Tables(self), set()
+        while True:
+            why, outside = self.cone(roots, read)
+            more = read.union(*(self.tables.read_in(self.items[it]) for it, _ in why))
+            if more == read:
+                return why, outside
+            read = more
 
 
 def unify(pattern, what, env):

@@ -1,6 +1,7 @@
 """house_print: what definitions rest on as one text, for `believed`."""
 import os, re
 from house_code import CodeItem
+from house_roots import cone_of
 from house_specs import free_in
 
 MOST_CLAUSES = 12
@@ -130,6 +131,8 @@ def group_lines(house, items, keys, twins):
         over = item.over
         indent = "  " * len(item.over)
         yield "%s-- %s:%d" % (indent, within(house, item.unit.path), item.line)
+        if item.unread:
+            yield from folded(indent + "-- without these, which nothing here reads:", item.unread)
         yield from borrowed(item, keys) + item.comment + trimmed(item.lines) + [""]
 
 
@@ -181,12 +184,12 @@ def clause_lines(house, keys):
 
 
 def printed(house, names, found):
-    functions, roots = [it[0] for it in found], [node for it in found for node in it[1]]
+    functions = [it[0] for it in found]
     named_roots = [node for part, nodes in found for node in nodes if part is None]
-    why, outside = house.cone(roots)
+    why, outside = cone_of(house, found)
     groups = in_order(house, why)
     items = [it for group in groups for it in group]
-    keys = {it.key for it in items}
+    keys = {it.whole for it in items}
     named = {}
     for item in items:
         named.setdefault(item.name, set()).add(item.key)

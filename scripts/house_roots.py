@@ -21,6 +21,7 @@ def rows(house):
         ("the same with all of them", [HEADLINE + "KeepsPromises"]),
         ("what a check tells", ["rl_check::check_one"]),
         ("both headlines, with their texts", HEADLINES),
+        ("that reports are read back and legal", ["rl_program.ReadBack.IsReadBack"]),
     ]
 
 
@@ -61,9 +62,15 @@ def roots_of(house, name):
     return None, [(key, ())]
 
 
+def cone_of(house, found):
+    """The cone of what is named. Of definitions alone it is without what nothing reads of a table; a contract may read a table in its own words."""
+    nodes = [node for _, nodes in found for node in nodes]
+    return house.cone(nodes) if any(part for part, _ in found) else house.cone_of_statements(nodes)
+
+
 def counted(house, names):
     """The definitions, their lines, the types and members of the code, their lines."""
-    why, _ = house.cone([it for name in names for it in roots_of(house, name)[1]])
+    why, _ = cone_of(house, [roots_of(house, name) for name in names])
     items = [house.items[it] for it in {key for key, _ in why}]
     parts = [[it for it in items if isinstance(it, CodeItem) == code] for code in (False, True)]
     return [number for part in parts for number in (len(part), sum(it.size() for it in part))]

@@ -37,7 +37,7 @@ class Item:
     def __init__(self, unit, name, kind, line):
         self.unit, self.name, self.kind, self.line = unit, name, kind, line
         self.key = (unit.crate, unit.name, name)
-        self.comment, self.lines, self.over, self.parts, self.whole = [], [], [], set(), self.key
+        self.comment, self.lines, self.over, self.parts, self.whole, self.unread = [], [], [], set(), self.key, []
 
     def place(self):
         return "%s:%d" % (self.unit.path, self.line)

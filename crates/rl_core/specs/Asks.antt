@@ -1,19 +1,15 @@
 -- What a rank asks for, as its list of calls with a size for each: blocks, one after the other.
-use Rattle.std.specs.Prelude.{◌≡◌, ◌<◌, ℕ, zero, suc, List, [], ◌∷◌, ◌++◌, All, take, drop, length, map, slice_get, slice_index, Option, Some, None, Bool, ◌==◌, ◌&&◌}
+use Rattle.std.specs.Prelude.{◌≡◌, ◌<◌, ℕ, zero, suc, List, [], ◌∷◌, ◌++◌, All, take, drop, slice_get, slice_index, Option, Some, None, Bool, ◌==◌, ◌&&◌}
 use Rattle.rl_model.specs.declared.call.Call.{Call}
 use Rattle.rl_model.specs.declared.geom.Geom.{Geom}
 use Rattle.rl_model.specs.Call.{shard_of, is_update}
 use Rattle.rl_model.specs.Asked.{IsAsked}
 pub use Rattle.rl_ops.specs.Asked.{asked_after, asked_of}
+pub use Rattle.rl_ops.specs.Blocks.{sizes_of}
 
 -- a call of this shard
 abbrev pub is_on : Geom → ℕ → Call → Bool
 is_on geom s call = shard_of geom call == s
-
--- the sizes of a block's calls: of the first the number of them all, and 0 of the others
-abbrev pub sizes_in : List Call → List ℕ
-sizes_in [] = []
-sizes_in (call ∷ calls) = suc (length calls) ∷ map (λ _. 0) calls
 
 -- a block that is asked rightly, of one shard
 pub record IsBlockOf (geom : Geom) (block : List Call) : Type 0 where
@@ -25,7 +21,7 @@ pub record IsBlockOf (geom : Geom) (block : List Call) : Type 0 where
 -- calls and their sizes are those of blocks, one after the other
 pub data AreBlocks (geom : Geom) : List Call → List ℕ → Type 0 where
   none : AreBlocks geom [] []
-  more : (block calls : List Call) (sizes : List ℕ) → IsBlockOf geom block → AreBlocks geom calls sizes → AreBlocks geom (block ++ calls) (sizes_in block ++ sizes)
+  more : (block calls : List Call) (sizes : List ℕ) → IsBlockOf geom block → AreBlocks geom calls sizes → AreBlocks geom (block ++ calls) (sizes_of block ++ sizes)
 
 -- the calls of the block that begins with the call of this number
 abbrev pub block_from : List Call → List ℕ → ℕ → List Call

@@ -14,15 +14,16 @@ use Rattle.rl_inputs.specs.declared.complaint.Which.{Which}
 use Rattle.rl_program.specs.Command.{Asked, Replay, Make, Show}
 use Rattle.rl_program.specs.Replay.{report_of_replay}
 use Rattle.rl_inputs.specs.Files.{Texts, name_of}
-use Rattle.rl_program.specs.Headline.{KeepsPromises, IsReplay}
+use Rattle.rl_program.specs.Headline.{KeepsPromises}
+use Rattle.rl_program.specs.ReadBack.{IsReplayReadBack}
 use Rattle.rl_inputs.specs.Reading.{placed, called, scheduled}
 use Rattle.rl_program.specs.Answer.{shown, TheAnswer, replayed, answer_to, answer_in, KeepsItsPromises, WasAnswered, IsDone}
 use Rattle.rl_program.proofs.SpelledLaws.{PlaceRead, place_read, calls_read, schedule_read}
 
--- texts that are replayed
+-- texts that are replayed, and their report that is read back
 pub is_replay : (texts : Texts) (place : ThePlace) (ops : Ops) (schedule : Schedule) (text : List ℕ) → placed texts.place ≡ Ok place → called place texts.calls ≡ Ok ops → scheduled place texts.schedule ≡ Ok schedule →
     text ≡ report_spelling (naming_of place) (report_of_replay place ops schedule) → KeepsPromises place ops schedule → IsLawfulReplay place ops (report_of_replay place ops schedule) → IsLegalReport place ops (report_of_replay place ops schedule) →
-    report_at (naming_of place) text ≡ Ok (report_of_replay place ops schedule) → IsReplay texts text
+    report_at (naming_of place) text ≡ Ok (report_of_replay place ops schedule) → IsReplayReadBack texts text
 is_replay texts place ops schedule text p c s is kept lawful legal again =
     let read : PlaceRead texts.place place = place_read texts.place place p in
     let most = read.proper.most_ranks in
@@ -31,19 +32,20 @@ is_replay texts place ops schedule text p c s is kept lawful legal again =
     let shards : place.geom.shards < 2 ^ 32 = omega (arith, few) in
     let turns = schedule_read place texts.schedule schedule ranks s in
     record {
-      place = place;
-      ops = ops;
-      schedule = schedule;
-      proper = read.proper;
-      fits = turns.0;
-      place_spelled = read.spelled;
-      calls_spelled = calls_read place texts.calls ops ranks shards c;
-      schedule_spelled = turns.1;
-      bytes = is;
-      kept = kept;
-      lawful = lawful;
-      legal = legal;
-      read = again;
+      replay = record {
+        place = place;
+        ops = ops;
+        schedule = schedule;
+        proper = read.proper;
+        fits = turns.0;
+        place_spelled = read.spelled;
+        calls_spelled = calls_read place texts.calls ops ranks shards c;
+        schedule_spelled = turns.1;
+        bytes = is;
+        kept = kept;
+        lawful = lawful;
+      };
+      back = record { read = again; legal = legal };
     }
 
 -- the answer's status is 1 where the words are no form

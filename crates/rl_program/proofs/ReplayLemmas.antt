@@ -10,7 +10,8 @@ use Rattle.rl_report.specs.Reading.{report_at}
 use Rattle.rl_check.specs.LawfulReplays.{IsLawfulReplay}
 use Rattle.rl_check.specs.Legal.{IsLegalReport}
 use Rattle.rl_program.specs.Replay.{report_of_replay}
-use Rattle.rl_program.specs.Headline.{IsReplay, KeepsPromises}
+use Rattle.rl_program.specs.Headline.{KeepsPromises}
+use Rattle.rl_program.specs.ReadBack.{IsReplayReadBack}
 use Rattle.rl_inputs.specs.declared.complaint.Complaint.{Complaint}
 use Rattle.rl_inputs.specs.declared.complaint.Stop.{Stop}
 use Rattle.rl_inputs.specs.declared.complaint.Stop.TheVariants as stop
@@ -39,7 +40,7 @@ still_read {X} {Y} {view} {reading} {result} same read = subst (λ told. WasRead
 module _ (file : List ℕ → Option (List ℕ)) (names : Names) where
   -- texts that fit, and what the replay came to for them
   replay_was : (place calls schedule : List ℕ) (result : Result (Vec ℕ Global) Stop) → Fits (file names.place) place → Fits (file names.calls) calls → Fits (file names.schedule) schedule →
-      Ends (λ text. text.items) result (replayed (record { place = place; calls = calls; schedule = schedule })) → IfOk result (λ text. IsReplay (record { place = place; calls = calls; schedule = schedule }) text.items) → WasReplayed file names result
+      Ends (λ text. text.items) result (replayed (record { place = place; calls = calls; schedule = schedule })) → IfOk result (λ text. IsReplayReadBack (record { place = place; calls = calls; schedule = schedule }) text.items) → WasReplayed file names result
   replay_was place calls schedule result p c s e kept =
       record { texts = record { place = place; calls = calls; schedule = schedule }; are = (p, c, s); ends = e; replay = kept }
 

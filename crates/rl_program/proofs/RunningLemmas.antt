@@ -21,7 +21,7 @@ use Rattle.rl_inputs.specs.declared.complaint.Stop.{Stop}
 use Rattle.rl_inputs.specs.declared.complaint.Stop.TheVariants as stop
 use Rattle.rl_program.specs.Command.{RunNames}
 use Rattle.rl_inputs.specs.Files.{Texts}
-use Rattle.rl_program.specs.RunHeadline.{IsRun}
+use Rattle.rl_program.specs.ReadBack.{IsRunReadBack}
 use Rattle.rl_inputs.specs.Reading.{WasRead, placed, called}
 use Rattle.rl_program.specs.RunAnswer.{run_read, WasRun}
 use Rattle.rl_inputs.proofs.ReadLemmas.{fits_told}
@@ -38,7 +38,7 @@ replies_are place ops report proper lawful s S has =
     let part = lawful.shards s home.0 S home.1 has in
     subst (λ es. IsReplayedByOneThread place.geom map.empty 0 es) (sym part.in_order) (replayed place.geom (journal_among S.entries) (transcripts_in S.entries 0 (length place.paths)) part.legal)
 
-is_run : LegalIsLawful → (texts : Texts) (place : ThePlace) (ops : Ops) (report : TheReport) (text : List ℕ) → OpsFit (length place.paths) place.geom.shards ops → placed texts.place ≡ Ok place → called place texts.calls ≡ Ok ops → text ≡ report_spelling (naming_of place) report → IsLawful place ops report → IsRunBy (lock_kind_of place.lock).defined place ops report → report_at (naming_of place) text ≡ Ok report → IsRun texts text
+is_run : LegalIsLawful → (texts : Texts) (place : ThePlace) (ops : Ops) (report : TheReport) (text : List ℕ) → OpsFit (length place.paths) place.geom.shards ops → placed texts.place ≡ Ok place → called place texts.calls ≡ Ok ops → text ≡ report_spelling (naming_of place) report → IsLawful place ops report → IsRunBy (lock_kind_of place.lock).defined place ops report → report_at (naming_of place) text ≡ Ok report → IsRunReadBack texts text
 is_run laws texts place ops report text fit p c is lawful made again =
     let read : PlaceRead texts.place place = place_read texts.place place p in
     let most = read.proper.most_ranks in
@@ -46,18 +46,19 @@ is_run laws texts place ops report text fit p c is lawful made again =
     let few = read.proper.geom.shards in
     let shards : place.geom.shards < 2 ^ 32 = omega (arith, few) in
     record {
-      place = place;
-      ops = ops;
-      report = report;
-      proper = read.proper;
-      place_spelled = read.spelled;
-      calls_spelled = calls_read place texts.calls ops ranks shards c;
-      bytes = is;
-      lawful = lawful;
-      made = made;
-      legal = (laws place ops report read.proper fit lawful.fits lawful.of_run).1 lawful;
-      read = again;
-      replies = replies_are place ops report read.proper lawful;
+      run = record {
+        place = place;
+        ops = ops;
+        report = report;
+        proper = read.proper;
+        place_spelled = read.spelled;
+        calls_spelled = calls_read place texts.calls ops ranks shards c;
+        bytes = is;
+        lawful = lawful;
+        made = made;
+        replies = replies_are place ops report read.proper lawful;
+      };
+      back = record { read = again; legal = (laws place ops report read.proper fit lawful.fits lawful.of_run).1 lawful };
     }
 
 module _ (file : List ℕ → Option (List ℕ)) (names : RunNames) where

@@ -5,7 +5,7 @@ use Rattle.rl_report.specs.Naming.{naming_of}
 use Rattle.rl_report.specs.Spelling.{report_spelling}
 use Rattle.rl_program.specs.Replay.{report_of_replay}
 use Rattle.rl_inputs.specs.Files.{Names, Texts, name_of, refused_line}
-use Rattle.rl_program.specs.Headline.{IsReplay}
+use Rattle.rl_program.specs.ReadBack.{IsReplayReadBack}
 use Rattle.std.specs.Global.{Vec}
 use Rattle.rl_io.specs.Outside.{Appends, GoesOn}
 use Rattle.rl_inputs.specs.declared.complaint.Which.{Which}
@@ -72,9 +72,9 @@ NamesNoFile (Some (Replay names)) = ⊥
 NamesNoFile (Some (Show place)) = ⊥
 NamesNoFile _ = Unit {0}
 
--- what a text with status 0 is, beyond the answer: that of a replay is the report of texts that are replayed
+-- what a text with status 0 is, beyond the answer: that of a replay is the report of texts that are replayed, and is read back as it
 abbrev pub KeepsItsPromises : Option Asked → Texts → List ℕ → Type 0
-KeepsItsPromises (Some (Replay names)) texts text = IsReplay texts text
+KeepsItsPromises (Some (Replay names)) texts text = IsReplayReadBack texts text
 KeepsItsPromises _ texts text = Unit {0}
 
 -- a replay of the named files came to what their bytes give
@@ -82,8 +82,8 @@ pub record WasReplayed (file : List ℕ → Option (List ℕ)) (names : Names) (
   pub texts : Texts
   pub are : AreTexts file (Some (Replay names)) texts
   pub ends : Ends (λ text. text.items) result (replayed texts)
-  -- and where it came to a report, they are replayed
-  pub replay : IfOk result (λ text. IsReplay texts text.items)
+  -- and where it came to a report, they are replayed, and the report is read back
+  pub replay : IfOk result (λ text. IsReplayReadBack texts text.items)
 
 -- what was answered is this answer
 abbrev pub Gives : Result TheAnswer Quit → TheAnswer → Type 0

@@ -1,5 +1,5 @@
 -- The headline of a replay: what is true of the texts that are replayed, of the run, and of the report that is written.
-use Rattle.std.specs.Prelude.{◌≡◌, ◌<◌, ℕ, List, [], length, get_or, slice_get, Some, Ok}
+use Rattle.std.specs.Prelude.{◌≡◌, ◌<◌, ℕ, List, [], length, get_or, slice_get, Some}
 use Rattle.std.specs.FinMap as map
 use Rattle.rl_step.specs.Exclusion.{IsExclusive}
 use Rattle.rl_journal.specs.Legal.{IsLegal}
@@ -16,9 +16,7 @@ use Rattle.rl_ops.specs.Schedule.{ScheduleFits, schedule_spelling}
 use Rattle.rl_inputs.specs.Files.{Texts}
 use Rattle.rl_report.specs.Naming.{naming_of}
 use Rattle.rl_report.specs.Spelling.{report_spelling}
-use Rattle.rl_report.specs.Reading.{report_at}
 use Rattle.rl_check.specs.LawfulReplays.{IsLawfulReplay}
-use Rattle.rl_check.specs.Legal.{IsLegalReport}
 use Rattle.rl_machine.specs.Running.{ShardRun, Running}
 use Rattle.rl_machine.specs.ShardSteps.{events_of}
 use Rattle.rl_core.specs.Asks.{asked_of}
@@ -77,7 +75,7 @@ abbrev pub KeepsPromises : ThePlace → Ops → Schedule → Type 0
 KeepsPromises place ops schedule = IsKept (lock_kind_of place.lock).defined (lock_kind_of place.lock).promised (lock_kind_of place.lock).ways place ops schedule
 
 -- These texts are replayed: they spell a placement, calls and a schedule, and this text is the report of their run, which keeps its
--- promises. It is a report that is read again, and a check finds it legal.
+-- promises.
 pub record IsReplay (texts : Texts) (text : List ℕ) : Type 0 where
   pub place : ThePlace
   pub ops : Ops
@@ -94,7 +92,3 @@ pub record IsReplay (texts : Texts) (text : List ℕ) : Type 0 where
   -- as are told as done, whole blocks, each call once and in its order; its tallies count its events; and by these no writer was ever
   -- beside another holder, and each queue with a budget kept it
   pub lawful : IsLawfulReplay place ops (report_of_replay place ops schedule)
-  -- so a check finds it legal
-  pub legal : IsLegalReport place ops (report_of_replay place ops schedule)
-  -- and this text is read as this report
-  pub read : report_at (naming_of place) text ≡ Ok (report_of_replay place ops schedule)

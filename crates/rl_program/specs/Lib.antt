@@ -2,6 +2,7 @@
 pub mod Replay
 pub mod Headline
 pub mod RunHeadline
+pub mod ReadBack
 pub mod Generate
 pub mod Laps
 pub mod Summary

@@ -11,7 +11,7 @@ use Rattle.rl_inputs.specs.declared.complaint.Stop.{Stop}
 use Rattle.rl_program.specs.declared.complaint.Quit.{Quit}
 use Rattle.rl_program.specs.Command.{RunNames}
 use Rattle.rl_inputs.specs.Files.{Texts}
-use Rattle.rl_program.specs.RunHeadline.{IsRun}
+use Rattle.rl_program.specs.ReadBack.{IsRunReadBack}
 use Rattle.rl_inputs.specs.Reading.{◌>>=◌, placed, called, Fits, EndsEarly}
 use Rattle.rl_inputs.specs.Files.{refused_line}
 use Rattle.rl_program.specs.Answer.{TheAnswer}
@@ -32,7 +32,7 @@ run_read texts = do
 -- An answer that belongs to a run of these texts. Which of several lawful reports a run gives isn't said: it depends on how the threads
 -- come to their steps.
 abbrev pub Answers : RunNames → Texts → Result (ThePlace × Ops) Complaint → TheAnswer → Type 0
-Answers names texts (Ok read) answer = (answer.status ≡ 0) × IsRun texts answer.text
+Answers names texts (Ok read) answer = (answer.status ≡ 0) × IsRunReadBack texts answer.text
 Answers names texts (Err complaint) answer = answer ≡ record { status = 2; text = refused_line (run_name names complaint.which) complaint.trouble }
 
 abbrev pub AnswersRun : RunNames → Texts → TheAnswer → Type 0
@@ -57,7 +57,7 @@ pub record WasRun (file : List ℕ → Option (List ℕ)) (names : RunNames) (re
   pub texts : Texts
   pub are : AreRunTexts file names texts
   pub read : IsReadAs result (run_read texts)
-  pub run : IfOk result (λ text. IsRun texts text.items)
+  pub run : IfOk result (λ text. IsRunReadBack texts text.items)
 
 -- what was answered belongs to a run of the named files
 pub record WasRunAnswered (file : List ℕ → Option (List ℕ)) (names : RunNames) (result : Result TheAnswer Quit) : Type 0 where

@@ -7,7 +7,7 @@
 //!
 //! Promise: status and bytes belong to the words and to the bytes of the named files, and each fault has its cause (`specs/Answer.antt`,
 //! `RunAnswer.antt` and `CheckAnswer.antt`). What is true of a replay and of a run whose report is written says `specs/Headline.antt` and
-//! `RunHeadline.antt`.
+//! `RunHeadline.antt`; and that the report is read back and legal, `ReadBack.antt`.
 //! Not said here: that a run comes to an end, or which of several lawful reports it gives.
 #![tactic(auto)]
 

@@ -14,6 +14,7 @@ use Rattle.rl_step.specs.declared.events.Stepped.{Stepped}
 use Rattle.rl_step.specs.declared.events.Stepped.TheVariants.{Moved, Waiting, Lost, Busy}
 use Rattle.rl_step.specs.Lock.{LockTable, LockState, Deed}
 use Rattle.rl_step.specs.Do.{do_words, do_cards, do_got}
+use Rattle.rl_core.specs.Domains.{UsesCards}
 use Rattle.rl_rank.specs.declared.card_state.CardState.{CardState}
 use Rattle.rl_rank.specs.declared.card_state.CardState.TheVariants.{Free, InCard, Loaded, ToLeave}
 use Rattle.rl_rank.specs.declared.side.Side.{Side}
@@ -220,10 +221,6 @@ StandsStill ws None (Loaded g) = ⊥
 StandsStill ws (Some a) InCard = by_card a ≡ true
 StandsStill ws (Some a) (Loaded g) = (by_card a ≡ true) × (skips a g ≡ false) × (slice_index ws (word_of a) ≡ g)
 
--- rank r may make an act through a card
-abbrev pub UsesCards : {V : Type 0} → LockTable V → ℕ → Type 0
-UsesCards T r = (a : Act) × (by_card a ≡ true) × (T.may_make r a ≡ true)
-
 -- the lock's part of the rule: the lock's own invariant, the cards that name who is in them, and the loaded words that stand still
 pub record LockGood {V : Type 0} (T : LockTable V) (good : LockState V → Type 0) (layout : Layout) (s : SplitState V) : Type 0 where
   pub lock : good (lock_of s)
@@ -235,7 +232,7 @@ pub record LockGood {V : Type 0} (T : LockTable V) (good : LockState V → Type 
   -- what a rank has loaded in a card is still there
   pub still : (r : ℕ) (x : Side V) → slice_get s.sides r ≡ Some x → StandsStill s.words (T.plan x.view) x.card
   -- who is in a card is a rank that may make acts through cards
-  pub domain : (r n : ℕ) (x : Side V) → slice_get s.sides r ≡ Some x → card_of T x ≡ Some n → UsesCards T r
+  pub domain : (r n : ℕ) (x : Side V) → slice_get s.sides r ≡ Some x → card_of T x ≡ Some n → UsesCards T.may_make r
 
 -- t follows s where rank r, with this view, planned act and card state, makes the atom at
 pub record Leads {V : Type 0} (T : LockTable V) (s t : SplitState V) (r : ℕ) (v : V) (p : Option Act) (c : CardState) (at : Atom) : Type 0 where

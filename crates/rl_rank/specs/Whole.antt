@@ -11,7 +11,7 @@ use Rattle.rl_work.specs.declared.follow.Follow.TheVariants.{On, Ask, Over}
 use Rattle.rl_site.specs.Site.{lock_base}
 use Rattle.rl_work.specs.Ways.{WorkSide, Worked, Look, look, own_look}
 use Rattle.rl_core.specs.Desks.{Desk}
-pub use Rattle.rl_core.specs.Standings.{leaves, one_if}
+pub use Rattle.rl_core.specs.Standings.{leaves}
 use Rattle.rl_step.specs.declared.events.Event.{Event}
 use Rattle.rl_step.specs.declared.events.Event.TheVariants.{Touch}
 use Rattle.rl_step.specs.declared.events.Standing.{Standing}

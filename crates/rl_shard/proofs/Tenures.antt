@@ -12,7 +12,7 @@ use Rattle.rl_step.specs.declared.events.Event.{Event}
 use Rattle.rl_step.specs.declared.events.Event.TheVariants as event
 use Rattle.rl_step.specs.Queues.{QueueOf, count, tenures, settled}
 use Rattle.rl_journal.specs.Blocks.{is_tenure}
-use Rattle.rl_core.specs.Standings.{one_if, leaves}
+use Rattle.rl_core.specs.Standings.{leaves}
 use Rattle.rl_shard.specs.Queues.{is_had_by}
 
 -- a number, if the test is met
@@ -99,12 +99,8 @@ module _ (d : QueueOf) (ranks : d.of_ranks ≡ true) (n : ℕ) (there : (k : ℕ
   rank_tenures (event.EnterW k ∷ t) = zero-add (tenures d t) ∙ rank_tenures t
   rank_tenures (event.EnterR k ∷ t) = zero-add (tenures d t) ∙ rank_tenures t
   rank_tenures (event.LeaveW j ∷ t) =
-      let same : count (d.of_ranks && d.members j) ≡ one_if (d.members j) = ap (λ b. count (b && d.members j)) ranks ∙ as_one (d.members j) in
-      omega (arith, picked_more one_if refl refl d.members j n (tenures d t) (λ k. leaves k t) (there j) (sym (rank_tenures t)))
-    where
-      as_one : (b : Bool) → count b ≡ one_if b
-      as_one true = refl
-      as_one false = refl
+      let same : count (d.of_ranks && d.members j) ≡ count (d.members j) = ap (λ b. count (b && d.members j)) ranks in
+      omega (arith, picked_more count refl refl d.members j n (tenures d t) (λ k. leaves k t) (there j) (sym (rank_tenures t)))
   rank_tenures (event.LeaveR k ∷ t) = zero-add (tenures d t) ∙ rank_tenures t
 
 -- those of a queue of elements are the settlements of its members' queues

@@ -15,7 +15,7 @@ use Rattle.rl_model.proofs.Counts.{count-append, count-cons}
 use Rattle.rl_ops.specs.Ops.{total_calls}
 use Rattle.rl_journal.specs.Blocks.{batch_number}
 use Rattle.rl_site.specs.Opens.{places_needed}
-use Rattle.rl_core.specs.Asks.{is_on, sizes_in, IsBlockOf, AreBlocks, block_from, block_shard, call_shard, place_after, asked_after, asked_of, is_update_on}
+use Rattle.rl_core.specs.Asks.{is_on, sizes_of, IsBlockOf, AreBlocks, block_from, block_shard, call_shard, place_after, asked_after, asked_of, is_update_on}
 use Rattle.rl_core.specs.RankGood.{AsksNext}
 
 -- ---- lists
@@ -52,7 +52,7 @@ head_at n l x rest e =
 
 -- ---- the next block
 
-pub sizes_length : (block : List Call) → length (sizes_in block) ≡ length block
+pub sizes_length : (block : List Call) → length (sizes_of block) ≡ length block
 sizes_length [] = refl
 sizes_length (c ∷ cs) = ap suc (length-map cs (λ (z : Call). 0))
 
@@ -62,7 +62,7 @@ pub record NextBlock (geom : Geom) (calls : List Call) (sizes : List ℕ) : Type
   pub later : List Call
   pub later_sizes : List ℕ
   pub calls_are : calls ≡ block ++ later
-  pub sizes_are : sizes ≡ sizes_in block ++ later_sizes
+  pub sizes_are : sizes ≡ sizes_of block ++ later_sizes
   pub is_block : IsBlockOf geom block
   pub rest : AreBlocks geom later later_sizes
 
@@ -70,7 +70,7 @@ pub next_of_blocks : (geom : Geom) (calls : List Call) (sizes : List ℕ) → Ar
 next_of_blocks geom _ _ AreBlocks.none h = absurd (omega arith)
 next_of_blocks geom _ _ (AreBlocks.more block calls sizes is rest) h = record { block = block; later = calls; later_sizes = sizes; calls_are = refl; sizes_are = refl; is_block = is; rest = rest }
 
-first_size : (block : List Call) (sizes : List ℕ) → 1 ≤ length block → slice_index (sizes_in block ++ sizes) 0 ≡ length block
+first_size : (block : List Call) (sizes : List ℕ) → 1 ≤ length block → slice_index (sizes_of block ++ sizes) 0 ≡ length block
 first_size [] sizes h = absurd (omega arith)
 first_size (c ∷ cs) sizes h = refl
 
@@ -92,7 +92,7 @@ module _ (geom : Geom) (calls : List Call) (sizes : List ℕ) (n : ℕ) (b : Nex
   rest_behind =
       let c : drop (n + length b.block) calls ≡ b.later = drop_more n (length b.block) calls ∙ ap (drop (length b.block)) b.calls_are ∙ drop-append_seam b.block b.later in
       let s : drop (n + length b.block) sizes ≡ b.later_sizes =
-      drop_more n (length b.block) sizes ∙ ap (drop (length b.block)) b.sizes_are ∙ ap (λ k. drop k (sizes_in b.block ++ b.later_sizes)) (sym (sizes_length b.block)) ∙ drop-append_seam (sizes_in b.block) b.later_sizes in
+      drop_more n (length b.block) sizes ∙ ap (drop (length b.block)) b.sizes_are ∙ ap (λ k. drop k (sizes_of b.block ++ b.later_sizes)) (sym (sizes_length b.block)) ∙ drop-append_seam (sizes_of b.block) b.later_sizes in
       subst (λ z. AreBlocks geom z (drop (n + length b.block) sizes)) (sym c) (subst (AreBlocks geom b.later) (sym s) b.rest)
 
   pub inside : n + length b.block ≤ length calls
@@ -134,7 +134,7 @@ asked_tail batch part [] later sizes = ap (λ p. asked_after batch p later sizes
 asked_tail batch part (c ∷ cs) later sizes = ap (λ z. record { call = c; batch = batch; part = part } ∷ z) (asked_tail batch (part + 1) cs later sizes ∙ ap (λ p. asked_from batch (part + 1) cs ++ asked_after batch p later sizes) (omega arith))
 
 asked_block : (batch part : ℕ) (block later : List Call) (sizes : List ℕ) → 1 ≤ length block →
-    (rest : List Asked) × (asked_after batch part (block ++ later) (sizes_in block ++ sizes) ≡ asked_from (batch_number (length block)) 0 block ++ rest)
+    (rest : List Asked) × (asked_after batch part (block ++ later) (sizes_of block ++ sizes) ≡ asked_from (batch_number (length block)) 0 block ++ rest)
 asked_block batch part [] later sizes h = absurd (omega arith)
 asked_block batch part (c ∷ cs) later sizes h = (
   asked_after (batch_number (suc (length cs))) (1 + length cs) later sizes,

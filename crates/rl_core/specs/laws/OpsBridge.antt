@@ -17,7 +17,7 @@ use Rattle.rl_ops.specs.Blocks.{sizes_of, shard_among, AreOneBlock}
 use Rattle.rl_ops.specs.Ops as ops
 use Rattle.rl_ops.specs.Ops.{total_calls, EachOfBlocks, OpsFit}
 use Rattle.rl_ops.specs.Room.{updates_on}
-use Rattle.rl_core.specs.Asks.{sizes_in, IsBlockOf, AreBlocks, is_update_on}
+use Rattle.rl_core.specs.Asks.{IsBlockOf, AreBlocks, is_update_on}
 use Rattle.rl_core.specs.laws.AskLaws.{few_calls}
 
 module _ (geom : Geom) (fits : GeomFits geom) where
@@ -38,10 +38,6 @@ module _ (geom : Geom) (fits : GeomFits geom) where
   shard_there (Cas key old new) c = mod_below key geom.shards fits.some_shards
   shard_there (Hold shard) c = c
 
-  sizes_same : (block : List Call) → sizes_of block ≡ sizes_in block
-  sizes_same [] = refl
-  sizes_same (call ∷ calls) = refl
-
   all_shards : (s : ℕ) (block : List Call) → AllByRecursion (λ call. shard_among geom.shards call ≡ s) block → All (λ call. shard_of geom call ≡ s) block
   all_shards s [] all = All-nil (λ call. shard_of geom call ≡ s)
   all_shards s (call ∷ calls) all = All-cons (λ call. shard_of geom call ≡ s) call calls (sym (shard_same call) ∙ all.0) (all_shards s calls all.1)
@@ -57,7 +53,7 @@ module _ (geom : Geom) (fits : GeomFits geom) where
   blocks_of [] all = AreBlocks.none
   blocks_of (block ∷ blocks) all =
       subst (λ calls. AreBlocks geom calls (flat_map sizes_of (block ∷ blocks))) (sym (flat_map-cons (λ (b : List Call). b) block blocks))
-      (subst (AreBlocks geom (block ++ flat_map (λ (b : List Call). b) blocks)) (sym (flat_map-cons sizes_of block blocks ∙ ap (λ z. z ++ flat_map sizes_of blocks) (sizes_same block)))
+      (subst (AreBlocks geom (block ++ flat_map (λ (b : List Call). b) blocks)) (sym (flat_map-cons sizes_of block blocks))
       (AreBlocks.more block (flat_map (λ (b : List Call). b) blocks) (flat_map sizes_of blocks) (block_of block all.0) (blocks_of blocks all.1)))
 
   rank_blocks : (calls : List Call) (sizes : List ℕ) → ops.AreBlocks geom.shards calls sizes → AreBlocks geom calls sizes

@@ -7,7 +7,7 @@ use Rattle.rl_model.specs.declared.call.Call.{Call}
 use Rattle.rl_model.specs.declared.geom.Geom.{Geom}
 use Rattle.rl_model.specs.Asked.{Asked}
 use Rattle.rl_ops.specs.Asked.{batch_of, BeginsAt}
-use Rattle.rl_core.specs.Asks.{AreBlocks, sizes_in, asked_after, asked_of}
+use Rattle.rl_core.specs.Asks.{AreBlocks, sizes_of, asked_after, asked_of}
 use Rattle.rl_core.specs.RankGood.{AsksNext}
 
 -- a size that begins a block, at a place of a list
@@ -23,7 +23,7 @@ first_begins batch part (call ∷ calls) (zero ∷ sizes) (suc n) a some get is 
 first_begins batch part (call ∷ calls) (suc size ∷ sizes) zero a some get is = (size, refl)
 first_begins batch part (call ∷ calls) (suc size ∷ sizes) (suc n) a some get is = first_begins (batch_of (suc size)) 1 calls sizes n a (omega arith) get is
 
-begins_in : (block calls : List Call) (sizes : List ℕ) (n : ℕ) (a : Asked) → 1 ≤ length block → slice_get (asked_of (block ++ calls) (sizes_in block ++ sizes)) n ≡ Some a → a.part ≡ 0 → BeginsBlock (sizes_in block ++ sizes) n
+begins_in : (block calls : List Call) (sizes : List ℕ) (n : ℕ) (a : Asked) → 1 ≤ length block → slice_get (asked_of (block ++ calls) (sizes_of block ++ sizes)) n ≡ Some a → a.part ≡ 0 → BeginsBlock (sizes_of block ++ sizes) n
 begins_in [] calls sizes n a some get is = absurd (omega arith)
 begins_in (c ∷ cs) calls sizes zero a some get is = (length cs, refl)
 begins_in (c ∷ cs) calls sizes (suc n) a some get is = first_begins (batch_of (suc (length cs))) 1 (cs ++ calls) (map (λ _. 0) cs ++ sizes) n a (omega arith) get is
@@ -38,7 +38,7 @@ get_behind xs zero i x get = let at : 0 + i ≡ i = omega arith in ap (slice_get
 get_behind [] (suc n) i x get = absurd (cc)
 get_behind (y ∷ xs) (suc n) i x get = let at : suc n + i ≡ suc (n + i) = omega arith in ap (slice_get (y ∷ xs)) at ∙ get_behind xs n i x get
 
-block_first : (block : List Call) (sizes : List ℕ) → 1 ≤ length block → BeginsBlock (sizes_in block ++ sizes) 0
+block_first : (block : List Call) (sizes : List ℕ) → 1 ≤ length block → BeginsBlock (sizes_of block ++ sizes) 0
 block_first [] sizes some = absurd (omega arith)
 block_first (c ∷ cs) sizes some = (length cs, refl)
 

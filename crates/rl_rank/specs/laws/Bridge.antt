@@ -12,6 +12,7 @@ use Rattle.rl_step.specs.declared.events.Event.TheVariants.{Join, Announce, Pass
 use Rattle.rl_step.specs.declared.events.Standing.{Standing}
 use Rattle.rl_step.specs.declared.events.Standing.TheVariants as standing
 use Rattle.rl_step.specs.declared.events.Stepped.TheVariants.{Moved, Busy}
+use Rattle.rl_step.specs.Queues.{count}
 use Rattle.rl_step.specs.Lock.{Shift, holds_only}
 use Rattle.rl_step.specs.laws.CoreLemmas.{length-do_words}
 use Rattle.rl_step.specs.Do.{do_words, do_cards}
@@ -24,7 +25,7 @@ use Rattle.rl_rank.specs.declared.card_state.CardState.TheVariants.{Free, InCard
 use Rattle.rl_rank.specs.declared.effect.Effect.{Effect}
 use Rattle.rl_rank.specs.declared.effect.Effect.TheVariants.{Work, Stay, Learn}
 use Rattle.rl_rank.specs.Split.{skips, effect_at, atom_at}
-use Rattle.rl_rank.specs.Whole.{leaves, one_if, shifted, lock_words}
+use Rattle.rl_rank.specs.Whole.{leaves, shifted, lock_words}
 
 -- what an atom of the lock may do to a standing, with its events
 abbrev pub Moves : ℕ → Standing → Standing → List Event → Type 0
@@ -40,7 +41,7 @@ leaves_held k (Settle q m ∷ es) = leaves_held k es
 leaves_held k (Touch j w ∷ es) = leaves_held k es
 leaves_held k (EnterW j ∷ es) = leaves_held k es
 leaves_held k (EnterR j ∷ es) = leaves_held k es
-leaves_held k (LeaveW j ∷ es) = ap (λ z. one_if (j == k) + z) (leaves_held k es)
+leaves_held k (LeaveW j ∷ es) = ap (λ z. count (j == k) + z) (leaves_held k es)
 leaves_held k (LeaveR j ∷ es) = leaves_held k es
 
 pub leaves_more : (k : ℕ) (es fs : List Event) → leaves k (es ++ fs) ≡ leaves k es + leaves k fs

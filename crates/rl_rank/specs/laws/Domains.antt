@@ -15,13 +15,12 @@ use Rattle.rl_rank.specs.declared.card_state.CardState.TheVariants.{Free, InCard
 use Rattle.rl_rank.specs.declared.side.Side.{Side}
 use Rattle.rl_step.specs.Core.{MayBe}
 use Rattle.rl_rank.specs.Running.{LockAt, Goods, BothLaws}
-use Rattle.rl_core.specs.Domains.{IsCardAtom, IsLocalAtom, IsLocalAct}
+use Rattle.rl_core.specs.Domains.{IsCardAtom, IsLocalAtom, IsLocalAct, UsesCards, UsesLocals}
 use Rattle.rl_rank.specs.declared.whole.WholeView.{WholeView}
 use Rattle.rl_rank.specs.Whole.{shifted, next_of, side_of, work_side, Good}
 use Rattle.rl_rank.specs.laws.WholeLaws.{next_either, works_at}
-use Rattle.rl_rank.specs.Split.{SplitState, LockGood, UsesCards, lock_of, view_of, side_atom, card_atom, card_in, first_at, home_of}
+use Rattle.rl_rank.specs.Split.{SplitState, LockGood, lock_of, view_of, side_atom, card_atom, card_in, first_at, home_of}
 use Rattle.rl_work.specs.Ways.{WorkTable, IsWorkAtom}
-use Rattle.rl_rank.specs.Domains.{UsesLocals}
 
 module _ (V : Type 0) (T : LockTable V) (good : LockState V → Type 0) (further : List Event → List Deed → Type 0) (layout : Layout) (laws : LockLaws T good further layout) where
   -- the first atom of an act is of its kind
@@ -33,7 +32,7 @@ module _ (V : Type 0) (T : LockTable V) (good : LockState V → Type 0) (further
   first_kind home (act.CardSwap w v) = (λ h. refl, λ h. h)
   first_kind home (act.CardAdd w d) = (λ h. refl, λ h. h)
 
-  at_atom : (s : SplitState V) (r : ℕ) (v : V) (p : Option Act) (h : CardState) (at : Atom) → LockGood T good layout s → slice_get s.sides r ≡ Some (record { view = v; card = h }) → T.plan v ≡ p → card_atom T p h ≡ Some at → IsCardAtom at → UsesCards T r
+  at_atom : (s : SplitState V) (r : ℕ) (v : V) (p : Option Act) (h : CardState) (at : Atom) → LockGood T good layout s → slice_get s.sides r ≡ Some (record { view = v; card = h }) → T.plan v ≡ p → card_atom T p h ≡ Some at → IsCardAtom at → UsesCards T.may_make r
   at_atom s r v p (ToLeave n) at g has pl e c = g.domain r n (record { view = v; card = ToLeave n }) has refl
   at_atom s r v None Free at g has pl e c = cc
   at_atom s r v None InCard at g has pl e c = cc
@@ -44,10 +43,10 @@ module _ (V : Type 0) (T : LockTable V) (good : LockState V → Type 0) (further
   at_atom s r v (Some a) (Loaded k) at g has pl e c = g.domain r (home_of T (word_of a)) (record { view = v; card = Loaded k }) has (ap (λ q. card_in T q (Loaded k)) pl)
 
   -- a rank whose next atom is one of a card may make acts through cards
-  pub card_atom_allowed : (s : SplitState V) (r : ℕ) (x : Side V) (at : Atom) → LockGood T good layout s → slice_get s.sides r ≡ Some x → side_atom T x ≡ Some at → IsCardAtom at → UsesCards T r
+  pub card_atom_allowed : (s : SplitState V) (r : ℕ) (x : Side V) (at : Atom) → LockGood T good layout s → slice_get s.sides r ≡ Some x → side_atom T x ≡ Some at → IsCardAtom at → UsesCards T.may_make r
   card_atom_allowed s r x at g has e c = at_atom s r x.view (T.plan x.view) x.card at g has refl e c
 
-  local_at : (s : SplitState V) (r : ℕ) (v : V) (p : Option Act) (h : CardState) (at : Atom) → LockGood T good layout s → slice_get s.sides r ≡ Some (record { view = v; card = h }) → T.plan v ≡ p → card_atom T p h ≡ Some at → IsLocalAtom at → UsesLocals T r
+  local_at : (s : SplitState V) (r : ℕ) (v : V) (p : Option Act) (h : CardState) (at : Atom) → LockGood T good layout s → slice_get s.sides r ≡ Some (record { view = v; card = h }) → T.plan v ≡ p → card_atom T p h ≡ Some at → IsLocalAtom at → UsesLocals T.may_make r
   local_at s r v p (ToLeave n) at g has pl e c = absurd (subst IsLocalAtom (sym (same_Some _ _ e)) c)
   local_at s r v None Free at g has pl e c = cc
   local_at s r v None InCard at g has pl e c = cc
@@ -58,7 +57,7 @@ module _ (V : Type 0) (T : LockTable V) (good : LockState V → Type 0) (further
   local_at s r v (Some a) (Loaded k) at g has pl e c = absurd (subst IsLocalAtom (sym (same_Some _ _ e)) c)
 
   -- a rank whose next atom is a local compare-and-swap may make one
-  pub local_atom_allowed : (s : SplitState V) (r : ℕ) (x : Side V) (at : Atom) → LockGood T good layout s → slice_get s.sides r ≡ Some x → side_atom T x ≡ Some at → IsLocalAtom at → UsesLocals T r
+  pub local_atom_allowed : (s : SplitState V) (r : ℕ) (x : Side V) (at : Atom) → LockGood T good layout s → slice_get s.sides r ≡ Some x → side_atom T x ≡ Some at → IsLocalAtom at → UsesLocals T.may_make r
   local_atom_allowed s r x at g has e c = local_at s r x.view (T.plan x.view) x.card at g has refl e c
 
 -- an atom of the work is neither
@@ -94,8 +93,8 @@ module _ (V K : Type 0) (L : LockAt V K) (good : Goods V K) (further : List Even
         (works_at V K L good further layout laws home m.held m.views m.is_ruled m.rank x m.has at q.1 q.2)) c))
         (next_either V K L good further layout laws home x at e)
 
-  pub next_card_allowed : (x : WholeView V K) (at : Atom) → MayBe (Good L good layout) x → next_of L x ≡ Some at → IsCardAtom at → UsesCards L.table x.rank
-  next_card_allowed = next_allowed IsCardAtom (UsesCards L.table) (λ at. (unshifted L.base at).0) (λ at p. (plain_neither L.work at p).0) (card_atom_allowed V L.table good.lock further layout laws.lock)
+  pub next_card_allowed : (x : WholeView V K) (at : Atom) → MayBe (Good L good layout) x → next_of L x ≡ Some at → IsCardAtom at → UsesCards L.table.may_make x.rank
+  next_card_allowed = next_allowed IsCardAtom (UsesCards L.table.may_make) (λ at. (unshifted L.base at).0) (λ at p. (plain_neither L.work at p).0) (card_atom_allowed V L.table good.lock further layout laws.lock)
 
-  pub next_local_allowed : (x : WholeView V K) (at : Atom) → MayBe (Good L good layout) x → next_of L x ≡ Some at → IsLocalAtom at → UsesLocals L.table x.rank
-  next_local_allowed = next_allowed IsLocalAtom (UsesLocals L.table) (λ at. (unshifted L.base at).1) (λ at p. (plain_neither L.work at p).1) (local_atom_allowed V L.table good.lock further layout laws.lock)
+  pub next_local_allowed : (x : WholeView V K) (at : Atom) → MayBe (Good L good layout) x → next_of L x ≡ Some at → IsLocalAtom at → UsesLocals L.table.may_make x.rank
+  next_local_allowed = next_allowed IsLocalAtom (UsesLocals L.table.may_make) (λ at. (unshifted L.base at).1) (λ at p. (plain_neither L.work at p).1) (local_atom_allowed V L.table good.lock further layout laws.lock)

@@ -20,7 +20,8 @@ use Rattle.rl_rank.specs.declared.card_state.CardState.{CardState}
 use Rattle.rl_rank.specs.declared.card_state.CardState.TheVariants.{Free, InCard, Loaded, ToLeave}
 use Rattle.rl_rank.specs.declared.effect.Effect.TheVariants.{Stay, Learn}
 use Rattle.rl_rank.specs.declared.side.Side.{Side}
-use Rattle.rl_rank.specs.Split.{UsesCards, SplitState, LockGood, side_atom, card_atom, card_after, lock_of, view_of, card_of, card_in, StandsStill, moved, skips, home_of, turned_by, first_atom, Leads, Past, grown, deed_of}
+use Rattle.rl_core.specs.Domains.{UsesCards}
+use Rattle.rl_rank.specs.Split.{SplitState, LockGood, side_atom, card_atom, card_after, lock_of, view_of, card_of, card_in, StandsStill, moved, skips, home_of, turned_by, first_atom, Leads, Past, grown, deed_of}
 use Rattle.rl_rank.specs.laws.SplitActs.{bool_cases, in_range, still_after_write, first_card, plain_words, plain_cards, plain_got, skipped_words, told_card, card_class, plain_class, after_plain, after_take, after_busy, after_load, after_skip}
 
 module _ (V : Type 0) (T : LockTable V) (good : LockState V → Type 0) (further : List Event → List Deed → Type 0) (layout : Layout) (laws : LockLaws T good further layout) where
@@ -59,7 +60,7 @@ module _ (V : Type 0) (T : LockTable V) (good : LockState V → Type 0) (further
       good (lock_of t) → length t.cards ≡ layout.nodes →
       ((n : ℕ) → card_of T y ≡ Some n → slice_index t.cards n ≡ r + 1) →
       ((n : ℕ) → slice_index t.cards n ≡ r + 1 → card_of T y ≡ Some n) →
-      ((n : ℕ) → card_of T y ≡ Some n → UsesCards T r) →
+      ((n : ℕ) → card_of T y ≡ Some n → UsesCards T.may_make r) →
       ((i n : ℕ) → i ≢ r → slice_index s.cards n ≡ i + 1 → slice_index t.cards n ≡ i + 1) →
       ((i n : ℕ) → i ≢ r → slice_index t.cards n ≡ i + 1 → slice_index s.cards n ≡ i + 1) →
       StandsStill t.words (T.plan y.view) y.card →
@@ -89,7 +90,7 @@ module _ (V : Type 0) (T : LockTable V) (good : LockState V → Type 0) (further
         still = λ i u h.
             ⊎_elim (λ q. subst (λ z. StandsStill t.words (T.plan z.view) z.card) (sym q.1) holds) (λ q. others i u q.0 q.1) (cases i u h);
         domain = λ i n u h c.
-            ⊎_elim (λ q. subst (UsesCards T) (sym q.0) (may n (subst (λ z. card_of T z ≡ Some n) q.1 c))) (λ q. g.domain i n u q.1 c) (cases i u h);
+            ⊎_elim (λ q. subst (UsesCards T.may_make) (sym q.0) (may n (subst (λ z. card_of T z ≡ Some n) q.1 c))) (λ q. g.domain i n u q.1 c) (cases i u h);
       }
 
   -- the same with the cards as they were

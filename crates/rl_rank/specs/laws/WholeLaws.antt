@@ -13,6 +13,7 @@ use Rattle.rl_step.specs.declared.events.Event.{Event}
 use Rattle.rl_step.specs.declared.events.Standing.{Standing}
 use Rattle.rl_step.specs.declared.events.Standing.TheVariants as standing
 use Rattle.rl_step.specs.declared.events.Stepped.TheVariants.{Finished}
+use Rattle.rl_step.specs.Queues.{count}
 use Rattle.rl_step.specs.Lock.{LockTable, LockState, LockLaws, Deed, IsHolder, Rests, Suits, holds_only}
 use Rattle.rl_step.specs.laws.CoreLemmas.{length-do_words}
 use Rattle.rl_step.specs.Do.{TheWindow, do_got, do_atom, do_words, CanDo}
@@ -33,7 +34,7 @@ use Rattle.rl_rank.specs.laws.CallLaws.{work_keeps, modes_after}
 use Rattle.rl_rank.specs.laws.ShiftLaws.{IsLow, can_low, lock_words_made, lock_got, shift_cards, shift_home, there}
 use Rattle.rl_rank.specs.laws.Bridge.{Moves, leaves_more, moves_leaves, is_work, no_work, IsOffLock, off_lock, same_work}
 use Rattle.rl_rank.specs.laws.LearnLaws.{moves_by}
-use Rattle.rl_rank.specs.Whole.{side_of, shifted, lock_words, lock_or_work, work_plan, next_of, after_of, effect_turned, whole_turned, work_turned, work_events, departure_by, followed, left_by, home_of_word, whole_table, split_of, work_side, counts, leaves, one_if, made_deeds, Good}
+use Rattle.rl_rank.specs.Whole.{side_of, shifted, lock_words, lock_or_work, work_plan, next_of, after_of, effect_turned, whole_turned, work_turned, work_events, departure_by, followed, left_by, home_of_word, whole_table, split_of, work_side, counts, leaves, made_deeds, Good}
 
 -- each view is still its rank's own after one rank's view was changed
 pub own_after : {V K : Type 0} (vs : List (WholeView V K)) (r : ℕ) (x y : WholeView V K) → ((i : ℕ) (u : WholeView V K) → slice_get vs i ≡ Some u → u.rank ≡ i) → slice_get vs r ≡ Some x → y.rank ≡ x.rank →
@@ -52,7 +53,7 @@ departs r st On = refl
 departs r st (Ask m) = refl
 departs r standing.Out Over = refl
 departs r standing.Asking Over = refl
-departs r standing.Writer Over = let hit : (r == r) ≡ true = grind (arith, nat_tests) in ap (λ b. one_if b + 0) hit
+departs r standing.Writer Over = let hit : (r == r) ≡ true = grind (arith, nat_tests) in ap (λ b. count b + 0) hit
 departs r standing.Reader Over = refl
 departs r standing.Leaving Over = refl
 
@@ -66,7 +67,7 @@ departs_elsewhere i r st On ne = refl
 departs_elsewhere i r st (Ask m) ne = refl
 departs_elsewhere i r standing.Out Over ne = refl
 departs_elsewhere i r standing.Asking Over ne = refl
-departs_elsewhere i r standing.Writer Over ne = let miss : (r == i) ≡ false = grind (arith, nat_tests) in ap (λ b. one_if b + 0) miss
+departs_elsewhere i r standing.Writer Over ne = let miss : (r == i) ≡ false = grind (arith, nat_tests) in ap (λ b. count b + 0) miss
 departs_elsewhere i r standing.Reader Over ne = refl
 departs_elsewhere i r standing.Leaving Over ne = refl
 
