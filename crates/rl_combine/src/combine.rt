@@ -90,6 +90,7 @@ impl CombineWork {
     }
 
     // The store of a word of the journal, for a call that is decided.
+    #[inline(always)]
     fn store_journal(&self, side: &CombineSide, made: u32) -> Option<Atom>
         requires few { made < 6 }
         requires low { journal_base self.now.here.site.geom + (6 * side.now.count + made) < 2 ^ 32 }
@@ -102,6 +103,7 @@ impl CombineWork {
     }
 
     // The next atom of a side whose numbers fit.
+    #[inline(always)]
     fn atom(&self, rank: u32, side: &CombineSide) -> Option<Atom>
         requires { fits.CanName self.now.here rank side.now side.now.stage }
         ensures { result ≡ model.combine_atom self.now.here rank side.now }
@@ -145,6 +147,7 @@ impl CombineWork {
     }
 
     // A rank's flag was loaded: its post is copied, or the sweep goes on.
+    #[inline(always)]
     fn flag_on(&self, side: &mut CombineSide, owner: u32, got: u64)
         requires { owner < 32 }
         ensures { side.new ≡ (model.combine_stage_after self.now.here 0 side.old got (stage.Sweep owner)).work }
@@ -157,6 +160,7 @@ impl CombineWork {
     }
 
     // A word of a post was loaded.
+    #[inline(always)]
     fn copy_on(&self, side: &mut CombineSide, owner: u32, made: u32, got: u64)
         requires few { made < 5 }
         requires so_far { length side.old.copied ≡ made }
@@ -208,6 +212,7 @@ impl CombineWork {
     }
 
     // Goes on behind the next atom of a side, which gave a number that fits.
+    #[inline(always)]
     fn turn(&self, rank: u32, side: &mut CombineSide, got: u64)
         requires { fits.CanTurn self.now.here rank side.old got side.old.stage }
         ensures { side.new ≡ (model.combine_after self.now.here rank side.old got).work }

@@ -137,6 +137,7 @@ impl CombineSide {
     }
 
     /// The own flag was loaded: the own call is done, or the sweep begins.
+    #[inline(always)]
     pub(crate) fn look_on(&mut self, got: u64)
         ensures { self.new ≡ (if got == 2 then model.to_collect self.old else model.combine_to_stage self.old stage.Count).work }
     {
@@ -148,6 +149,7 @@ impl CombineSide {
     }
 
     /// A word of the own answer was loaded.
+    #[inline(always)]
     pub(crate) fn collect_on(&mut self, made: u32, got: u64)
         requires few { made < 3 }
         requires so_far { length self.old.copied ≡ made }
@@ -178,6 +180,7 @@ impl CombineSide {
     }
 
     /// The posted call whose words were copied is in hand.
+    #[inline(always)]
     pub(crate) fn take_post(&mut self, shard: u32)
         requires whole { length self.old.copied ≡ 5 }
         requires small { slice_index self.old.copied 4 < 2 ^ 32 }
@@ -213,6 +216,7 @@ impl CombineSide {
     }
 
     /// After a write the next one follows; the store of the count makes the count one more.
+    #[inline(always)]
     pub(crate) fn write_on(&mut self, owner: u32, made: u32)
         requires few { made ≤ length self.old.writes }
         requires fits { self.old.count + 1 < 2 ^ 32 }

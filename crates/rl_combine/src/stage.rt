@@ -64,6 +64,7 @@ impl CombineStage {
     }
 
     /// What follows its atom.
+    #[inline(always)]
     pub(crate) fn follow(self) -> Follow
         ensures { result ≡ model.follow_of self }
     {
@@ -75,6 +76,7 @@ impl CombineStage {
     }
 
     /// After a word of the call is posted.
+    #[inline(always)]
     pub(crate) fn after_post(made: u32) -> CombineStage
         requires { made < 5 }
         ensures { result ≡ (if made + 1 == 5 then stage.Raise else stage.Post (made + 1)) }
@@ -87,6 +89,7 @@ impl CombineStage {
     }
 
     /// After a word of an entry is written to the journal.
+    #[inline(always)]
     pub(crate) fn after_journal(owner: u32, made: u32) -> CombineStage
         requires { made < 6 }
         ensures { result ≡ (if made + 1 == 6 then stage.Volume owner 0 else stage.Journal owner (made + 1)) }
@@ -102,6 +105,7 @@ impl CombineStage {
     }
 
     /// After a word of an answer is stored.
+    #[inline(always)]
     pub(crate) fn after_answer(owner: u32, made: u32) -> CombineStage
         requires { made < 3 }
         ensures { result ≡ (if made + 1 == 3 then stage.Mark owner else stage.Answer owner (made + 1)) }

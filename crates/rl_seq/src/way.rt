@@ -57,6 +57,7 @@ impl SeqWork {
     }
 
     // The next atom of a side.
+    #[inline(always)]
     fn atom(&self, side: &SeqSide) -> Option<Atom>
         requires fits { GeomFits self.now.geom }
         requires can { CanNameAt self.now.geom side.now.work side.now.stage }
@@ -83,6 +84,7 @@ impl SeqWork {
     }
 
     // Goes on behind it.
+    #[inline(always)]
     fn turn(&self, rank: u32, side: &mut SeqSide, got: u64) -> WorkStep
         requires fits { GeomFits self.now.geom }
         requires can { CanTurnAt self.now.geom side.old.work got side.old.stage }
@@ -109,6 +111,7 @@ impl SeqWork {
     }
 
     // After a load inside the lock the block is over, is decided, or reads on.
+    #[inline(always)]
     fn loaded(&self, rank: u32, side: &mut SeqSide, got: u64) -> WorkStep
         requires fits { GeomFits self.now.geom }
         requires can { CanTurn self.now.geom side.old.work got side.old.work.stage }
@@ -123,6 +126,7 @@ impl SeqWork {
     }
 
     // After a store between the versions the count was stored, or the next store follows.
+    #[inline(always)]
     fn stored(&self, rank: u32, side: &mut SeqSide, version: u64, got: u64) -> WorkStep
         requires fits { GeomFits self.now.geom }
         requires can { CanTurn self.now.geom side.old.work got side.old.work.stage }
@@ -136,6 +140,7 @@ impl SeqWork {
     }
 
     // A get that found an even version goes on, and waits where it is odd.
+    #[inline(always)]
     fn looked(&self, side: &mut SeqSide, got: u64) -> WorkStep
         ensures { worked_with side.new result ≡ model.looked_on (at_of self.now) side.old.work got }
     {
@@ -162,6 +167,7 @@ impl SeqWork {
     }
 
     // Where it found the version again it is done; else it begins anew.
+    #[inline(always)]
     fn checked(&self, rank: u32, side: &mut SeqSide, version: u64, count: u32, got: u64) -> WorkStep
         requires fits { GeomFits self.now.geom }
         requires can { got ≡ version → CanDecide self.now.geom side.old.work count }
