@@ -384,6 +384,3 @@ impl Work for CombineWork {
 
     ghost laws = { λ w. combine_works w.here (posts.node_in w) };
 }
-
-#[cfg(test)]
-mod tests;

@@ -1,5 +1,4 @@
 pub mod BudgetLaws
-pub mod FreshLaws
 pub mod SeatLoads
 pub mod DecidedLaws
 pub mod HolderLaws

@@ -7,6 +7,3 @@ pub mod Optimistic
 pub mod Combining
 pub mod SweepRuns
 pub mod SeatDomains
--- for tests
-pub mod Fresh
-pub mod laws

@@ -28,11 +28,7 @@ mod holders;
 mod loads;
 mod machine_domains;
 mod readers;
-#[cfg(test)]
-mod seat_tests;
 mod settings;
-#[cfg(test)]
-mod tests;
 mod ways;
 
 pub use choice::{CoreTask, over_lock};

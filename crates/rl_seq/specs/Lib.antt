@@ -7,6 +7,4 @@ pub mod SeqLeft
 -- what the code needs of its numbers, and the place of its struct
 pub mod SeqCode
 pub mod Place
--- for tests
-pub mod TwoRanks
 pub mod laws

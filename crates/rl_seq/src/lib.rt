@@ -30,6 +30,3 @@ pub use laws::seq_laws;
 pub use side::SeqSide;
 pub use stage::SeqStage;
 pub use way::SeqWork;
-
-#[cfg(test)]
-mod tests;

@@ -17,8 +17,6 @@ mod sight_reader;
 mod sketch;
 mod sketch_printer;
 mod sketch_reader;
-#[cfg(test)]
-mod tests;
 mod texts;
 
 pub use laws::no_sketch_fault;

@@ -1,1 +1,2 @@
+mod FreshLaws
 mod SeatLists

@@ -6,8 +6,8 @@ ghost use Rattle.rl_model.specs.Call.{shard_of};
 ghost use Rattle.rl_model.specs.Geom.{GeomFits};
 ghost use Rattle.rl_place.specs.Places.{IsProper};
 ghost use Rattle.rl_place.specs.Shapes.{shape_of, knobs_of};
-ghost use Rattle.rl_locks.specs.Fresh.{IsFresh};
 ghost use Rattle.rl_shard.specs.Shards.{IsOf, IsShardOf, AreOf, AreClosed, rank_at};
+ghost use Rattle.rmalock.specs.Fresh.{IsFresh};
 
 use crate::schedules::one_shard;
 use crate::signs::{answer_sign, answers_alone};

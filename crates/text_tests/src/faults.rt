@@ -3,6 +3,7 @@
 use crate::samples::place_of;
 use rl_ops::{read_ops, read_schedule};
 use rl_report::read_report;
+use rl_sketch::read_sketch;
 use rl_text::{Refusal, TEXT_LIMIT, TextErr, Why};
 use std::alloc::{AllocError as OutOfMemory, Global};
 use std::process::Abort;
@@ -23,6 +24,8 @@ pub enum Form {
     Calls { ranks: u32, shards: u32 },
     /// A schedule of so many ranks.
     Schedule { ranks: u8 },
+    /// A sketch of so many ranks.
+    Sketch { ranks: u8 },
     /// A report of a placement, which is given as its text.
     Report { place: &'static str },
 }
@@ -43,6 +46,7 @@ pub fn fault_of(alloc: Global, form: Form, text: &[u8]) -> Option<Refusal> {
         Form::Place => refusal(place_of(alloc, text)),
         Form::Calls { ranks, shards } => refusal(read_ops(alloc, ranks, shards, text)),
         Form::Schedule { ranks } => refusal(read_schedule(alloc, ranks, text)),
+        Form::Sketch { ranks } => refusal(read_sketch(alloc, ranks, text)),
         Form::Report { place } => {
             let place = place_of(alloc, place.as_bytes()).ok()?;
             refusal(read_report(alloc, &place, text))

@@ -1,7 +1,7 @@
 -- The seats are the shard's, and those of the ranks to come have made no call.
 use Rattle.std.proofs.Common.{◌≡◌, ◌≤◌, ℕ, slice_get, Some, vec_len}
 use Rattle.rl_shard.specs.Shards.{AreOf}
-use Rattle.rl_locks.specs.Fresh.{IsFresh}
+use Rattle.rmalock.specs.Fresh.{IsFresh}
 use Rattle.rmalock.proofs.seat_tests.begin_all.Given as goal
 
 abbrev pub invariant-loop-rank : goal.invariant-loop-rank

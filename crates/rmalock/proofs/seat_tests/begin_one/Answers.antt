@@ -4,7 +4,7 @@ use Rattle.std.proofs.lemmas.Option.{slice_get-get_or}
 use Rattle.rl_word.specs.laws.Places.{get_set_other}
 use Rattle.rl_model.specs.Call.{is_update}
 use Rattle.rl_site.specs.Opens.{places_needed}
-use Rattle.rl_locks.specs.laws.Fresh.{fresh_opens}
+use Rattle.rmalock.proofs.FreshLaws.{fresh_opens}
 use Rattle.rmalock.proofs.SeatLists.{one_changed}
 use Rattle.rmalock.proofs.seat_tests.begin_one.Goals as goal
 

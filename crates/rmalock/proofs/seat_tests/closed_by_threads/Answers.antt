@@ -1,8 +1,8 @@
 -- All seats are still the shard's, and no block is open.
 use Rattle.std.proofs.Common.{rules, ap, sym, subst, ◌∙◌}
 use Rattle.rl_place.specs.Places.{ThePlace}
-use Rattle.rl_locks.specs.Fresh.{IsFresh}
 use Rattle.rl_shard.specs.Shards.{IsShardOf, AreOf, AreClosed}
+use Rattle.rmalock.specs.Fresh.{IsFresh}
 use Rattle.rmalock.proofs.seat_tests.closed_by_threads.Goals as goal
 
 pub begin_all-requires-clause-fresh : goal.begin_all-requires-clause-fresh

@@ -8,7 +8,7 @@ use Rattle.rl_place.specs.Places.{ThePlace}
 use Rattle.rl_core.specs.ShardTables.{site_with}
 use Rattle.rl_shard.specs.Counting.{first_counted}
 use Rattle.rl_shard.specs.Shards.{IsShardOf, core_at, table_at}
-use Rattle.rl_locks.proofs.FreshLaws.{fresh_at}
+use Rattle.rmalock.proofs.FreshLaws.{fresh_at}
 use Rattle.rmalock.proofs.SeatLists.{node_there, sum_ones, new_long, room_long}
 use Rattle.rmalock.proofs.seat_tests.opened.Goals as goal
 

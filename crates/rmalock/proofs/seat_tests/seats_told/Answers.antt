@@ -1,7 +1,7 @@
 -- The seats have made no call before, and a step leaves them the shard's.
 use Rattle.std.proofs.Common.{ap, sym, subst}
 use Rattle.rl_place.specs.Places.{ThePlace}
-use Rattle.rl_locks.specs.Fresh.{IsFresh}
+use Rattle.rmalock.specs.Fresh.{IsFresh}
 use Rattle.rmalock.proofs.seat_tests.seats_told.Goals as goal
 use Rattle.rmalock.proofs.seat_tests.seats_told.Goals.{then-rank-len+in_ok-answer_sign+in_ok-push_str+in_ok-push_str-2, else-rank-len}
 

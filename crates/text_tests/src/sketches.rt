@@ -1,11 +1,15 @@
 //! Sketches of four ranks: one with a line of each form, which is read and printed back, and faulty ones with the place and the cause of their first fault.
 //! The values were worked out by hand from what the format says.
 
-use crate::sketch::{Course, Ranks, Sight, SketchLine};
-use crate::{add_stopped, going, read_sketch, sketch_text};
-use rl_text::{Refusal, TEXT_LIMIT, TextErr, Why};
+use crate::faults::{Form, Row, all_refused};
+use rl_sketch::{Course, Ranks, Sight, SketchLine, add_stopped, going, read_sketch, sketch_text};
+use rl_text::{TEXT_LIMIT, Why};
+use std::alloc::Global;
 use std::process::Abort;
 use std::test::*;
+
+/// The sketches of four ranks.
+const FOUR: Form = Form::Sketch { ranks: 4 };
 
 /// A sketch with a line of each form.
 const SKETCH: &[u8] =
@@ -28,9 +32,6 @@ const LINES: &[Told<'static>] = &[
     ("until", b"all", b"(out)", 0, 0),
     ("stop", b"all", b"", 0, 0),
 ];
-
-/// What follows the first line of a sketch, and the line, the word and the cause of its first fault.
-type Row = (&'static str, u32, u32, Why);
 
 /// Lines that are no sketch of four ranks.
 const FAULTS: &[Row] = &[
@@ -90,47 +91,52 @@ fn told(line: &SketchLine) -> Told<'_> {
     }
 }
 
-#[test]
-fn each_form_is_read_and_printed_back(rt: HostRuntime) -> Result<(), Fail> {
-    assert!(rt; SKETCH.len() < TEXT_LIMIT as usize);
-    let sketch = read_sketch(rt.alloc(), 4, SKETCH)?;
-    let lines = sketch.lines.as_slice();
-    assert_eq!(rt; lines.len(), LINES.len());
-    for (line, other) in lines.iter().zip(LINES) {
+/// The lines say this.
+fn say(rt: &impl Abort, lines: &[SketchLine], wanted: &[Told<'static>]) {
+    assert_eq!(rt; lines.len(), wanted.len());
+    for (line, other) in lines.iter().zip(wanted) {
         assert_eq!(rt; told(line), *other);
     }
-    assert_eq!(rt; sketch_text(rt.alloc(), &sketch)?.as_slice(), SKETCH);
+}
+
+/// The text is read as these lines, and printed back.
+fn is_read_as(
+    rt: &(impl Abort + AllocGlobal),
+    text: &[u8],
+    wanted: &[Told<'static>],
+) -> Result<(), Fail> {
+    assert!(rt; text.len() < TEXT_LIMIT as usize);
+    let sketch = read_sketch(rt.alloc(), 4, text)?;
+    say(rt, sketch.lines.as_slice(), wanted);
+    let printed = sketch_text(rt.alloc(), &sketch)?;
+    assert_eq!(rt; printed.as_slice(), text);
     Ok(())
 }
 
 #[test]
-fn the_first_fault_is_refused(rt: HostRuntime) -> Result<(), Fail> {
-    for (rest, line, word, why) in FAULTS {
-        let mut text = Vec::from_slice(rt.alloc(), b"rmalock-sketch 1\n")?;
-        text.extend_from_slice(rest.as_bytes())?;
-        assert!(rt; text.len() < TEXT_LIMIT as usize);
-        let fault = match read_sketch(rt.alloc(), 4, &text) {
-            Err(TextErr::Refused(refusal)) => Some(refusal),
-            _ => None,
-        };
-        let wanted = Refusal {
-            line: *line,
-            word: *word,
-            why: *why,
-        };
-        assert_eq!(rt; fault, Some(wanted), "{rest:?}");
+fn each_form_is_read_and_printed_back(rt: HostRuntime) -> Result<(), Fail> {
+    is_read_as(&rt, SKETCH, LINES)
+}
+
+#[test]
+fn faults_of_sketches(rt: HostRuntime) -> Result<(), Fail> {
+    all_refused(&rt, FOUR, b"rmalock-sketch 1\n", FAULTS)
+}
+
+/// The ranks that these lines stop, in their order.
+fn stopped_by(alloc: Global, lines: &[SketchLine]) -> Result<Vec<u8>, Fail> {
+    let mut stopped = Vec::new(alloc);
+    for line in lines {
+        add_stopped(alloc, 4, &mut stopped, line)?;
     }
-    Ok(())
+    Ok(stopped)
 }
 
 #[test]
 fn ranks_that_were_stopped_stay_out(rt: HostRuntime) -> Result<(), Fail> {
     let text = b"rmalock-sketch 1\nstop 2 0\nstop all\nend\n";
     let sketch = read_sketch(rt.alloc(), 4, text)?;
-    let mut stopped = Vec::new(rt.alloc());
-    for line in sketch.lines.as_slice() {
-        add_stopped(rt.alloc(), 4, &mut stopped, line)?;
-    }
+    let stopped = stopped_by(rt.alloc(), sketch.lines.as_slice())?;
     assert_eq!(rt; stopped.as_slice(), [2, 0, 1, 3].as_slice());
     let left = going(rt.alloc(), 4, &[2, 0])?;
     assert_eq!(rt; left.as_slice(), [1, 3].as_slice());

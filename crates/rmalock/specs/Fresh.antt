@@ -6,7 +6,7 @@ use Rattle.rl_core.specs.ShardTables.{ShardTable}
 use Rattle.rl_core.specs.ShardLaws.{GoodOf}
 use Rattle.rl_shard.specs.declared.shard.Shard.{Shard}
 use Rattle.rl_shard.specs.declared.seat.Seat.{Seat}
-use Rattle.rl_shard.specs.Shards.{IsShardOf, IsOf, IsClosed, table_at, desk_at, entries_at, rank_at}
+use Rattle.rl_shard.specs.Shards.{IsOf, IsClosed, table_at, desk_at, entries_at, rank_at}
 
 -- the seat has made no entry, and has room for an entry and for so many updates
 pub record IsFresh {C V : Type 0} (table : C → ShardTable V) (good : GoodOf C V) (layout : C → Layout) (geom : Geom) (number places : ℕ) (shard : Shard C V) (s : Seat C V) : Type 0 where
@@ -17,16 +17,3 @@ pub record IsFresh {C V : Type 0} (table : C → ShardTable V) (good : GoodOf C 
   pub nothing : entries_at table shard s ≡ []
   pub room : 1 ≤ (desk_at table shard s).kept.room
   pub place : places ≤ slice_index (table_at table shard).site.rooms (rank_at s)
-
-module _ {C V : Type 0} (table : C → ShardTable V) (good : GoodOf C V) (layout : C → Layout) (shard : Shard C V) where
-  -- the two are all seats of the shard
-  pub record AreTwo (first second : Seat C V) : Type 0 where
-    pub shard_is : IsShardOf table 2 shard
-    pub first_is : (rank_at first ≡ 0) × IsOf table good layout shard first
-    pub second_is : (rank_at second ≡ 1) × IsOf table good layout shard second
-
-  -- and can begin a call each
-  pub record AreFreshTwo (geom : Geom) (places others : ℕ) (first second : Seat C V) : Type 0 where
-    pub two : AreTwo first second
-    pub first_fresh : IsFresh table good layout geom 0 places shard first
-    pub second_fresh : IsFresh table good layout geom 0 others shard second

@@ -1,1 +1,2 @@
+-- for tests
 pub mod Fresh
