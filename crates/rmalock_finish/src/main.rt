@@ -6,8 +6,6 @@
 
 mod answering;
 mod explaining;
-#[cfg(test)]
-mod tests;
 
 use crate::answering::finish_replay;
 use crate::explaining::say_uncompleted;

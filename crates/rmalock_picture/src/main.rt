@@ -15,8 +15,6 @@ mod picturing;
 mod recording;
 mod scale;
 mod svg;
-#[cfg(test)]
-mod tests;
 
 use crate::picturing::draw_replay;
 use rl_explain::{KeptFiles, Third, say_refusal};

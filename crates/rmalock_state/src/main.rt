@@ -5,8 +5,6 @@
 #![tactic(auto)]
 
 mod answering;
-#[cfg(test)]
-mod tests;
 
 use crate::answering::tell_state;
 use rl_explain::{KeptFiles, Third, say_refusal};
