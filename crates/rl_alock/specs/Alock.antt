@@ -45,12 +45,8 @@ cohorts_of home node_of local remote = record { home = home; node_of = node_of; 
 abbrev pub sits_at_home : Cohorts → ℕ → Bool
 sits_at_home K r = sits_at K.home K.node_of r
 
-abbrev pub cohort_by : Bool → Cohort
-cohort_by true = Local
-cohort_by false = Remote
-
 abbrev pub cohort_of : Cohorts → ℕ → Cohort
-cohort_of K r = cohort_by (sits_at_home K r)
+cohort_of K r = if sits_at_home K r then Local else Remote
 
 abbrev pub is_home : Cohort → Bool
 is_home Local = true

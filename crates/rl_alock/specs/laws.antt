@@ -1,3 +1,4 @@
+pub mod Cases
 pub mod CohortLaws
 pub mod AlockWords
 pub mod AlockViews

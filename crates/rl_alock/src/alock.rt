@@ -1,12 +1,12 @@
 //! ALock's acts, and what a rank learns from them.
 
-ghost use Rattle.std.specs.Prelude.{◌≡◌, ◌<◌, ◌≤◌, [], ◌∷◌, ◌++◌, false, length, refl, IfOk};
+ghost use Rattle.std.specs.Prelude.{◌≡◌, ◌<◌, ◌≤◌, [], ◌∷◌, ◌++◌, false, if◌then◌else◌, length, refl, IfOk};
 ghost use Rattle.rl_word.specs.declared.locks.LockName.TheVariants as TheName;
 ghost use Rattle.rl_step.specs.LockQueues.{sits_at};
 ghost use Rattle.rl_queue.specs.Queue.{full_budget};
 ghost use Rattle.rl_queue.specs.RankWords.{Seated};
 ghost use Rattle.rl_alock.specs.declared.cohort.Cohort.TheVariants.{Local, Remote};
-ghost use Rattle.rl_alock.specs.Alock.{cohort_names, cohort_no, cohorts_of, cohort_by, names_of, entry_act as the_entry_act, settles_now, entry_told, entry_events, alock_table, BoundsOvertaking};
+ghost use Rattle.rl_alock.specs.Alock.{cohort_names, cohort_no, cohorts_of, names_of, entry_act as the_entry_act, settles_now, entry_told, entry_events, alock_table, BoundsOvertaking};
 ghost use Rattle.rl_alock.specs.laws.SameViews.{same_alock};
 ghost use Rattle.rl_alock.specs.Overtakes.{AlockBounded};
 ghost use Rattle.rl_alock.specs.laws.AlockBounded.{bounded_laws};
@@ -181,7 +181,7 @@ impl Alock {
     /// The cohort of a rank, which is there.
     pub(crate) fn cohort_of(&self, rank: u32) -> Cohort
         requires { rank < length self.now.node_of.items }
-        ensures { result ≡ cohort_by (sits_at self.now.home self.now.node_of.items rank) }
+        ensures { result ≡ (if sits_at self.now.home self.now.node_of.items rank then Local else Remote) }
     {
         if self.node_of[rank as usize] == self.home {
             Cohort::Local

@@ -7,14 +7,14 @@ use Rattle.std.proofs.lemmas.List.Concat.{flat_map-cons}
 use Rattle.std.proofs.lemmas.Option.{same_Some}
 use Rattle.rl_model.specs.declared.call.Call.{Call}
 use Rattle.rl_model.specs.declared.entry.Entry.{Entry}
-use Rattle.rl_model.specs.Asked.{Asked, AreUpdates}
+use Rattle.rl_model.specs.Asked.{Asked, AreUpdates, batch_number}
 use Rattle.rl_model.specs.Call.{is_update}
 use Rattle.rl_model.specs.Table.{sum_below}
 use Rattle.rl_model.proofs.Counts.{count-cons, count-append, sum_of_counts}
 use Rattle.rl_journal.specs.Legal.{blocks_joined}
 use Rattle.rl_journal.specs.laws.Lists.{get_cases, get_left}
 use Rattle.rl_journal.specs.Ranks.{count_in}
-use Rattle.rl_ops.specs.Asked.{asked_after, asked_of, batch_of}
+use Rattle.rl_ops.specs.Asked.{asked_after, asked_of}
 use Rattle.rl_ops.specs.Blocks.{AreOneBlock, sizes_of}
 use Rattle.rl_ops.specs.Ops.{AreBlocks}
 use Rattle.rl_check.specs.Ranks.{Stands}
@@ -118,12 +118,12 @@ module _ (shards : ℕ) where
   block_are : (batch part : ℕ) (block calls : List Call) (sizes : List ℕ) → AreOneBlock shards block → ((b p : ℕ) → AllByRecursion IsRightlyBatched (asked_after b p calls sizes)) →
       AllByRecursion IsRightlyBatched (asked_after batch part (block ++ calls) (sizes_of block ++ sizes))
   block_are batch part [] calls sizes is on = absurd (let some : 1 ≤ 0 = is.asked.some in omega arith)
-  block_are batch part (c ∷ []) calls sizes is on = ((λ r. refl), on (batch_of 1) 1)
+  block_are batch part (c ∷ []) calls sizes is on = ((λ r. refl), on (batch_number 1) 1)
   block_are batch part (c ∷ d ∷ cs) calls sizes is on = by (is_update c) refl where
     by : (b : Bool) → is_update c ≡ b → AllByRecursion IsRightlyBatched (asked_after batch part ((c ∷ d ∷ cs) ++ calls) (sizes_of (c ∷ d ∷ cs) ++ sizes))
     by true y =
         let all : AreUpdates (c ∷ d ∷ cs) = is.asked.all_update y in
-        ((λ r. absurd (let bad : true ≡ false = sym y ∙ r in cc)), later_are (batch_of (suc (suc (length cs)))) 1 (d ∷ cs) calls sizes all.1 on)
+        ((λ r. absurd (let bad : true ≡ false = sym y ∙ r in cc)), later_are (batch_number (suc (suc (length cs)))) 1 (d ∷ cs) calls sizes all.1 on)
     by false n = absurd (let one : suc (suc (length cs)) ≡ 1 = is.asked.alone n in omega arith)
 
   blocks_are : (batch part : ℕ) (blocks : List (List Call)) → AllByRecursion (AreOneBlock shards) blocks →

@@ -21,7 +21,7 @@ use Rattle.rl_report.specs.declared.report.Done.{Done}
 use Rattle.rl_report.specs.Naming.{naming_of}
 use Rattle.rl_report.specs.Reports.{TheShard, TheReport, EntryFits, ShardFits, ReportFits}
 use Rattle.rl_report.specs.Lawful.{journal_among, transcript_in, queues_at, IsLawfulShard, IsLawful}
-use Rattle.rl_report.specs.Tallies.{trace_of_report}
+use Rattle.rl_step.specs.Traces.{events_of}
 use Rattle.rl_check.specs.declared.illegal.Group.TheVariants as group
 use Rattle.rl_check.specs.declared.illegal.Test.{Test}
 use Rattle.rl_check.specs.Shards.{TalliesHold, PairsHold, KeepsRules, EventsHold, ShardPasses}
@@ -122,7 +122,7 @@ module _ (place : ThePlace) (ops : Ops) (report : TheReport) (calls : OpsFit (le
   replay_shard s home S gh gS =
       let L : IsReplayedShard place home S = lawful.shards s home S gh gS in
       shard_tests place ops report calls lawful.fits true lawful.of_replay (done_by report) lawful.calls s home S gS L.history_told L.tallied tt
-      (all_hold (queues_at place home) S.events (length S.events) (omega arith) (subst (λ z. KeepsRules (queues_at place home) (trace_of_report z)) (sym (take_whole S.events (length S.events) refl)) L.rules))
+      (all_hold (queues_at place home) S.events (length S.events) (omega arith) (subst (λ z. KeepsRules (queues_at place home) (events_of z)) (sym (take_whole S.events (length S.events) refl)) L.rules))
 
   replay_rank : (k : ℕ) (d : Done) → slice_get report.done k ≡ Some d → (p : ℕ) (t : Test) → RankPasses (is_some report.steps) (get_or ops.by_rank k []) (get_or ops.sizes k []) (entries_of_rank report k) d p t
   replay_rank k d gd =

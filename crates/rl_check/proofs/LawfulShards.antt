@@ -1,7 +1,7 @@
 -- A shard whose entries tell a history passes its tests, where its tallies, pairs and events do.
 use Rattle.std.proofs.Common.{◌≡◌, ℕ, zero, suc, ◌+◌, ◌<◌, ◌≤◌, Bool, true, false, not, cond, List, [], ◌∷◌, length, take, Option, Some, None, refl, sym, ap, subst, ◌∙◌, inl, inr, ⊎_elim, arith}
 use Rattle.std.specs.Prelude.{slice_get}
-use Rattle.std.specs.List.{count_by}
+use Rattle.std.specs.List.{count_by, AllByRecursion}
 use Rattle.std.specs.FinMap as finite
 use Rattle.std.proofs.lemmas.Bool.Decides.{nat_tests}
 use Rattle.std.proofs.lemmas.List.Sums.{length-filter}
@@ -10,7 +10,7 @@ use Rattle.rl_model.specs.declared.entry.Entry.{Entry}
 use Rattle.rl_model.specs.Call.{shard_of}
 use Rattle.rl_journal.specs.Blocks.{is_last}
 use Rattle.rl_journal.specs.Legal.{updates, is_of}
-use Rattle.rl_journal.specs.History.{Precedes, Each, IsSorted, AreOwn, IsReplayedByOneThread, TellsUpdatesBefore}
+use Rattle.rl_journal.specs.History.{Precedes, IsSorted, AreOwn, IsReplayedByOneThread, TellsUpdatesBefore}
 use Rattle.rl_journal.specs.laws.HistoryLaws.{replayed}
 use Rattle.rl_journal.specs.laws.HistoryPlaces.{places_told}
 use Rattle.rl_journal.specs.laws.HistorySorted.{history_sorted}
@@ -35,10 +35,10 @@ take_whole (x ∷ xs) zero e = absurd (omega arith)
 take_whole (x ∷ xs) (suc n) e = ap (λ z. x ∷ z) (take_whole xs n (omega arith))
 
 -- transcripts of some entries are their ranks' own
-own_rank : (k : ℕ) (es : List Entry) → Each (λ e. e.rank ≡ k) (transcript_in es k)
+own_rank : (k : ℕ) (es : List Entry) → AllByRecursion (λ e. e.rank ≡ k) (transcript_in es k)
 own_rank k [] = tt
 own_rank k (e ∷ es) =
-    elim (is_of k e) as (λ b. is_of k e ≡ b → Each (λ e. e.rank ≡ k) (cond b (e ∷ transcript_in es k) (transcript_in es k))) [
+    elim (is_of k e) as (λ b. is_of k e ≡ b → AllByRecursion (λ e. e.rank ≡ k) (cond b (e ∷ transcript_in es k) (transcript_in es k))) [
       | true ↦ λ h. (grind (arith, nat_tests), own_rank k es)
       | false ↦ λ h. own_rank k es
     ] refl
@@ -47,7 +47,7 @@ pub own_from : (es : List Entry) (r n : ℕ) → ((k : ℕ) → r ≤ k → k < 
 own_from es r zero order = tt
 own_from es r (suc n) order = ((own_rank r es, order r (omega arith) (omega arith)), own_from es (r + 1) n (λ k low high. order k (omega arith) (omega arith)))
 
-next_after : (d : Entry) (es : List Entry) (P : Entry → Type 0) → Each P es → (e : Entry) → slice_get es 0 ≡ Some e → P e
+next_after : (d : Entry) (es : List Entry) (P : Entry → Type 0) → AllByRecursion P es → (e : Entry) → slice_get es 0 ≡ Some e → P e
 next_after d [] P each e get = absurd (cc)
 next_after d (x ∷ es) P each e get = subst P (same_Some _ _ get) each.0
 

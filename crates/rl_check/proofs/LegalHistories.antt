@@ -1,7 +1,7 @@
 -- The tests of a shard say that its entries are the history of its journal and transcripts, which are legal.
 use Rattle.std.proofs.Common.{◌≡◌, ◌⊎◌, ℕ, zero, suc, ◌+◌, ◌<◌, ◌≤◌, ◌==◌, Bool, true, false, not, ◌&&◌, cond, List, [], ◌∷◌, ◌++◌, length, take, drop, Option, Some, refl, sym, ap, subst, ◌∙◌, inl, inr, ⊎_elim, arith}
 use Rattle.std.specs.Prelude.{slice_get}
-use Rattle.std.specs.List.{filter, count_by}
+use Rattle.std.specs.List.{filter, count_by, AllByRecursion}
 use Rattle.std.specs.FinMap as finite
 use Rattle.std.proofs.lemmas.Bool.Decides.{nat_tests}
 use Rattle.std.proofs.lemmas.List.{take-append-drop, take_at}
@@ -15,7 +15,7 @@ use Rattle.rl_model.specs.Table.{apply}
 use Rattle.rl_journal.specs.Legal as legal
 use Rattle.rl_journal.specs.Legal.{updates, is_of, table_after, map_at, IsLegalRead, IsLegal}
 use Rattle.rl_journal.specs.laws.LegalLaws.{each_part}
-use Rattle.rl_journal.specs.History.{looked_at, reads_at, history_from, history, Precedes, Each, IsSorted}
+use Rattle.rl_journal.specs.History.{looked_at, reads_at, history_from, history, Precedes, IsSorted}
 use Rattle.rl_journal.specs.laws.HistorySorted.{history_sorted}
 use Rattle.rl_journal.specs.laws.Lists.{get_cases, get_left}
 use Rattle.rl_journal.specs.Ranks.{IsInOrder}
@@ -57,7 +57,7 @@ was p xs e h = let q = was_there p xs h.0 e h.1 in (q.0, (q.1, q.2))
 
 -- ---- sorted lists with the same entries
 
-each_at : (P : Entry → Type 0) (xs : List Entry) → Each P xs → (e : Entry) → Stands xs e → P e
+each_at : (P : Entry → Type 0) (xs : List Entry) → AllByRecursion P xs → (e : Entry) → Stands xs e → P e
 each_at P [] each e h = absurd (let bad = h.1 in cc)
 each_at P (x ∷ xs) each e h = by h.0 h.1 (λ i g. each_at P xs each.1 e (i, g)) where
   by : (i : ℕ) → slice_get (x ∷ xs) i ≡ Some e → ((i : ℕ) → slice_get xs i ≡ Some e → P e) → P e

@@ -24,7 +24,7 @@ use Rattle.rl_report.specs.declared.report.Done.{Done}
 use Rattle.rl_report.specs.Naming.{naming_of}
 use Rattle.rl_report.specs.Reports.{TheShard, TheReport, ShardFits, ReportFits}
 use Rattle.rl_report.specs.Lawful.{journal_among, transcript_in, queues_at, IsLawfulShard, IsLawful}
-use Rattle.rl_report.specs.Tallies.{trace_of_report}
+use Rattle.rl_step.specs.Traces.{events_of}
 use Rattle.rl_check.specs.declared.illegal.Group.TheVariants as group
 use Rattle.rl_check.specs.declared.illegal.Test.{Test}
 use Rattle.rl_check.specs.declared.illegal.Test.TheVariants as test
@@ -46,13 +46,13 @@ same_done : (d : Done) (n m : ℕ) → d.done ≡ n → d.given ≡ m → d ≡ 
 same_done d n m a b = ap (λ z. record { done = z; given = d.given }) a ∙ ap (λ z. record { done = n; given = z }) b
 
 -- the rules hold of all events where they hold so far as each
-rules_of : (queues : List QueueOf) (events : List (ℕ × Event)) → ((p : ℕ) → EventsHold queues events p) → KeepsRules queues (trace_of_report events)
+rules_of : (queues : List QueueOf) (events : List (ℕ × Event)) → ((p : ℕ) → EventsHold queues events p) → KeepsRules queues (events_of events)
 rules_of queues [] hold =
     record {
       exclusive = is_exclusive [] (record { one = λ i j p q. absurd (cc); none = λ i j p q. absurd (cc) });
       budgets = λ q budget queue has b. is_within [] q budget tt;
     }
-rules_of queues (e ∷ events) hold = subst (λ z. KeepsRules queues (trace_of_report z)) (take_whole (e ∷ events) (length events + 1) (omega arith)) (hold (length events) (omega arith))
+rules_of queues (e ∷ events) hold = subst (λ z. KeepsRules queues (events_of z)) (take_whole (e ∷ events) (length events + 1) (omega arith)) (hold (length events) (omega arith))
 
 -- ---- what is told
 

@@ -1,7 +1,7 @@
 -- What the tests of a shard say of the places and the order of its entries.
 use Rattle.std.proofs.Common.{◌≡◌, ℕ, zero, suc, ◌+◌, ◌<◌, ◌≤◌, Bool, true, false, not, cond, List, [], ◌∷◌, take, drop, Option, Some, None, refl, sym, ap, subst, ◌∙◌, inl, inr, ⊎_elim, arith}
 use Rattle.std.specs.Prelude.{slice_get}
-use Rattle.std.specs.List.{count_by}
+use Rattle.std.specs.List.{count_by, AllByRecursion}
 use Rattle.std.proofs.lemmas.Option.{same_Some, slice_get_within}
 use Rattle.std.proofs.Math.Seq.{take-add}
 use Rattle.rl_word.specs.laws.Places.{some_at}
@@ -9,7 +9,7 @@ use Rattle.rl_model.proofs.Counts.{count-cons, count-append}
 use Rattle.rl_model.specs.declared.entry.Entry.{Entry}
 use Rattle.rl_journal.specs.Blocks.{is_last}
 use Rattle.rl_journal.specs.Legal.{updates}
-use Rattle.rl_journal.specs.History.{Precedes, IsBeforeByRank, Each, IsSorted}
+use Rattle.rl_journal.specs.History.{Precedes, IsBeforeByRank, IsSorted}
 use Rattle.rl_place.specs.Places.{ThePlace}
 use Rattle.rl_report.specs.Naming.{naming_of}
 use Rattle.rl_report.specs.Reports.{TheShard, EntryFits, PartFits, ShardFits}
@@ -88,7 +88,7 @@ not_before_itself e h =
     (λ q. ⊎_elim (λ u. let bad : true ≡ false = sym u.1 ∙ u.0 in cc) (λ u. ⊎_elim (λ low. absurd (omega arith)) (λ r. let low = r.1 in absurd (omega arith)) u.1) q.1)
     h
 
-each_by : (P : Entry → Type 0) (xs : List Entry) → ((i : ℕ) (e : Entry) → slice_get xs i ≡ Some e → P e) → Each P xs
+each_by : (P : Entry → Type 0) (xs : List Entry) → ((i : ℕ) (e : Entry) → slice_get xs i ≡ Some e → P e) → AllByRecursion P xs
 each_by P [] at = tt
 each_by P (x ∷ xs) at = (at 0 x refl, each_by P xs (λ i e get. at (suc i) e get))
 

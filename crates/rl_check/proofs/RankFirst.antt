@@ -14,7 +14,8 @@ use Rattle.rl_journal.specs.laws.Lists.{get_cases}
 use Rattle.rl_ops.specs.declared.ops.Ops.{Ops}
 use Rattle.std.specs.Prelude.{nat_le}
 use Rattle.std.proofs.lemmas.Bool.Decides.{nat_tests}
-use Rattle.rl_ops.specs.Asked.{asked_of, asked_after, batch_of}
+use Rattle.rl_ops.specs.Asked.{asked_of, asked_after}
+use Rattle.rl_model.specs.Asked.{batch_number}
 use Rattle.rl_check.proofs.RankLaws.{past_calls}
 use Rattle.rl_ops.specs.Blocks.{sizes_of}
 use Rattle.rl_ops.specs.Ops.{AreBlocks, EachOfBlocks, total_calls}
@@ -180,7 +181,7 @@ asked_short batch part (c ∷ cs) [] i h = slice_get_past [] i (omega arith)
 asked_short batch part (c ∷ cs) (zero ∷ ss) zero h = absurd (omega arith)
 asked_short batch part (c ∷ cs) (suc m ∷ ss) zero h = absurd (omega arith)
 asked_short batch part (c ∷ cs) (zero ∷ ss) (suc i) h = asked_short batch (part + 1) cs ss i (omega arith)
-asked_short batch part (c ∷ cs) (suc m ∷ ss) (suc i) h = asked_short (batch_of (suc m)) 1 cs ss i (omega arith)
+asked_short batch part (c ∷ cs) (suc m ∷ ss) (suc i) h = asked_short (batch_number (suc m)) 1 cs ss i (omega arith)
 
 pub few_own : (calls : List Call) (sizes : List ℕ) (own : List Entry) (n : ℕ) → AreCalled (asked_of calls sizes) own n → n ≤ length calls
 few_own calls sizes own n called =

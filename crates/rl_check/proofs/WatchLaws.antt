@@ -20,7 +20,7 @@ use Rattle.rl_word.specs.declared.locks.LockName.{LockName}
 use Rattle.rl_word.specs.declared.shapes.Knobs.{Knobs}
 use Rattle.rl_word.specs.Shapes.{TheShape}
 use Rattle.rl_step.specs.LockQueues.{queues_of}
-use Rattle.rl_report.specs.Tallies.{trace_of_report}
+use Rattle.rl_step.specs.Traces.{events_of}
 use Rattle.rl_check.specs.Shards.{EventsHold}
 use Rattle.rl_check.specs.Tallying.{queue_in}
 use Rattle.rl_check.proofs.Places.{take_more}
@@ -412,25 +412,25 @@ away (suc b) zero h = absurd (omega arith)
 away (suc b) (suc p) h = let q = away b p (omega arith) in (q.0, let e = q.1 in omega arith)
 
 -- the rules hold at each event so far
-pub hold_below : (queues : List QueueOf) (events : List (ℕ × Event)) (n : ℕ) → KeepsRules queues (trace_of_report (take n events)) → (p : ℕ) → p < n → EventsHold queues events p
+pub hold_below : (queues : List QueueOf) (events : List (ℕ × Event)) (n : ℕ) → KeepsRules queues (events_of (take n events)) → (p : ℕ) → p < n → EventsHold queues events p
 hold_below queues events n k p low there =
     let more = away (p + 1) n (omega arith) in
-    let split : trace_of_report (take n events) ≡ trace_of_report (take (p + 1) events) ++ trace_of_report (take more.0 (drop (p + 1) events)) =
-    ap (λ m. trace_of_report (take m events)) more.1 ∙ ap trace_of_report (take-add (p + 1) more.0 events) ∙ map-append (λ (e : ℕ × Event). e.1) (take (p + 1) events) (take more.0 (drop (p + 1) events)) in
-    keeps_front queues (trace_of_report (take (p + 1) events)) (trace_of_report (take more.0 (drop (p + 1) events))) (subst (KeepsRules queues) split k)
+    let split : events_of (take n events) ≡ events_of (take (p + 1) events) ++ events_of (take more.0 (drop (p + 1) events)) =
+    ap (λ m. events_of (take m events)) more.1 ∙ ap events_of (take-add (p + 1) more.0 events) ∙ map-append (λ (e : ℕ × Event). e.1) (take (p + 1) events) (take more.0 (drop (p + 1) events)) in
+    keeps_front queues (events_of (take (p + 1) events)) (events_of (take more.0 (drop (p + 1) events))) (subst (KeepsRules queues) split k)
 
 -- and all events are there
-pub all_hold : (queues : List QueueOf) (events : List (ℕ × Event)) (n : ℕ) → length events ≤ n → KeepsRules queues (trace_of_report (take n events)) → (p : ℕ) → EventsHold queues events p
+pub all_hold : (queues : List QueueOf) (events : List (ℕ × Event)) (n : ℕ) → length events ≤ n → KeepsRules queues (events_of (take n events)) → (p : ℕ) → EventsHold queues events p
 all_hold queues events n past k p there = hold_below queues events n k p (omega arith) there
 
 -- the trace with one event more
-pub trace_more : (events : List (ℕ × Event)) (place : ℕ) (d : ℕ × Event) → place < length events → trace_of_report (take (place + 1) events) ≡ trace_of_report (take place events) ++ (get_or events place d).1 ∷ []
+pub trace_more : (events : List (ℕ × Event)) (place : ℕ) (d : ℕ × Event) → place < length events → events_of (take (place + 1) events) ≡ events_of (take place events) ++ (get_or events place d).1 ∷ []
 trace_more events place d there =
-    ap trace_of_report (take_more events place (get_or events place d) (slice_get-get_or events place d there)) ∙ map-append (λ (e : ℕ × Event). e.1) (take place events) (get_or events place d ∷ [])
+    ap events_of (take_more events place (get_or events place d) (slice_get-get_or events place d there)) ∙ map-append (λ (e : ℕ × Event). e.1) (take place events) (get_or events place d ∷ [])
 
 -- with an event the rules are broken, and not before
-pub first_broken : (queues : List QueueOf) (events : List (ℕ × Event)) (place n : ℕ) (d : ℕ × Event) → place < length events → n ≡ place → KeepsRules queues (trace_of_report (take place events)) →
-    (KeepsRules queues (trace_of_report (take place events) ++ (get_or events place d).1 ∷ []) → ⊥) → (EventsHold queues events n → ⊥) × ((p : ℕ) → p < n → EventsHold queues events p)
+pub first_broken : (queues : List QueueOf) (events : List (ℕ × Event)) (place n : ℕ) (d : ℕ × Event) → place < length events → n ≡ place → KeepsRules queues (events_of (take place events)) →
+    (KeepsRules queues (events_of (take place events) ++ (get_or events place d).1 ∷ []) → ⊥) → (EventsHold queues events n → ⊥) × ((p : ℕ) → p < n → EventsHold queues events p)
 first_broken queues events place n d there same kept broken =
     subst (λ m. (EventsHold queues events m → ⊥) × ((p : ℕ) → p < m → EventsHold queues events p)) (sym same)
     ((λ hold. broken (subst (KeepsRules queues) (trace_more events place d there) (hold there))), hold_below queues events place kept)

@@ -11,7 +11,8 @@ use Rattle.rl_journal.specs.Tenures.{AreTallied}
 use Rattle.rl_place.specs.LockWords.{name_of}
 use Rattle.rl_place.specs.Places.{ThePlace}
 use Rattle.rl_report.specs.Reports.{TheShard}
-use Rattle.rl_report.specs.Tallies.{tallies_from, trace_of_report}
+use Rattle.rl_report.specs.Tallies.{tallies_from}
+use Rattle.rl_step.specs.Traces.{events_of}
 use Rattle.rl_report.specs.Lawful.{queues_at}
 use Rattle.rl_check.specs.Entries.{updates_before, IsOfShard, EntryIsInOrder, IsInBatch, IsAtPlace, HasReply}
 use Rattle.rl_check.specs.Faults.{IsEarlier}
@@ -65,7 +66,7 @@ FoundOfRun queues spares S table (Some test.Pairs) = AreTallied queues spares S.
 FoundOfRun queues spares S table (Some _) = ⊥
 
 abbrev pub AreCounted : TheShard → Type 0
-AreCounted S = S.queues ≡ tallies_from 0 (length S.queues) (trace_of_report S.events)
+AreCounted S = S.queues ≡ tallies_from 0 (length S.queues) (events_of S.events)
 
 -- what is found of a replay's shard behind its entries
 abbrev pub FoundOfReplay : List QueueOf → TheShard → Option (ℕ × Test) → Type 0

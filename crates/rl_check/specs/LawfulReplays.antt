@@ -11,7 +11,8 @@ use Rattle.rl_report.specs.declared.report.Done.{Done}
 use Rattle.rl_report.specs.Naming.{naming_of}
 use Rattle.rl_report.specs.Reports.{TheShard, TheReport, ReportFits}
 use Rattle.rl_report.specs.Lawful.{journal_among, transcript_in, transcripts_in, queues_at}
-use Rattle.rl_report.specs.Tallies.{tallies_from, trace_of_report}
+use Rattle.rl_report.specs.Tallies.{tallies_from}
+use Rattle.rl_step.specs.Traces.{events_of}
 use Rattle.rl_check.specs.Shards.{KeepsRules}
 
 -- the entries of a shard tell a history
@@ -26,9 +27,9 @@ pub record TellsHistory (place : ThePlace) (s : TheShard) : Type 0 where
 pub record IsReplayedShard (place : ThePlace) (home : ℕ) (s : TheShard) : Type 0 where
   pub history_told : TellsHistory place s
   -- the tallies of the queues count the events
-  pub tallied : s.queues ≡ tallies_from 0 (length s.queues) (trace_of_report s.events)
+  pub tallied : s.queues ≡ tallies_from 0 (length s.queues) (events_of s.events)
   -- no writer was ever beside another holder, and each queue with a budget kept it
-  pub rules : KeepsRules (queues_at place home) (trace_of_report s.events)
+  pub rules : KeepsRules (queues_at place home) (events_of s.events)
 
 -- how many calls a rank has done
 abbrev pub done_by : TheReport → ℕ → ℕ

@@ -12,7 +12,8 @@ use Rattle.rl_model.specs.declared.entry.Entry.{Entry}
 use Rattle.rl_place.specs.LockWords.{name_of}
 use Rattle.rl_place.specs.Places.{ThePlace}
 use Rattle.rl_report.specs.Reports.{TheShard}
-use Rattle.rl_report.specs.Tallies.{tallies_from, trace_of_report}
+use Rattle.rl_report.specs.Tallies.{tallies_from}
+use Rattle.rl_step.specs.Traces.{events_of}
 use Rattle.rl_report.specs.Lawful.{queues_at}
 use Rattle.rl_check.specs.Entries.{before, updates_before, table_before, IsOfShard, EntryIsInOrder, IsInBatch, IsAtPlace, HasReply}
 use Rattle.rl_check.specs.declared.illegal.Test.{Test}
@@ -25,7 +26,7 @@ NoneIsBegun entries = (d : Entry) → before entries (length entries) ≡ Some d
 -- the tallies of a run keep the budgets in all, and count the tenures; those of a replay count its events
 abbrev pub TalliesHold : ThePlace → Bool → ℕ → TheShard → Type 0
 TalliesHold place false home S = AreTallied (queues_at place home) (spares_gets (name_of place.lock)) S.entries S.queues
-TalliesHold place true home S = S.queues ≡ tallies_from 0 (length S.queues) (trace_of_report S.events)
+TalliesHold place true home S = S.queues ≡ tallies_from 0 (length S.queues) (events_of S.events)
 
 -- the pairs of a run are the table after all entries, by rising key; a replay has none
 abbrev pub PairsHold : ThePlace → Bool → TheShard → Type 0
@@ -39,7 +40,7 @@ pub record KeepsRules (queues : List QueueOf) (trace : List Event) : Type 0 wher
 
 -- so far as the event at place p
 abbrev pub EventsHold : List QueueOf → List (ℕ × Event) → ℕ → Type 0
-EventsHold queues events p = p < length events → KeepsRules queues (trace_of_report (take (p + 1) events))
+EventsHold queues events p = p < length events → KeepsRules queues (events_of (take (p + 1) events))
 
 -- the shard passes the test at place p; the tests of the whole stand at the place behind the last entry
 module _ (place : ThePlace) (replay : Bool) (shard home : ℕ) (S : TheShard) (p : ℕ) where

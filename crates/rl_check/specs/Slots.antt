@@ -2,8 +2,8 @@
 use Rattle.std.specs.Prelude.{◌≡◌, ℕ, zero, suc, ◌<◌, List, count_by, drop, length, slice_get, Option, Some, None}
 use Rattle.rl_model.specs.declared.call.Call.{Call}
 use Rattle.rl_model.specs.declared.entry.Entry.{Entry}
-use Rattle.rl_model.specs.Asked.{Asked}
-use Rattle.rl_ops.specs.Asked.{asked_of, asked_after, batch_of}
+use Rattle.rl_model.specs.Asked.{Asked, batch_number}
+use Rattle.rl_ops.specs.Asked.{asked_of, asked_after}
 use Rattle.rl_check.specs.declared.ranks.Part.{Part}
 use Rattle.rl_check.specs.Ranks.{Stands, is_numbered, IsCalled, IsFresh, IsLatest}
 use Rattle.rl_check.specs.declared.slots.Slot.{Slot}
@@ -37,7 +37,7 @@ AreLasts own i lasts = (s : ℕ) (o : Option Entry) → slice_get lasts s ≡ So
 -- where a call stands whose size this is: a size begins a block, and 0 goes on with the one before
 abbrev pub begun_by : Part → ℕ → Part
 begun_by p zero = p
-begun_by p (suc n) = record { batch = batch_of (suc n); part = 0 }
+begun_by p (suc n) = record { batch = batch_number (suc n); part = 0 }
 
 -- what is left of the calls that are asked for, from place i on, is what comes after this part of a batch
 abbrev pub GoesOnWith : List Call → List ℕ → ℕ → ℕ → ℕ → Type 0

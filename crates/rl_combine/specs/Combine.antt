@@ -16,7 +16,7 @@ use Rattle.rl_volume.specs.Words.{volume_words}
 use Rattle.rl_volume.specs.Decision.{decision}
 use Rattle.rl_journal.specs.Journal.{spelling}
 use Rattle.rl_journal.specs.Legal.{is_of}
-use Rattle.rl_site.specs.Site.{count_word, volume_base, journal_base, journal_by}
+use Rattle.rl_site.specs.Site.{count_word, volume_base, journal_base, journal_by, WaySite}
 use Rattle.rl_site.specs.Transcript.{TheTranscript}
 use Rattle.rl_work.specs.declared.follow.Follow.{Follow}
 use Rattle.rl_work.specs.declared.follow.Follow.TheVariants.{On, Ask, Over}
@@ -25,7 +25,7 @@ use Rattle.rl_work.specs.Work.{write_atom, more_entries}
 use Rattle.rl_step.specs.declared.events.Stepped.TheVariants.{Moved}
 use Rattle.rl_combine.specs.declared.stage.CombineStage.{CombineStage}
 use Rattle.rl_combine.specs.declared.stage.CombineStage.TheVariants.{Rest, Post, Raise, Look, Count, Sweep, Copy, Read, Journal, Volume, Answer, Mark, Collect, Lower}
-use Rattle.rl_combine.specs.Posts.{CombineSite, ThePost, combine_ranks, post_word, flag_word, post_of, post_spelling, posted_call, posted_seq, answer_spelling, answered_entry}
+use Rattle.rl_combine.specs.Posts.{ThePost, combine_ranks, post_word, flag_word, post_of, post_spelling, posted_call, posted_seq, answer_spelling, answered_entry}
 
 -- a rank's side of the work
 pub record TheCombineSide : Type 0 where
@@ -58,7 +58,7 @@ abbrev pub opened_of : TheCombineSide → Opened
 opened_of x = record { call = x.call; seq = x.seq; kept = x.kept }
 
 -- the atom of a stage
-abbrev pub combine_stage_atom : CombineSite → ℕ → TheCombineSide → CombineStage → Option Atom
+abbrev pub combine_stage_atom : WaySite → ℕ → TheCombineSide → CombineStage → Option Atom
 combine_stage_atom S rank x Rest = None
 combine_stage_atom S rank x (Post made) = Some (Store (post_word S rank (1 + made)) (slice_index (post_spelling x.call x.seq) made))
 combine_stage_atom S rank x Raise = Some (Store (flag_word S rank) 1)
@@ -75,7 +75,7 @@ combine_stage_atom S rank x (Collect made) = Some (Load (post_word S rank (6 + m
 combine_stage_atom S rank x Lower = Some (Store (flag_word S rank) 0)
 
 -- the next atom of a rank for which the lock plans none
-abbrev pub combine_atom : CombineSite → ℕ → TheCombineSide → Option Atom
+abbrev pub combine_atom : WaySite → ℕ → TheCombineSide → Option Atom
 combine_atom S rank x = combine_stage_atom S rank x x.stage
 
 -- what an atom leaves: the side, and what follows. It has always moved
@@ -128,36 +128,32 @@ abbrev pub to_collect : TheCombineSide → Worked TheCombineSide
 to_collect x = combine_to_stage (with_nothing x) (Collect 0)
 
 -- the sweep goes on with this rank, or is over
-abbrev pub sweep_on : CombineSite → TheCombineSide → ℕ → Worked TheCombineSide
+abbrev pub sweep_on : WaySite → TheCombineSide → ℕ → Worked TheCombineSide
 sweep_on S x owner = if owner == combine_ranks S then to_collect x else combine_to_stage x (Sweep owner)
 
 -- all words of a rank's posted call are copied
-abbrev pub with_posted : CombineSite → TheCombineSide → TheCombineSide
+abbrev pub with_posted : WaySite → TheCombineSide → TheCombineSide
 with_posted S x = record x { posted = posted_call S.site.shard x.copied; posted_number = posted_seq x.copied; seen = record x.seen { pairs = [] } }
 
 -- the entry of the posted call, with its reply
-abbrev pub posted_entry : CombineSite → TheCombineSide → ℕ → Reply → Entry
+abbrev pub posted_entry : WaySite → TheCombineSide → ℕ → Reply → Entry
 posted_entry S x owner reply =
     record { shard = S.site.shard; rank = owner; seq = x.posted_number; call = x.posted; at = x.count; reply = reply; batch = 0; part = 0 }
 
 -- the posted call is decided: its writes and its reply
-abbrev pub with_decision : CombineSite → TheCombineSide → ℕ → List Write × Reply → TheCombineSide
+abbrev pub with_decision : WaySite → TheCombineSide → ℕ → List Write × Reply → TheCombineSide
 with_decision S x owner d = record x { entry = posted_entry S x owner d.1; writes = d.0 }
 
 -- an update goes on to the journal, any other call to its answer
-abbrev pub decided_stage : ℕ → Bool → CombineStage
-decided_stage owner true = Journal owner 0
-decided_stage owner false = Answer owner 0
-
-abbrev pub decided_on : CombineSite → TheCombineSide → ℕ → Worked TheCombineSide
-decided_on S x owner = combine_to_stage (with_decision S x owner (decision S.site.geom x.posted (value_or_zero x.seen.pairs))) (decided_stage owner (is_update x.posted))
+abbrev pub decided_on : WaySite → TheCombineSide → ℕ → Worked TheCombineSide
+decided_on S x owner = combine_to_stage (with_decision S x owner (decision S.site.geom x.posted (value_or_zero x.seen.pairs))) (if is_update x.posted then Journal owner 0 else Answer owner 0)
 
 -- the next word of the volume is read, or the call is decided
-abbrev pub combine_read_next : CombineSite → TheCombineSide → ℕ → Option ℕ → Worked TheCombineSide
+abbrev pub combine_read_next : WaySite → TheCombineSide → ℕ → Option ℕ → Worked TheCombineSide
 combine_read_next S x owner (Some word) = combine_to_stage x (Read owner word)
 combine_read_next S x owner None = decided_on S x owner
 
-abbrev pub combine_read_on : CombineSite → TheCombineSide → ℕ → Worked TheCombineSide
+abbrev pub combine_read_on : WaySite → TheCombineSide → ℕ → Worked TheCombineSide
 combine_read_on S x owner = combine_read_next S x owner (next_word S.site.geom x.posted x.seen.pairs)
 
 -- what the rank has seen, and one word more
@@ -170,11 +166,11 @@ combine_written_on x owner made (Some w) = combine_to_stage x (Volume owner (mad
 combine_written_on x owner made None = combine_to_stage (record x { count = x.count + 1 }) (Answer owner 0)
 
 -- the rank's own entry, by the answer that it has copied, joins those that it keeps
-abbrev pub with_own : CombineSite → ℕ → TheCombineSide → TheCombineSide
+abbrev pub with_own : WaySite → ℕ → TheCombineSide → TheCombineSide
 with_own S rank x = record x { stage = Rest; kept = more_entries x.kept (answered_entry S.site.shard rank x.seq x.call x.copied ∷ []) }
 
 -- what the atom of a stage leaves
-abbrev pub combine_stage_after : CombineSite → ℕ → TheCombineSide → ℕ → CombineStage → Worked TheCombineSide
+abbrev pub combine_stage_after : WaySite → ℕ → TheCombineSide → ℕ → CombineStage → Worked TheCombineSide
 combine_stage_after S rank x got Rest = turned x On
 combine_stage_after S rank x got (Post made) = if made + 1 == 5 then combine_to_stage x Raise else combine_to_stage x (Post (made + 1))
 combine_stage_after S rank x got Raise = turned (combine_at_stage x Look) (Ask mode.Write)
@@ -192,7 +188,7 @@ combine_stage_after S rank x got (Collect made) = if made + 1 == 3 then combine_
 combine_stage_after S rank x got Lower = turned (with_own S rank x) Over
 
 -- what an atom that gave got leaves of rank's side
-abbrev pub combine_after : CombineSite → ℕ → TheCombineSide → ℕ → Worked TheCombineSide
+abbrev pub combine_after : WaySite → ℕ → TheCombineSide → ℕ → Worked TheCombineSide
 combine_after S rank x got = combine_stage_after S rank x got x.stage
 
 -- the atom of this stage touches what the lock guards, and whether it writes there
@@ -228,33 +224,25 @@ abbrev pub is_call : ℕ → ℕ → Entry → Bool
 is_call rank seq e = is_of rank e && (e.seq == seq)
 
 -- the entry of a get or hold, by its post
-abbrev pub early_read : CombineSite → ThePost → ℕ → TheCombineSide → List Entry
+abbrev pub early_read : WaySite → ThePost → ℕ → TheCombineSide → List Entry
 early_read S p rank x = if p.flag == 2 then answered_entry S.site.shard rank x.seq x.call p.answer ∷ [] else []
-
--- the entry of an update that is done, or of a get or hold
-abbrev pub early_by : CombineSite → List ℕ → ℕ → TheCombineSide → Bool → List Entry
-early_by S words rank x true = filter (is_call rank x.seq) (journal_by S.site words)
-early_by S words rank x false = early_read S (post_of S words rank) rank x
 
 -- Entries of the open call that are done by the words, and not kept yet: an update is done where the journal has its entry, a get or
 -- hold where the rank's flag is 2.
-abbrev pub early_open : CombineSite → List ℕ → ℕ → TheCombineSide → Bool → List Entry
-early_open S words rank x true = early_by S words rank x (is_update x.call)
-early_open S words rank x false = []
-
-abbrev pub early : CombineSite → List ℕ → ℕ → TheCombineSide → List Entry
-early S words rank x = early_open S words rank x (combine_is_open x.stage)
+abbrev pub early : WaySite → List ℕ → ℕ → TheCombineSide → List Entry
+early S words rank x =
+    if combine_is_open x.stage then (if is_update x.call then filter (is_call rank x.seq) (journal_by S.site words) else early_read S (post_of S words rank) rank x) else []
 
 -- the rank's transcript: what it keeps, and then these
-abbrev pub transcript : CombineSite → List ℕ → ℕ → TheCombineSide → List Entry
+abbrev pub transcript : WaySite → List ℕ → ℕ → TheCombineSide → List Entry
 transcript S words rank x = x.kept.items ++ early S words rank x
 
 -- a call is open, and its entry isn't in the transcript yet
-abbrev pub combine_owes : CombineSite → List ℕ → ℕ → TheCombineSide → Bool
+abbrev pub combine_owes : WaySite → List ℕ → ℕ → TheCombineSide → Bool
 combine_owes S words rank x = combine_is_open x.stage && (length (early S words rank x) == 0)
 
 -- the way of working, over nodes of the ranks
-abbrev pub combine_table : CombineSite → (ℕ → ℕ) → WorkTable TheCombineSide
+abbrev pub combine_table : WaySite → (ℕ → ℕ) → WorkTable TheCombineSide
 combine_table S node =
     record {
       site = S.site;
@@ -282,17 +270,10 @@ combine_table S node =
 
 -- the rank whose flag the sweep has found 1, and not made 2 yet
 abbrev pub found : CombineStage → Option ℕ
-found Rest = None
-found (Post made) = None
-found Raise = None
-found Look = None
-found Count = None
-found (Sweep owner) = None
 found (Copy owner made) = Some owner
 found (Read owner word) = Some owner
 found (Journal owner made) = Some owner
 found (Volume owner made) = Some owner
 found (Answer owner made) = Some owner
 found (Mark owner) = Some owner
-found (Collect made) = None
-found Lower = None
+found _ = None

@@ -14,7 +14,7 @@ use Rattle.rl_volume.specs.Words.{volume_words}
 use Rattle.rl_volume.specs.Seen.{SeenWords}
 use Rattle.rl_work.specs.declared.stage.Stage.{Stage as BlockStage}
 use Rattle.rl_work.specs.declared.stage.Stage.TheVariants as block
-use Rattle.rl_site.specs.Site.{count_word, lock_base}
+use Rattle.rl_site.specs.Site.{count_word, lock_base, WaySite}
 use Rattle.rl_site.specs.Transcript.{TheTranscript}
 use Rattle.rl_work.specs.Work.{TheWork, more_entries, work_atom, work_after, at_rest}
 use Rattle.rl_site.specs.Opens.{IsOpen}
@@ -22,7 +22,7 @@ use Rattle.rl_work.specs.Ways.{WorkSide}
 use Rattle.rl_work.specs.WorkGood.{WorkSide as Seat, WorkGood, IsDone}
 use Rattle.rl_combine.specs.declared.stage.CombineStage.{CombineStage}
 use Rattle.rl_combine.specs.declared.stage.CombineStage.TheVariants.{Rest, Post, Raise, Look, Count, Sweep, Copy, Read, Journal, Volume, Answer, Mark, Collect, Lower}
-use Rattle.rl_combine.specs.Posts.{CombineSite, ThePost, combine_ranks, post_of, post_spelling, answer_spelling, answered_entry}
+use Rattle.rl_combine.specs.Posts.{ThePost, combine_ranks, post_of, post_spelling, answer_spelling, answered_entry}
 use Rattle.rl_combine.specs.Combine.{TheCombineSide, Opened, opened_of, in_hand}
 
 -- how a rank stands, and its side of the work
@@ -30,11 +30,11 @@ abbrev pub RankSide : Type 0
 RankSide = WorkSide TheCombineSide
 
 -- the words before the lock's
-abbrev pub front_of : CombineSite → List ℕ → List ℕ
+abbrev pub front_of : WaySite → List ℕ → List ℕ
 front_of S words = take (lock_base S.site) words
 
 -- the open call is one of the shard with a number of its own, and there is room for it
-abbrev pub HasOpen : CombineSite → ℕ → Opened → Type 0
+abbrev pub HasOpen : WaySite → ℕ → Opened → Type 0
 HasOpen S rank o = IsOpen S.site rank (o.call ∷ []) o.seq o.kept
 
 -- a rank's call isn't in hand, and its seat has these entries
@@ -43,7 +43,7 @@ pub record IsFree (y : Seat) (t : TheTranscript) : Type 0 where
   pub has : y.work.transcript ≡ t
 
 -- so many words of the call are posted, and the flag is 0
-pub record IsPosting (S : CombineSite) (p : ThePost) (rank : ℕ) (o : Opened) (y : Seat) (made : ℕ) : Type 0 where
+pub record IsPosting (S : WaySite) (p : ThePost) (rank : ℕ) (o : Opened) (y : Seat) (made : ℕ) : Type 0 where
   pub open_call : HasOpen S rank o
   pub flag : p.flag ≡ 0
   pub spelled : take made p.call ≡ take made (post_spelling o.call o.seq)
@@ -74,26 +74,26 @@ pub record IsCounted (p : ThePost) (o : Opened) (y : Seat) : Type 0 where
   pub update : is_update o.call ≡ true
 
 -- it is done, and the post has its answer
-pub record IsAnswered (S : CombineSite) (p : ThePost) (rank : ℕ) (o : Opened) (y : Seat) : Type 0 where
+pub record IsAnswered (S : WaySite) (p : ThePost) (rank : ℕ) (o : Opened) (y : Seat) : Type 0 where
   pub flag : p.flag ≡ 2
   pub small : slice_index p.answer 0 < 2 ^ 32
   pub free : IsFree y (more_entries o.kept (answered_entry S.site.shard rank o.seq o.call p.answer ∷ []))
 
 -- how far a posted call is
-pub data Progress (S : CombineSite) (p : ThePost) (rank : ℕ) (o : Opened) (y : Seat) : Type 0 where
+pub data Progress (S : WaySite) (p : ThePost) (rank : ℕ) (o : Opened) (y : Seat) : Type 0 where
   waits : Waits p o y → Progress S p rank o y
   handled : IsInHand p o y → Progress S p rank o y
   counted : IsCounted p o y → Progress S p rank o y
   answered : IsAnswered S p rank o y → Progress S p rank o y
 
 -- the call is posted: the words spell it
-pub record IsPosted (S : CombineSite) (p : ThePost) (rank : ℕ) (o : Opened) (y : Seat) : Type 0 where
+pub record IsPosted (S : WaySite) (p : ThePost) (rank : ℕ) (o : Opened) (y : Seat) : Type 0 where
   pub open_call : HasOpen S rank o
   pub spelled : p.call ≡ post_spelling o.call o.seq
   pub progress : Progress S p rank o y
 
 -- the call is done, and so many words of its answer are copied
-pub record IsCollecting (S : CombineSite) (p : ThePost) (rank : ℕ) (o : Opened) (y : Seat) (copied : List ℕ) (made : ℕ) : Type 0 where
+pub record IsCollecting (S : WaySite) (p : ThePost) (rank : ℕ) (o : Opened) (y : Seat) (copied : List ℕ) (made : ℕ) : Type 0 where
   pub open_call : HasOpen S rank o
   pub done : IsAnswered S p rank o y
   pub same : copied ≡ take made p.answer
@@ -107,11 +107,11 @@ HasAsked Reader = Unit {0}
 HasAsked Leaving = ⊥
 
 -- a writer whose call is posted
-abbrev pub IsCombiner : CombineSite → ThePost → ℕ → RankSide → Seat → Type 0
+abbrev pub IsCombiner : WaySite → ThePost → ℕ → RankSide → Seat → Type 0
 IsCombiner S p rank x y = (x.standing ≡ Writer) × IsPosted S p rank (opened_of x.work) y
 
 -- what holds of a rank's own call and post, by where it stands
-abbrev pub OwnAt : CombineSite → ThePost → ℕ → RankSide → Seat → CombineStage → Type 0
+abbrev pub OwnAt : WaySite → ThePost → ℕ → RankSide → Seat → CombineStage → Type 0
 OwnAt S p rank x y Rest = IsDone x.standing × (p.flag ≡ 0) × IsFree y x.work.kept
 OwnAt S p rank x y (Post made) = (x.standing ≡ Out) × (made < 5) × IsPosting S p rank (opened_of x.work) y made
 OwnAt S p rank x y Raise = (x.standing ≡ Out) × IsPosting S p rank (opened_of x.work) y 5
@@ -128,7 +128,7 @@ OwnAt S p rank x y (Collect made) = (x.standing ≡ Writer) × (made < 3) × IsC
 OwnAt S p rank x y Lower = (x.standing ≡ Writer) × IsCollecting S p rank (opened_of x.work) y x.work.copied 3
 
 -- a sweep knows the count, and has come to a rank; the own call is done once it is past
-pub record IsSweeping (S : CombineSite) (words : List ℕ) (rank : ℕ) (count owner : ℕ) : Type 0 where
+pub record IsSweeping (S : WaySite) (words : List ℕ) (rank : ℕ) (count owner : ℕ) : Type 0 where
   pub same : count ≡ slice_index words count_word
   pub there : owner < combine_ranks S
   pub past : rank < owner → (post_of S words rank).flag ≡ 2
@@ -166,7 +166,7 @@ deciding x stage seen t =
     }
 
 -- the entry of a call in hand, which is decided
-abbrev pub HasEntry : CombineSite → Call → ℕ → Entry → ℕ → Type 0
+abbrev pub HasEntry : WaySite → Call → ℕ → Entry → ℕ → Type 0
 HasEntry S call number entry owner = entry ≡ record { shard = S.site.shard; rank = owner; seq = number; call = call; at = entry.at; reply = entry.reply; batch = 0; part = 0 }
 
 -- the rank reads a word for the call in hand
@@ -177,7 +177,7 @@ pub record IsReading (seats : List Seat) (x : TheCombineSide) (owner word : ℕ)
   pub seat : slice_get seats owner ≡ Some (reading x (block.Read x.count word) at entries t)
 
 -- it has decided the call in hand, an update, and writes
-pub record IsWriting (S : CombineSite) (seats : List Seat) (x : TheCombineSide) (owner : ℕ) (stage : BlockStage) : Type 0 where
+pub record IsWriting (S : WaySite) (seats : List Seat) (x : TheCombineSide) (owner : ℕ) (stage : BlockStage) : Type 0 where
   pub entry_is : HasEntry S x.posted x.posted_number x.entry owner
   pub small : x.entry.at < 2 ^ 32
   pub seen : SeenWords
@@ -193,7 +193,7 @@ pub record IsLeft (seats : List Seat) (entry : Entry) (owner : ℕ) : Type 0 whe
 
 -- A get or hold in hand is decided. Its last load counts for its seat with the store of 2 to its flag: it gives the same then, and ends
 -- the block with this entry.
-pub record IsToEnd (S : CombineSite) (words : List ℕ) (seats : List Seat) (call : Call) (number : ℕ) (entry : Entry) (owner : ℕ) : Type 0 where
+pub record IsToEnd (S : WaySite) (words : List ℕ) (seats : List Seat) (call : Call) (number : ℕ) (entry : Entry) (owner : ℕ) : Type 0 where
   pub side : Seat
   pub seat : slice_get seats owner ≡ Some side
   pub writes : side.standing ≡ Writer
@@ -208,14 +208,14 @@ pub record IsToEnd (S : CombineSite) (words : List ℕ) (seats : List Seat) (cal
   pub same : last.transcript ≡ side.work.transcript
 
 -- a call in hand is done but for its flag, and so many words of its answer are stored
-pub record IsAnswering (S : CombineSite) (words : List ℕ) (seats : List Seat) (call : Call) (number : ℕ) (entry : Entry) (owner made : ℕ) : Type 0 where
+pub record IsAnswering (S : WaySite) (words : List ℕ) (seats : List Seat) (call : Call) (number : ℕ) (entry : Entry) (owner made : ℕ) : Type 0 where
   pub entry_is : HasEntry S call number entry owner
   pub small : entry.at < 2 ^ 32
   pub stored : take made (post_of S words owner).answer ≡ take made (answer_spelling entry)
   pub end : IsLeft seats entry owner ⊎ IsToEnd S words seats call number entry owner
 
 -- what holds of a rank's sweep, by where it stands
-abbrev pub SweepAt : CombineSite → List ℕ → List Seat → ℕ → TheCombineSide → CombineStage → Type 0
+abbrev pub SweepAt : WaySite → List ℕ → List Seat → ℕ → TheCombineSide → CombineStage → Type 0
 SweepAt S words seats rank x Rest = Unit {0}
 SweepAt S words seats rank x (Post made) = Unit {0}
 SweepAt S words seats rank x Raise = Unit {0}
@@ -239,7 +239,7 @@ pub record IsHeld (sides : List RankSide) (owner : ℕ) : Type 0 where
   pub holds : in_hand side.work.stage ≡ Some owner
 
 -- the rule
-pub record CombineGood (S : CombineSite) (words : List ℕ) (sides : List RankSide) : Type 0 where
+pub record CombineGood (S : WaySite) (words : List ℕ) (sides : List RankSide) : Type 0 where
   pub seats : List Seat
   pub ranks : length sides ≡ combine_ranks S
   pub work : WorkGood S.site (front_of S words) seats

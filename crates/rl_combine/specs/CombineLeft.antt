@@ -4,7 +4,8 @@ use Rattle.rl_volume.specs.Words.{volume_words}
 use Rattle.rl_work.specs.LockedLeft.{words_unseen}
 use Rattle.rl_combine.specs.declared.stage.CombineStage.{CombineStage}
 use Rattle.rl_combine.specs.declared.stage.CombineStage.TheVariants.{Rest, Post, Raise, Look, Count, Sweep, Copy, Read, Journal, Volume, Answer, Mark, Collect, Lower}
-use Rattle.rl_combine.specs.Posts.{CombineSite, combine_ranks}
+use Rattle.rl_combine.specs.Posts.{combine_ranks}
+use Rattle.rl_site.specs.Site.{WaySite}
 use Rattle.rl_combine.specs.Combine.{TheCombineSide}
 
 -- from the look at the flag of this rank on: a posted call is done in as many atoms as the volume has words and 40 at most
@@ -28,11 +29,11 @@ far_at volume ranks x (Mark owner) = sweep_left volume ranks (owner + 1) + 1
 far_at volume ranks x (Collect made) = 1 + (3 - made)
 far_at volume ranks x Lower = 1
 
-abbrev pub far : CombineSite → TheCombineSide → ℕ
+abbrev pub far : WaySite → TheCombineSide → ℕ
 far S x = far_at (volume_words S.site.geom) (combine_ranks S) x x.stage
 
-abbrev pub combine_left : CombineSite → List ℕ → List TheCombineSide → ℕ
+abbrev pub combine_left : WaySite → List ℕ → List TheCombineSide → ℕ
 combine_left S words works = sum_by (far S) works
 
-abbrev pub combine_most : CombineSite → ℕ
+abbrev pub combine_most : WaySite → ℕ
 combine_most S = sweep_left (volume_words S.site.geom) (combine_ranks S) 0 + 9

@@ -1,17 +1,17 @@
 -- What the code needs to know of a side, to name its atom and to go on behind it: the numbers fit.
 use Rattle.std.specs.Prelude.{◌≡◌, ℕ, ◌+◌, ◌*◌, ◌^◌, ◌<◌, ◌≤◌, All, length, slice_index, None}
 use Rattle.rl_volume.specs.Seen.{value_of}
-use Rattle.rl_site.specs.Site.{journal_base}
+use Rattle.rl_site.specs.Site.{journal_base, WaySite}
 use Rattle.rl_combine.specs.declared.stage.CombineStage.{CombineStage}
 use Rattle.rl_combine.specs.declared.stage.CombineStage.TheVariants.{Rest, Post, Raise, Look, Count, Sweep, Copy, Read, Journal, Volume, Answer, Mark, Collect, Lower}
-use Rattle.rl_combine.specs.Posts.{CombineSite, combine_ranks}
+use Rattle.rl_combine.specs.Posts.{combine_ranks}
 use Rattle.rl_combine.specs.Combine.{TheCombineSide}
 
 -- a word of a rank's post has a number of 32 bits
-abbrev pub HasPost : CombineSite → ℕ → Type 0
+abbrev pub HasPost : WaySite → ℕ → Type 0
 HasPost S rank = (rank < combine_ranks S) × (S.behind + 9 * combine_ranks S < 2 ^ 32)
 
-abbrev pub CanName : CombineSite → ℕ → TheCombineSide → CombineStage → Type 0
+abbrev pub CanName : WaySite → ℕ → TheCombineSide → CombineStage → Type 0
 CanName S rank x Rest = Unit {0}
 CanName S rank x (Post made) = HasPost S rank × (made < 5)
 CanName S rank x Raise = HasPost S rank
@@ -31,7 +31,7 @@ CanName S rank x Lower = HasPost S rank
 abbrev pub EndsCopy : TheCombineSide → ℕ → ℕ → Type 0
 EndsCopy x got made = made + 1 ≡ 5 → got < 2 ^ 32
 
-abbrev pub CanTurn : CombineSite → ℕ → TheCombineSide → ℕ → CombineStage → Type 0
+abbrev pub CanTurn : WaySite → ℕ → TheCombineSide → ℕ → CombineStage → Type 0
 CanTurn S rank x got Rest = Unit {0}
 CanTurn S rank x got (Post made) = made < 5
 CanTurn S rank x got Raise = Unit {0}

@@ -6,22 +6,17 @@ use Rattle.rl_model.specs.declared.entry.Entry.{Entry}
 use Rattle.rl_model.specs.declared.entry.Reply.{Reply}
 use Rattle.rl_model.specs.declared.entry.Reply.TheVariants.{Val, Held}
 use Rattle.rl_journal.specs.Journal.{kind_of, key_of, code_of, first_of, second_of, value_in, call_of, reply_of}
-use Rattle.rl_site.specs.Site.{Site}
+use Rattle.rl_site.specs.Site.{WaySite}
 
--- a site, and the number of its first word behind the lock's
-pub record CombineSite : Type 0 where
-  pub site : Site
-  pub behind : ℕ
-
-abbrev pub combine_ranks : CombineSite → ℕ
+abbrev pub combine_ranks : WaySite → ℕ
 combine_ranks S = length S.site.rooms
 
 -- each rank has nine words behind the lock's: flag, kind, key, first, second, number, place, code and value
-abbrev pub post_word : CombineSite → ℕ → ℕ → ℕ
+abbrev pub post_word : WaySite → ℕ → ℕ → ℕ
 post_word S rank i = S.behind + (9 * rank + i)
 
 -- 0 where nothing is posted, 1 where a call is, 2 where it is done
-abbrev pub flag_word : CombineSite → ℕ → ℕ
+abbrev pub flag_word : WaySite → ℕ → ℕ
 flag_word S rank = post_word S rank 0
 
 -- the kinds of all calls: an update's is that of the journal
@@ -92,7 +87,7 @@ pub record ThePost : Type 0 where
   -- place, code and value
   pub answer : List ℕ
 
-abbrev pub post_of : CombineSite → List ℕ → ℕ → ThePost
+abbrev pub post_of : WaySite → List ℕ → ℕ → ThePost
 post_of S words rank =
     record {
       flag = slice_index words (post_word S rank 0);
@@ -108,7 +103,7 @@ post_of S words rank =
 
 -- what contracts see of a shard's way of working: its place, and the node of each rank
 pub record TheCombineWork : Type 0 where
-  pub here : CombineSite
+  pub here : WaySite
   pub nodes : List ℕ
 
 -- the node of a rank; beyond the ranks it is 0

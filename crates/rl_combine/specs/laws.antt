@@ -1,3 +1,4 @@
+pub mod Cases
 pub mod PostLaws
 pub mod MoveLaws
 pub mod OwnLaws

@@ -5,7 +5,8 @@ ghost use Rattle.std.specs.List.{All};
 ghost use Rattle.rl_model.specs.Geom.{GeomFits};
 ghost use Rattle.rl_combine.specs.declared.stage.CombineStage.TheVariants as stage;
 ghost use Rattle.rl_combine.specs.Combine as model;
-ghost use Rattle.rl_combine.specs.Posts.{CombineSite, posted_call as called, posted_seq};
+ghost use Rattle.rl_combine.specs.Posts.{posted_call as called, posted_seq};
+ghost use Rattle.rl_site.specs.Site.{WaySite};
 
 use crate::posts::{ANSWER_WORDS, DONE, answered_reply, posted_call};
 use crate::stage::CombineStage;
@@ -194,7 +195,7 @@ impl CombineSide {
     /// The posted call is decided.
     pub(crate) fn decide(&mut self, geom: Geom, shard: u32, owner: u32)
         requires { GeomFits geom }
-        ensures { (S : CombineSite) → S.site.geom ≡ geom → S.site.shard ≡ shard → self.new ≡ (model.decided_on S self.old owner).work }
+        ensures { (S : WaySite) → S.site.geom ≡ geom → S.site.shard ≡ shard → self.new ≡ (model.decided_on S self.old owner).work }
     {
         let (writes, reply) = decide(geom, self.posted, &self.seen);
         self.entry = Entry {
@@ -238,7 +239,7 @@ impl CombineSide {
         requires whole { length self.old.copied ≡ 3 }
         requires small { slice_index self.old.copied 0 < 2 ^ 32 }
         requires room { length self.old.kept.items < self.old.kept.room }
-        ensures { (S : CombineSite) → S.site.shard ≡ shard → self.new ≡ model.with_own S rank self.old }
+        ensures { (S : WaySite) → S.site.shard ≡ shard → self.new ≡ model.with_own S rank self.old }
     {
         let entry = Entry {
             shard,

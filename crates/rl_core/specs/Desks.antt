@@ -2,7 +2,8 @@
 use Rattle.std.specs.Prelude.{◌≡◌, ◌⊎◌, ℕ, Bool, true, false, List, [], ◌++◌, length}
 use Rattle.rl_model.specs.declared.call.Call.{Call}
 use Rattle.rl_model.specs.declared.entry.Entry.{Entry}
-use Rattle.rl_journal.specs.Blocks.{batch_number, calls_of}
+use Rattle.rl_journal.specs.Blocks.{calls_of}
+use Rattle.rl_model.specs.Asked.{batch_number}
 use Rattle.rl_journal.specs.Ranks.{IsInOrder}
 use Rattle.rl_site.specs.Transcript.{TheTranscript}
 use Rattle.rl_site.specs.Opens.{Tells}

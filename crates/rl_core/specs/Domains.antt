@@ -8,13 +8,11 @@ use Rattle.rl_word.specs.declared.acts.Atom.TheVariants as atom
 
 -- an atom of a card
 abbrev pub IsCardAtom : Atom → Type 0
-IsCardAtom (atom.Load w) = ⊥
-IsCardAtom (atom.Store w v) = ⊥
-IsCardAtom (atom.LocalCas w old new) = ⊥
 IsCardAtom (atom.Take n) = Unit {0}
 IsCardAtom (atom.CardLoad w) = Unit {0}
 IsCardAtom (atom.CardStore w v) = Unit {0}
 IsCardAtom (atom.Leave n) = Unit {0}
+IsCardAtom _ = ⊥
 
 -- a local compare-and-swap, as an atom and as an act
 abbrev pub IsLocalAtom : Atom → Type 0

@@ -4,8 +4,8 @@ use Rattle.rl_model.specs.declared.call.Call.{Call}
 use Rattle.rl_model.specs.declared.entry.Entry.{Entry}
 use Rattle.rl_model.specs.declared.geom.Geom.{Geom}
 use Rattle.rl_model.specs.Call.{shard_of}
-use Rattle.rl_model.specs.Asked.{Asked}
-use Rattle.rl_journal.specs.Blocks.{calls_of, batch_number}
+use Rattle.rl_model.specs.Asked.{Asked, batch_number}
+use Rattle.rl_journal.specs.Blocks.{calls_of}
 use Rattle.rl_journal.specs.Ranks.{IsRankInOrder}
 use Rattle.rl_core.specs.Asks.{is_on, AreBlocks, place_after, asked_of}
 use Rattle.rl_core.specs.Desks.{Desk, desk_entries}

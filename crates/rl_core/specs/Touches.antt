@@ -4,7 +4,7 @@ use Rattle.rl_word.specs.declared.acts.Atom.{Atom}
 use Rattle.rl_word.specs.declared.acts.Atom.TheVariants as atom
 use Rattle.rl_model.specs.declared.call.Call.{Call}
 use Rattle.rl_step.specs.declared.events.Event.{Event}
-use Rattle.rl_step.specs.declared.events.Event.TheVariants.{Join, Announce, Pass, Settle, Touch, EnterW, EnterR, LeaveW, LeaveR}
+use Rattle.rl_step.specs.declared.events.Event.TheVariants.{Touch}
 use Rattle.rl_step.specs.declared.events.Standing.{Standing}
 use Rattle.rl_step.specs.declared.events.Standing.TheVariants.{Asking, Writer}
 use Rattle.rl_step.specs.Lock.{IsHolder}
@@ -14,15 +14,8 @@ use Rattle.rl_site.specs.Opens.{IsGetAlone}
 -- the touches among these events
 abbrev pub touches_of : List Event → List Event
 touches_of [] = []
-touches_of (Join q m ∷ es) = touches_of es
-touches_of (Announce c ∷ es) = touches_of es
-touches_of (Pass q m ∷ es) = touches_of es
-touches_of (Settle q m ∷ es) = touches_of es
 touches_of (Touch k w ∷ es) = Touch k w ∷ touches_of es
-touches_of (EnterW k ∷ es) = touches_of es
-touches_of (EnterR k ∷ es) = touches_of es
-touches_of (LeaveW k ∷ es) = touches_of es
-touches_of (LeaveR k ∷ es) = touches_of es
+touches_of (e ∷ es) = touches_of es
 
 -- a rank loads a guarded word as a holder, and its atom comes with one touch, which reads; or with a get alone open for which it isn't at the
 -- lock, and with no touch

@@ -3,7 +3,7 @@ use Rattle.std.specs.Prelude.{◌≡◌, ℕ, zero, suc, ◌+◌, ◌≤◌, ◌
 use Rattle.rl_model.specs.declared.call.Call.{Call}
 use Rattle.rl_model.specs.declared.entry.Entry.{Entry}
 use Rattle.rl_model.specs.declared.entry.Reply.{Reply}
-use Rattle.rl_model.specs.declared.entry.Reply.TheVariants.{New, Was, Full, Val, Nothing, Sum, Over, No, Held, Undone}
+use Rattle.rl_model.specs.declared.entry.Reply.TheVariants.{Full, Over, Undone}
 use Rattle.rl_model.specs.declared.geom.Geom.{Geom}
 use Rattle.rl_model.specs.Call.{is_update, reads}
 pub use Rattle.rl_model.specs.Asked.{AreUpdates}
@@ -11,16 +11,9 @@ use Rattle.rl_model.specs.Table.{Table, apply}
 
 -- a batch with such a reply is undone
 abbrev pub stops : Reply → Bool
-stops New = false
-stops (Was v) = false
 stops Full = true
-stops (Val v) = false
-stops Nothing = false
-stops (Sum v) = false
 stops (Over v) = true
-stops (No v) = false
-stops Held = false
-stops Undone = false
+stops _ = false
 
 -- the calls applied in order: the table after them, and the replies
 abbrev pub in_turn : Geom → Table → List Call → Table × List Reply
@@ -53,10 +46,6 @@ apply_block geom (suc n) calls t = apply_batch geom calls t
 abbrev pub size_of : ℕ → ℕ
 size_of zero = 1
 size_of (suc n) = suc n
-
--- and the batch number of so many calls
-abbrev pub batch_number : ℕ → ℕ
-batch_number size = if size == 1 then 0 else size
 
 -- no part of the block comes after this one
 abbrev pub is_last : Entry → Bool

@@ -1,5 +1,6 @@
 -- The history of a shard: all entries of its journal and transcripts, in the order in which they can have come one after the other.
 use Rattle.std.specs.Prelude.{◌≡◌, ◌⊎◌, ℕ, ◌+◌, ◌<◌, ◌==◌, Bool, true, false, not, ◌&&◌, List, [], ◌∷◌, ◌++◌, count_by, filter, flat_map, length, slice_get, take, Some}
+use Rattle.std.specs.List.{AllByRecursion}
 use Rattle.rl_model.specs.declared.entry.Entry.{Entry}
 use Rattle.rl_model.specs.declared.geom.Geom.{Geom}
 use Rattle.rl_model.specs.Table.{Table, apply}
@@ -55,17 +56,12 @@ IsBeforeByRank e f = (e.rank < f.rank) ⊎ ((e.rank ≡ f.rank) × (e.seq < f.se
 abbrev pub Precedes : Entry → Entry → Type 0
 Precedes e f = (e.at < f.at) ⊎ ((e.at ≡ f.at) × (updates e ≡ false) × ((updates f ≡ true) ⊎ ((updates f ≡ false) × IsBeforeByRank e f)))
 
--- what holds of each entry of a list
-abbrev pub Each : (Entry → Type 0) → List Entry → Type 0
-Each P [] = Unit {0}
-Each P (e ∷ es) = P e × Each P es
-
 -- each entry stands before all later ones
 abbrev pub IsSorted : List Entry → Type 0
 IsSorted [] = Unit {0}
-IsSorted (e ∷ es) = Each (Precedes e) es × IsSorted es
+IsSorted (e ∷ es) = AllByRecursion (Precedes e) es × IsSorted es
 
 -- transcripts by rank, from a rank on
 abbrev pub AreOwn : ℕ → List (List Entry) → Type 0
 AreOwn r [] = Unit {0}
-AreOwn r (t ∷ ts) = (Each (λ e. e.rank ≡ r) t × IsInOrder t) × AreOwn (r + 1) ts
+AreOwn r (t ∷ ts) = (AllByRecursion (λ e. e.rank ≡ r) t × IsInOrder t) × AreOwn (r + 1) ts

@@ -10,11 +10,10 @@ use Rattle.rl_journal.specs.Legal.{updates}
 -- the kinds of updates; the two others aren't journaled
 abbrev pub kind_of : Call → ℕ
 kind_of (Put key value) = 1
-kind_of (Get key) = 0
 kind_of (Del key) = 2
 kind_of (Add key by) = 3
 kind_of (Cas key old new) = 4
-kind_of (Hold shard) = 0
+kind_of _ = 0
 
 abbrev pub key_of : Call → ℕ
 key_of (Put key value) = key
@@ -27,45 +26,34 @@ key_of (Hold shard) = 0
 -- the two further numbers of an update
 abbrev pub first_of : Call → ℕ
 first_of (Put key value) = value
-first_of (Get key) = 0
-first_of (Del key) = 0
 first_of (Add key by) = by
 first_of (Cas key old new) = old
-first_of (Hold shard) = 0
+first_of _ = 0
 
 abbrev pub second_of : Call → ℕ
-second_of (Put key value) = 0
-second_of (Get key) = 0
-second_of (Del key) = 0
-second_of (Add key by) = 0
 second_of (Cas key old new) = new
-second_of (Hold shard) = 0
+second_of _ = 0
 
 -- the codes of replies; the two that no update gets have none
 abbrev pub code_of : Reply → ℕ
 code_of New = 1
 code_of (Was v) = 2
 code_of Full = 3
-code_of (Val v) = 0
 code_of Nothing = 4
 code_of (Sum v) = 5
 code_of (Over v) = 6
 code_of (No v) = 7
-code_of Held = 0
 code_of Undone = 8
+code_of _ = 0
 
 -- the value in a reply, or 0
 abbrev pub value_in : Reply → ℕ
-value_in New = 0
 value_in (Was v) = v
-value_in Full = 0
 value_in (Val v) = v
-value_in Nothing = 0
 value_in (Sum v) = v
 value_in (Over v) = v
 value_in (No v) = v
-value_in Held = 0
-value_in Undone = 0
+value_in _ = 0
 
 -- the six words of an entry
 abbrev pub spelling : Entry → List ℕ

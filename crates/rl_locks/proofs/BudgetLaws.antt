@@ -7,7 +7,7 @@ use Rattle.std.proofs.lemmas.Option.{same_Some}
 use Rattle.rl_word.specs.declared.shapes.Element.{Element}
 use Rattle.rl_word.specs.laws.Places.{get_map, some_at}
 use Rattle.rl_step.specs.LockQueues.{budget_by}
-use Rattle.rl_tree.specs.Tree.{has_above}
+use Rattle.std.specs.Prelude.{is_some}
 use Rattle.rl_tree.specs.TreeShape.{IsBudgeted}
 use Rattle.rl_rw.specs.Rw.{SuitsRw}
 use Rattle.rl_place.specs.declared.path.Path.{Path}
@@ -21,12 +21,12 @@ use Rattle.rl_place.proofs.PrefixLaws.{IsTrim, trim-path}
 use Rattle.rl_place.proofs.NumberingLaws.{elements-are}
 
 -- a level that is there has a budget
-level_some : (budgets : List ℕ) (n : ℕ) → 1 ≤ n → n ≤ length budgets → has_above (level_budget budgets n) ≡ true
+level_some : (budgets : List ℕ) (n : ℕ) → 1 ≤ n → n ≤ length budgets → is_some (level_budget budgets n) ≡ true
 level_some budgets zero some most = absurd (omega (arith, some))
 level_some budgets (suc n) some most =
     let named : (suc n == 0) ≡ false = ne_eqb (suc n) 0 (λ e. omega (arith, e)) in
     let level : suc n - 1 ≡ n = omega arith in
-    ap (λ b. has_above (if b then None else slice_get budgets (suc n - 1))) named ∙ ap (λ k. has_above (slice_get budgets k)) level ∙ ap has_above (some_at budgets n (omega (arith, most))).1
+    ap (λ b. is_some (if b then None else slice_get budgets (suc n - 1))) named ∙ ap (λ k. is_some (slice_get budgets k)) level ∙ ap is_some (some_at budgets n (omega (arith, most))).1
 
 -- the paths are trimmed, and each has so many numbers
 trimmed : (levels : ℕ) (paths : List Path) → AllByRecursion (λ path. IsPath levels path) paths → AllByRecursion IsTrim paths
@@ -52,7 +52,7 @@ levels_budgeted place budgets proper each by_level e positive there =
     let most = from.most in
     let least = some.some in
     let first : 1 ≤ found.0.len = omega (arith, least) in
-    ap (λ z. has_above (budget_by z)) (get_map element names e found.0 found.1) ∙ ap has_above (by_level found.0.len first)
+    ap (λ z. is_some (budget_by z)) (get_map element names e found.0 found.1) ∙ ap is_some (by_level found.0.len first)
     ∙ level_some budgets found.0.len first (omega (arith, most, deep, each))
 
 pub budgeted : (place : ThePlace) (budgets : List ℕ) → IsProper place → place.lock ≡ lock.Mcs budgets → IsBudgeted (shape_of place)

@@ -23,14 +23,14 @@ use Rattle.rl_volume.specs.declared.write.Write.{Write}
 use Rattle.rl_work.specs.declared.stage.Stage.{Stage as BlockStage}
 use Rattle.rl_work.specs.declared.stage.Stage.TheVariants as block
 use Rattle.rl_work.specs.laws.AtomLaws.{few_loads}
-use Rattle.rl_site.specs.Site.{count_word, volume_base, lock_base}
+use Rattle.rl_site.specs.Site.{count_word, volume_base, lock_base, WaySite}
 use Rattle.rl_work.specs.Ways.{IsSide}
 use Rattle.rl_work.specs.Work.{TheWork, WorkTurned, stage_atom as block_atom, stage_after as block_after, with_seen, write_atom, left_of, at_rest}
 use Rattle.rl_work.specs.WorkGood.{WorkSide as Seat, FitsAt as BlockFits, IsReading as SeatReading}
 use Rattle.rl_core.specs.ShardTables.{ShardTable}
 use Rattle.rl_combine.specs.declared.stage.CombineStage.{CombineStage}
 use Rattle.rl_combine.specs.declared.stage.CombineStage.TheVariants.{Sweep, Copy, Read, Journal, Volume, Answer, Mark, Rest, Post, Raise, Look, Count, Collect, Lower}
-use Rattle.rl_combine.specs.Posts.{CombineSite, ThePost, combine_ranks, post_of, post_word, flag_word}
+use Rattle.rl_combine.specs.Posts.{ThePost, combine_ranks, post_of, post_word, flag_word}
 use Rattle.rl_combine.specs.Combine.{TheCombineSide, Opened, opened_of, combine_table, early, combine_is_open, combine_stage_atom, combine_stage_after, combine_read_next, sweep_on, to_collect, combine_to_stage, with_nothing, with_posted, with_copied, combine_with_word, found}
 use Rattle.rl_combine.specs.CombineGood.{RankSide, CombineGood, OwnAt, SweepAt, Progress, waits, handled, counted, answered, IsPosted, IsCounted, IsLeft, IsToEnd, IsAnswering, IsReading, reading, front_of}
 use Rattle.rl_combine.specs.Sweep.{IsLate, IsLateAt, FlagSays, MayWrite, FlagMoves, passes, raises, lowers, marks}
@@ -90,7 +90,7 @@ late_combines (Collect made) k l = absurd l
 late_combines Lower k l = absurd l
 
 -- a load for a call changes what was seen by that load alone
-reads_keep : (S : CombineSite) (x : TheCombineSide) (owner : ℕ) (o : Option ℕ) → (combine_read_next S x owner o).work.seen ≡ x.seen
+reads_keep : (S : WaySite) (x : TheCombineSide) (owner : ℕ) (o : Option ℕ) → (combine_read_next S x owner o).work.seen ≡ x.seen
 reads_keep S x owner (Some word) = refl
 reads_keep S x owner None = refl
 
@@ -105,10 +105,10 @@ differs : (a b : ℕ) → a ≢ b → (a == b) ≡ false
 differs a b ne = elim (a == b) as (λ c. (a == b) ≡ c → c ≡ false) [ true ↦ λ q. absurd (ne (same_number a b q)) | false ↦ λ q. refl ] refl
 
 -- a sweep goes on with a rank that there is, and behind the last one it is over
-sweeps_on : (S : CombineSite) (x : TheCombineSide) (owner : ℕ) → owner < combine_ranks S → (sweep_on S x owner).work.stage ≡ Sweep owner
+sweeps_on : (S : WaySite) (x : TheCombineSide) (owner : ℕ) → owner < combine_ranks S → (sweep_on S x owner).work.stage ≡ Sweep owner
 sweeps_on S x owner low = ap (λ b. (cond b (to_collect x) (combine_to_stage x (Sweep owner))).work.stage) (less_differs owner (combine_ranks S) low)
 
-sweep_over : (S : CombineSite) (x : TheCombineSide) (owner : ℕ) → (sweep_on S x owner).work.stage ≡ Collect 0 → owner ≡ combine_ranks S
+sweep_over : (S : WaySite) (x : TheCombineSide) (owner : ℕ) → (sweep_on S x owner).work.stage ≡ Collect 0 → owner ≡ combine_ranks S
 sweep_over S x owner e =
     elim (owner == combine_ranks S) as (λ b. (owner == combine_ranks S) ≡ b → (cond b (to_collect x) (combine_to_stage x (Sweep owner))).work.stage ≡ Collect 0 → owner ≡ combine_ranks S) [
       | true ↦ λ q over. same_number owner (combine_ranks S) q
@@ -116,7 +116,7 @@ sweep_over S x owner e =
     ] refl e
 
 -- a flag of 0 stands over a call that isn't posted, or over none: the rank's seat has the entries that the rank keeps
-not_posted : (S : CombineSite) (p : ThePost) (r : ℕ) (o : Opened) (y : Seat) → IsPosted S p r o y → p.flag ≡ 0 → ⊥
+not_posted : (S : WaySite) (p : ThePost) (r : ℕ) (o : Opened) (y : Seat) → IsPosted S p r o y → p.flag ≡ 0 → ⊥
 not_posted S p r o y is zero = by_case is.progress where
   by_case : Progress S p r o y → ⊥
   by_case (waits w) = let one = w.flag in absurd (omega arith)
@@ -124,7 +124,7 @@ not_posted S p r o y is zero = by_case is.progress where
   by_case (counted c) = let one = c.flag in absurd (omega arith)
   by_case (answered a) = let two = a.flag in absurd (omega arith)
 
-none_early : (S : CombineSite) (p : ThePost) (r : ℕ) (z : RankSide) (y : Seat) (st : CombineStage) → OwnAt S p r z y st → p.flag ≡ 0 → y.work.transcript ≡ z.work.kept
+none_early : (S : WaySite) (p : ThePost) (r : ℕ) (z : RankSide) (y : Seat) (st : CombineStage) → OwnAt S p r z y st → p.flag ≡ 0 → y.work.transcript ≡ z.work.kept
 none_early S p r z y Rest o e = o.2.has
 none_early S p r z y (Post made) o e = o.2.free.has
 none_early S p r z y Raise o e = o.1.free.has
@@ -140,7 +140,7 @@ none_early S p r z y (Mark j) o e = absurd (not_posted S p r (opened_of z.work) 
 none_early S p r z y (Collect made) o e = let two = o.2.done.flag in absurd (omega arith)
 none_early S p r z y Lower o e = let two = o.1.done.flag in absurd (omega arith)
 
-module _ (V : Type 0) (base : ℕ) (table : LockTable V) (S : CombineSite) (node : ℕ → ℕ) (lock_good : LockState V → Type 0) where
+module _ (V : Type 0) (base : ℕ) (table : LockTable V) (S : WaySite) (node : ℕ → ℕ) (lock_good : LockState V → Type 0) where
   abbrev pub L : LockAt V TheCombineSide
   L = record { base = base; table = table; work = combine_table S node }
 

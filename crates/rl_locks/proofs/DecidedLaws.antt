@@ -9,7 +9,8 @@ use Rattle.rl_volume.specs.declared.write.Write.{Write}
 use Rattle.rl_volume.specs.Seen.{SeenWords, next_word, value_or_zero}
 use Rattle.rl_volume.specs.Decision.{decision}
 use Rattle.rl_work.specs.declared.stage.Stage.TheVariants.{Read}
-use Rattle.rl_work.specs.Work.{TheWork, WorkTurned, entries_of, batch_in, with_stop, with_call, block_close_by, block_close, stops_block, read_next, read_on}
+use Rattle.rl_work.specs.Work.{TheWork, WorkTurned, entries_of, batch_in, with_stop, with_call, block_close, stops_block, read_next, read_on}
+use Rattle.rl_work.specs.laws.Cases.{block_close_by}
 
 -- the first of the entries stands at the place from which they count
 head_at : (shard rank batch seq at part : ℕ) (calls : List Call) (replies : List Reply) (e : Entry) (es : List Entry) → entries_of shard rank batch seq at part calls replies ≡ e ∷ es → e.at ≡ at

@@ -21,7 +21,7 @@ use Rattle.rl_work.specs.declared.follow.Follow.TheVariants.{On, Ask, Over}
 use Rattle.rl_work.specs.declared.stage.Stage.{Stage as BlockStage}
 use Rattle.rl_work.specs.declared.stage.Stage.TheVariants as block
 use Rattle.rl_work.specs.Locked.{first_reads}
-use Rattle.rl_site.specs.Site.{Site}
+use Rattle.rl_site.specs.Site.{Site, WaySite}
 use Rattle.rl_work.specs.Unlocked.{wanted, wanted_by, with_word}
 use Rattle.rl_work.specs.Work.{TheWork, has_work, stores, seen_on}
 use Rattle.rl_work.specs.WorkGood.{WorkSide, FitsAt}
@@ -29,8 +29,10 @@ use Rattle.rl_work.specs.Ways.{Worked}
 use Rattle.rl_core.specs.ShardTables.{ShardTable}
 use Rattle.rl_seq.specs.declared.stage.SeqStage.{SeqStage}
 use Rattle.rl_seq.specs.declared.stage.SeqStage.TheVariants as stage
-use Rattle.rl_seq.specs.Site.{SeqSite, seq_version_word, version_in, front}
-use Rattle.rl_seq.specs.SeqWork.{TheSeqWork, seq_table, seq_after, seq_stage_after, seq_stage_atom, seq_touch_at, is_open_at, owes_at, is_over, looked_by, read_by, checked_by}
+use Rattle.rl_seq.specs.Site.{seq_version_word, version_in, front}
+use Rattle.rl_seq.specs.SeqWork.{TheSeqWork, seq_table, seq_after, seq_stage_after, seq_stage_atom, seq_touch_at, is_open_at, owes_at, is_over, read_by}
+use Rattle.rl_seq.specs.laws.Cases.{checked_by}
+use Rattle.rl_seq.specs.laws.Cases.{looked_by}
 use Rattle.rl_seq.specs.SeqGood.{SeqRank, SeqGood, IsGetting, is_between, as_locked, locked_at}
 use Rattle.rl_seq.specs.Rule.{is_getting, found_count}
 use Rattle.rl_seq.specs.laws.CheckLaws.{get_alone}
@@ -89,7 +91,7 @@ reads_keep : (w : TheWork) (version count : ℕ) (o : Option ℕ) → (read_by w
 reads_keep w version count (Some word) = refl
 reads_keep w version count None = refl
 
-module _ (V : Type 0) (base : ℕ) (table : LockTable V) (at : SeqSite) (node : ℕ) (lock_good : LockState V → Type 0) where
+module _ (V : Type 0) (base : ℕ) (table : LockTable V) (at : WaySite) (node : ℕ) (lock_good : LockState V → Type 0) where
   abbrev pub L : LockAt V TheSeqWork
   L = record { base = base; table = table; work = seq_table at node }
 

@@ -15,7 +15,8 @@ use Rattle.rl_core.specs.Standings.{leaves}
 use Rattle.rl_combine.specs.Combine.{TheCombineSide, found}
 use Rattle.rl_combine.specs.Posts.{flag_word}
 use Rattle.rl_machine.specs.Running.{ShardRun, Running}
-use Rattle.rl_machine.specs.ShardSteps.{events_of, open_at, open_on, opened_at, opened_on, makes, made_at, atom_on}
+use Rattle.rl_machine.specs.ShardSteps.{open_at, open_on, opened_at, opened_on, makes, made_at, atom_on}
+use Rattle.rl_step.specs.Traces.{events_of}
 use Rattle.rl_machine.specs.Run.{changed, changed_if, on_shard, calls_by, place_of, has_open_call, opens, opened_if, block_opened, next_block, atom_made, stepped, run_of, AreThere}
 use Rattle.rl_machine.specs.laws.StateSteps.{stepped_shape}
 use Rattle.rl_machine.specs.laws.RestLaws.{open_shuts}

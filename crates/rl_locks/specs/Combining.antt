@@ -7,12 +7,12 @@ use Rattle.rl_step.specs.declared.events.Standing.TheVariants.{Writer}
 use Rattle.rl_step.specs.Do.{TheWindow, do_got}
 use Rattle.rl_volume.specs.Walk.{most_reads}
 use Rattle.rl_volume.specs.Words.{volume_words}
-use Rattle.rl_site.specs.Site.{count_word, volume_base}
+use Rattle.rl_site.specs.Site.{count_word, volume_base, WaySite}
 use Rattle.rl_core.specs.ShardTables.{ShardTable}
 use Rattle.rl_model.specs.Call.{is_update}
 use Rattle.rl_combine.specs.declared.stage.CombineStage.{CombineStage}
 use Rattle.rl_combine.specs.declared.stage.CombineStage.TheVariants.{Count, Sweep, Copy, Read, Answer, Mark, Collect}
-use Rattle.rl_combine.specs.Posts.{CombineSite, post_word, flag_word}
+use Rattle.rl_combine.specs.Posts.{post_word, flag_word}
 use Rattle.rl_combine.specs.Combine.{TheCombineSide, early, found}
 use Rattle.rl_combine.specs.CombineGood.{RankSide}
 use Rattle.rl_combine.specs.Sweep.{FlagSays, FlagMoves}
@@ -26,7 +26,7 @@ answers _ = None
 
 module _ {V : Type 0} (T : ShardTable (WholeView V TheCombineSide)) where
   -- the post words are the work's own
-  abbrev pub posts : CombineSite
+  abbrev pub posts : WaySite
   posts = record { site = T.site; behind = T.own_at }
 
   -- how a rank stands, and its side of the work

@@ -16,12 +16,12 @@ use Rattle.rl_tree.specs.declared.view.TreeView.{TreeView}
 use Rattle.rl_mcs.specs.Mcs.{mcs_table, mcs_tree}
 use Rattle.rl_rw.specs.declared.view.RwView.{RwView}
 use Rattle.rl_rw.specs.Rw.{shared_in, rw_table, BoundsBatches}
-use Rattle.rl_site.specs.Site.{Site}
+use Rattle.rl_site.specs.Site.{Site, WaySite}
 use Rattle.rl_work.specs.Work.{TheWork}
 use Rattle.rl_work.specs.Ways.{WorkTable}
 use Rattle.rl_work.specs.Locked.{locked_table}
 use Rattle.rl_seq.specs.SeqWork.{TheSeqWork, seq_table}
-use Rattle.rl_combine.specs.Posts.{CombineSite, node_in}
+use Rattle.rl_combine.specs.Posts.{node_in}
 use Rattle.rl_combine.specs.Combine.{TheCombineSide, combine_table}
 use Rattle.rl_core.specs.ShardTables.{ShardTable}
 use Rattle.rl_rank.specs.declared.whole.WholeView.{WholeView}
@@ -65,30 +65,22 @@ optimistic shape home site behind = seq_table (record { site = site; behind = be
 -- flat combining: the posted calls of all ranks by whoever has the lock
 abbrev pub combining : Way TheCombineSide
 combining shape home site behind =
-    let here : CombineSite = record { site = site; behind = behind } in
+    let here : WaySite = record { site = site; behind = behind } in
     combine_table here (node_in (record { here = here; nodes = shape.node_of }))
 
 -- the machine that does blocks in this way under the lock which is defined so
 abbrev pub under : {V K : Type 0} → (TheShape → ℕ → Knobs → LockTable V) → Way K → Defined (WholeView V K)
 under lock way shape home knobs site = whole_shard (lock_with (kinds lock way shape home knobs) site) home
 
+-- a lock that is defined so and promises this beyond every lock, with each block under it
+abbrev pub plain : {V : Type 0} → (TheShape → ℕ → Knobs → LockTable V) → Promised → LockKind
+plain {V} lock promised = record { View = WholeView V TheWork; defined = under lock locked; promised = promised; ways = KeepsReads }
+
 abbrev pub spin : LockKind
-spin =
-    record {
-      View = WholeView SpinView TheWork;
-      defined = under (λ shape home knobs. spin_table home) locked;
-      promised = λ shape home knobs. no_more;
-      ways = KeepsReads;
-    }
+spin = plain (λ shape home knobs. spin_table home) (λ shape home knobs. no_more)
 
 abbrev pub dmcs : LockKind
-dmcs =
-    record {
-      View = WholeView QueueView TheWork;
-      defined = under (λ shape home knobs. dmcs_table home shape.node_of) locked;
-      promised = λ shape home knobs. no_more;
-      ways = KeepsReads;
-    }
+dmcs = plain (λ shape home knobs. dmcs_table home shape.node_of) (λ shape home knobs. no_more)
 
 abbrev pub cohorts : TheShape → ℕ → Knobs → Cohorts
 cohorts shape home knobs = record { home = home; node_of = shape.node_of; local = knobs.local; remote = knobs.remote }
@@ -101,51 +93,21 @@ abbrev pub bounds_cohorts : Promised
 bounds_cohorts shape home knobs = BoundsOvertaking (cohorts shape home knobs)
 
 abbrev pub alock : LockKind
-alock =
-    record {
-      View = WholeView AlockView TheWork;
-      defined = under cohort_lock locked;
-      promised = bounds_cohorts;
-      ways = KeepsReads;
-    }
+alock = plain cohort_lock bounds_cohorts
 
 abbrev pub mcs : LockKind
-mcs =
-    record {
-      View = WholeView TreeView TheWork;
-      defined = under (λ shape home knobs. mcs_table (mcs_tree home shape)) locked;
-      promised = λ shape home knobs. no_more;
-      ways = KeepsReads;
-    }
+mcs = plain (λ shape home knobs. mcs_table (mcs_tree home shape)) (λ shape home knobs. no_more)
 
 -- while no atom lowers the arrive word of a group at most as many readers of the group enter as the settings say
 abbrev pub rw : LockKind
-rw =
-    record {
-      View = WholeView RwView TheWork;
-      defined = under (λ shape home knobs. rw_table (shared_in home shape knobs)) locked;
-      promised = λ shape home knobs. BoundsBatches (shared_in home shape knobs);
-      ways = KeepsReads;
-    }
+rw = plain (λ shape home knobs. rw_table (shared_in home shape knobs)) (λ shape home knobs. BoundsBatches (shared_in home shape knobs))
 
 -- these two stand on ALock, and promise what it does
 abbrev pub seq : LockKind
-seq =
-    record {
-      View = WholeView AlockView TheSeqWork;
-      defined = under cohort_lock optimistic;
-      promised = bounds_cohorts;
-      ways = KeepsGets;
-    }
+seq = record { View = WholeView AlockView TheSeqWork; defined = under cohort_lock optimistic; promised = bounds_cohorts; ways = KeepsGets }
 
 abbrev pub combine : LockKind
-combine =
-    record {
-      View = WholeView AlockView TheCombineSide;
-      defined = under cohort_lock combining;
-      promised = bounds_cohorts;
-      ways = KeepsCombining;
-    }
+combine = record { View = WholeView AlockView TheCombineSide; defined = under cohort_lock combining; promised = bounds_cohorts; ways = KeepsCombining }
 
 -- the kind of a placement's lock
 abbrev pub lock_kind_of : Lock → LockKind

@@ -6,7 +6,7 @@ use Rattle.rl_core.specs.Standings.{leaves}
 use Rattle.rl_combine.specs.Combine.{TheCombineSide}
 use Rattle.rl_combine.specs.Posts.{flag_word}
 use Rattle.rl_machine.specs.Running.{ShardRun, Running}
-use Rattle.rl_machine.specs.ShardSteps.{events_of}
+use Rattle.rl_step.specs.Traces.{events_of}
 use Rattle.rl_machine.specs.Run.{place_of, opens, trace_of, run_of, AreThere}
 use Rattle.rl_rank.specs.declared.whole.WholeView.{WholeView}
 use Rattle.rl_locks.specs.Combining.{posts, HasFound}

@@ -1,4 +1,4 @@
--- Who changes the words that a shard's lock guards, step by step.
+-- Who changes the words that a shard's lock guards, step by step: it follows from what is promised of every state, and says it of steps.
 use Rattle.std.specs.Prelude.{◌≡◌, ◌⊎◌, ◌<◌, ℕ, true, List, [], ◌∷◌, ◌++◌, length, take, slice_get, Some}
 use Rattle.rl_step.specs.declared.events.Event.{Event}
 use Rattle.rl_step.specs.declared.events.Event.TheVariants.{Touch}
@@ -6,8 +6,8 @@ use Rattle.rl_step.specs.Exclusion.{writers}
 use Rattle.rl_site.specs.Site.{lock_base}
 use Rattle.rl_core.specs.Touches.{touches_of}
 use Rattle.rl_machine.specs.Running.{ShardRun, Running}
-use Rattle.rl_machine.specs.ShardSteps.{events_of}
-use Rattle.rl_machine.specs.Run.{stepped}
+use Rattle.rl_step.specs.Traces.{events_of}
+use Rattle.rl_machine.specs.Run.{stepped, run_of, AreThere}
 
 module _ {V : Type 0} where
   -- count, volume and journal of a shard
@@ -26,3 +26,7 @@ module _ {V : Type 0} where
   abbrev pub OnlyWritersChange : Running V → Type 0
   OnlyWritersChange m =
       (k s : ℕ) (S N : ShardRun V) → k < length m.calls → slice_get m.shards s ≡ Some S → slice_get (stepped m k).shards s ≡ Some N → (guarded_words N ≡ guarded_words S) ⊎ IsWritersStep k S N
+
+  -- now, and whatever steps of its ranks follow
+  abbrev pub OnlyWritersEverChange : Running V → Type 0
+  OnlyWritersEverChange m = (ks : List ℕ) → AreThere (length m.calls) ks → OnlyWritersChange (run_of m ks)

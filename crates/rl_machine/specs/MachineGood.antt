@@ -9,7 +9,7 @@ use Rattle.rl_core.specs.Asks.{AreBlocks, is_update_on}
 use Rattle.rl_core.specs.ShardLaws.{GoodOf}
 use Rattle.rl_core.specs.ShardTables.{ShardTable}
 use Rattle.rl_machine.specs.Running.{ShardRun, Running, TheMachine, running, cores_of}
-use Rattle.rl_machine.specs.ShardSteps.{events_of}
+use Rattle.rl_step.specs.Traces.{events_of}
 use Rattle.rl_machine.specs.EventOrder.{AreTold}
 use Rattle.rl_step.specs.Answers.{steps_made}
 use Rattle.rl_core.specs.RankGood.{RankGood}

@@ -1,5 +1,6 @@
 -- What is promised of every state of a machine, and so at every moment of every run.
 use Rattle.std.specs.Prelude.{◌≡◌, ◌↔◌, ◌<◌, ◌≤◌, ℕ, List, length, slice_get, slice_index, Some}
+use Rattle.std.specs.List.{AllByRecursion}
 use Rattle.std.specs.FinMap as map
 use Rattle.rl_model.specs.declared.geom.Geom.{Geom}
 use Rattle.rl_journal.specs.Legal.{IsLegal}
@@ -13,20 +14,19 @@ use Rattle.rl_step.specs.declared.events.Standing.TheVariants.{Writer, Reader}
 use Rattle.rl_step.specs.Do.{do_got}
 use Rattle.rl_word.specs.declared.acts.Atom.{Atom}
 use Rattle.rl_step.specs.Answers.{steps_made}
-use Rattle.rl_step.specs.Lock.{AllNamed}
+use Rattle.rl_step.specs.Lock.{Names}
 use Rattle.rl_step.specs.Queues.{QueueOf}
 use Rattle.rl_step.specs.LockQueues.{queues_of}
 use Rattle.rl_step.specs.QueuePromises.{KeepQueues, CountTenures}
 use Rattle.rl_model.specs.declared.entry.Entry.{Entry}
 use Rattle.rl_core.specs.ShardTables.{journal_at, kept_in}
-use Rattle.rl_core.specs.EventRanks.{AreByRanks}
+use Rattle.rl_core.specs.EventRanks.{IsByRank}
 use Rattle.rl_core.specs.Touches.{IsGuarded}
 use Rattle.rl_site.specs.Site.{lock_base}
 use Rattle.rl_core.specs.Domains.{IsCardAtom, IsLocalAtom, UsesCards, UsesLocals}
 use Rattle.rl_machine.specs.Running.{ShardRun, Running}
-use Rattle.rl_machine.specs.ShardSteps.{events_of}
-use Rattle.rl_machine.specs.Changes.{OnlyWritersChange}
-use Rattle.rl_machine.specs.EventOrder.{AreOrdered, AreBefore}
+use Rattle.rl_step.specs.Traces.{events_of}
+use Rattle.rl_machine.specs.EventOrder.{AreOrdered}
 use Rattle.rl_ops.specs.Asked.{BeginsAt}
 use Rattle.rl_core.specs.Asks.{asked_of}
 use Rattle.rl_machine.specs.Run.{calls_by, sizes_by, trace_of, kept_by, done_of, run_of, AreThere, IsAllClosed, IsShut}
@@ -68,7 +68,7 @@ module _ {V : Type 0} where
     -- each queue of the lock keeps its budget, and serves first who came first
     pub queues : KeepQueues S.table.queues (events_of S.trace)
     -- the events name queues, members and cohorts that the lock has
-    pub named : AllNamed S.table.queues S.table.cohort (events_of S.trace)
+    pub named : AllByRecursion (Names S.table.queues S.table.cohort) (events_of S.trace)
     -- they stand in the order of their steps, and those of one step in that of their kinds
     pub ordered : AreOrdered S.trace
     -- a rank makes atoms of cards, and local compare-and-swaps, only where its lock lets it
@@ -83,8 +83,6 @@ module _ {V : Type 0} where
   -- of a machine: each shard is sound, and each rank's entries on all shards are its first calls, each once, in its order
   pub record IsSound (m : Running V) : Type 0 where
     pub shards : (s : ℕ) (S : ShardRun V) → slice_get m.shards s ≡ Some S → IsShardSound m.geom S
-    -- and whichever step comes next: one that changes count, volume or journal of a shard is a writer's, and its touch stands behind the trace
-    pub changes : OnlyWritersChange m
     pub order : (k : ℕ) → k < length m.calls → IsRankInOrder m.geom k (asked_of (calls_by m k) (sizes_by m k)) (done_of m k) (kept_by m k)
     -- a rank has done no more calls than it has opened
     pub done : (k : ℕ) → k < length m.calls → done_of m k ≤ slice_index m.opened k
@@ -93,9 +91,9 @@ module _ {V : Type 0} where
     pub given : (k : ℕ) → k < length m.calls → slice_index m.opened k ≤ length (calls_by m k)
     -- each rank has a view on each shard, and who enters, leaves or touches is a rank that there is
     pub views : (s : ℕ) (S : ShardRun V) → slice_get m.shards s ≡ Some S → length S.views ≡ length m.calls
-    pub by_ranks : (s : ℕ) (S : ShardRun V) → slice_get m.shards s ≡ Some S → AreByRanks (length m.calls) (events_of S.trace)
+    pub by_ranks : (s : ℕ) (S : ShardRun V) → slice_get m.shards s ≡ Some S → AllByRecursion (IsByRank (length m.calls)) (events_of S.trace)
     -- the events are of steps that were made
-    pub made : (s : ℕ) (S : ShardRun V) → slice_get m.shards s ≡ Some S → AreBefore (steps_made m.steps) S.trace
+    pub made : (s : ℕ) (S : ShardRun V) → slice_get m.shards s ≡ Some S → AllByRecursion (λ x. x.0 < steps_made m.steps) S.trace
     -- while no call is open on a shard each of its queues was settled and passed as often as it was had
     pub counted : (s : ℕ) (S : ShardRun V) → slice_get m.shards s ≡ Some S → IsShut S → CountTenures S.table.queues (events_of S.trace)
     -- and while no rank has an open call none is open on any shard

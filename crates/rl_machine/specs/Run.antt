@@ -53,13 +53,9 @@ module _ {V : Type 0} where
   abbrev pub opened_if : Running V → ℕ → Bool → Running V
   opened_if m k false = m
   opened_if m k true =
-      record {
+      record m {
         shards = changed m.shards (block_shard m.geom (next_block m k)) (opened_on k (next_block m k) (slice_index m.opened k));
-        geom = m.geom;
-        calls = m.calls;
-        sizes = m.sizes;
         opened = slice_set m.opened k (slice_index m.opened k + length (next_block m k));
-        steps = m.steps;
       }
 
   abbrev pub block_opened : Running V → ℕ → Running V
@@ -76,14 +72,7 @@ module _ {V : Type 0} where
   -- rank k makes its next atom, where a call of it is open, and its answer is counted
   abbrev pub atom_made : Running V → ℕ → Running V
   atom_made m k =
-      record {
-        shards = changed m.shards (place_of m k) (atom_on k (steps_made m.steps));
-        geom = m.geom;
-        calls = m.calls;
-        sizes = m.sizes;
-        opened = m.opened;
-        steps = counted (atom_answer m k) m.steps;
-      }
+      record m { shards = changed m.shards (place_of m k) (atom_on k (steps_made m.steps)); steps = counted (atom_answer m k) m.steps }
 
   -- one step of rank k: its next block is opened where none is open and one is left; then, where a call is open, one atom is made
   abbrev pub stepped : Running V → ℕ → Running V

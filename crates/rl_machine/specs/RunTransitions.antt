@@ -5,7 +5,8 @@ use Rattle.rl_word.specs.declared.shapes.Knobs.{Knobs}
 use Rattle.rl_step.specs.declared.events.Event.{Event}
 use Rattle.rl_step.specs.Transitions.{Transition}
 use Rattle.rl_machine.specs.Running.{Running}
-use Rattle.rl_machine.specs.ShardSteps.{transitions_by, events_of}
+use Rattle.rl_machine.specs.ShardSteps.{transitions_by}
+use Rattle.rl_step.specs.Traces.{events_of}
 use Rattle.rl_machine.specs.Run.{on_shard, place_of, block_opened, stepped, run_of, trace_of}
 
 module _ {V : Type 0} where

@@ -13,10 +13,6 @@ use Rattle.rl_machine.specs.Running.{ShardRun}
 use Rattle.rl_core.specs.ShardTables.{ShardTable, transition_by}
 use Rattle.rl_core.specs.Desks.{Desk, desk_entries, no_desk}
 
--- the events without their numbers
-abbrev pub events_of : List (ℕ × Event) → List Event
-events_of t = map (λ e. e.1) t
-
 -- the events of the step with this number
 abbrev pub numbered : ℕ → List Event → List (ℕ × Event)
 numbered n es = map (λ e. (n, e)) es
@@ -25,7 +21,7 @@ module _ {V : Type 0} where
   -- rank k, if it has a view, opens a block, whose first call has the number seq
   abbrev pub opened_at : ShardRun V → ℕ → List Call → ℕ → Option V → ShardRun V
   opened_at S k block seq None = S
-  opened_at S k block seq (Some x) = record { table = S.table; held = S.held; views = slice_set S.views k (S.table.opened block seq x); trace = S.trace }
+  opened_at S k block seq (Some x) = record S { views = slice_set S.views k (S.table.opened block seq x) }
 
   abbrev pub opened_on : ℕ → List Call → ℕ → ShardRun V → ShardRun V
   opened_on k block seq S = opened_at S k block seq (slice_get S.views k)
@@ -34,8 +30,7 @@ module _ {V : Type 0} where
   abbrev pub makes : ShardRun V → ℕ → ℕ → V → Option Atom → ShardRun V
   makes S k step x None = S
   makes S k step x (Some at) =
-      record {
-        table = S.table;
+      record S {
         held = do_atom k at S.held;
         views = slice_set S.views k (S.table.core.after x (do_got at S.held.words S.held.cards)).view;
         trace = S.trace ++ numbered step (S.table.core.after x (do_got at S.held.words S.held.cards)).events;

@@ -8,7 +8,7 @@ use Rattle.rl_core.specs.ShardLaws.{GoodOf}
 use Rattle.rl_machine.specs.declared.shard.ShardState.{ShardState}
 use Rattle.rl_machine.specs.declared.state.MachineState.{MachineState}
 use Rattle.rl_machine.specs.Running.{TheShard, ShardRun, TheMachine, shard_run}
-use Rattle.rl_machine.specs.ShardSteps.{events_of}
+use Rattle.rl_step.specs.Traces.{events_of}
 
 -- a shard's vectors as lists
 abbrev pub shard_view : {C V : Type 0} → ShardState C V → TheShard C V

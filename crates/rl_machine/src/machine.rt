@@ -6,6 +6,7 @@ ghost use Rattle.rl_model.specs.Geom.{GeomFits};
 ghost use Rattle.rl_word.specs.Shapes.{IsProper, layout_of};
 ghost use Rattle.rl_step.specs.Answers.{steps_made};
 ghost use Rattle.rl_ops.specs.Ops.{OpsFit};
+ghost use Rattle.rl_machine.specs.Changes.{OnlyWritersEverChange};
 ghost use Rattle.rl_machine.specs.Causes.{StepCause, StepTells, IsFinished, OnlyCountsBusy};
 ghost use Rattle.rl_machine.specs.Cores.{EachCore};
 ghost use Rattle.rl_machine.specs.Promises.{EachKeepsQueues, IsSound, StaysSound};
@@ -324,6 +325,7 @@ impl<C: TellsAll> Machine<C> {
 pub fn soundness<C: ShardCore>(machine: &Machine<C>)
     ensures sound { IsSound (running C.shard_table machine.now) }
     ensures stays { StaysSound (running C.shard_table machine.now) }
+    ensures changes { OnlyWritersEverChange (running C.shard_table machine.now) }
 {
     let _ = &machine.state;
 }

@@ -1,5 +1,5 @@
 -- What ranks ask for: blocks, which are a call alone or the calls of a batch.
-use Rattle.std.specs.Prelude.{◌≡◌, ℕ, ◌≤◌, Bool, true, false, List, [], ◌∷◌, length}
+use Rattle.std.specs.Prelude.{◌≡◌, ℕ, ◌≤◌, ◌==◌, if◌then◌else◌, Bool, true, false, List, [], ◌∷◌, length}
 use Rattle.rl_model.specs.declared.call.Call.{Call}
 use Rattle.rl_model.specs.Call.{is_update}
 
@@ -19,6 +19,10 @@ pub record IsAsked (calls : List Call) : Type 0 where
   pub few : length calls ≤ 8
   pub all_update : asks_update calls ≡ true → AreUpdates calls
   pub alone : asks_update calls ≡ false → length calls ≡ 1
+
+-- the batch number of a block of so many calls, which is 0 for a call alone
+abbrev pub batch_number : ℕ → ℕ
+batch_number size = if size == 1 then 0 else size
 
 -- a call as a rank's list has it: with the size of its batch and its place in it, from 0; both are 0 for a call alone
 pub record Asked : Type 0 where

@@ -4,10 +4,10 @@ use Rattle.std.specs.List.{AllByRecursion, flat_map, slice_get}
 use Rattle.std.proofs.lemmas.List.{length-append, length-map}
 use Rattle.std.proofs.Math.Seq.{take-append_seam, drop-append-add}
 use Rattle.rl_model.specs.declared.call.Call.{Call}
-use Rattle.rl_model.specs.Asked.{Asked}
+use Rattle.rl_model.specs.Asked.{Asked, batch_number}
 use Rattle.rl_ops.specs.Blocks.{sizes_of, AreOneBlock}
 use Rattle.rl_ops.specs.Ops.{AreBlocks}
-use Rattle.rl_ops.specs.Asked.{batch_of, parts_from, asked_in, asked_after, asked_of, BeginsAt, IsBlockAt}
+use Rattle.rl_ops.specs.Asked.{parts_from, asked_in, asked_after, asked_of, BeginsAt, IsBlockAt}
 
 -- ---- the calls of blocks, one block after the other
 
@@ -20,18 +20,18 @@ later-asked batch part (call ∷ calls) more sizes =
     let place : part + 1 + length calls ≡ part + suc (length calls) = omega arith in
     ap (λ (rest : List Asked). record { call = call; batch = batch; part = part } ∷ rest) (later-asked batch (part + 1) calls more sizes ∙ ap (λ (n : ℕ). parts_from batch (part + 1) calls ++ asked_after batch n more sizes) place)
 
-block-asked : (shards batch part : ℕ) (calls more : List Call) (sizes : List ℕ) → AreOneBlock shards calls → asked_after batch part (calls ++ more) (sizes_of calls ++ sizes) ≡ asked_in calls ++ asked_after (batch_of (length calls)) (length calls) more sizes
+block-asked : (shards batch part : ℕ) (calls more : List Call) (sizes : List ℕ) → AreOneBlock shards calls → asked_after batch part (calls ++ more) (sizes_of calls ++ sizes) ≡ asked_in calls ++ asked_after (batch_number (length calls)) (length calls) more sizes
 block-asked shards batch part [] more sizes one = absurd (omega (arith, one.asked.some))
 block-asked shards batch part (call ∷ calls) more sizes one =
     let place : 1 + length calls ≡ suc (length calls) = omega arith in
-    let b : ℕ = batch_of (suc (length calls)) in
+    let b : ℕ = batch_number (suc (length calls)) in
     ap (λ (rest : List Asked). record { call = call; batch = b; part = 0 } ∷ rest) (later-asked b 1 calls more sizes ∙ ap (λ (n : ℕ). parts_from b 1 calls ++ asked_after b n more sizes) place)
 
 blocks-asked : (shards batch part : ℕ) (blocks : List (List Call)) → AllByRecursion (AreOneBlock shards) blocks → asked_after batch part (flat_map (λ block. block) blocks) (flat_map sizes_of blocks) ≡ flat_map asked_in blocks
 blocks-asked shards batch part [] fit = refl
 blocks-asked shards batch part (calls ∷ blocks) fit =
     block-asked shards batch part calls (flat_map (λ block. block) blocks) (flat_map sizes_of blocks) fit.0
-    ∙ ap (λ (rest : List Asked). asked_in calls ++ rest) (blocks-asked shards (batch_of (length calls)) (length calls) blocks fit.1)
+    ∙ ap (λ (rest : List Asked). asked_in calls ++ rest) (blocks-asked shards (batch_number (length calls)) (length calls) blocks fit.1)
 
 -- ---- the block at a place
 
@@ -93,7 +93,7 @@ found-first shards calls blocks i size one fit e f =
     let rest : List Call = flat_map (λ block. block) blocks in
     let block : take size (drop i (calls ++ rest)) ≡ calls = rw (e, f) (take-append_seam calls rest) in
     let asked : List Asked = asked_in calls ++ flat_map asked_in blocks in
-    let long : length calls ≡ length (asked_in calls) = sym (length-parts (batch_of (length calls)) 0 calls) in
+    let long : length calls ≡ length (asked_in calls) = sym (length-parts (batch_number (length calls)) 0 calls) in
     record {
       within = omega (arith, e, f, length-append calls rest);
       one = rw block one;
@@ -104,7 +104,7 @@ found-first shards calls blocks i size one fit e f =
 found-past : (shards : ℕ) (front calls : List Call) (sizes : List ℕ) (asked : List Asked) (i j size : ℕ) → i ≡ length front + j → Found shards calls sizes asked j size → Found shards (front ++ calls) (sizes_of front ++ sizes) (asked_in front ++ asked) i size
 found-past shards front calls sizes asked i j size is f =
     let here : drop i (front ++ calls) ≡ drop j calls = rw is (drop-append-add front calls j) in
-    let place : i ≡ length (asked_in front) + j = omega (arith, is, length-parts (batch_of (length front)) 0 front) in
+    let place : i ≡ length (asked_in front) + j = omega (arith, is, length-parts (batch_number (length front)) 0 front) in
     let there : drop i (asked_in front ++ asked) ≡ drop j asked = rw place (drop-append-add (asked_in front) asked j) in
     record {
       within = omega (arith, is, f.within, length-append front calls);

@@ -1,12 +1,8 @@
 -- What a rank asks for, call by call: each with the size of its batch and its place in it.
-use Rattle.std.specs.Prelude.{◌≡◌, ℕ, zero, suc, ◌+◌, ◌≤◌, ◌==◌, List, [], ◌∷◌, length, take, drop, slice_get, Some, ◌⊎◌, if◌then◌else◌}
+use Rattle.std.specs.Prelude.{◌≡◌, ℕ, zero, suc, ◌+◌, ◌≤◌, List, [], ◌∷◌, length, take, drop, slice_get, Some, ◌⊎◌}
 use Rattle.rl_model.specs.declared.call.Call.{Call}
-use Rattle.rl_model.specs.Asked.{Asked}
+use Rattle.rl_model.specs.Asked.{Asked, batch_number}
 use Rattle.rl_ops.specs.Blocks.{AreOneBlock}
-
--- the batch number of a block of so many calls, which is 0 for a call alone
-abbrev pub batch_of : ℕ → ℕ
-batch_of size = if size == 1 then 0 else size
 
 -- calls of one batch from a place in it on
 abbrev pub parts_from : ℕ → ℕ → List Call → List Asked
@@ -15,14 +11,14 @@ parts_from batch part (call ∷ calls) = record { call = call; batch = batch; pa
 
 -- the calls of one block
 abbrev pub asked_in : List Call → List Asked
-asked_in calls = parts_from (batch_of (length calls)) 0 calls
+asked_in calls = parts_from (batch_number (length calls)) 0 calls
 
 -- calls with their sizes, after those of a batch up to a place in it: a size begins a block, and 0 goes on with it
 abbrev pub asked_after : ℕ → ℕ → List Call → List ℕ → List Asked
 asked_after batch part [] sizes = []
 asked_after batch part (call ∷ calls) [] = []
 asked_after batch part (call ∷ calls) (zero ∷ sizes) = record { call = call; batch = batch; part = part } ∷ asked_after batch (part + 1) calls sizes
-asked_after batch part (call ∷ calls) (suc n ∷ sizes) = record { call = call; batch = batch_of (suc n); part = 0 } ∷ asked_after (batch_of (suc n)) 1 calls sizes
+asked_after batch part (call ∷ calls) (suc n ∷ sizes) = record { call = call; batch = batch_number (suc n); part = 0 } ∷ asked_after (batch_number (suc n)) 1 calls sizes
 
 -- all calls of a rank
 abbrev pub asked_of : List Call → List ℕ → List Asked

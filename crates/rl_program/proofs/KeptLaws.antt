@@ -25,6 +25,7 @@ use Rattle.rl_machine.specs.Start.{start_of}
 use Rattle.rl_machine.specs.laws.StartLaws.{shards_length}
 use Rattle.rl_machine.specs.Run.{calls_by, run_of, ranks_of_turns, done_of, kept_by}
 use Rattle.rl_machine.specs.RunTransitions.{EachSays}
+use Rattle.rl_machine.specs.Changes.{OnlyWritersChange}
 use Rattle.rl_machine.specs.Promises.{shard_journal, transcripts_on, history_on, IsSound, KeepsQueues, EachKeepsQueues}
 use Rattle.rl_locks.specs.Kinds.{Defined, Promised}
 use Rattle.rl_locks.specs.OnShards.{OfShard, EachShard}
@@ -92,9 +93,9 @@ module _ {V : Type 0} (defined : Defined V) (place : ThePlace) (ops : Ops) (sche
   each_shard =
       sym (length-map last.shards table_in) ∙ ap length alike.tables ∙ length-map first.shards table_in ∙ shards_length table_of (shape_of place).nodes place.geom ops.by_rank 0 place.homes
 
-  pub is_kept : (promised : Promised) (ways : OfShard V) → IsSound last → EachKeepsQueues (name_of place.lock) (shape_of place) (knobs_of place.lock) place.homes last →
+  pub is_kept : (promised : Promised) (ways : OfShard V) → IsSound last → OnlyWritersChange last → EachKeepsQueues (name_of place.lock) (shape_of place) (knobs_of place.lock) place.homes last →
       EachSays promised (shape_of place) (knobs_of place.lock) place.homes first (ranks_of_turns schedule.turns) → EachShard ways last → IsKept defined promised ways place ops schedule
-  is_kept promised ways sound queues further kept =
+  is_kept promised ways sound changes queues further kept =
       let in_order : (k : ℕ) → k < length ops.by_rank → IsRankInOrder place.geom k (asked_of (get_or ops.by_rank k []) (get_or ops.sizes k [])) (done_of last k) (kept_by last k) = λ k low.
       let there : k < length last.calls = subst (λ l. k < length l) (sym alike.calls) low in
       subst (λ geom. IsRankInOrder geom k (asked_of (get_or ops.by_rank k []) (get_or ops.sizes k [])) (done_of last k) (kept_by last k)) alike.geom
@@ -103,7 +104,7 @@ module _ {V : Type 0} (defined : Defined V) (place : ThePlace) (ops : Ops) (sche
       record {
         exclusive = λ s S has. (sound.shards s S has).exclusive;
         guarded = λ s S has. (sound.shards s S has).guarded;
-        changes = sound.changes;
+        changes = changes;
         queues = queues;
         further = further;
         ways = kept;

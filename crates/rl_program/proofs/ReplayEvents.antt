@@ -16,7 +16,8 @@ use Rattle.rl_core.specs.EventRanks.{IsByRank, AreByRanks}
 use Rattle.rl_report.specs.Naming.{EventFits, naming_of}
 use Rattle.rl_report.specs.Reports.{EachAfter, StepFits, step_of}
 use Rattle.rl_report.specs.Spelling.{is_printed}
-use Rattle.rl_report.specs.Tallies.{tallies_from, trace_of_report}
+use Rattle.rl_report.specs.Tallies.{tallies_from}
+use Rattle.rl_step.specs.Traces.{events_of}
 use Rattle.rl_report.specs.Lawful.{queues_at}
 use Rattle.rl_report.proofs.MemberLaws.{member_named}
 use Rattle.rl_machine.specs.EventOrder.{AreOrdered, AreBefore}
@@ -40,43 +41,43 @@ touch_is (LeaveR k) h = absurd (cc)
 
 -- ---- what is kept
 
-exclusive_still : (ws rs : ℕ → Bool) (t : List (ℕ × Event)) → ExclusiveFrom ws rs (trace_of_report t) → ExclusiveFrom ws rs (trace_of_report (untouched t))
+exclusive_still : (ws rs : ℕ → Bool) (t : List (ℕ × Event)) → ExclusiveFrom ws rs (events_of t) → ExclusiveFrom ws rs (events_of (untouched t))
 exclusive_still ws rs [] x = x
 exclusive_still ws rs (e ∷ t) x =
-    elim (is_printed e.1) as (λ b. is_printed e.1 ≡ b → ExclusiveFrom ws rs (trace_of_report (cond b (e ∷ untouched t) (untouched t)))) [
+    elim (is_printed e.1) as (λ b. is_printed e.1 ≡ b → ExclusiveFrom ws rs (events_of (cond b (e ∷ untouched t) (untouched t)))) [
       | true ↦ λ q. (x.0, x.1, exclusive_still (writers_after e.1 ws) (readers_after e.1 rs) t x.2)
-      | false ↦ λ q. let z = touch_is e.1 q in exclusive_still ws rs t (subst (λ f. ExclusiveFrom (writers_after f ws) (readers_after f rs) (trace_of_report t)) z.2 x.2)
+      | false ↦ λ q. let z = touch_is e.1 q in exclusive_still ws rs t (subst (λ f. ExclusiveFrom (writers_after f ws) (readers_after f rs) (events_of t)) z.2 x.2)
     ] refl
 
-within_still : (q budget room : ℕ) (t : List (ℕ × Event)) → WithinFrom q budget room (trace_of_report t) → WithinFrom q budget room (trace_of_report (untouched t))
+within_still : (q budget room : ℕ) (t : List (ℕ × Event)) → WithinFrom q budget room (events_of t) → WithinFrom q budget room (events_of (untouched t))
 within_still q budget room [] x = tt
 within_still q budget room (e ∷ t) x =
-    elim (is_printed e.1) as (λ b. is_printed e.1 ≡ b → WithinFrom q budget room (trace_of_report (cond b (e ∷ untouched t) (untouched t)))) [
+    elim (is_printed e.1) as (λ b. is_printed e.1 ≡ b → WithinFrom q budget room (events_of (cond b (e ∷ untouched t) (untouched t)))) [
       | true ↦ λ p. (x.0, within_still q budget (room_after q budget e.1 room) t x.1)
-      | false ↦ λ p. let z = touch_is e.1 p in within_still q budget room t (subst (λ f. WithinFrom q budget (room_after q budget f room) (trace_of_report t)) z.2 x.1)
+      | false ↦ λ p. let z = touch_is e.1 p in within_still q budget room t (subst (λ f. WithinFrom q budget (room_after q budget f room) (events_of t)) z.2 x.1)
     ] refl
 
-pub rules_still : (queues : List QueueOf) (t : List (ℕ × Event)) → IsExclusive (trace_of_report t) → KeepBudgets queues (trace_of_report t) → KeepsRules queues (trace_of_report (untouched t))
+pub rules_still : (queues : List QueueOf) (t : List (ℕ × Event)) → IsExclusive (events_of t) → KeepBudgets queues (events_of t) → KeepsRules queues (events_of (untouched t))
 rules_still queues t exclusive budgets =
     record {
-      exclusive = is_exclusive (trace_of_report (untouched t)) (exclusive_still nobody nobody t (exclusive_from (trace_of_report t) exclusive));
-      budgets = λ q budget queue has b. is_within (trace_of_report (untouched t)) q budget (within_still q budget 0 t (within_from (trace_of_report t) q budget (budgets q budget queue has b)));
+      exclusive = is_exclusive (events_of (untouched t)) (exclusive_still nobody nobody t (exclusive_from (events_of t) exclusive));
+      budgets = λ q budget queue has b. is_within (events_of (untouched t)) q budget (within_still q budget 0 t (within_from (events_of t) q budget (budgets q budget queue has b)));
     }
 
 -- ---- what is counted
 
-settled_still : (q : ℕ) (t : List (ℕ × Event)) → settled q (trace_of_report (untouched t)) ≡ settled q (trace_of_report t)
+settled_still : (q : ℕ) (t : List (ℕ × Event)) → settled q (events_of (untouched t)) ≡ settled q (events_of t)
 settled_still q [] = refl
 settled_still q (e ∷ t) =
-    elim (is_printed e.1) as (λ b. is_printed e.1 ≡ b → settled q (trace_of_report (cond b (e ∷ untouched t) (untouched t))) ≡ settles q e.1 + settled q (trace_of_report t)) [
+    elim (is_printed e.1) as (λ b. is_printed e.1 ≡ b → settled q (events_of (cond b (e ∷ untouched t) (untouched t))) ≡ settles q e.1 + settled q (events_of t)) [
       | true ↦ λ p. ap (λ n. settles q e.1 + n) (settled_still q t)
       | false ↦ λ p. let z = touch_is e.1 p in let none : settles q e.1 ≡ 0 = ap (settles q) z.2 in settled_still q t ∙ omega arith
     ] refl
 
-passed_still : (q : ℕ) (t : List (ℕ × Event)) → passed q (trace_of_report (untouched t)) ≡ passed q (trace_of_report t)
+passed_still : (q : ℕ) (t : List (ℕ × Event)) → passed q (events_of (untouched t)) ≡ passed q (events_of t)
 passed_still q [] = refl
 passed_still q (e ∷ t) =
-    elim (is_printed e.1) as (λ b. is_printed e.1 ≡ b → passed q (trace_of_report (cond b (e ∷ untouched t) (untouched t))) ≡ passes q e.1 + passed q (trace_of_report t)) [
+    elim (is_printed e.1) as (λ b. is_printed e.1 ≡ b → passed q (events_of (cond b (e ∷ untouched t) (untouched t))) ≡ passes q e.1 + passed q (events_of t)) [
       | true ↦ λ p. ap (λ n. passes q e.1 + n) (passed_still q t)
       | false ↦ λ p. let z = touch_is e.1 p in let none : passes q e.1 ≡ 0 = ap (passes q) z.2 in passed_still q t ∙ omega arith
     ] refl
@@ -84,11 +85,11 @@ passed_still q (e ∷ t) =
 same_tally : (a b c d : ℕ) → a ≡ c → b ≡ d → ◌≡◌ {A = Tally} (record { settled = a; passed = b }) (record { settled = c; passed = d })
 same_tally a b c d e f = cc
 
-pub tallies_still : (from n : ℕ) (t : List (ℕ × Event)) → tallies_from from n (trace_of_report t) ≡ tallies_from from n (trace_of_report (untouched t))
+pub tallies_still : (from n : ℕ) (t : List (ℕ × Event)) → tallies_from from n (events_of t) ≡ tallies_from from n (events_of (untouched t))
 tallies_still from zero t = refl
 tallies_still from (suc n) t =
-    ap (λ x. x ∷ tallies_from (from + 1) n (trace_of_report t)) (same_tally _ _ _ _ (sym (settled_still from t)) (sym (passed_still from t)))
-    ∙ ap (λ xs. tally_of from (trace_of_report (untouched t)) ∷ xs) (tallies_still (from + 1) n t)
+    ap (λ x. x ∷ tallies_from (from + 1) n (events_of t)) (same_tally _ _ _ _ (sym (settled_still from t)) (sym (passed_still from t)))
+    ∙ ap (λ xs. tally_of from (events_of (untouched t)) ∷ xs) (tallies_still (from + 1) n t)
 
 pub tallies_long : (from n : ℕ) (t : List Event) → length (tallies_from from n t) ≡ n
 tallies_long from zero t = refl
@@ -121,7 +122,7 @@ module _ (place : ThePlace) (proper : IsProper place) (home : ℕ) (cohort : ℕ
   from_before least now [] low b = tt
   from_before least now (e ∷ t) low b = omega arith
 
-  pub events_fit : (least : ℕ) (t : List (ℕ × Event)) → BeginsFrom least t → AreOrdered t → AreBefore steps t → AllNamed (queues_at place home) cohort (trace_of_report t) → AreByRanks (length place.paths) (trace_of_report t) →
+  pub events_fit : (least : ℕ) (t : List (ℕ × Event)) → BeginsFrom least t → AreOrdered t → AreBefore steps t → AllNamed (queues_at place home) cohort (events_of t) → AreByRanks (length place.paths) (events_of t) →
       EachAfter (StepFits (naming_of place)) step_of least (untouched t)
   events_fit least [] from o before names by = tt
   events_fit least (e ∷ t) from o before names by =

@@ -26,10 +26,11 @@ use Rattle.rl_core.specs.ShardTables.{ShardTable, kept_in}
 use Rattle.rl_report.specs.declared.report.Done.{Done}
 use Rattle.rl_report.specs.Naming.{naming_of}
 use Rattle.rl_report.specs.Reports.{TheShard, TheReport, EntryFits, TallyFits, ShardFits, ShardsFit, DoneFits, ReportFits}
-use Rattle.rl_report.specs.Tallies.{tallies_from, trace_of_report}
+use Rattle.rl_report.specs.Tallies.{tallies_from}
 use Rattle.rl_report.specs.Lawful.{journal_among, transcript_in, transcripts_in, queues_at}
 use Rattle.rl_machine.specs.Running.{ShardRun, Running}
-use Rattle.rl_machine.specs.ShardSteps.{events_of, desk_at, kept_on}
+use Rattle.rl_machine.specs.ShardSteps.{desk_at, kept_on}
+use Rattle.rl_step.specs.Traces.{events_of}
 use Rattle.rl_machine.specs.laws.RecordLaws.{kept_long}
 use Rattle.rl_machine.specs.Run.{calls_by, done_of, kept_by}
 use Rattle.rl_machine.specs.Promises.{shard_journal, transcripts_on, history_on, IsShardSound, IsSound}
@@ -164,7 +165,7 @@ module _ {V : Type 0} where
               in_order = ap (λ ts. history (shard_journal S) ts) (sym transcripts) ∙ ap (λ j. history j (transcripts_in (history_on S) 0 (length place.paths))) (sym journal);
               told = ap length (sym journal);
             };
-            tallied = tallies_still 0 queues S.trace ∙ ap (λ n. tallies_from 0 n (trace_of_report (untouched S.trace))) (sym all);
+            tallied = tallies_still 0 queues S.trace ∙ ap (λ n. tallies_from 0 n (events_of (untouched S.trace))) (sym all);
             rules = rules_still (queues_at place home) S.trace is.exclusive (subst (λ qs. KeepBudgets qs (events_of S.trace)) (of.queues s home S has_home get) is.queues.budgets);
           }
 

@@ -18,7 +18,7 @@ use Rattle.rl_report.specs.Naming.{naming_of}
 use Rattle.rl_report.specs.Spelling.{report_spelling}
 use Rattle.rl_check.specs.LawfulReplays.{IsLawfulReplay}
 use Rattle.rl_machine.specs.Running.{ShardRun, Running}
-use Rattle.rl_machine.specs.ShardSteps.{events_of}
+use Rattle.rl_step.specs.Traces.{events_of}
 use Rattle.rl_core.specs.Asks.{asked_of}
 use Rattle.rl_machine.specs.Run.{ranks_of_turns, done_of, kept_by}
 use Rattle.rl_machine.specs.RunTransitions.{EachSays}

@@ -15,7 +15,7 @@ use Rattle.rl_report.specs.Reports.{TheShard, TheReport, ReplyFits, TallyFits}
 use Rattle.rl_report.specs.Spelling.{is_printed}
 use Rattle.rl_report.specs.Tallies.{tallies_from}
 use Rattle.rl_machine.specs.Running.{ShardRun, Running}
-use Rattle.rl_machine.specs.ShardSteps.{events_of}
+use Rattle.rl_step.specs.Traces.{events_of}
 use Rattle.rl_machine.specs.Start.{start_of}
 use Rattle.rl_machine.specs.Run.{done_of, run_of, ranks_of_turns}
 use Rattle.rl_machine.specs.Promises.{shard_journal, history_on}

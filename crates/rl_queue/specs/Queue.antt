@@ -48,27 +48,22 @@ code_left (Some b) code = code - 2
 -- a compare-and-swap of a word of this class: a local word is compared by its node's ranks, any other through the card
 abbrev pub swap_act : Class → ℕ → ℕ → ℕ → Act
 swap_act class.Local w old new = LocalCas w old new
-swap_act class.Card w old new = CardCas w old new
-swap_act class.Plain w old new = CardCas w old new
-swap_act class.Fixed w old new = CardCas w old new
+swap_act c w old new = CardCas w old new
 
 -- The act of member m in each phase. A joiner clears its two words, swings the tail from its guess to itself, links itself to
 -- the one before it and loads its status. A leaver loads its next word, empties the tail where it has no successor, loads its
 -- next word again where that fails, and stores the code to its successor's status.
 abbrev pub plan_at : TheNames → ℕ → Phase → Option Act
-plan_at n m Idle = None
 plan_at n m Clear = Some (Store (queue_next_word n m) 0)
 plan_at n m Reset = Some (Store (status_word n m) 0)
 plan_at n m (Swing guess) = Some (swap_act n.tail_class n.tail guess (m + 1))
 plan_at n m (Link guess) = Some (Store (queue_next_word n (guess - 1)) (m + 1))
 plan_at n m Wait = Some (Load (status_word n m))
-plan_at n m Settle = None
-plan_at n m (Granted left) = None
 plan_at n m (Look left upper) = Some (Load (queue_next_word n m))
 plan_at n m (Close left) = Some (swap_act n.tail_class n.tail (m + 1) 0)
 plan_at n m (Await left) = Some (Load (queue_next_word n m))
 plan_at n m (Hand succ left) = Some (Store (status_word n succ) (status_code n.budget left))
-plan_at n m (Above succ) = None
+plan_at n m phase = None
 
 -- what an act leaves of a member: its phase, what happened with the act, and whether it has to be made again
 pub record QueueTurn : Type 0 where

@@ -51,16 +51,12 @@ abbrev pub first_at : ℕ → Act → Atom
 first_at home (act.Load w) = atom.Load w
 first_at home (act.Store w v) = atom.Store w v
 first_at home (act.LocalCas w old new) = atom.LocalCas w old new
-first_at home (act.CardCas w old new) = atom.Take home
-first_at home (act.CardSwap w v) = atom.Take home
-first_at home (act.CardAdd w d) = atom.Take home
+first_at home a = atom.Take home
 
 -- the next atom, for a planned act whose word has this home: Take, CardLoad, CardStore, Leave in turn
 abbrev pub atom_at : ℕ → Option Act → CardState → Option Atom
 atom_at home p (ToLeave n) = Some (atom.Leave n)
-atom_at home None Free = None
-atom_at home None InCard = None
-atom_at home None (Loaded g) = None
+atom_at home None c = None
 atom_at home (Some a) Free = Some (first_at home a)
 atom_at home (Some a) InCard = Some (atom.CardLoad (word_of a))
 atom_at home (Some a) (Loaded g) = Some (atom.CardStore (word_of a) (written a g))
@@ -108,29 +104,21 @@ side_atom T x = card_atom T (T.plan x.view) x.card
 
 -- the act stores nothing where its load gives got: a compare-and-swap that found another value than its guess
 abbrev pub skips : Act → ℕ → Bool
-skips (act.Load w) got = false
-skips (act.Store w v) got = false
 skips (act.LocalCas w old new) got = not (got == old)
 skips (act.CardCas w old new) got = not (got == old)
-skips (act.CardSwap w v) got = false
-skips (act.CardAdd w d) got = false
+skips a got = false
 
 -- the value that a compare-and-swap hopes to find
 abbrev pub guess_of : Act → ℕ
-guess_of (act.Load w) = 0
-guess_of (act.Store w v) = 0
 guess_of (act.LocalCas w old new) = old
 guess_of (act.CardCas w old new) = old
-guess_of (act.CardSwap w v) = 0
-guess_of (act.CardAdd w d) = 0
+guess_of a = 0
 
 -- what an atom that gave got means, for a planned act whose word has this home. A Take that finds the card held changes nothing;
 -- an act is learnt at its CardStore, at a CardLoad whose compare is lost, or at its one atom
 abbrev pub effect_at : ℕ → Option Act → CardState → ℕ → Effect
 effect_at home p (ToLeave n) got = Stay Free Moved
-effect_at home None Free got = Work
-effect_at home None InCard got = Work
-effect_at home None (Loaded g) got = Work
+effect_at home None c got = Work
 effect_at home (Some a) Free got =
     if by_card a
     then (if got == 0 then Stay InCard Moved else Stay Free (Busy home (got - 1)))
@@ -145,11 +133,9 @@ answer_of (Some a) got lost waits = if lost then Lost (guess_of a) got else if w
 
 -- the event of a holder that ends its call's work, by how it stood
 abbrev pub departure : ℕ → Standing → List Event
-departure rank standing.Out = []
-departure rank standing.Asking = []
 departure rank standing.Writer = LeaveW rank ∷ []
 departure rank standing.Reader = LeaveR rank ∷ []
-departure rank standing.Leaving = []
+departure rank st = []
 
 -- what an effect leaves of the side of rank, which has this lock view and this planned act. The work's atoms are none of the lock's: what
 -- they leave of its side is for the whole machine to say (`work_turned`)
@@ -203,10 +189,8 @@ moved T s r x at =
 abbrev pub card_in : {V : Type 0} → LockTable V → Option Act → CardState → Option ℕ
 card_in T p Free = None
 card_in T p (ToLeave n) = Some n
-card_in T None InCard = None
-card_in T None (Loaded g) = None
-card_in T (Some a) InCard = Some (home_of T (word_of a))
-card_in T (Some a) (Loaded g) = Some (home_of T (word_of a))
+card_in T None c = None
+card_in T (Some a) c = Some (home_of T (word_of a))
 
 -- the card that a rank with this side is in
 abbrev pub card_of : {V : Type 0} → LockTable V → Side V → Option ℕ

@@ -23,7 +23,7 @@ use Rattle.rl_step.specs.Do.{TheWindow}
 use Rattle.rl_step.specs.Core.{CoreTable, Turned}
 use Rattle.rl_step.specs.declared.cores.Plan.{Plan}
 use Rattle.rl_rank.specs.declared.card_state.CardState.{CardState}
-use Rattle.rl_rank.specs.declared.card_state.CardState.TheVariants.{Free, InCard, Loaded, ToLeave}
+use Rattle.rl_rank.specs.declared.card_state.CardState.TheVariants.{Free}
 use Rattle.rl_rank.specs.declared.effect.Effect.{Effect}
 use Rattle.rl_rank.specs.declared.effect.Effect.TheVariants as effect
 use Rattle.rl_rank.specs.declared.whole.Whole.{Whole}
@@ -48,11 +48,8 @@ shifted base (atom.Leave n) = atom.Leave n
 
 -- the lock's answer: the word of a Waiting is the window's
 abbrev pub shifted_answer : ℕ → Stepped → Stepped
-shifted_answer base Moved = Moved
 shifted_answer base (Waiting w v) = Waiting (base + w) v
-shifted_answer base (Lost guess seen) = Lost guess seen
-shifted_answer base (Busy node holder) = Busy node holder
-shifted_answer base Finished = Finished
+shifted_answer base answer = answer
 
 -- the plan of a view: the lock's act and the home of its word, each where the card state asks for it
 abbrev pub planned_in : {V K : Type 0} → LockTable V → WholeView V K → Plan
@@ -62,11 +59,9 @@ planned_in T x =
 
 -- the work's atom, of a rank for which the lock plans nothing
 abbrev pub work_plan : Standing → Option Atom → Option Atom
-work_plan standing.Out next = next
 work_plan standing.Asking next = None
-work_plan standing.Writer next = next
-work_plan standing.Reader next = next
 work_plan standing.Leaving next = None
+work_plan st next = next
 
 -- the lock's atom, if it has one, and else the work's
 abbrev pub lock_or_work : ℕ → Option Atom → Option Atom → Option Atom
@@ -80,30 +75,18 @@ next_of L x = lock_or_work L.base (side_atom L.table x.side) (work_plan (L.table
 -- a rank is in a call: it isn't out, or it is still in a card or about to leave one
 abbrev pub is_at_work : Standing → CardState → Bool
 is_at_work standing.Out Free = false
-is_at_work standing.Out InCard = true
-is_at_work standing.Out (Loaded g) = true
-is_at_work standing.Out (ToLeave n) = true
-is_at_work standing.Asking c = true
-is_at_work standing.Writer c = true
-is_at_work standing.Reader c = true
-is_at_work standing.Leaving c = true
+is_at_work st c = true
 
 -- the view, the events and the answer, by what is left of the lock's side
 abbrev pub whole_turned : {V K : Type 0} → ℕ → WholeView V K → SideTurned V → Turned (WholeView V K)
 whole_turned base x left_of =
-    record {
-      view = record { side = left_of.side; rank = x.rank; work = x.work };
-      events = left_of.events;
-      stepped = shifted_answer base left_of.stepped;
-    }
+    record { view = record x { side = left_of.side }; events = left_of.events; stepped = shifted_answer base left_of.stepped }
 
 -- a holder whose block is over leaves the lock
 abbrev pub left_by : {V : Type 0} → LockTable V → V → Standing → V
-left_by T v standing.Out = v
-left_by T v standing.Asking = v
 left_by T v standing.Writer = T.leave v
 left_by T v standing.Reader = T.leave v
-left_by T v standing.Leaving = v
+left_by T v st = v
 
 -- the lock's view behind an atom of the work, by what follows
 abbrev pub followed : {V : Type 0} → LockTable V → V → Follow → V
@@ -117,9 +100,8 @@ touch_by rank None = []
 touch_by rank (Some write) = Touch rank write ∷ []
 
 abbrev pub departure_by : ℕ → Standing → Follow → List Event
-departure_by rank st On = []
-departure_by rank st (Ask m) = []
 departure_by rank st Over = departure rank st
+departure_by rank st follow = []
 
 abbrev pub work_events : ℕ → Option Bool → Standing → Follow → List Event
 work_events rank touch st follow = touch_by rank touch ++ departure_by rank st follow

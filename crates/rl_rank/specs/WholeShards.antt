@@ -4,7 +4,7 @@ use Rattle.std.specs.Prelude.{◌≡◌, ◌⊎◌, ℕ, ◌+◌, Bool, true, fa
 use Rattle.rl_word.specs.Acts.{Layout}
 use Rattle.rl_step.specs.declared.events.Event.{Event}
 use Rattle.rl_step.specs.declared.events.Standing.{Standing}
-use Rattle.rl_step.specs.declared.events.Standing.TheVariants.{Out, Asking, Writer, Reader, Leaving}
+use Rattle.rl_step.specs.declared.events.Standing.TheVariants.{Out, Asking}
 use Rattle.rl_step.specs.Lock.{LockTable, Deed, AllNamed}
 use Rattle.rl_step.specs.Do.{TheWindow}
 use Rattle.rl_step.specs.Exclusion.{ExclusiveFrom, writers_of, readers_of, nobody}
@@ -26,11 +26,7 @@ stand T x = T.standing x.side.view
 -- how it stands on the shard: as it does at the lock; but while its block is open and it is out there, it is asking
 abbrev pub standing_while : Standing → Bool → Standing
 standing_while Out true = Asking
-standing_while Out false = Out
-standing_while Asking b = Asking
-standing_while Writer b = Writer
-standing_while Reader b = Reader
-standing_while Leaving b = Leaving
+standing_while st b = st
 
 abbrev pub stand_on : {V K : Type 0} → LockAt V K → WholeView V K → Standing
 stand_on L x = standing_while (stand L.table x) (L.work.is_open x.work)

@@ -7,6 +7,7 @@ ghost use Rattle.rl_word.specs.Shapes.{IsProper};
 ghost use Rattle.rl_step.specs.Answers.{steps_made};
 ghost use Rattle.rl_ops.specs.Ops.{OpsFit};
 ghost use Rattle.rl_ops.specs.Schedule.{TurnFits, steps_of};
+ghost use Rattle.rl_machine.specs.Changes.{OnlyWritersChange};
 ghost use Rattle.rl_machine.specs.Promises.{IsSound, EachKeepsQueues};
 ghost use Rattle.rl_machine.specs.Run.{run_of, stepped, turn_ranks, ranks_of_turns, steps_in};
 ghost use Rattle.rl_machine.specs.RunTransitions.{EachSays};
@@ -143,6 +144,7 @@ pub fn replay<C: Resting>(
     requires few { steps_in turns.now < 2 ^ 32 }
     ensures run { IfOk result (λ m. running C.shard_table m ≡ run_of (start_of C.defined shape.now knobs geom homes.now ops) (ranks_of_turns turns.now)) }
     ensures sound { IfOk result (λ m. IsSound (running C.shard_table m)) }
+    ensures changes { IfOk result (λ m. OnlyWritersChange (running C.shard_table m)) }
     ensures queues { IfOk result (λ m. EachKeepsQueues C.name shape.now knobs homes.now (running C.shard_table m)) }
     ensures further { IfOk result (λ _. EachSays C.promised shape.now knobs homes.now (start_of C.defined shape.now knobs geom homes.now ops) (ranks_of_turns turns.now)) }
 {

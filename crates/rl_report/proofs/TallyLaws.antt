@@ -9,7 +9,8 @@ use Rattle.rl_step.specs.declared.events.Event.TheVariants.{Join, Announce, Pass
 use Rattle.rl_step.specs.declared.tallies.Tally.{Tally}
 use Rattle.rl_step.specs.Queues.{count, settles, passes, settled, passed, tally_of}
 use Rattle.rl_step.specs.laws.QueueLemmas.{settled-append, passed-append}
-use Rattle.rl_report.specs.Tallies.{tallies_from, trace_of_report, counts_for}
+use Rattle.rl_report.specs.Tallies.{tallies_from, counts_for}
+use Rattle.rl_step.specs.Traces.{events_of}
 
 -- a tally by its numbers
 same_tally : (a b c d : ℕ) → a ≡ c → b ≡ d → ◌≡◌ {A = Tally} (record { settled = a; passed = b }) (record { settled = c; passed = d })
@@ -113,7 +114,7 @@ few_counted : (q : ℕ) (t : List Event) → settled q t + passed q t ≤ length
 few_counted q [] = omega arith
 few_counted q (e ∷ t) = omega (arith, few_counted q t, settles_low q e)
 
-same_length : (events : List (ℕ × Event)) → length (trace_of_report events) ≡ length events
+same_length : (events : List (ℕ × Event)) → length (events_of events) ≡ length events
 same_length [] = refl
 same_length (e ∷ events) = ap suc (same_length events)
 
@@ -123,20 +124,20 @@ none_yet from zero = refl
 none_yet from (suc n) = ap (λ xs. record { settled = 0; passed = 0 } ∷ xs) (none_yet (from + 1) n)
 
 -- the trace up to one event more
-trace_more : (events : List (ℕ × Event)) (place : ℕ) (d : ℕ × Event) → place < length events → trace_of_report (take (place + 1) events) ≡ trace_of_report (take place events) ++ (get_or events place d).1 ∷ []
+trace_more : (events : List (ℕ × Event)) (place : ℕ) (d : ℕ × Event) → place < length events → events_of (take (place + 1) events) ≡ events_of (take place events) ++ (get_or events place d).1 ∷ []
 trace_more events place d there =
-    ap (λ n. trace_of_report (take n events)) (add-one place) ∙ ap trace_of_report (take-suc events place d there) ∙ map-append (λ (e : ℕ × Event). e.1) (take place events) (get_or events place d ∷ [])
+    ap (λ n. events_of (take n events)) (add-one place) ∙ ap events_of (take-suc events place d there) ∙ map-append (λ (e : ℕ × Event). e.1) (take place events) (get_or events place d ∷ [])
 
 -- the event at a place, after those before it
-module _ (ts : List Tally) (events : List (ℕ × Event)) (place : ℕ) (d : ℕ × Event) (there : place < length events) (so_far : ts ≡ tallies_from 0 (length ts) (trace_of_report (take place events))) where
+module _ (ts : List Tally) (events : List (ℕ × Event)) (place : ℕ) (d : ℕ × Event) (there : place < length events) (so_far : ts ≡ tallies_from 0 (length ts) (events_of (take place events))) where
   abbrev trace : List Event
-  trace = trace_of_report (take place events)
+  trace = events_of (take place events)
 
   abbrev event : Event
   event = (get_or events place d).1
 
   abbrev then : List Tally
-  then = tallies_from 0 (length ts) (trace_of_report (take (place + 1) events))
+  then = tallies_from 0 (length ts) (events_of (take (place + 1) events))
 
   next : then ≡ tallies_from 0 (length ts) (trace ++ event ∷ [])
   next = ap (tallies_from 0 (length ts)) (trace_more events place d there)

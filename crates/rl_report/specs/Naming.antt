@@ -29,13 +29,10 @@ pub record TheNaming : Type 0 where
 
 -- ALock has two cohorts, and what stands on it
 abbrev pub has_cohorts : Lock → Bool
-has_cohorts lock.Spin = false
-has_cohorts lock.Dmcs = false
 has_cohorts (lock.Alock local remote) = true
-has_cohorts (lock.Mcs budgets) = false
-has_cohorts (lock.Rw budgets writers readers group) = false
 has_cohorts (lock.Seq local remote) = true
 has_cohorts (lock.Combine local remote) = true
+has_cohorts other = false
 
 -- a queue of ranks that stands by itself
 abbrev pub lone_queue : List ℕ → TheQueueName
@@ -56,7 +53,7 @@ element_queue_names levels elements = map (element_queue_name levels elements) e
 abbrev pub cohort_queue_names : List TheQueueName
 cohort_queue_names = lone_queue (codes "local") ∷ lone_queue (codes "remote") ∷ []
 
--- the queues of a lock
+-- the queues of a lock, in the order of `queues_of` of `rl_step`: the queue with a number there has the name in that place here
 abbrev pub queue_names : Lock → ℕ → List Path → List TheQueueName
 queue_names lock.Spin levels paths = []
 queue_names lock.Dmcs levels paths = lone_queue (codes "all") ∷ []

@@ -35,16 +35,12 @@ pub record TheReport : Type 0 where
 
 -- the value in a reply is below 2 ^ 64
 abbrev pub ReplyFits : Reply → Type 0
-ReplyFits reply.New = Unit {0}
 ReplyFits (reply.Was v) = v < 2 ^ 64
-ReplyFits reply.Full = Unit {0}
 ReplyFits (reply.Val v) = v < 2 ^ 64
-ReplyFits reply.Nothing = Unit {0}
 ReplyFits (reply.Sum v) = v < 2 ^ 64
 ReplyFits (reply.Over v) = v < 2 ^ 64
 ReplyFits (reply.No v) = v < 2 ^ 64
-ReplyFits reply.Held = Unit {0}
-ReplyFits reply.Undone = Unit {0}
+ReplyFits _ = Unit {0}
 
 -- a call alone, or a part of a batch of at least 2
 abbrev pub PartFits : ℕ → ℕ → Type 0

@@ -1,5 +1,5 @@
 -- The tallies of queues by number, from what happened.
-use Rattle.std.specs.Prelude.{ℕ, zero, suc, ◌+◌, List, [], ◌∷◌, map, Option, Some, None}
+use Rattle.std.specs.Prelude.{ℕ, zero, suc, ◌+◌, List, [], ◌∷◌, Option, Some, None}
 use Rattle.rl_step.specs.declared.events.Event.{Event}
 use Rattle.rl_step.specs.declared.events.Event.TheVariants.{Pass, Settle}
 use Rattle.rl_step.specs.declared.tallies.Tally.{Tally}
@@ -9,10 +9,6 @@ use Rattle.rl_step.specs.Queues.{tally_of}
 abbrev pub tallies_from : ℕ → ℕ → List Event → List Tally
 tallies_from q zero trace = []
 tallies_from q (suc n) trace = tally_of q trace ∷ tallies_from (q + 1) n trace
-
--- the trace of events that have the numbers of their steps
-abbrev pub trace_of_report : List (ℕ × Event) → List Event
-trace_of_report events = map (λ e. e.1) events
 
 -- the queue that an event counts for, and what it counts
 abbrev pub counts_for : Event → Option (ℕ × Tally)

@@ -1,7 +1,8 @@
 //! Tallies of queues.
 ghost use Rattle.std.specs.Prelude.{◌≡◌, ◌↔◌, ◌+◌, ◌<◌, length, take, IsTrue, IfOk};
 ghost use Rattle.rl_step.specs.Queues.{IsWithinBudget};
-ghost use Rattle.rl_report.specs.Tallies.{tallies_from, trace_of_report, counts_for};
+ghost use Rattle.rl_report.specs.Tallies.{tallies_from, counts_for};
+ghost use Rattle.rl_step.specs.Traces.{events_of};
 
 use rl_step::{Event, Tally};
 use std::alloc::{AllocError as OutOfMemory, Global};
@@ -35,8 +36,8 @@ fn counts_for(event: Event) -> Option<(u32, Tally)>
 // Counts the event at a place, after those before it. One of a queue that isn't there counts nothing.
 fn count_event(tallies: &mut [Tally], events: &[(u32, Event)], place: usize)
     requires there { place < length events.now }
-    requires counted { tallies.old ≡ tallies_from 0 (length tallies.old) (trace_of_report (take place events.now)) }
-    ensures counted { tallies.new ≡ tallies_from 0 (length tallies.old) (trace_of_report (take (place + 1) events.now)) }
+    requires counted { tallies.old ≡ tallies_from 0 (length tallies.old) (events_of (take place events.now)) }
+    ensures counted { tallies.new ≡ tallies_from 0 (length tallies.old) (events_of (take (place + 1) events.now)) }
 {
     let (_, event) = events[place];
     let Some((queue, more)) = counts_for(event) else {
@@ -57,7 +58,7 @@ pub fn tallies(
     queues: u32,
     events: &[(u32, Event)],
 ) -> Result<Vec<Tally>, OutOfMemory>
-    ensures { IfOk result (λ tallies. tallies.items ≡ tallies_from 0 queues (trace_of_report events.now)) }
+    ensures { IfOk result (λ tallies. tallies.items ≡ tallies_from 0 queues (events_of events.now)) }
 {
     let none = Tally {
         settled: 0,

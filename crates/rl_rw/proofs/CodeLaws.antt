@@ -5,7 +5,8 @@ use Rattle.rl_step.specs.Lock.{LockState, Told, MayStep, MayLearn as StepLearns}
 use Rattle.rl_queue.specs.laws.Choices.{choose}
 use Rattle.rl_queue.specs.laws.RankWordLaws.{length-every_second}
 use Rattle.rl_tree.specs.declared.view.TreeView.{TreeView}
-use Rattle.rl_tree.specs.Tree.{tree_learn, tree_resume, at_hook, with_entry, has_above}
+use Rattle.rl_tree.specs.Tree.{tree_learn, tree_resume, at_hook, with_entry}
+use Rattle.std.specs.Prelude.{is_some}
 use Rattle.rl_tree.specs.Elements.{ranks_in, tree_of}
 use Rattle.rl_tree.specs.Fits.{MayPlan, TreeMayLearn}
 use Rattle.rl_tree.specs.TreeShape.{IsWellShaped}
@@ -54,7 +55,7 @@ ends_at K t (Compare i f) got b may =
 ends_at K t (TakeOff i x) got b may = choose (λ u. Ends K.rooted t (TakeOff i x) u.doing) (nat_lt (i + 1) (length (counters_of K).arrive)) (to (TakeOut (i + 1))) (to Nothing) tt (may tt)
 ends_at K t _ got b may = tt
 
-module _ (K : Shared) (levels : ℕ) (S : IsWellShaped K.rooted levels) (limited : has_above K.rooted.root ≡ true) (few : K.readers ≤ 1000) (grouped : 0 < K.group) where
+module _ (K : Shared) (levels : ℕ) (S : IsWellShaped K.rooted levels) (limited : is_some K.rooted.root ≡ true) (few : K.readers ≤ 1000) (grouped : 0 < K.group) where
   F : TreeFacts K.rooted levels
   F = tree_facts K.rooted levels S
 

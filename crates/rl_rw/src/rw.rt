@@ -1,10 +1,10 @@
 //! RMA-RW: what a rank does in the tree and at the counters.
 
-ghost use Rattle.std.specs.Prelude.{◌≡◌, ◌++◌, Bool, ◌+◌, ◌-◌, ◌/◌, ◌<◌, ◌≤◌, ◌∷◌, [], List, length, refl, true, false, IfOk};
+ghost use Rattle.std.specs.Prelude.{◌≡◌, ◌++◌, Bool, ◌+◌, ◌-◌, ◌/◌, ◌<◌, ◌≤◌, ◌∷◌, [], List, length, refl, true, false, IfOk, is_some};
 ghost use Rattle.rl_step.specs.declared.events.Event.{Event as TheEvent};
 ghost use Rattle.rl_word.specs.declared.locks.LockName.TheVariants as TheName;
 ghost use Rattle.rl_word.specs.Shapes.{layout_of};
-ghost use Rattle.rl_tree.specs.Tree.{has_above, entry_if};
+ghost use Rattle.rl_tree.specs.Tree.{entry_if};
 ghost use Rattle.rl_tree.specs.TreeShape.{levels_of};
 ghost use Rattle.rl_rw.specs.Rw.{shared_of, shared_in, SuitsRw, counters_of, from_tree, after_hook, from_counter, rw_table, BoundsBatches, KeepsBatches};
 ghost use Rattle.rl_rw.specs.Fits.{MayLeaveHook, Ends};
@@ -39,7 +39,7 @@ pub struct Rw {
     group: u32,
     ghost seated: { node_of.items ≡ tree.rooted.shape.node_of },
     ghost counted: { counters ≡ counters_of (shared_of tree.rooted counters.readers group) },
-    ghost limited: { has_above tree.rooted.root ≡ true },
+    ghost limited: { is_some tree.rooted.root ≡ true },
     ghost served: { 0 < counters.readers },
     ghost few: { counters.readers ≤ 1000 },
     ghost grouped: { 0 < group },

@@ -11,7 +11,7 @@ use Rattle.rl_step.specs.Lock.{IsHolder}
 use Rattle.rl_volume.specs.Seen.{AgreesWith}
 use Rattle.rl_work.specs.declared.stage.Stage.TheVariants.{Rest, Journal}
 use Rattle.rl_work.specs.Locked.{first_reads}
-use Rattle.rl_site.specs.Site.{Site, count_word, volume_of}
+use Rattle.rl_site.specs.Site.{Site, count_word, volume_of, WaySite}
 use Rattle.rl_work.specs.Work.{TheWork, at_stage as at_work_stage, has_work, stores}
 use Rattle.rl_work.specs.Ways.{WorkSide as SideOf}
 use Rattle.rl_work.specs.PlainWork.{Rises}
@@ -19,7 +19,7 @@ use Rattle.rl_work.specs.WorkGood.{WorkSide, WorkGood, HasOpen}
 use Rattle.rl_work.specs.Unlocked.{wanted, wanted_by}
 use Rattle.rl_seq.specs.declared.stage.SeqStage.{SeqStage}
 use Rattle.rl_seq.specs.declared.stage.SeqStage.TheVariants as stage
-use Rattle.rl_seq.specs.Site.{SeqSite, version_in, front}
+use Rattle.rl_seq.specs.Site.{version_in, front}
 use Rattle.rl_seq.specs.SeqWork.{TheSeqWork}
 
 -- how a rank stands, and its side of the work
@@ -49,15 +49,9 @@ as_locked x = locked_at x.standing x.work.work x.work.stage
 
 -- the rank is a writer between its two stores to the version
 abbrev pub is_between : SeqStage → Bool
-is_between stage.Locked = false
-is_between stage.Look = false
-is_between (stage.Count version) = false
-is_between (stage.Read version count word) = false
-is_between (stage.Again version count) = false
-is_between stage.Decided = false
-is_between (stage.Open version) = false
 is_between (stage.Write version) = true
 is_between (stage.Close version) = true
+is_between st = false
 
 -- a get alone is open
 pub record IsGetting (site : Site) (rank : ℕ) (st : Standing) (w : TheWork) : Type 0 where
@@ -129,7 +123,7 @@ abbrev pub IsQuiet : List SeqRank → Type 0
 IsQuiet sides = (r : ℕ) (x : SeqRank) → slice_get sides r ≡ Some x → is_between x.work.stage ≡ false
 
 -- The rule: that of the work inside the lock, of what each side is there; and that of the version.
-pub record SeqGood (at : SeqSite) (words : List ℕ) (sides : List SeqRank) : Type 0 where
+pub record SeqGood (at : WaySite) (words : List ℕ) (sides : List SeqRank) : Type 0 where
   pub locked : WorkGood at.site (front at words) (map as_locked sides)
   pub quiet : IsQuiet sides → IsEven (version_in at words) (slice_index (front at words) count_word)
   pub fits : (r : ℕ) (x : SeqRank) → slice_get sides r ≡ Some x → SeqFits at.site (front at words) (version_in at words) r x

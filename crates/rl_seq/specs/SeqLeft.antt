@@ -9,7 +9,8 @@ use Rattle.rl_work.specs.LockedLeft.{words_unseen, far_at, far as work_far}
 use Rattle.rl_work.specs.Work.{TheWork}
 use Rattle.rl_seq.specs.declared.stage.SeqStage.{SeqStage}
 use Rattle.rl_seq.specs.declared.stage.SeqStage.TheVariants as stage
-use Rattle.rl_seq.specs.Site.{SeqSite, version_in}
+use Rattle.rl_seq.specs.Site.{version_in}
+use Rattle.rl_site.specs.Site.{WaySite}
 use Rattle.rl_seq.specs.SeqWork.{TheSeqWork}
 
 -- of an open block inside the lock: it may have to load the version, and to store it twice
@@ -55,9 +56,9 @@ abbrev pub most_near : ℕ → ℕ
 most_near volume = 2 * volume + 8
 
 -- an update makes the tries of all gets longer, and pays for that with its own atoms
-abbrev pub seq_left : SeqSite → List ℕ → List TheSeqWork → ℕ
+abbrev pub seq_left : WaySite → List ℕ → List TheSeqWork → ℕ
 seq_left at words works = two_sums (most_near (volume_words at.site.geom)) (far (volume_words at.site.geom)) (near (volume_words at.site.geom) (version_in at words)) works
 
 -- a block has 8 calls at most
-abbrev pub seq_most : SeqSite → ℕ
+abbrev pub seq_most : WaySite → ℕ
 seq_most at = (volume_words at.site.geom + 97) * (1 + most_near (volume_words at.site.geom) * length at.site.rooms) + most_near (volume_words at.site.geom)

@@ -1,5 +1,5 @@
 -- The work of a block under a sequence lock, as plain functions: the next atom, and what it leaves.
-use Rattle.std.specs.Prelude.{ℕ, ◌+◌, ◌-◌, ◌%◌, ◌==◌, Bool, true, false, List, [], take, length, Option, Some, None}
+use Rattle.std.specs.Prelude.{ℕ, ◌+◌, ◌-◌, ◌%◌, ◌==◌, Bool, true, false, List, [], take, length, Option, Some, None, if◌then◌else◌}
 use Rattle.rl_word.specs.declared.acts.Atom.{Atom}
 use Rattle.rl_word.specs.declared.acts.Atom.TheVariants.{Load, Store}
 use Rattle.rl_word.specs.declared.classes.Mode.{Mode}
@@ -10,13 +10,13 @@ use Rattle.rl_model.specs.declared.entry.Entry.{Entry}
 use Rattle.rl_step.specs.declared.events.Stepped.TheVariants.{Moved, Waiting, Lost}
 use Rattle.rl_work.specs.declared.follow.Follow.TheVariants.{On, Over}
 use Rattle.rl_work.specs.Locked.{first_reads}
-use Rattle.rl_site.specs.Site.{count_word, volume_base}
+use Rattle.rl_site.specs.Site.{count_word, volume_base, WaySite}
 use Rattle.rl_work.specs.Ways.{WorkTable, Worked}
 use Rattle.rl_work.specs.Work.{TheWork, WorkTurned, first_work, work_atom, work_after, with_block, with_seen, seen_on, has_work, stores}
 use Rattle.rl_work.specs.Unlocked.{wanted, with_word}
 use Rattle.rl_seq.specs.declared.stage.SeqStage.{SeqStage}
 use Rattle.rl_seq.specs.declared.stage.SeqStage.TheVariants as stage
-use Rattle.rl_seq.specs.Site.{SeqSite, seq_version_word}
+use Rattle.rl_seq.specs.Site.{seq_version_word}
 
 -- a rank's side: that of the work inside the lock, and where it stands between the versions
 pub record TheSeqWork : Type 0 where
@@ -31,23 +31,15 @@ abbrev pub first_seq : Geom → ℕ → TheSeqWork
 first_seq geom room = seq_at_stage (first_work geom room) stage.Locked
 
 -- a block is opened: a get alone begins with the version, and any other inside the lock
-abbrev pub stage_of : Bool → SeqStage
-stage_of true = stage.Look
-stage_of false = stage.Locked
-
 abbrev pub seq_block : TheSeqWork → List Call → ℕ → TheSeqWork
-seq_block x calls seq = seq_at_stage (with_block x.work calls seq) (stage_of (first_reads calls))
+seq_block x calls seq = seq_at_stage (with_block x.work calls seq) (if first_reads calls then stage.Look else stage.Locked)
 
 -- the mode in which the lock is asked for with the opening, if it is asked for
-abbrev pub asks_by : Bool → Option Mode
-asks_by true = None
-asks_by false = Some mode.Write
-
 abbrev pub asks : List Call → Option Mode
-asks calls = asks_by (first_reads calls)
+asks calls = if first_reads calls then None else Some mode.Write
 
 -- the atom of a stage
-abbrev pub seq_stage_atom : SeqSite → TheWork → SeqStage → Option Atom
+abbrev pub seq_stage_atom : WaySite → TheWork → SeqStage → Option Atom
 seq_stage_atom at w stage.Locked = work_atom at.site.geom w
 seq_stage_atom at w stage.Look = Some (Load (seq_version_word at))
 seq_stage_atom at w (stage.Count version) = Some (Load count_word)
@@ -59,7 +51,7 @@ seq_stage_atom at w (stage.Write version) = work_atom at.site.geom w
 seq_stage_atom at w (stage.Close version) = Some (Store (seq_version_word at) (version + 2))
 
 -- the next atom
-abbrev pub seq_atom : SeqSite → TheSeqWork → Option Atom
+abbrev pub seq_atom : WaySite → TheSeqWork → Option Atom
 seq_atom at x = seq_stage_atom at x.work x.stage
 
 -- the block goes on at a stage, or is over
@@ -85,46 +77,34 @@ loaded_by w false false = goes_to w stage.Locked
 abbrev pub loaded_on : WorkTurned → Worked TheSeqWork
 loaded_on t = loaded_by t.work t.over (stores t.work.stage)
 
-abbrev pub after_load : SeqSite → ℕ → TheWork → ℕ → Worked TheSeqWork
+abbrev pub after_load : WaySite → ℕ → TheWork → ℕ → Worked TheSeqWork
 after_load at rank w got = loaded_on (work_after at.site.geom at.site.shard rank w got)
 
 -- after a store between the versions: the count was stored, or the next store follows
-abbrev pub stored_by : ℕ → TheWork → Bool → Worked TheSeqWork
-stored_by version w true = goes_to w (stage.Close version)
-stored_by version w false = goes_to w (stage.Write version)
-
 abbrev pub stored_on : ℕ → WorkTurned → Worked TheSeqWork
-stored_on version t = stored_by version t.work t.over
+stored_on version t = if t.over then goes_to t.work (stage.Close version) else goes_to t.work (stage.Write version)
 
-abbrev pub after_store : SeqSite → ℕ → TheWork → ℕ → ℕ → Worked TheSeqWork
+abbrev pub after_store : WaySite → ℕ → TheWork → ℕ → ℕ → Worked TheSeqWork
 after_store at rank w version got = stored_on version (work_after at.site.geom at.site.shard rank w got)
 
 -- a get that found this version: it goes on where that is even, and waits where it is odd
-abbrev pub looked_by : SeqSite → TheWork → ℕ → Bool → Worked TheSeqWork
-looked_by at w got true = goes_to w (stage.Count got)
-looked_by at w got false = waits w (seq_version_word at) got
-
-abbrev pub looked_on : SeqSite → TheWork → ℕ → Worked TheSeqWork
-looked_on at w got = looked_by at w got (got % 2 == 0)
+abbrev pub looked_on : WaySite → TheWork → ℕ → Worked TheSeqWork
+looked_on at w got = if got % 2 == 0 then goes_to w (stage.Count got) else waits w (seq_version_word at) got
 
 -- it reads the next word, or the version again
 abbrev pub read_by : TheWork → ℕ → ℕ → Option ℕ → Worked TheSeqWork
 read_by w version count (Some word) = goes_to w (stage.Read version count word)
 read_by w version count None = goes_to w (stage.Again version count)
 
-abbrev pub seq_read_on : SeqSite → TheWork → ℕ → ℕ → Worked TheSeqWork
+abbrev pub seq_read_on : WaySite → TheWork → ℕ → ℕ → Worked TheSeqWork
 seq_read_on at w version count = read_by w version count (wanted at.site.geom w)
 
 -- it found the version again: the same, and it is decided; or another, and it begins anew
-abbrev pub checked_by : SeqSite → ℕ → TheWork → ℕ → ℕ → ℕ → Bool → Worked TheSeqWork
-checked_by at rank w version count got true = is_over (seen_on at.site.geom at.site.shard rank w count).work
-checked_by at rank w version count got false = lost w version got
-
-abbrev pub checked_on : SeqSite → ℕ → TheWork → ℕ → ℕ → ℕ → Worked TheSeqWork
-checked_on at rank w version count got = checked_by at rank w version count got (got == version)
+abbrev pub checked_on : WaySite → ℕ → TheWork → ℕ → ℕ → ℕ → Worked TheSeqWork
+checked_on at rank w version count got = if got == version then is_over (seen_on at.site.geom at.site.shard rank w count).work else lost w version got
 
 -- what the atom of a stage leaves, which gave got
-abbrev pub seq_stage_after : SeqSite → ℕ → TheWork → ℕ → SeqStage → Worked TheSeqWork
+abbrev pub seq_stage_after : WaySite → ℕ → TheWork → ℕ → SeqStage → Worked TheSeqWork
 seq_stage_after at rank w got stage.Locked = after_load at rank w got
 seq_stage_after at rank w got stage.Look = looked_on at w got
 seq_stage_after at rank w got (stage.Count version) = seq_read_on at w version got
@@ -136,7 +116,7 @@ seq_stage_after at rank w got (stage.Write version) = after_store at rank w vers
 seq_stage_after at rank w got (stage.Close version) = is_over w
 
 -- what an atom that gave got leaves of rank's side
-abbrev pub seq_after : SeqSite → ℕ → TheSeqWork → ℕ → Worked TheSeqWork
+abbrev pub seq_after : WaySite → ℕ → TheSeqWork → ℕ → Worked TheSeqWork
 seq_after at rank x got = seq_stage_after at rank x.work got x.stage
 
 -- whether the atom of a stage is told as a touch of what the lock guards, and if so whether it writes: the loads of a get alone aren't, which holds
@@ -170,21 +150,14 @@ abbrev pub before_last : List Entry → ℕ → List Entry
 before_last items last = take (length items - last) items
 
 abbrev pub ended_at : TheWork → SeqStage → List Entry
-ended_at w stage.Locked = w.transcript.items
-ended_at w stage.Look = w.transcript.items
-ended_at w (stage.Count version) = w.transcript.items
-ended_at w (stage.Read version count word) = w.transcript.items
-ended_at w (stage.Again version count) = w.transcript.items
-ended_at w stage.Decided = w.transcript.items
-ended_at w (stage.Open version) = w.transcript.items
-ended_at w (stage.Write version) = w.transcript.items
 ended_at w (stage.Close version) = before_last w.transcript.items (length w.entries)
+ended_at w st = w.transcript.items
 
 abbrev pub ended : TheSeqWork → List Entry
 ended x = ended_at x.work x.stage
 
 -- the way of working, on a shard that lives on this node
-abbrev pub seq_table : SeqSite → ℕ → WorkTable TheSeqWork
+abbrev pub seq_table : WaySite → ℕ → WorkTable TheSeqWork
 seq_table at home =
     record {
       site = at.site;

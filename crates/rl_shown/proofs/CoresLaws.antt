@@ -15,7 +15,8 @@ use Rattle.rl_core.specs.ShardTables.{ShardTable}
 use Rattle.rl_core.specs.ShardLaws.{GoodOf, CauseOf, FurtherOf, LawsOf}
 use Rattle.rl_machine.specs.Running.{ShardRun, Running}
 use Rattle.rl_machine.specs.Ruled.{AreRuled}
-use Rattle.rl_machine.specs.ShardSteps.{events_of, opened_at, makes, made_at}
+use Rattle.rl_machine.specs.ShardSteps.{opened_at, makes, made_at}
+use Rattle.rl_step.specs.Traces.{events_of}
 use Rattle.rl_machine.specs.Run.{changed_if, opens, opened_if, block_opened, atom_made, stepped, run_of}
 use Rattle.rl_machine.specs.Start.{site_of, first_shards}
 use Rattle.rl_machine.specs.Run.{on_shard}

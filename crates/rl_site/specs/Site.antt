@@ -12,6 +12,11 @@ pub record Site : Type 0 where
   pub shard : ℕ
   pub rooms : List ℕ
 
+-- a shard's place under a way of working that has words of its own: the number of the first of them, which stand behind the lock's
+pub record WaySite : Type 0 where
+  pub site : Site
+  pub behind : ℕ
+
 -- the place that is given for a shard
 abbrev pub site_of : GivenSite → Site
 site_of s = record { geom = s.geom; shard = s.shard; rooms = s.rooms.items }

@@ -10,11 +10,11 @@ no_steps = record { moved = 0; waiting = 0; lost = 0; busy = 0; finished = 0 }
 
 -- one more of the answer's kind
 abbrev pub counted : Stepped → Steps → Steps
-counted Moved s = record { moved = s.moved + 1; waiting = s.waiting; lost = s.lost; busy = s.busy; finished = s.finished }
-counted (Waiting w v) s = record { moved = s.moved; waiting = s.waiting + 1; lost = s.lost; busy = s.busy; finished = s.finished }
-counted (Lost guess seen) s = record { moved = s.moved; waiting = s.waiting; lost = s.lost + 1; busy = s.busy; finished = s.finished }
-counted (Busy node holder) s = record { moved = s.moved; waiting = s.waiting; lost = s.lost; busy = s.busy + 1; finished = s.finished }
-counted Finished s = record { moved = s.moved; waiting = s.waiting; lost = s.lost; busy = s.busy; finished = s.finished + 1 }
+counted Moved s = record s { moved = s.moved + 1 }
+counted (Waiting w v) s = record s { waiting = s.waiting + 1 }
+counted (Lost guess seen) s = record s { lost = s.lost + 1 }
+counted (Busy node holder) s = record s { busy = s.busy + 1 }
+counted Finished s = record s { finished = s.finished + 1 }
 
 -- how many steps were made
 abbrev pub steps_made : Steps → ℕ

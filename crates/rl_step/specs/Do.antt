@@ -10,33 +10,24 @@ pub record TheWindow : Type 0 where
 
 -- the words after the atom
 abbrev pub do_words : Atom → List ℕ → List ℕ
-do_words (Load w) ws = ws
 do_words (Store w v) ws = slice_set ws w v
 do_words (LocalCas w old new) ws = if slice_index ws w == old then slice_set ws w new else ws
-do_words (Take n) ws = ws
-do_words (CardLoad w) ws = ws
 do_words (CardStore w v) ws = slice_set ws w v
-do_words (Leave n) ws = ws
+do_words _ ws = ws
 
 -- the cards after the rank's atom: a take enters a card that is free, and changes nothing where another is in it
 abbrev pub do_cards : ℕ → Atom → List ℕ → List ℕ
-do_cards rank (Load w) cs = cs
-do_cards rank (Store w v) cs = cs
-do_cards rank (LocalCas w old new) cs = cs
 do_cards rank (Take n) cs = if slice_index cs n == 0 then slice_set cs n (rank + 1) else cs
-do_cards rank (CardLoad w) cs = cs
-do_cards rank (CardStore w v) cs = cs
 do_cards rank (Leave n) cs = slice_set cs n 0
+do_cards rank _ cs = cs
 
 -- what the atom gives: the value found, or the card found by a take; 0 where it only writes
 abbrev pub do_got : Atom → List ℕ → List ℕ → ℕ
 do_got (Load w) ws cs = slice_index ws w
-do_got (Store w v) ws cs = 0
 do_got (LocalCas w old new) ws cs = slice_index ws w
 do_got (Take n) ws cs = slice_index cs n
 do_got (CardLoad w) ws cs = slice_index ws w
-do_got (CardStore w v) ws cs = 0
-do_got (Leave n) ws cs = 0
+do_got _ ws cs = 0
 
 -- the window after the rank's atom
 abbrev pub do_atom : ℕ → Atom → TheWindow → TheWindow

@@ -1,6 +1,7 @@
 -- to be believed, in reading order
 pub mod Do
 pub mod Answers
+pub mod Traces
 pub mod Exclusion
 pub mod Queues
 pub mod LockQueues

@@ -1,5 +1,6 @@
 -- What a lock is: its table of plain functions, its states and how they change, and its laws.
 use Rattle.std.specs.Prelude.{◌≡◌, ◌↔◌, ℕ, zero, suc, ◌+◌, ◌^◌, ◌<◌, ◌≤◌, Bool, true, false, List, [], ◌∷◌, ◌++◌, length, replicate, slice_get, slice_index, slice_set, Option, Some, None}
+use Rattle.std.specs.List.{AllByRecursion}
 use Rattle.rl_word.specs.declared.classes.Mode.{Mode}
 use Rattle.rl_word.specs.declared.classes.Mode.TheVariants as mode
 use Rattle.rl_word.specs.declared.classes.Spot.{Spot}
@@ -58,11 +59,9 @@ pub record LockState (V : Type 0) : Type 0 where
 
 -- a rank that stands so holds the lock
 abbrev pub IsHolder : Standing → Type 0
-IsHolder Out = ⊥
-IsHolder Asking = ⊥
 IsHolder Writer = Unit {0}
 IsHolder Reader = Unit {0}
-IsHolder Leaving = ⊥
+IsHolder _ = ⊥
 
 -- the first views of n ranks, numbered on from a rank
 abbrev pub first_views : {V : Type 0} → (ℕ → V) → ℕ → ℕ → List V
@@ -184,15 +183,10 @@ Names queues cohort (Join q m) = IsMember queues q m
 Names queues cohort (Announce c) = cohort c ≡ true
 Names queues cohort (Pass q m) = IsMember queues q m
 Names queues cohort (Settle q m) = IsMember queues q m
-Names queues cohort (Touch k w) = Unit {0}
-Names queues cohort (EnterW k) = Unit {0}
-Names queues cohort (EnterR k) = Unit {0}
-Names queues cohort (LeaveW k) = Unit {0}
-Names queues cohort (LeaveR k) = Unit {0}
+Names queues cohort _ = Unit {0}
 
 abbrev pub AllNamed : List QueueOf → (ℕ → Bool) → List Event → Type 0
-AllNamed queues cohort [] = Unit {0}
-AllNamed queues cohort (e ∷ es) = Names queues cohort e × AllNamed queues cohort es
+AllNamed queues cohort es = AllByRecursion (Names queues cohort) es
 
 -- a compare-and-swap finds its old value
 abbrev pub FindsOld : Act → ℕ → Type 0

@@ -1,5 +1,5 @@
 -- The element tree as plain functions: a queue for each element, and what a rank does in the queues on its path.
-use Rattle.std.specs.Prelude.{ℕ, zero, suc, ◌+◌, Bool, true, false, List, [], ◌∷◌, ◌++◌, slice_set, Option, Some, None}
+use Rattle.std.specs.Prelude.{ℕ, zero, suc, ◌+◌, Bool, true, false, List, [], ◌∷◌, ◌++◌, slice_set, Option, Some, None, if◌then◌else◌, is_some, get_or, unwrap_or}
 use Rattle.rl_word.specs.declared.acts.Act.{Act}
 use Rattle.rl_word.specs.declared.acts.Act.TheVariants.{Load}
 use Rattle.rl_step.specs.declared.events.Event.{Event}
@@ -19,15 +19,6 @@ pub record TheTree : Type 0 where
   pub names : ℕ → TheNames
   pub parent : ℕ → Option ℕ
 
--- a queue with a budget is left by the leave of one that has something above it
-abbrev pub has_above : Option ℕ → Bool
-has_above None = false
-has_above (Some b) = true
-
-abbrev pub or_zero : Option ℕ → ℕ
-or_zero None = 0
-or_zero (Some p) = p
-
 abbrev pub is_none : Option ℕ → Bool
 is_none None = true
 is_none (Some p) = false
@@ -35,7 +26,7 @@ is_none (Some p) = false
 -- the element at a level of a path from a leaf, and the member of its queue for which a rank works there
 abbrev pub path : TheTree → ℕ → ℕ → ℕ
 path T leaf zero = leaf
-path T leaf (suc j) = or_zero (T.parent (path T leaf j))
+path T leaf (suc j) = unwrap_or (T.parent (path T leaf j)) 0
 
 abbrev pub member_at : TheTree → ℕ → ℕ → ℕ → ℕ
 member_at T rank leaf zero = rank
@@ -48,27 +39,22 @@ abbrev pub works_for : TheTree → TreeView → ℕ → ℕ
 works_for T v j = member_at T v.rank v.leaf j
 
 abbrev pub behind_at : List (Option ℕ) → ℕ → Option ℕ
-behind_at [] j = None
-behind_at (s ∷ ss) zero = s
-behind_at (s ∷ ss) (suc j) = behind_at ss j
+behind_at ss j = get_or ss j None
 
 -- a view at a level in a phase
 abbrev pub at_level : TreeView → ℕ → Phase → TreeView
-at_level v w p = record { rank = v.rank; leaf = v.leaf; level = w; phase = p; query = false; behind = v.behind }
+at_level v w p = record v { level = w; phase = p; query = false }
 
 abbrev pub asks_status : TreeView → ℕ → TreeView
-asks_status v w = record { rank = v.rank; leaf = v.leaf; level = w; phase = Idle; query = true; behind = v.behind }
+asks_status v w = record v { level = w; phase = Idle; query = true }
 
 abbrev pub leaves_behind : TreeView → ℕ → Option ℕ → TreeView
-leaves_behind v w s = record { rank = v.rank; leaf = v.leaf; level = v.level; phase = v.phase; query = v.query; behind = slice_set v.behind w s }
+leaves_behind v w s = record v { behind = slice_set v.behind w s }
 
 -- the act of a rank at its level
-abbrev pub plan_by : TheTree → TreeView → Bool → Option Act
-plan_by T v true = Some (Load (status_word (names_at T v v.level) (works_for T v v.level)))
-plan_by T v false = plan_at (names_at T v v.level) (works_for T v v.level) v.phase
-
 abbrev pub tree_plan : TheTree → TreeView → Option Act
-tree_plan T v = plan_by T v v.query
+tree_plan T v =
+    if v.query then Some (Load (status_word (names_at T v v.level) (works_for T v v.level))) else plan_at (names_at T v v.level) (works_for T v v.level) v.phase
 
 -- the settlements of the queues below a level, from the upper one down
 abbrev pub settles_below : TheTree → TreeView → ℕ → List Event
@@ -109,12 +95,11 @@ tree_walk T v w p es b = record { view = at_level v w p; events = es; waits = b 
 abbrev pub walk_turn : TheTree → TreeView → ℕ → QueueTurn → Told TreeView
 walk_turn T v w t = tree_walk T v w t.phase t.events t.waits
 
-abbrev pub learn_by : TheTree → TreeView → Bool → ℕ → Told TreeView
-learn_by T v true got = record { view = at_level v v.level (Look (told_left (names_at T v v.level).budget got) (has_above (names_at T v v.level).budget)); events = []; waits = false }
-learn_by T v false got = walk_turn T v v.level (turn_at (names_at T v v.level) (works_for T v v.level) v.phase got)
-
+-- a queue with a budget is left by the leave of one that has something above it
 abbrev pub tree_learn : TheTree → TreeView → ℕ → Told TreeView
-tree_learn T v got = learn_by T v v.query got
+tree_learn T v got =
+    if v.query then record { view = at_level v v.level (Look (told_left (names_at T v v.level).budget got) (is_some (names_at T v v.level).budget)); events = []; waits = false }
+    else walk_turn T v v.level (turn_at (names_at T v v.level) (works_for T v v.level) v.phase got)
 
 -- the view stands at the hook above the root
 abbrev pub hook_by : Bool → Phase → Bool
@@ -133,12 +118,8 @@ resume_by T v p es = record { view = at_level v v.level (resume_at p); events = 
 abbrev pub tree_resume : TheTree → TreeView → Told TreeView
 tree_resume T v = resume_by T v v.phase []
 
-abbrev pub standing_by : Bool → Phase → Standing
-standing_by true p = standing.Leaving
-standing_by false p = standing_of p
-
 abbrev pub tree_standing : TreeView → Standing
-tree_standing v = standing_by v.query v.phase
+tree_standing v = if v.query then standing.Leaving else standing_of v.phase
 
 -- who is inside enters
 abbrev pub entry_if : Bool → Phase → ℕ → List Event
@@ -146,4 +127,4 @@ entry_if false (Granted left) m = event.EnterW m ∷ []
 entry_if q p m = []
 
 abbrev pub with_entry : Told TreeView → Told TreeView
-with_entry u = record { view = u.view; events = u.events ++ entry_if u.view.query u.view.phase u.view.rank; waits = u.waits }
+with_entry u = record u { events = u.events ++ entry_if u.view.query u.view.phase u.view.rank }

@@ -1,6 +1,6 @@
 -- What is true of the good states of a tree, whatever stands above its root: what a lock over the tree stands on. Each statement is one
 -- word, in the order of the clauses of `tree_laws`.
-use Rattle.std.specs.Prelude.{◌≡◌, ◌⊎◌, ℕ, ◌+◌, ◌<◌, ◌≤◌, Bool, true, false, List, [], ◌∷◌, ◌++◌, length, replicate, slice_get, slice_index, slice_set, Some, None}
+use Rattle.std.specs.Prelude.{◌≡◌, ◌⊎◌, ℕ, ◌+◌, ◌<◌, ◌≤◌, Bool, true, false, List, [], ◌∷◌, ◌++◌, length, replicate, slice_get, slice_index, slice_set, Some, None, is_some}
 use Rattle.rl_word.specs.declared.acts.Act.{Act}
 use Rattle.rl_word.specs.Acts.{word_of, written, told, IsLawful}
 use Rattle.rl_word.specs.Shapes.{layout_of}
@@ -14,7 +14,7 @@ use Rattle.rl_queue.specs.declared.view.Phase.TheVariants.{Clear, Settle}
 use Rattle.rl_queue.specs.Queue.{leave_at}
 use Rattle.rl_queue.specs.QueueGood.{QueueGood}
 use Rattle.rl_tree.specs.declared.view.TreeView.{TreeView}
-use Rattle.rl_tree.specs.Tree.{has_above, path, at_level, tree_plan, tree_learn, at_hook, tree_resume, tree_standing, entry_if}
+use Rattle.rl_tree.specs.Tree.{path, at_level, tree_plan, tree_learn, at_hook, tree_resume, tree_standing, entry_if}
 use Rattle.rl_tree.specs.declared.rooted.Rooted.{Rooted}
 use Rattle.rl_tree.specs.Elements.{how_many, ranks_in, leaf_of_rank, of_tree, names_in, tree_of, tree_spot, queue_at, queues_from, out_at}
 use Rattle.rl_tree.specs.Fits.{IsPlaced, MayPlan, TreeMayLearn}
@@ -107,7 +107,7 @@ module _ (K : Rooted) (levels : ℕ) where
   abbrev pub ActsKeep : Type 0
   ActsKeep =
       (inside : Bool) (ws : List ℕ) (vs : List TreeView) (t : List Event) (r : ℕ) (v : TreeView) (a : Act) → Planned inside ws vs t r v a →
-      (now : Bool) × (has_above K.root ≡ true → GateMoves (at_hook (learnt_in K ws v a).view) (learnt_in K ws v a).view.phase inside now) ×
+      (now : Bool) × (is_some K.root ≡ true → GateMoves (at_hook (learnt_in K ws v a).view) (learnt_in K ws v a).view.phase inside now) ×
       GoodAt K levels now (slice_set ws (word_of a) (written a (slice_index ws (word_of a)))) (slice_set vs r (learnt_in K ws v a).view) (t ++ (learnt_in K ws v a).events)
 
   -- and where it goes on from the hook

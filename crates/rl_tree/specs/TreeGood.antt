@@ -1,6 +1,6 @@
 -- The good states of a tree: each queue is good, with a phase for each of its members; a rank's view tells the phases of those for
 -- whom it works; and how the head of an element's queue stands tells how the element stands in its parent's queue.
-use Rattle.std.specs.Prelude.{◌≡◌, ℕ, zero, suc, ◌+◌, ◌<◌, ◌≤◌, Bool, true, false, List, length, if◌then◌else◌, slice_get, Option, Some, None}
+use Rattle.std.specs.Prelude.{◌≡◌, ℕ, zero, suc, ◌+◌, ◌<◌, ◌≤◌, Bool, true, false, List, length, if◌then◌else◌, slice_get, Option, Some, None, is_some}
 use Rattle.rl_step.specs.declared.events.Event.{Event}
 use Rattle.rl_step.specs.declared.events.Standing.{Standing}
 use Rattle.rl_step.specs.declared.events.Standing.TheVariants as standing
@@ -12,7 +12,7 @@ use Rattle.rl_queue.specs.QueueGood.{QueueGood}
 use Rattle.rl_queue.specs.Heads.{Head, head_in}
 use Rattle.rl_queue.specs.Standings.{standing_of}
 use Rattle.rl_tree.specs.declared.view.TreeView.{TreeView}
-use Rattle.rl_tree.specs.Tree.{has_above, hook_by, path, works_for, behind_at}
+use Rattle.rl_tree.specs.Tree.{hook_by, path, works_for, behind_at}
 use Rattle.rl_tree.specs.declared.rooted.Rooted.{Rooted}
 use Rattle.rl_tree.specs.Elements.{how_many, leaf_of_rank, is_node, is_in, names_in, tree_of, queue_at}
 
@@ -138,7 +138,7 @@ pub record IsGoodBy (K : Rooted) (levels : ℕ) (phase : ℕ → ℕ → Phase) 
   pub below : (r : ℕ) (v : TreeView) (j : ℕ) → slice_get views r ≡ Some v → j < v.level → phase (path (tree_of K) v.leaf j) (works_for (tree_of K) v j) ≡ below_by (way_of v.query v.phase) (behind_at v.behind j)
   pub here : (r : ℕ) (v : TreeView) → slice_get views r ≡ Some v → Tells v v.query (phase (path (tree_of K) v.leaf v.level) (works_for (tree_of K) v v.level))
   pub gates : (e p : ℕ) → e < how_many K → (tree_of K).parent e ≡ Some p → Matches (gate_of (head_in (lane_of (names_in K e) words (phase e)) (line e))) (phase p e)
-  pub spent : (q m : ℕ) → Spent (has_above (names_in K q).budget) (phase q m)
+  pub spent : (q m : ℕ) → Spent (is_some (names_in K q).budget) (phase q m)
   pub tenured : (q : ℕ) → q < how_many K → ended q + (if is_node K q then 0 else granted_in (head_in (lane_of (names_in K q) words (phase q)) (line q))) ≡ tenures (queue_at K q) trace
 
 pub record TreeGood (K : Rooted) (levels : ℕ) (words : List ℕ) (views : List TreeView) (trace : List Event) : Type 0 where

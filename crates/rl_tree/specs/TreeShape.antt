@@ -1,9 +1,9 @@
 -- What a lock asks of its tree, whatever budget the root has.
-use Rattle.std.specs.Prelude.{◌≡◌, ℕ, zero, suc, ◌-◌, ◌*◌, ◌<◌, ◌≤◌, List, length, slice_get, slice_index, true, Option, Some, None}
+use Rattle.std.specs.Prelude.{◌≡◌, ℕ, zero, suc, ◌-◌, ◌*◌, ◌<◌, ◌≤◌, List, length, slice_get, slice_index, true, Option, Some, None, is_some}
 use Rattle.rl_word.specs.declared.shapes.Element.{Element}
 use Rattle.rl_word.specs.Shapes.{TheShape, IsProper}
 use Rattle.rl_step.specs.LockQueues.{parent_of, stands, budget_by}
-use Rattle.rl_tree.specs.Tree.{has_above, path}
+use Rattle.rl_tree.specs.Tree.{path}
 use Rattle.rl_tree.specs.declared.rooted.Rooted.{Rooted}
 use Rattle.rl_tree.specs.Elements.{how_many, ranks_in, leaf_of_rank, is_node, first_node_of, names_in, tree_of}
 
@@ -29,7 +29,7 @@ pub record IsWellShaped (K : Rooted) (levels : ℕ) : Type 0 where
   pub some : 0 < how_many K
   pub one_root : (r : ℕ) → r < ranks_in K → path (tree_of K) (leaf_of_rank K r) levels ≡ 0
   pub root_free : (tree_of K).parent 0 ≡ None
-  pub budgeted : (e p : ℕ) → e < how_many K → (tree_of K).parent e ≡ Some p → has_above (names_in K e).budget ≡ true
+  pub budgeted : (e p : ℕ) → e < how_many K → (tree_of K).parent e ≡ Some p → is_some (names_in K e).budget ≡ true
   pub rising : (e p : ℕ) → e < how_many K → (tree_of K).parent e ≡ Some p → p < e
   pub lonely : (e : ℕ) → ranks_in K ≡ 1 → e < how_many K → e ≡ path (tree_of K) (leaf_of_rank K 0) (treed.depth e)
   pub few : how_many K ≤ ranks_in K * 4
@@ -41,7 +41,7 @@ pub record IsWellShaped (K : Rooted) (levels : ℕ) : Type 0 where
 
 -- every element but the root has a budget
 abbrev pub IsBudgeted : TheShape → Type 0
-IsBudgeted shape = (e : ℕ) → 0 < e → e < length shape.elements → has_above (budget_by (slice_get shape.elements e)) ≡ true
+IsBudgeted shape = (e : ℕ) → 0 < e → e < length shape.elements → is_some (budget_by (slice_get shape.elements e)) ≡ true
 
 -- how many steps an element is under one without a parent, in at most so many
 abbrev pub above_it : (ℕ → ℕ) → Option ℕ → ℕ
@@ -73,7 +73,7 @@ pub record IsTreeLaid (K : Rooted) (levels : ℕ) : Type 0 where
   pub root_free : parent_of (slice_get K.shape.elements 0) ≡ None
   pub high : 1 ≤ levels
   pub low : levels ≤ 3
-  pub budgeted : (e : ℕ) → 0 < e → e < how_many K → has_above (budget_by (slice_get K.shape.elements e)) ≡ true
+  pub budgeted : (e : ℕ) → 0 < e → e < how_many K → is_some (budget_by (slice_get K.shape.elements e)) ≡ true
   pub lonely : (e : ℕ) → ranks_in K ≡ 1 → e < how_many K → e ≡ path (tree_of K) (leaf_of_rank K 0) (level_in K levels e)
   pub few : how_many K ≤ ranks_in K * 4
   pub some : 0 < how_many K

@@ -1,3 +1,4 @@
+pub mod Cases
 pub mod TreePaths
 pub mod TreeWords
 pub mod TreeClimb

@@ -25,21 +25,15 @@ written (CardAdd w d) g = (g + d) % 2 ^ 64
 
 -- what the act tells the rank, where the word was g before
 abbrev pub told : Act → ℕ → ℕ
-told (Load w) g = g
 told (Store w v) g = 0
-told (LocalCas w old new) g = g
-told (CardCas w old new) g = g
-told (CardSwap w v) g = g
-told (CardAdd w d) g = g
+told _ g = g
 
 -- the act is made through the card of its word's home
 abbrev pub by_card : Act → Bool
-by_card (Load w) = false
-by_card (Store w v) = false
-by_card (LocalCas w old new) = false
 by_card (CardCas w old new) = true
 by_card (CardSwap w v) = true
 by_card (CardAdd w d) = true
+by_card _ = false
 
 -- The rule of classes: anybody loads any word; stores go to plain words; local compare-and-swaps go to local words, from
 -- ranks of their home; card acts go to card words. So nobody writes a fixed word.

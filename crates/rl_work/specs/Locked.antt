@@ -1,6 +1,6 @@
 -- Each block under its lock, as a way of working: it has no words of its own, the lock is asked for with the opening, and the entries
 -- of a block join where its work is over.
-use Rattle.std.specs.Prelude.{ℕ, Bool, true, false, List, [], ◌∷◌, take, Some}
+use Rattle.std.specs.Prelude.{ℕ, Bool, true, false, List, [], ◌∷◌, take, Some, if◌then◌else◌}
 use Rattle.rl_word.specs.declared.classes.Mode.{Mode}
 use Rattle.rl_word.specs.declared.classes.Mode.TheVariants as mode
 use Rattle.rl_model.specs.declared.call.Call.{Call}
@@ -13,25 +13,18 @@ use Rattle.rl_work.specs.Work.{TheWork, WorkTurned, first_work, with_block, work
 use Rattle.rl_work.specs.WorkGood.{WorkSide, WorkGood}
 use Rattle.rl_work.specs.Ways.{WorkTable, Worked}
 
--- the mode in which a block asks for the lock: a get alone may stand beside other readers
-abbrev pub mode_by : Bool → Mode
-mode_by true = mode.Read
-mode_by false = mode.Write
-
+-- a block that is a get
 abbrev pub first_reads : List Call → Bool
 first_reads [] = false
 first_reads (c ∷ cs) = reads c
 
+-- the mode in which a block asks for the lock: a get alone may stand beside other readers
 abbrev pub mode_of : List Call → Mode
-mode_of calls = mode_by (first_reads calls)
+mode_of calls = if first_reads calls then mode.Read else mode.Write
 
 -- a block whose work is over is over
-abbrev pub follow_by : Bool → Follow
-follow_by true = Over
-follow_by false = On
-
 abbrev pub locked_turn : WorkTurned → Worked TheWork
-locked_turn t = record { work = t.work; follow = follow_by t.over; stepped = Moved }
+locked_turn t = record { work = t.work; follow = if t.over then Over else On; stepped = Moved }
 
 abbrev pub locked_table : Site → ℕ → WorkTable TheWork
 locked_table site behind =

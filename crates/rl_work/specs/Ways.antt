@@ -16,7 +16,8 @@ use Rattle.rl_step.specs.declared.events.Stepped.TheVariants.{Moved, Waiting, Lo
 use Rattle.rl_step.specs.Lock.{IsHolder, Rests, Shift, Suits}
 use Rattle.rl_step.specs.Do.{do_got, do_words}
 use Rattle.rl_volume.specs.Volume.{IsVolume}
-use Rattle.rl_journal.specs.Blocks.{batch_number, calls_of, is_tenure}
+use Rattle.rl_journal.specs.Blocks.{calls_of, is_tenure}
+use Rattle.rl_model.specs.Asked.{batch_number}
 use Rattle.rl_journal.specs.Legal.{IsLegal, table_after}
 use Rattle.rl_journal.specs.History.{history, IsSorted}
 use Rattle.rl_work.specs.declared.follow.Follow.{Follow}

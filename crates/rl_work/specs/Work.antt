@@ -6,7 +6,7 @@ use Rattle.rl_model.specs.declared.call.Call.{Call}
 use Rattle.rl_model.specs.declared.entry.Entry.{Entry}
 use Rattle.rl_model.specs.declared.entry.Reply.{Reply}
 use Rattle.rl_model.specs.declared.geom.Geom.{Geom}
-use Rattle.rl_model.specs.Asked.{asks_update}
+use Rattle.rl_model.specs.Asked.{asks_update, batch_number}
 use Rattle.rl_volume.specs.declared.write.Write.{Write}
 use Rattle.rl_volume.specs.Seen.{SeenWords, value_of, value_or_zero, next_word, patched}
 use Rattle.rl_volume.specs.Words.{volume_words}
@@ -14,7 +14,7 @@ use Rattle.rl_volume.specs.Decision.{decision}
 use Rattle.rl_work.specs.declared.stage.Stage.{Stage}
 use Rattle.rl_work.specs.declared.stage.Stage.TheVariants.{Rest, Begin, Read, Journal, Volume}
 use Rattle.rl_journal.specs.Journal.{spelled}
-use Rattle.rl_journal.specs.Blocks.{undone, stops, batch_number}
+use Rattle.rl_journal.specs.Blocks.{undone, stops}
 use Rattle.rl_site.specs.Site.{count_word, volume_base, journal_base}
 use Rattle.rl_site.specs.Transcript.{TheTranscript}
 
@@ -117,14 +117,10 @@ entries_of shard rank batch seq at part (c ∷ cs) (a ∷ rs) =
 abbrev pub with_entries : ℕ → ℕ → TheWork → ℕ → Stage → TheWork
 with_entries shard rank x count stage = record x { stage = stage; at = count; entries = entries_of shard rank (batch_in x) x.seq count 0 x.calls x.replies }
 
--- updates go on to the journal; any other call is over
-abbrev pub block_close_by : ℕ → ℕ → TheWork → ℕ → Bool → WorkTurned
-block_close_by shard rank x count true = record { work = with_entries shard rank x count (Journal 0); over = false }
-block_close_by shard rank x count false = at_rest (with_entries shard rank x count x.stage)
-
--- all calls of the block are decided
+-- all calls of the block are decided: updates go on to the journal, and any other call is over
 abbrev pub block_close : ℕ → ℕ → TheWork → ℕ → WorkTurned
-block_close shard rank x count = block_close_by shard rank x count (asks_update x.calls)
+block_close shard rank x count =
+    if asks_update x.calls then record { work = with_entries shard rank x count (Journal 0); over = false } else at_rest (with_entries shard rank x count x.stage)
 
 -- the reply stops a block of so many calls: a call alone is never stopped
 abbrev pub stops_block : ℕ → Reply → Bool
@@ -227,15 +223,10 @@ CanTurn geom x got (Volume made) = (made ≤ length x.writes) × (length x.trans
 -- a call is open, as far as the work goes
 abbrev pub has_work : Stage → Bool
 has_work Rest = false
-has_work Begin = true
-has_work (Read count word) = true
-has_work (Journal made) = true
-has_work (Volume made) = true
+has_work stage = true
 
 -- the atom at this stage writes
 abbrev pub stores : Stage → Bool
-stores Rest = false
-stores Begin = false
-stores (Read count word) = false
 stores (Journal made) = true
 stores (Volume made) = true
+stores stage = false

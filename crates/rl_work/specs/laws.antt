@@ -1,3 +1,4 @@
+pub mod Cases
 pub mod TurnLaws
 pub mod RoomLaws
 pub mod SideLaws

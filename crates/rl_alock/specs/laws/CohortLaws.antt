@@ -3,7 +3,8 @@ use Rattle.std.specs.Prelude.{◌≡◌, ◌≢◌, ◌⊎◌, ℕ, ◌<◌, Boo
 use Rattle.std.proofs.Common.{sym, ◌∙◌, ap, inl, inr, ⊎_elim, arith}
 use Rattle.rl_alock.specs.declared.cohort.Cohort.{Cohort}
 use Rattle.rl_alock.specs.declared.cohort.Cohort.TheVariants.{Local, Remote}
-use Rattle.rl_alock.specs.Alock.{Cohorts, sits_at_home, cohort_by, cohort_of, is_in_cohort, other, cohort_no, tail_no}
+use Rattle.rl_alock.specs.Alock.{Cohorts, sits_at_home, cohort_of, is_in_cohort, other, cohort_no, tail_no}
+use Rattle.rl_alock.specs.laws.Cases.{cohort_by}
 
 -- the other cohort is another, and whatever isn't a cohort is the other one
 pub other_differs : (c : Cohort) → c ≢ other c

@@ -8,8 +8,10 @@ use Rattle.rl_work.specs.declared.follow.Follow.TheVariants.{On}
 use Rattle.rl_work.specs.Ways.{Worked}
 use Rattle.rl_combine.specs.declared.stage.CombineStage.{CombineStage}
 use Rattle.rl_combine.specs.declared.stage.CombineStage.TheVariants.{Rest, Post, Raise, Look, Count, Sweep, Copy, Read, Journal, Volume, Answer, Mark, Collect, Lower}
-use Rattle.rl_combine.specs.Posts.{CombineSite, combine_ranks}
-use Rattle.rl_combine.specs.Combine.{TheCombineSide, opened_of, combine_is_open, combine_stage_after, combine_to_stage, to_collect, sweep_on, with_nothing, with_copied, with_posted, combine_with_word, combine_read_next, combine_read_on, combine_written_on, decided_stage}
+use Rattle.rl_combine.specs.Posts.{combine_ranks}
+use Rattle.rl_site.specs.Site.{WaySite}
+use Rattle.rl_combine.specs.Combine.{TheCombineSide, opened_of, combine_is_open, combine_stage_after, combine_to_stage, to_collect, sweep_on, with_nothing, with_copied, with_posted, combine_with_word, combine_read_next, combine_read_on, combine_written_on}
+use Rattle.rl_combine.specs.laws.Cases.{decided_stage}
 
 -- the call goes on, with what is kept
 pub record StaysOpen (x : TheCombineSide) (t : Worked TheCombineSide) : Type 0 where
@@ -29,10 +31,10 @@ on_test : (x : TheCombineSide) (b : Bool) (s t : Worked TheCombineSide) → Goes
 on_test x true s t a c = a
 on_test x false s t a c = c
 
-on_sweep : (S : CombineSite) (x y : TheCombineSide) (owner : ℕ) → opened_of y ≡ opened_of x → GoesOnOpen x (sweep_on S y owner)
+on_sweep : (S : WaySite) (x y : TheCombineSide) (owner : ℕ) → opened_of y ≡ opened_of x → GoesOnOpen x (sweep_on S y owner)
 on_sweep S x y owner same = on_test x (owner == combine_ranks S) (to_collect y) (combine_to_stage y (Sweep owner)) (on_stage x (with_nothing y) (Collect 0) same refl) (on_stage x y (Sweep owner) same refl)
 
-on_read : (S : CombineSite) (x y : TheCombineSide) (owner : ℕ) → opened_of y ≡ opened_of x → GoesOnOpen x (combine_read_on S y owner)
+on_read : (S : WaySite) (x y : TheCombineSide) (owner : ℕ) → opened_of y ≡ opened_of x → GoesOnOpen x (combine_read_on S y owner)
 on_read S x y owner same = by_next (next_word S.site.geom y.posted y.seen.pairs) where
   by_kind : (b : Bool) → combine_is_open (decided_stage owner b) ≡ true
   by_kind true = refl
@@ -47,13 +49,13 @@ on_write x owner made (Some w) = on_stage x x (Volume owner (made + 1)) refl ref
 on_write x owner made None = on_stage x (record x { count = x.count + 1 }) (Answer owner 0) refl refl
 
 -- what happens to a rank's open call and its kept entries with an atom: they stay, unless the flag is lowered
-pub data Happens (S : CombineSite) (r : ℕ) (x : TheCombineSide) (got : ℕ) (st : CombineStage) : Type 0 where
+pub data Happens (S : WaySite) (r : ℕ) (x : TheCombineSide) (got : ℕ) (st : CombineStage) : Type 0 where
   goes : GoesOnOpen x (combine_stage_after S r x got st) → Happens S r x got st
   asks : st ≡ Raise → Happens S r x got st
   ends : st ≡ Lower → Happens S r x got st
   rests : st ≡ Rest → Happens S r x got st
 
-pub happens : (S : CombineSite) (r : ℕ) (x : TheCombineSide) (got : ℕ) (st : CombineStage) → Happens S r x got st
+pub happens : (S : WaySite) (r : ℕ) (x : TheCombineSide) (got : ℕ) (st : CombineStage) → Happens S r x got st
 happens S r x got Rest = rests refl
 happens S r x got (Post made) = goes (on_test x (made + 1 == 5) (combine_to_stage x Raise) (combine_to_stage x (Post (made + 1))) (on_stage x x Raise refl refl) (on_stage x x (Post (made + 1)) refl refl))
 happens S r x got Raise = asks refl

@@ -18,14 +18,16 @@ use Rattle.rl_journal.specs.Blocks.{is_tenure}
 use Rattle.rl_work.specs.declared.follow.Follow.TheVariants.{Over}
 use Rattle.rl_site.specs.Transcript.{TheTranscript}
 use Rattle.rl_site.specs.Opens.{IsOpen}
-use Rattle.rl_site.specs.Site.{journal_of}
+use Rattle.rl_site.specs.Site.{journal_of, WaySite}
 use Rattle.rl_work.specs.Ways.{IsApart, IsLaid, look, own_look, opened_look, AtomWork, SameWork, side_turned, tenure_of, AsksOut, mode_after}
 use Rattle.rl_work.specs.Work.{more_entries}
 use Rattle.rl_work.specs.WorkGood.{WorkSide as Seat}
 use Rattle.rl_combine.specs.declared.stage.CombineStage.{CombineStage}
 use Rattle.rl_combine.specs.declared.stage.CombineStage.TheVariants.{Rest, Post, Raise, Look as LookAt, Count, Sweep, Copy, Read, Journal, Volume, Answer, Mark, Collect, Lower}
-use Rattle.rl_combine.specs.Posts.{CombineSite, post_word, post_of, answered_entry}
-use Rattle.rl_combine.specs.Combine.{TheCombineSide, Opened, opened_of, combine_is_open, is_call, early, early_read, early_open, early_by, transcript, combine_owes, combine_stage_atom, combine_stage_after, combine_at_stage, with_own, combine_table, with_open}
+use Rattle.rl_combine.specs.Posts.{post_word, post_of, answered_entry}
+use Rattle.rl_combine.specs.Combine.{TheCombineSide, Opened, opened_of, combine_is_open, is_call, early, early_read, transcript, combine_owes, combine_stage_atom, combine_stage_after, combine_at_stage, with_own, combine_table, with_open}
+use Rattle.rl_combine.specs.laws.Cases.{early_open}
+use Rattle.rl_combine.specs.laws.Cases.{early_by}
 use Rattle.rl_combine.specs.CombineGood.{RankSide, OwnAt, CombineGood}
 use Rattle.rl_combine.specs.laws.PostLaws.{same_post}
 use Rattle.rl_combine.specs.laws.MoveLaws.{Grows, SeatGoesOn, Keeps, seat_of}
@@ -39,7 +41,7 @@ add-zero-right : (n m : ℕ) → m ≡ 0 → n ≡ n + m
 add-zero-right n m e = omega arith
 
 -- words of the lock alone change: the looks stay
-pub same_look : (S : CombineSite) (node : ℕ → ℕ) (words others : List ℕ) (k : ℕ) (x : TheCombineSide) → SameWork (combine_table S node) words others → look (combine_table S node) others k x ≡ look (combine_table S node) words k x
+pub same_look : (S : WaySite) (node : ℕ → ℕ) (words others : List ℕ) (k : ℕ) (x : TheCombineSide) → SameWork (combine_table S node) words others → look (combine_table S node) others k x ≡ look (combine_table S node) words k x
 same_look S node words others k x same =
     let post : post_of S others k ≡ post_of S words k = same_post S k words others (λ m h. same.behind (post_word S k m) (omega arith)) in
     let early_is : early S others k x ≡ early S words k x = by_open (combine_is_open x.stage) post in
@@ -53,7 +55,7 @@ same_look S node words others k x same =
     by_open true post = by_kind (is_update x.call) post
     by_open false post = refl
 
-module _ (S : CombineSite) (node : ℕ → ℕ) (words : List ℕ) (laid : IsLaid (combine_table S node) words) (sides : List RankSide) (g : CombineGood S words sides) where
+module _ (S : WaySite) (node : ℕ → ℕ) (words : List ℕ) (laid : IsLaid (combine_table S node) words) (sides : List RankSide) (g : CombineGood S words sides) where
   module _ (r : ℕ) (x : RankSide) (has : slice_get sides r ≡ Some x) where
     -- where no call is open the rank keeps all its entries itself
     pub closed : combine_is_open x.work.stage ≡ false → transcript S words r x.work ≡ x.work.kept.items

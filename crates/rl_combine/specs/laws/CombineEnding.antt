@@ -7,7 +7,8 @@ use Rattle.rl_work.specs.LockedLeft.{one_unless, words_unseen}
 use Rattle.rl_work.specs.laws.UnseenLaws.{appended_stays, appended_seen, words_unseen_falls, few_words_unseen}
 use Rattle.rl_combine.specs.declared.stage.CombineStage.{CombineStage}
 use Rattle.rl_combine.specs.declared.stage.CombineStage.TheVariants.{Rest, Post, Raise, Look, Count, Sweep, Copy, Read, Journal, Volume, Answer, Mark, Collect, Lower}
-use Rattle.rl_combine.specs.Posts.{CombineSite, combine_ranks}
+use Rattle.rl_combine.specs.Posts.{combine_ranks}
+use Rattle.rl_site.specs.Site.{WaySite}
 use Rattle.rl_combine.specs.Combine.{TheCombineSide, combine_stage_after, combine_to_stage, to_collect, sweep_on, combine_read_on, combine_with_word, with_copied, with_nothing, with_posted, combine_table, combine_after, combine_stage_atom, combine_with_block}
 use Rattle.rl_combine.specs.Numbers.{CanTurn}
 use Rattle.rl_combine.specs.CombineLeft.{sweep_left, far_at, far, combine_left, combine_most}
@@ -21,7 +22,7 @@ use Rattle.rl_combine.specs.laws.NumberLaws.{may_turn}
 use Rattle.rl_ending.specs.laws.Sums.{sum_falls, sum_grows}
 use Rattle.rl_combine.specs.laws.CombineSteps.{sweep_more, either, swept, read_far, written, below}
 
-module _ (S : CombineSite) (node : ℕ → ℕ) where
+module _ (S : WaySite) (node : ℕ → ℕ) where
   abbrev V : ℕ
   V = volume_words S.site.geom
 

@@ -11,14 +11,15 @@ use Rattle.rl_work.specs.Ways.{IsApart, IsLaid, side_turned}
 use Rattle.rl_work.specs.Work.{write_atom}
 use Rattle.rl_combine.specs.declared.stage.CombineStage.{CombineStage}
 use Rattle.rl_combine.specs.declared.stage.CombineStage.TheVariants.{Rest, Post, Raise, Look, Count, Sweep, Copy, Read, Journal, Volume, Answer, Mark, Collect, Lower}
-use Rattle.rl_combine.specs.Posts.{CombineSite, post_word, post_of}
+use Rattle.rl_combine.specs.Posts.{post_word, post_of}
+use Rattle.rl_site.specs.Site.{WaySite}
 use Rattle.rl_combine.specs.Combine.{combine_table, combine_stage_atom, combine_stage_after, combine_to_stage, with_copied, with_posted, combine_read_on, combine_written_on}
 use Rattle.rl_combine.specs.CombineGood.{RankSide, IsSweeping, IsCopying, SweepAt, CombineGood}
 use Rattle.rl_combine.specs.laws.MoveLaws.{Keeps}
 use Rattle.rl_combine.specs.laws.OwnLaws.{post_stored, raised, looked, counted_on, swept, copied_on, collected, lowered}
 use Rattle.rl_combine.specs.laws.SeatLaws.{answer_told, journal_told, write_told, count_told, word_read, post_copied, marked}
 
-module _ (S : CombineSite) (node : ℕ → ℕ) (words : List ℕ) (laid : IsLaid (combine_table S node) words) (sides : List RankSide) (g : CombineGood S words sides) (apart : IsApart (combine_table S node) sides) (r : ℕ) (x : RankSide) (has : slice_get sides r ≡ Some x) where
+module _ (S : WaySite) (node : ℕ → ℕ) (words : List ℕ) (laid : IsLaid (combine_table S node) words) (sides : List RankSide) (g : CombineGood S words sides) (apart : IsApart (combine_table S node) sides) (r : ℕ) (x : RankSide) (has : slice_get sides r ≡ Some x) where
   -- an atom that finds the rank at this stage keeps the rule
   abbrev Kept : List ℕ → CombineStage → Atom → Type 0
   Kept cards st a = Keeps S words sides g (do_words a words) (slice_set sides r (side_turned x.standing (combine_stage_after S r x.work (do_got a words cards) st)))

@@ -12,8 +12,10 @@ use Rattle.rl_work.specs.Ways.{Worked}
 use Rattle.rl_work.specs.LockedLeft.{words_unseen}
 use Rattle.rl_work.specs.laws.LockedSteps.{decision_few}
 use Rattle.rl_combine.specs.declared.stage.CombineStage.TheVariants.{Sweep, Volume}
-use Rattle.rl_combine.specs.Posts.{CombineSite, combine_ranks}
-use Rattle.rl_combine.specs.Combine.{TheCombineSide, combine_to_stage, to_collect, sweep_on, combine_read_on, combine_read_next, decided_stage, with_decision, combine_written_on}
+use Rattle.rl_combine.specs.Posts.{combine_ranks}
+use Rattle.rl_site.specs.Site.{WaySite}
+use Rattle.rl_combine.specs.Combine.{TheCombineSide, combine_to_stage, to_collect, sweep_on, combine_read_on, combine_read_next, with_decision, combine_written_on}
+use Rattle.rl_combine.specs.laws.Cases.{decided_stage}
 use Rattle.rl_combine.specs.CombineLeft.{sweep_left, far_at, far}
 
 -- the sweep of one rank more
@@ -23,7 +25,7 @@ sweep_more volume ranks owner low =
     ap (λ n. 5 + (volume + 40) * n) e ∙ grind arith
 
 -- both ways of a choice leave less
-pub either : (S : CombineSite) (b : Bool) (p q : Worked TheCombineSide) (n : ℕ) → (b ≡ true → far S p.work < n) → (b ≡ false → far S q.work < n) → far S (if b then p else q).work < n
+pub either : (S : WaySite) (b : Bool) (p q : Worked TheCombineSide) (n : ℕ) → (b ≡ true → far S p.work < n) → (b ≡ false → far S q.work < n) → far S (if b then p else q).work < n
 either S true p q n here there = here refl
 either S false p q n here there = there refl
 
@@ -36,7 +38,7 @@ below made n low other = ⊎_elim (λ q. let bad : true ≡ false = sym q.0 ∙ 
   apart (suc a) zero le ne = absurd (omega arith)
   apart (suc a) (suc b) le ne = let k = apart a b (omega arith) (λ e. ne (ap suc e)) in omega arith
 
-module _ (S : CombineSite) where
+module _ (S : WaySite) where
   abbrev V : ℕ
   V = volume_words S.site.geom
 

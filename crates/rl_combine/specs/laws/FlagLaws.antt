@@ -14,7 +14,7 @@ use Rattle.rl_volume.specs.Seen.{next_word}
 use Rattle.rl_journal.specs.Journal.{spelling}
 use Rattle.rl_journal.specs.Legal.{IsLegalRead}
 use Rattle.rl_work.specs.declared.stage.Stage.TheVariants as block
-use Rattle.rl_site.specs.Site.{count_word, volume_base, journal_base, journal_by}
+use Rattle.rl_site.specs.Site.{count_word, volume_base, journal_base, journal_by, WaySite}
 use Rattle.rl_site.specs.Transcript.{TheTranscript}
 use Rattle.rl_work.specs.Ways.{Worked, IsApart, IsLaid}
 use Rattle.rl_work.specs.Work.{write_atom, work_atom, more_entries}
@@ -22,8 +22,9 @@ use Rattle.rl_work.specs.WorkGood.{WorkSide as Seat, transcript_of}
 use Rattle.rl_work.specs.laws.RuleLaws.{always_legal}
 use Rattle.rl_combine.specs.declared.stage.CombineStage.{CombineStage}
 use Rattle.rl_combine.specs.declared.stage.CombineStage.TheVariants.{Rest, Post, Raise, Look, Count, Sweep, Copy, Read, Journal, Volume, Answer, Mark, Collect, Lower}
-use Rattle.rl_combine.specs.Posts.{CombineSite, ThePost, combine_ranks, post_word, flag_word, post_of, answered_entry}
-use Rattle.rl_combine.specs.Combine.{TheCombineSide, opened_of, combine_after, combine_table, combine_is_open, early, combine_stage_atom, combine_stage_after, combine_to_stage, to_collect, with_copied, with_posted, combine_with_word, combine_read_next, combine_read_on, combine_written_on, decided_stage, found}
+use Rattle.rl_combine.specs.Posts.{ThePost, combine_ranks, post_word, flag_word, post_of, answered_entry}
+use Rattle.rl_combine.specs.Combine.{TheCombineSide, opened_of, combine_after, combine_table, combine_is_open, early, combine_stage_atom, combine_stage_after, combine_to_stage, to_collect, with_copied, with_posted, combine_with_word, combine_read_next, combine_read_on, combine_written_on, found}
+use Rattle.rl_combine.specs.laws.Cases.{decided_stage}
 use Rattle.rl_combine.specs.CombineGood.{RankSide, front_of, IsAnswered, Progress, waits, handled, counted, answered, IsPosted, OwnAt, SweepAt, CombineGood, deciding}
 use Rattle.rl_combine.specs.Sweep.{after_all, atoms_of, StoresTwo, IsLate, FlagSays, StoresFlag, FlagMoves, passes, raises, lowers, marks}
 use Rattle.rl_combine.specs.laws.PostLaws.{others_stay, posts_stay, flag_stored}
@@ -37,7 +38,7 @@ by_test : (b : Bool) (s t : Worked TheCombineSide) (owner : ℕ) → found s.wor
 by_test true s t owner a c = a
 by_test false s t owner a c = c
 
-reads_found : (S : CombineSite) (y : TheCombineSide) (owner : ℕ) → found (combine_read_on S y owner).work.stage ≡ Some owner
+reads_found : (S : WaySite) (y : TheCombineSide) (owner : ℕ) → found (combine_read_on S y owner).work.stage ≡ Some owner
 reads_found S y owner = by_next (next_word S.site.geom y.posted y.seen.pairs) where
   by_kind : (b : Bool) → found (decided_stage owner b) ≡ Some owner
   by_kind true = refl
@@ -51,7 +52,7 @@ writes_found : (x : TheCombineSide) (owner made : ℕ) (o : Option Write) → fo
 writes_found x owner made (Some w) = refl
 writes_found x owner made None = refl
 
-pub holds_on : (S : CombineSite) (r : ℕ) (x : TheCombineSide) (got owner : ℕ) (st : CombineStage) → found st ≡ Some owner → (st ≡ Mark owner) ⊎ (found (combine_stage_after S r x got st).work.stage ≡ Some owner)
+pub holds_on : (S : WaySite) (r : ℕ) (x : TheCombineSide) (got owner : ℕ) (st : CombineStage) → found st ≡ Some owner → (st ≡ Mark owner) ⊎ (found (combine_stage_after S r x got st).work.stage ≡ Some owner)
 holds_on S r x got owner Rest e = absurd (cc)
 holds_on S r x got owner (Post made) e = absurd (cc)
 holds_on S r x got owner Raise e = absurd (cc)
@@ -73,7 +74,7 @@ kept_by_test : (b : Bool) (s t : Worked TheCombineSide) (k : TheTranscript) → 
 kept_by_test true s t k a c = a
 kept_by_test false s t k a c = c
 
-reads_kept : (S : CombineSite) (y : TheCombineSide) (owner : ℕ) → (combine_read_on S y owner).work.kept ≡ y.kept
+reads_kept : (S : WaySite) (y : TheCombineSide) (owner : ℕ) → (combine_read_on S y owner).work.kept ≡ y.kept
 reads_kept S y owner = by_next (next_word S.site.geom y.posted y.seen.pairs) where
   by_next : (o : Option ℕ) → (combine_read_next S y owner o).work.kept ≡ y.kept
   by_next (Some word) = refl
@@ -83,7 +84,7 @@ writes_kept : (x : TheCombineSide) (owner made : ℕ) (o : Option Write) → (co
 writes_kept x owner made (Some w) = refl
 writes_kept x owner made None = refl
 
-pub found_keeps : (S : CombineSite) (r : ℕ) (x : TheCombineSide) (got owner : ℕ) (st : CombineStage) → found st ≡ Some owner → (combine_stage_after S r x got st).work.kept ≡ x.kept
+pub found_keeps : (S : WaySite) (r : ℕ) (x : TheCombineSide) (got owner : ℕ) (st : CombineStage) → found st ≡ Some owner → (combine_stage_after S r x got st).work.kept ≡ x.kept
 found_keeps S r x got owner Rest e = absurd (cc)
 found_keeps S r x got owner (Post made) e = absurd (cc)
 found_keeps S r x got owner Raise e = absurd (cc)
@@ -117,7 +118,7 @@ found_open (Collect made) owner e = refl
 found_open Lower owner e = refl
 
 -- so where the call is over, 2 was stored
-stores_two : (S : CombineSite) (r : ℕ) (x : TheCombineSide) (owner : ℕ) (more : List ℕ) → found x.stage ≡ Some owner → combine_is_open (after_all S r x more).stage ≡ false → StoresTwo S owner (atoms_of S r x more)
+stores_two : (S : WaySite) (r : ℕ) (x : TheCombineSide) (owner : ℕ) (more : List ℕ) → found x.stage ≡ Some owner → combine_is_open (after_all S r x more).stage ≡ false → StoresTwo S owner (atoms_of S r x more)
 stores_two S r x owner [] held over = let is = found_open x.stage owner held in absurd (cc)
 stores_two S r x owner (got ∷ more) held over =
     ⊎_elim
@@ -128,13 +129,13 @@ stores_two S r x owner (got ∷ more) held over =
     (holds_on S r x got owner x.stage held)
 
 -- a rank that found the flag 1 in its sweep has stored 2 there before its call is over
-pub sweep_stores : (S : CombineSite) (r : ℕ) (x : TheCombineSide) (owner : ℕ) (more : List ℕ) → x.stage ≡ Sweep owner → combine_is_open (after_all S r x (1 ∷ more)).stage ≡ false → StoresTwo S owner (atoms_of S r x (1 ∷ more))
+pub sweep_stores : (S : WaySite) (r : ℕ) (x : TheCombineSide) (owner : ℕ) (more : List ℕ) → x.stage ≡ Sweep owner → combine_is_open (after_all S r x (1 ∷ more)).stage ≡ false → StoresTwo S owner (atoms_of S r x (1 ∷ more))
 sweep_stores S r x owner more at over =
     let held : found (combine_after S r x 1).work.stage ≡ Some owner = ap (λ st. found (combine_stage_after S r x 1 st).work.stage) at in
     let later : StoresTwo S owner (atoms_of S r (combine_after S r x 1).work more) = stores_two S r (combine_after S r x 1).work owner more held over in
     record { place = suc later.place; is = later.is }
 
-module _ (S : CombineSite) (node : ℕ → ℕ) (words : List ℕ) (laid : IsLaid (combine_table S node) words) (sides : List RankSide) (g : CombineGood S words sides) (k : ℕ) (x : RankSide) (has : slice_get sides k ≡ Some x) where
+module _ (S : WaySite) (node : ℕ → ℕ) (words : List ℕ) (laid : IsLaid (combine_table S node) words) (sides : List RankSide) (g : CombineGood S words sides) (k : ℕ) (x : RankSide) (has : slice_get sides k ≡ Some x) where
   -- the call of a seat that has the entry of the answer is answered as is due
   due_of : (y : Seat) (e : Entry) → slice_get g.seats k ≡ Some y → y.work.transcript ≡ more_entries x.work.kept (e ∷ []) → IsLegalRead S.site.geom (journal_by S.site words) e
   due_of y e seat has_one =
@@ -239,7 +240,7 @@ module _ (S : CombineSite) (node : ℕ → ℕ) (words : List ℕ) (laid : IsLai
   answer_small = let s = seat_of S node words laid sides g k x has in small_at s.0 x.work.stage (g.own k x s.0 has s.1)
 
 -- who stores to the flags
-module _ (S : CombineSite) (node : ℕ → ℕ) (words : List ℕ) (laid : IsLaid (combine_table S node) words) (sides : List RankSide) (g : CombineGood S words sides) (apart : IsApart (combine_table S node) sides) (r : ℕ) (x : RankSide) (has : slice_get sides r ≡ Some x) (k : ℕ) where
+module _ (S : WaySite) (node : ℕ → ℕ) (words : List ℕ) (laid : IsLaid (combine_table S node) words) (sides : List RankSide) (g : CombineGood S words sides) (apart : IsApart (combine_table S node) sides) (r : ℕ) (x : RankSide) (has : slice_get sides r ≡ Some x) (k : ℕ) where
   abbrev Moves : Atom → Type 0
   Moves at = FlagMoves S words at r x k
 

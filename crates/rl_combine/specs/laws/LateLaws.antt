@@ -17,11 +17,13 @@ use Rattle.rl_work.specs.declared.stage.Stage.{Stage as BlockStage}
 use Rattle.rl_work.specs.declared.stage.Stage.TheVariants as block
 use Rattle.rl_site.specs.Transcript.{TheTranscript}
 use Rattle.rl_work.specs.Ways.{IsLaid}
-use Rattle.rl_work.specs.Work.{TheWork, WorkTurned, write_atom, stage_atom as block_atom, stage_after as block_after, block_close, block_close_by, decision_of, stops_block, read_next, read_on, left_of, with_call, with_seen, with_stop, more_entries}
+use Rattle.rl_work.specs.Work.{TheWork, WorkTurned, write_atom, stage_atom as block_atom, stage_after as block_after, block_close, decision_of, stops_block, read_next, read_on, left_of, with_call, with_seen, with_stop, more_entries}
+use Rattle.rl_work.specs.laws.Cases.{block_close_by}
 use Rattle.rl_work.specs.WorkGood.{WorkSide as Seat}
 use Rattle.rl_combine.specs.declared.stage.CombineStage.{CombineStage}
 use Rattle.rl_combine.specs.declared.stage.CombineStage.TheVariants.{Rest, Post, Raise, Look, Count, Sweep, Copy, Read, Journal, Volume, Answer, Mark, Collect, Lower}
-use Rattle.rl_combine.specs.Posts.{CombineSite, post_of}
+use Rattle.rl_combine.specs.Posts.{post_of}
+use Rattle.rl_site.specs.Site.{WaySite}
 use Rattle.rl_combine.specs.Combine.{combine_table, opened_of, in_hand, early}
 use Rattle.rl_combine.specs.CombineGood.{RankSide, IsCounted, OwnAt, SweepAt, IsLeft, IsToEnd, IsHeld, CombineGood}
 use Rattle.rl_combine.specs.Sweep.{IsLateAt, IsLate}
@@ -62,7 +64,7 @@ loads_more geom shard rank got w x (block.Read count word) e update =
 loads_more geom shard rank got w x (block.Journal made) e update = absurd (cc)
 loads_more geom shard rank got w x (block.Volume made) e update = absurd (no_load (x.at + length x.entries) w (slice_get x.writes made) e)
 
-module _ (S : CombineSite) (node : ℕ → ℕ) (words : List ℕ) (laid : IsLaid (combine_table S node) words) (sides : List RankSide) (g : CombineGood S words sides) (k : ℕ) (x : RankSide) (has : slice_get sides k ≡ Some x) where
+module _ (S : WaySite) (node : ℕ → ℕ) (words : List ℕ) (laid : IsLaid (combine_table S node) words) (sides : List RankSide) (g : CombineGood S words sides) (k : ℕ) (x : RankSide) (has : slice_get sides k ≡ Some x) where
   -- the entry that is done early, by the seat
   pub none_of : (y : Seat) → slice_get g.seats k ≡ Some y → y.work.transcript ≡ x.work.kept → early S words k x.work ≡ []
   none_of y seat has_none =

@@ -9,7 +9,7 @@ use Rattle.rl_journal.specs.Legal.{IsLegal, table_after}
 use Rattle.rl_journal.specs.History.{history, IsSorted}
 use Rattle.rl_work.specs.declared.stage.Stage.{Stage as BlockStage}
 use Rattle.rl_work.specs.declared.stage.Stage.TheVariants as block
-use Rattle.rl_site.specs.Site.{places, volume_of, journal_by}
+use Rattle.rl_site.specs.Site.{places, volume_of, journal_by, WaySite}
 use Rattle.rl_site.specs.Transcript.{TheTranscript}
 use Rattle.rl_site.specs.Opens.{IsOwnTranscript}
 use Rattle.rl_work.specs.Ways.{IsLaid, look, transcripts_from, BlockGoesOn, AtomWork}
@@ -19,8 +19,9 @@ use Rattle.rl_work.specs.laws.RuleLaws.{journal_is, always_legal, always_sorted}
 use Rattle.rl_work.specs.laws.RoomLaws.{journal_short}
 use Rattle.rl_combine.specs.declared.stage.CombineStage.{CombineStage}
 use Rattle.rl_combine.specs.declared.stage.CombineStage.TheVariants.{Rest}
-use Rattle.rl_combine.specs.Posts.{CombineSite, ThePost, post_of}
-use Rattle.rl_combine.specs.Combine.{TheCombineSide, Opened, opened_of, combine_is_open, early, early_open, transcript, combine_owes, combine_table}
+use Rattle.rl_combine.specs.Posts.{ThePost, post_of}
+use Rattle.rl_combine.specs.Combine.{TheCombineSide, Opened, opened_of, combine_is_open, early, transcript, combine_owes, combine_table}
+use Rattle.rl_combine.specs.laws.Cases.{early_open}
 use Rattle.rl_combine.specs.CombineGood.{RankSide, front_of, IsInHand, OwnAt, CombineGood}
 use Rattle.rl_combine.specs.laws.SideLaws.{posted_at, flag_at}
 use Rattle.rl_combine.specs.laws.SeatLaws.{handled_as}
@@ -29,7 +30,7 @@ use Rattle.rl_combine.specs.laws.TranscriptLaws.{HasNone, HasOne, transcript_is}
 use Rattle.rl_combine.specs.laws.StandLaws.{at_rest_of}
 
 -- lists that agree one by one
-transcripts_are : (S : CombineSite) (node : ℕ → ℕ) (words : List ℕ) (r : ℕ) (sides : List RankSide) (seats : List Seat) → length sides ≡ length seats →
+transcripts_are : (S : WaySite) (node : ℕ → ℕ) (words : List ℕ) (r : ℕ) (sides : List RankSide) (seats : List Seat) → length sides ≡ length seats →
     ((k : ℕ) (z : RankSide) (y : Seat) → slice_get sides k ≡ Some z → slice_get seats k ≡ Some y → transcript S words (r + k) z.work ≡ y.work.transcript.items) →
     transcripts_from (combine_table S node) words r sides ≡ transcripts seats
 transcripts_are S node words r [] [] same each = refl
@@ -39,7 +40,7 @@ transcripts_are S node words r (z ∷ sides) (y ∷ seats) same each =
     ap (λ t. t ∷ transcripts_from (combine_table S node) words (r + 1) sides) (subst (λ n. transcript S words n z.work ≡ y.work.transcript.items) (omega arith) (each 0 z y refl refl))
     ∙ ap (λ ts. y.work.transcript.items ∷ ts) (transcripts_are S node words (r + 1) sides seats (omega arith) (λ k a b at bt. subst (λ n. transcript S words n a.work ≡ b.work.transcript.items) (omega arith) (each (suc k) a b at bt)))
 
-module _ (S : CombineSite) (node : ℕ → ℕ) (words : List ℕ) (sides : List RankSide) (g : CombineGood S words sides) where
+module _ (S : WaySite) (node : ℕ → ℕ) (words : List ℕ) (sides : List RankSide) (g : CombineGood S words sides) where
   same_transcripts : transcripts_from (combine_table S node) words 0 sides ≡ transcripts g.seats
   same_transcripts =
       transcripts_are S node words 0 sides g.seats (g.ranks ∙ sym g.work.ranks)
@@ -101,14 +102,14 @@ not_two : (t : TheTranscript) (f h : Entry) → t ≡ more_entries (more_entries
 not_two t f h same = absurd (let l = ap (λ (z : TheTranscript). length z.items) same in omega (arith, length-append (t.items ++ f ∷ []) (h ∷ []), length-append t.items (f ∷ [])))
 
 -- an entry that is done early is one of an open call
-open_with : (S : CombineSite) (words : List ℕ) (k : ℕ) (x : TheCombineSide) (e : Entry) → early S words k x ≡ e ∷ [] → combine_is_open x.stage ≡ true
+open_with : (S : WaySite) (words : List ℕ) (k : ℕ) (x : TheCombineSide) (e : Entry) → early S words k x ≡ e ∷ [] → combine_is_open x.stage ≡ true
 open_with S words k x e one =
     elim (combine_is_open x.stage) as (λ b. early_open S words k x b ≡ e ∷ [] → b ≡ true) [
       | true ↦ λ _. refl
       | false ↦ λ one. absurd (cc)
     ] one
 
-module _ (S : CombineSite) (node : ℕ → ℕ) (words vs : List ℕ) (k : ℕ) (a b : TheCombineSide) (y u : Seat) where
+module _ (S : WaySite) (node : ℕ → ℕ) (words vs : List ℕ) (k : ℕ) (a b : TheCombineSide) (y u : Seat) where
   owes_none : HasNone S words k a y → combine_owes S words k a ≡ (combine_is_open a.stage && true)
   owes_none n = ap (λ (l : List Entry). combine_is_open a.stage && (length l == 0)) n.none
 
@@ -127,7 +128,7 @@ module _ (S : CombineSite) (node : ℕ → ℕ) (words vs : List ℕ) (k : ℕ) 
       }
 
 -- how a rank looks after an atom, where its open call is the same
-pub look_goes : (S : CombineSite) (node : ℕ → ℕ) (words vs : List ℕ) (k : ℕ) (a b : TheCombineSide) (y u : Seat) → IsSameCall a b → transcript S words k a ≡ y.work.transcript.items → transcript S vs k b ≡ u.work.transcript.items →
+pub look_goes : (S : WaySite) (node : ℕ → ℕ) (words vs : List ℕ) (k : ℕ) (a b : TheCombineSide) (y u : Seat) → IsSameCall a b → transcript S words k a ≡ y.work.transcript.items → transcript S vs k b ≡ u.work.transcript.items →
     HasNone S words k a y ⊎ HasOne S words k a y → HasNone S vs k b u ⊎ HasOne S vs k b u → (y.standing ≡ Writer → (y.work.calls ≡ a.call ∷ []) × (y.work.seq ≡ a.seq)) → SeatGoesOn S k y u →
     AtomWork S.site.shard k (look (combine_table S node) words k a) (look (combine_table S node) vs k b)
 look_goes S node words vs k a b y u c before after had have handed moves = ⊎_elim stays grows moves where
@@ -173,7 +174,7 @@ look_goes S node words vs k a b y u c before after had have handed moves = ⊎_e
       had
 
 -- a rank whose seat writes has its call there
-pub handed_at : (S : CombineSite) (p : ThePost) (k : ℕ) (z : RankSide) (y : Seat) (st : CombineStage) → OwnAt S p k z y st → y.standing ≡ Writer → (y.work.calls ≡ z.work.call ∷ []) × (y.work.seq ≡ z.work.seq)
+pub handed_at : (S : WaySite) (p : ThePost) (k : ℕ) (z : RankSide) (y : Seat) (st : CombineStage) → OwnAt S p k z y st → y.standing ≡ Writer → (y.work.calls ≡ z.work.call ∷ []) × (y.work.seq ≡ z.work.seq)
 handed_at S p k z y st o writes =
     let one : p.flag ≡ 1 = flag_at S p k z y st o (λ out. absurd (cc)) in
     let h : IsInHand p (opened_of z.work) y = handled_as S p k (opened_of z.work) y writes (posted_at S p k z y st o one) in

@@ -12,7 +12,8 @@ use Rattle.rl_work.specs.Ways.{IsApart, IsLaid}
 use Rattle.rl_work.specs.WorkGood.{WorkSide as Seat, WorkGood, IsApart as AreApart}
 use Rattle.rl_combine.specs.declared.stage.CombineStage.{CombineStage}
 use Rattle.rl_combine.specs.declared.stage.CombineStage.TheVariants.{Rest, Post, Raise, Look, Count, Sweep, Copy, Read, Journal, Volume, Answer, Mark, Collect, Lower}
-use Rattle.rl_combine.specs.Posts.{CombineSite, ThePost, combine_ranks, post_of}
+use Rattle.rl_combine.specs.Posts.{ThePost, combine_ranks, post_of}
+use Rattle.rl_site.specs.Site.{WaySite}
 use Rattle.rl_combine.specs.Combine.{TheCombineSide, opened_of, in_hand, combine_table}
 use Rattle.rl_combine.specs.CombineGood.{RankSide, front_of, IsCombiner, IsPosted, OwnAt, SweepAt, IsHeld, CombineGood}
 use Rattle.rl_combine.specs.laws.SideLaws.{posted_at, posted_on, hand_writes, sweep_any}
@@ -35,7 +36,7 @@ Combines (Collect made) = ⊥
 Combines Lower = ⊥
 
 -- the call of a seat in hand is done: its entry joins those of the seat
-pub record Grows (S : CombineSite) (k : ℕ) (y u : Seat) : Type 0 where
+pub record Grows (S : WaySite) (k : ℕ) (y u : Seat) : Type 0 where
   pub writes : y.standing ≡ Writer
   pub entry : Entry
   pub has : u.work.transcript ≡ more_entries y.work.transcript (entry ∷ [])
@@ -47,15 +48,15 @@ pub record Grows (S : CombineSite) (k : ℕ) (y u : Seat) : Type 0 where
   pub part_is : entry.part ≡ 0
 
 -- the entries of a seat stay, or its call in hand is done
-abbrev pub SeatGoesOn : CombineSite → ℕ → Seat → Seat → Type 0
+abbrev pub SeatGoesOn : WaySite → ℕ → Seat → Seat → Type 0
 SeatGoesOn S k y u = (u.work.transcript ≡ y.work.transcript) ⊎ Grows S k y u
 
 -- the rule is kept, and the seats go on
-pub record Keeps (S : CombineSite) (words : List ℕ) (sides : List RankSide) (g : CombineGood S words sides) (vs : List ℕ) (others : List RankSide) : Type 0 where
+pub record Keeps (S : WaySite) (words : List ℕ) (sides : List RankSide) (g : CombineGood S words sides) (vs : List ℕ) (others : List RankSide) : Type 0 where
   pub good : CombineGood S vs others
   pub seats : (k : ℕ) (y u : Seat) → slice_get g.seats k ≡ Some y → slice_get good.seats k ≡ Some u → SeatGoesOn S k y u
 
-module _ (S : CombineSite) (p : ThePost) (k : ℕ) (z : RankSide) (y : Seat) where
+module _ (S : WaySite) (p : ThePost) (k : ℕ) (z : RankSide) (y : Seat) where
   own_as : (st : CombineStage) → Combines st → OwnAt S p k z y st ↔ IsCombiner S p k z y
   own_as Rest c = absurd c
   own_as (Post made) c = absurd c
@@ -75,7 +76,7 @@ module _ (S : CombineSite) (p : ThePost) (k : ℕ) (z : RankSide) (y : Seat) whe
   pub combiner_of : (st : CombineStage) → Combines st → OwnAt S p k z y st → IsCombiner S p k z y
   combiner_of st c o = (own_as st c).0 o
 
-module _ (S : CombineSite) (node : ℕ → ℕ) (words : List ℕ) (laid : IsLaid (combine_table S node) words) (sides : List RankSide) (g : CombineGood S words sides) where
+module _ (S : WaySite) (node : ℕ → ℕ) (words : List ℕ) (laid : IsLaid (combine_table S node) words) (sides : List RankSide) (g : CombineGood S words sides) where
   -- each rank has a seat
   pub seat_of : (k : ℕ) (z : RankSide) → slice_get sides k ≡ Some z → (y : Seat) × (slice_get g.seats k ≡ Some y)
   seat_of k z there = some_at g.seats k (let h = slice_get_within sides k z there in let e = g.work.ranks in let f = g.ranks in omega arith)

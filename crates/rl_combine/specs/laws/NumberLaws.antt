@@ -9,7 +9,7 @@ use Rattle.rl_word.specs.declared.acts.Atom.TheVariants as atom
 use Rattle.rl_step.specs.Do.{do_got}
 use Rattle.rl_volume.specs.Words.{volume_words}
 use Rattle.rl_work.specs.declared.stage.Stage.TheVariants as block
-use Rattle.rl_site.specs.Site.{count_word, lock_base}
+use Rattle.rl_site.specs.Site.{count_word, lock_base, WaySite}
 use Rattle.rl_work.specs.Ways.{IsLaid, MayWork, MayTurn}
 use Rattle.rl_work.specs.Work.{CanName as SeatCanName, CanTurn as SeatCanTurn}
 use Rattle.rl_work.specs.WorkGood.{WorkSide as Seat}
@@ -17,7 +17,7 @@ use Rattle.rl_work.specs.laws.AtomLaws.{can_name, can_turn}
 use Rattle.rl_work.specs.laws.RoomLaws.{journal_short}
 use Rattle.rl_combine.specs.declared.stage.CombineStage.{CombineStage}
 use Rattle.rl_combine.specs.declared.stage.CombineStage.TheVariants.{Rest, Post, Raise, Look, Count, Sweep, Copy, Read, Journal, Volume, Answer, Mark, Collect, Lower}
-use Rattle.rl_combine.specs.Posts.{CombineSite, combine_ranks, post_of}
+use Rattle.rl_combine.specs.Posts.{combine_ranks, post_of}
 use Rattle.rl_combine.specs.Combine.{TheCombineSide, opened_of, combine_table, combine_stage_atom}
 use Rattle.rl_combine.specs.CombineGood.{RankSide, front_of, IsPosted, OwnAt, SweepAt, CombineGood, reading, deciding}
 use Rattle.rl_combine.specs.Numbers.{HasPost, CanName, CanTurn}
@@ -31,7 +31,7 @@ last_word p kind key first second seq made same four =
     let e : made ≡ 4 = omega arith in
     ap (slice_index p) e ∙ ap (λ l. slice_index l 4) same
 
-module _ (S : CombineSite) (node : ℕ → ℕ) (words : List ℕ) (laid : IsLaid (combine_table S node) words) (sides : List RankSide) (g : CombineGood S words sides) (r : ℕ) (x : RankSide) (has : slice_get sides r ≡ Some x) where
+module _ (S : WaySite) (node : ℕ → ℕ) (words : List ℕ) (laid : IsLaid (combine_table S node) words) (sides : List RankSide) (g : CombineGood S words sides) (r : ℕ) (x : RankSide) (has : slice_get sides r ≡ Some x) where
   base_fits : lock_base S.site < 2 ^ 32
   base_fits = let low = laid.low in let fits = laid.fits in omega arith
 
@@ -115,10 +115,10 @@ module _ (S : CombineSite) (node : ℕ → ℕ) (words : List ℕ) (laid : IsLai
   pub turns : (at : Atom) (cards : List ℕ) → combine_stage_atom S r x.work x.work.stage ≡ Some at → CanTurn S r x.work (do_got at words cards) x.work.stage
   turns at cards planned = let s = seat_of S node words laid sides g r x has in turns_at s.0 x.work.stage (g.own r x s.0 has s.1) (g.sweeps r x has) at cards planned
 
-pub may_name : (S : CombineSite) (node : ℕ → ℕ) (r : ℕ) (x : TheCombineSide) → MayWork (combine_table S node) (CombineGood S) r x → CanName S r x x.stage
+pub may_name : (S : WaySite) (node : ℕ → ℕ) (r : ℕ) (x : TheCombineSide) → MayWork (combine_table S node) (CombineGood S) r x → CanName S r x x.stage
 may_name S node r x m = let s = m.side in names S node m.words s.laid m.sides s.is_good r (record { standing = m.standing; work = x }) s.there
 
-pub may_turn : (S : CombineSite) (node : ℕ → ℕ) (r : ℕ) (x : TheCombineSide) (got : ℕ) → MayTurn (combine_table S node) (CombineGood S) r x got → CanTurn S r x got x.stage
+pub may_turn : (S : WaySite) (node : ℕ → ℕ) (r : ℕ) (x : TheCombineSide) (got : ℕ) → MayTurn (combine_table S node) (CombineGood S) r x got → CanTurn S r x got x.stage
 may_turn S node r x got m =
     let w = m.works in
     subst (λ n. CanTurn S r x n x.stage) (sym m.gives) (turns S node m.words w.side.laid m.sides w.side.is_good r (record { standing = m.standing; work = x }) w.side.there m.at m.cards w.planned)

@@ -7,13 +7,13 @@ use Rattle.rl_word.specs.laws.Places.{same_or_not}
 use Rattle.rl_step.specs.declared.events.Standing.{Standing}
 use Rattle.rl_step.specs.declared.events.Standing.TheVariants.{Out, Asking, Writer, Reader, Leaving}
 use Rattle.rl_step.specs.Lock.{Rests}
-use Rattle.rl_site.specs.Site.{count_word, lock_base}
+use Rattle.rl_site.specs.Site.{count_word, lock_base, WaySite}
 use Rattle.rl_work.specs.Ways.{Worked, IsApart, IsLaid, side_turned, standing_done}
 use Rattle.rl_work.specs.Work.{more_entries, work_after}
 use Rattle.rl_work.specs.WorkGood.{WorkSide as Seat, IsDone}
 use Rattle.rl_combine.specs.declared.stage.CombineStage.{CombineStage}
 use Rattle.rl_combine.specs.declared.stage.CombineStage.TheVariants.{Rest, Post, Raise, Look, Count, Sweep, Copy, Read, Journal, Volume, Answer, Mark, Collect, Lower}
-use Rattle.rl_combine.specs.Posts.{CombineSite, ThePost, combine_ranks, post_word, post_of, post_spelling, answered_entry}
+use Rattle.rl_combine.specs.Posts.{ThePost, combine_ranks, post_word, post_of, post_spelling, answered_entry}
 use Rattle.rl_combine.specs.Combine.{TheCombineSide, Opened, opened_of, in_hand, combine_table, combine_stage_after, sweep_on, to_collect, combine_to_stage, with_nothing, with_copied, found}
 use Rattle.rl_combine.specs.CombineGood.{RankSide, front_of, HasAsked, IsPosting, IsAnswered, Progress, waits, handled, counted, answered, IsPosted, IsCollecting, IsSweeping, IsCopying, IsAnswering, IsLeft, IsToEnd, OwnAt, SweepAt, CombineGood}
 use Rattle.rl_combine.specs.laws.PostLaws.{others_stay, call_word, answer_word, flag_stored, call_stored, front_get, front_behind, copies_on, stores_on}
@@ -21,7 +21,7 @@ use Rattle.rl_combine.specs.laws.SideLaws.{sweep_any, flag_at}
 use Rattle.rl_combine.specs.laws.MoveLaws.{Keeps, seat_of, side_of, is_rank, only_writer, own_moves}
 
 -- what the flag of a posted call says
-answered_of : (S : CombineSite) (p : ThePost) (k : ℕ) (o : Opened) (y : Seat) → IsPosted S p k o y → p.flag ≡ 2 → IsAnswered S p k o y
+answered_of : (S : WaySite) (p : ThePost) (k : ℕ) (o : Opened) (y : Seat) → IsPosted S p k o y → p.flag ≡ 2 → IsAnswered S p k o y
 answered_of S p k o y is two = by_case is.progress where
   by_case : Progress S p k o y → IsAnswered S p k o y
   by_case (waits w) = let f = w.flag in absurd (omega arith)
@@ -29,7 +29,7 @@ answered_of S p k o y is two = by_case is.progress where
   by_case (counted c) = let f = c.flag in absurd (omega arith)
   by_case (answered a) = a
 
-is_two : (S : CombineSite) (p : ThePost) (k : ℕ) (o : Opened) (y : Seat) → IsPosted S p k o y → (p.flag ≡ 1 → ⊥) → p.flag ≡ 2
+is_two : (S : WaySite) (p : ThePost) (k : ℕ) (o : Opened) (y : Seat) → IsPosted S p k o y → (p.flag ≡ 1 → ⊥) → p.flag ≡ 2
 is_two S p k o y is isnt = by_case is.progress where
   by_case : Progress S p k o y → p.flag ≡ 2
   by_case (waits w) = absurd (isnt w.flag)
@@ -37,7 +37,7 @@ is_two S p k o y is isnt = by_case is.progress where
   by_case (counted c) = absurd (isnt c.flag)
   by_case (answered a) = a.flag
 
-module _ (S : CombineSite) (node : ℕ → ℕ) (words : List ℕ) (laid : IsLaid (combine_table S node) words) (sides : List RankSide) (g : CombineGood S words sides) where
+module _ (S : WaySite) (node : ℕ → ℕ) (words : List ℕ) (laid : IsLaid (combine_table S node) words) (sides : List RankSide) (g : CombineGood S words sides) where
   -- a flag that was found 1 is 1
   pub found_flag : (q : ℕ) (z : RankSide) → slice_get sides q ≡ Some z → (k : ℕ) → found z.work.stage ≡ Some k → (post_of S words k).flag ≡ 1
   found_flag q z there k e = by_stage z.work.stage (g.sweeps q z there) e where

@@ -6,7 +6,7 @@ use Rattle.rl_word.specs.declared.acts.Atom.{Atom}
 use Rattle.rl_word.specs.declared.acts.Atom.TheVariants as atom
 use Rattle.rl_volume.specs.declared.write.Write.{Write}
 use Rattle.rl_work.specs.declared.stage.Stage.TheVariants as block
-use Rattle.rl_site.specs.Site.{count_word, volume_base, journal_base, lock_base}
+use Rattle.rl_site.specs.Site.{count_word, volume_base, journal_base, lock_base, WaySite}
 use Rattle.rl_work.specs.Ways.{IsApart, IsLaid, IsWorkWord, IsWorkAtom, IsFrontAtom}
 use Rattle.rl_work.specs.Work.{work_atom, write_atom}
 use Rattle.rl_work.specs.WorkGood.{WorkSide as Seat}
@@ -14,13 +14,13 @@ use Rattle.rl_work.specs.laws.AtomLaws.{atom_can}
 use Rattle.rl_journal.specs.Journal.{spelling}
 use Rattle.rl_combine.specs.declared.stage.CombineStage.{CombineStage}
 use Rattle.rl_combine.specs.declared.stage.CombineStage.TheVariants.{Rest, Post, Raise, Look, Count, Sweep, Copy, Read, Journal, Volume, Answer, Mark, Collect, Lower}
-use Rattle.rl_combine.specs.Posts.{CombineSite, combine_ranks, post_word, post_of}
+use Rattle.rl_combine.specs.Posts.{combine_ranks, post_word, post_of}
 use Rattle.rl_combine.specs.Combine.{combine_stage_atom, combine_touch_at, combine_table}
 use Rattle.rl_combine.specs.CombineGood.{RankSide, front_of, OwnAt, SweepAt, CombineGood, reading, deciding}
 use Rattle.rl_combine.specs.laws.MoveLaws.{seat_of, is_rank}
 use Rattle.rl_combine.specs.laws.SeatLaws.{seat_word}
 
-module _ (S : CombineSite) (node : ℕ → ℕ) (words : List ℕ) (laid : IsLaid (combine_table S node) words) (sides : List RankSide) (g : CombineGood S words sides) (apart : IsApart (combine_table S node) sides) (r : ℕ) (x : RankSide) (has : slice_get sides r ≡ Some x) where
+module _ (S : WaySite) (node : ℕ → ℕ) (words : List ℕ) (laid : IsLaid (combine_table S node) words) (sides : List RankSide) (g : CombineGood S words sides) (apart : IsApart (combine_table S node) sides) (r : ℕ) (x : RankSide) (has : slice_get sides r ≡ Some x) where
   post_there : (k i : ℕ) → k < combine_ranks S → i < 9 → IsWorkWord (combine_table S node) (post_word S k i)
   post_there k i low few = record { there = omega arith; place = inr (omega arith) }
 

@@ -12,8 +12,8 @@ use Rattle.rl_model.specs.declared.entry.Reply.{Reply}
 use Rattle.rl_model.specs.declared.entry.Reply.TheVariants.{New, Was, Full, Val, Nothing, Sum, Over, No, Held, Undone}
 use Rattle.rl_model.specs.Call.{shard_of}
 use Rattle.rl_journal.specs.Journal.{value_in}
-use Rattle.rl_site.specs.Site.{lock_base}
-use Rattle.rl_combine.specs.Posts.{CombineSite, ThePost, combine_ranks, post_word, post_of, post_spelling, posted_call, post_code, combine_reply_of}
+use Rattle.rl_site.specs.Site.{lock_base, WaySite}
+use Rattle.rl_combine.specs.Posts.{ThePost, combine_ranks, post_word, post_of, post_spelling, posted_call, post_code, combine_reply_of}
 use Rattle.rl_combine.specs.CombineGood.{front_of}
 
 -- a post of nine words
@@ -33,10 +33,10 @@ same_by f h same =
     let e8 = same 8 (omega arith) in
     cc
 
-pub same_post : (S : CombineSite) (k : ℕ) (words others : List ℕ) → ((m : ℕ) → m < 9 → slice_index others (post_word S k m) ≡ slice_index words (post_word S k m)) → post_of S others k ≡ post_of S words k
+pub same_post : (S : WaySite) (k : ℕ) (words others : List ℕ) → ((m : ℕ) → m < 9 → slice_index others (post_word S k m) ≡ slice_index words (post_word S k m)) → post_of S others k ≡ post_of S words k
 same_post S k words others same = same_by (λ m. slice_index others (post_word S k m)) (λ m. slice_index words (post_word S k m)) same
 
-module _ (S : CombineSite) (words : List ℕ) where
+module _ (S : WaySite) (words : List ℕ) where
   -- a store before the first word behind the lock's, and one to another rank's post
   pub posts_stay : (w v k : ℕ) → w < S.behind → post_of S (slice_set words w v) k ≡ post_of S words k
   posts_stay w v k low = same_post S k words (slice_set words w v) (λ m h. get_or-set_other words w (post_word S k m) v 0 (λ q. absurd (omega arith)))
@@ -113,7 +113,7 @@ pub stores_on : (xs ys : List ℕ) (made : ℕ) → made < length xs → made < 
 stores_on xs ys made low few e = take_more_set xs made (slice_index ys made) low ∙ ap (λ z. z ++ slice_index ys made ∷ []) e ∙ sym (take_more ys made 0 few)
 
 -- a posted call is read back; a hold is one of its shard
-pub call_back : (S : CombineSite) (call : Call) (seq : ℕ) → shard_of S.site.geom call ≡ S.site.shard → posted_call S.site.shard (post_spelling call seq) ≡ call
+pub call_back : (S : WaySite) (call : Call) (seq : ℕ) → shard_of S.site.geom call ≡ S.site.shard → posted_call S.site.shard (post_spelling call seq) ≡ call
 call_back S (Put key value) seq h = refl
 call_back S (Get key) seq h = refl
 call_back S (Del key) seq h = refl

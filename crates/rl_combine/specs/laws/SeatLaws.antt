@@ -22,18 +22,20 @@ use Rattle.rl_volume.specs.Decision.{decision}
 use Rattle.rl_work.specs.declared.stage.Stage.{Stage as BlockStage}
 use Rattle.rl_work.specs.declared.stage.Stage.TheVariants as block
 use Rattle.rl_journal.specs.Journal.{spelling}
-use Rattle.rl_site.specs.Site.{count_word, volume_base, journal_base, lock_base}
+use Rattle.rl_site.specs.Site.{count_word, volume_base, journal_base, lock_base, WaySite}
 use Rattle.rl_site.specs.Opens.{IsOpen}
 use Rattle.rl_work.specs.Ways.{Worked, IsApart, IsLaid, side_turned}
 use Rattle.rl_site.specs.Transcript.{TheTranscript}
-use Rattle.rl_work.specs.Work.{WorkTurned, more_entries, work_atom, work_after, seen_on, at_rest, with_block, with_call, with_entries, block_close_by, journal_on, to_stage as block_to, read_next as block_next, written_on as block_written, write_atom}
+use Rattle.rl_work.specs.Work.{WorkTurned, more_entries, work_atom, work_after, seen_on, at_rest, with_block, with_call, with_entries, journal_on, to_stage as block_to, read_next as block_next, written_on as block_written, write_atom}
+use Rattle.rl_work.specs.laws.Cases.{block_close_by}
 use Rattle.rl_work.specs.WorkGood.{WorkSide as Seat, WorkGood, IsApart as AreApart, side_turned as seat_turned, side_after as seat_after, FitsAt as BlockFits}
 use Rattle.rl_work.specs.laws.RoomLaws.{journal_short}
 use Rattle.rl_work.specs.laws.AtomLaws.{atom_can, atom_keeps, shift_keeps, open_keeps}
 use Rattle.rl_combine.specs.declared.stage.CombineStage.{CombineStage}
 use Rattle.rl_combine.specs.declared.stage.CombineStage.TheVariants.{Copy, Read, Journal, Volume, Answer, Mark}
-use Rattle.rl_combine.specs.Posts.{CombineSite, ThePost, post_word, post_of, post_spelling, posted_call, posted_seq, answer_spelling, answered_entry}
-use Rattle.rl_combine.specs.Combine.{TheCombineSide, Opened, opened_of, in_hand, combine_table, combine_stage_after, sweep_on, combine_to_stage, combine_at_stage, with_copied, with_posted, combine_with_word, with_decision, combine_read_next, combine_read_on, decided_stage, combine_written_on, found}
+use Rattle.rl_combine.specs.Posts.{ThePost, post_word, post_of, post_spelling, posted_call, posted_seq, answer_spelling, answered_entry}
+use Rattle.rl_combine.specs.Combine.{TheCombineSide, Opened, opened_of, in_hand, combine_table, combine_stage_after, sweep_on, combine_to_stage, combine_at_stage, with_copied, with_posted, combine_with_word, with_decision, combine_read_next, combine_read_on, combine_written_on, found}
+use Rattle.rl_combine.specs.laws.Cases.{decided_stage}
 use Rattle.rl_combine.specs.CombineGood.{RankSide, front_of, Waits, IsInHand, IsCounted, Progress, waits, handled, counted, answered, IsPosted, IsCombiner, IsSweeping, IsCopying, HasEntry, IsAnswering, IsLeft, IsToEnd, OwnAt, SweepAt, CombineGood, reading, deciding}
 use Rattle.rl_combine.specs.laws.PostLaws.{others_stay, posts_stay, call_word, flag_stored, answer_stored, front_get, front_set, front_behind, copies_on, stores_on, call_back, reply_back}
 use Rattle.rl_combine.specs.laws.SideLaws.{posted_at, posted_on}
@@ -41,7 +43,7 @@ use Rattle.rl_combine.specs.laws.MoveLaws.{SeatGoesOn, Keeps, Combines, combiner
 use Rattle.rl_combine.specs.laws.OwnLaws.{found_flag, sweeps_on}
 
 -- a posted call stays in hand while its seat is that of a writer, with the same calls and entries
-still_handled : (S : CombineSite) (p : ThePost) (k : ℕ) (o : Opened) (y u : Seat) → y.standing ≡ Writer → u.standing ≡ Writer → u.work.transcript ≡ y.work.transcript → u.work.calls ≡ y.work.calls → u.work.seq ≡ y.work.seq →
+still_handled : (S : WaySite) (p : ThePost) (k : ℕ) (o : Opened) (y u : Seat) → y.standing ≡ Writer → u.standing ≡ Writer → u.work.transcript ≡ y.work.transcript → u.work.calls ≡ y.work.calls → u.work.seq ≡ y.work.seq →
     IsPosted S p k o y → IsPosted S p k o u
 still_handled S p k o y u busy writes same calls seq is = record { open_call = is.open_call; spelled = is.spelled; progress = by_case is.progress } where
   by_case : Progress S p k o y → Progress S p k o u
@@ -51,7 +53,7 @@ still_handled S p k o y u busy writes same calls seq is = record { open_call = i
   by_case (answered a) = let out = a.free.out in absurd (cc)
 
 -- and knows its calls and entries
-pub handled_as : (S : CombineSite) (p : ThePost) (k : ℕ) (o : Opened) (y : Seat) → y.standing ≡ Writer → IsPosted S p k o y → IsInHand p o y
+pub handled_as : (S : WaySite) (p : ThePost) (k : ℕ) (o : Opened) (y : Seat) → y.standing ≡ Writer → IsPosted S p k o y → IsInHand p o y
 handled_as S p k o y busy is = by_case is.progress where
   by_case : Progress S p k o y → IsInHand p o y
   by_case (waits w) = let out = w.free.out in absurd (cc)
@@ -60,7 +62,7 @@ handled_as S p k o y busy is = by_case is.progress where
   by_case (answered a) = let out = a.free.out in absurd (cc)
 
 -- a posted call whose seat is out, with the flag 1, waits
-waits_as : (S : CombineSite) (p : ThePost) (k : ℕ) (o : Opened) (y : Seat) → y.standing ≡ Out → p.flag ≡ 1 → IsPosted S p k o y → Waits p o y
+waits_as : (S : WaySite) (p : ThePost) (k : ℕ) (o : Opened) (y : Seat) → y.standing ≡ Out → p.flag ≡ 1 → IsPosted S p k o y → Waits p o y
 waits_as S p k o y out one is = by_case is.progress where
   by_case : Progress S p k o y → Waits p o y
   by_case (waits w) = w
@@ -69,7 +71,7 @@ waits_as S p k o y out one is = by_case is.progress where
   by_case (answered a) = let two = a.flag in absurd (omega arith)
 
 -- one whose seat leaves is counted
-pub counted_as : (S : CombineSite) (p : ThePost) (k : ℕ) (o : Opened) (y : Seat) → y.standing ≡ Leaving → IsPosted S p k o y → IsCounted p o y
+pub counted_as : (S : WaySite) (p : ThePost) (k : ℕ) (o : Opened) (y : Seat) → y.standing ≡ Leaving → IsPosted S p k o y → IsCounted p o y
 counted_as S p k o y leaves is = by_case is.progress where
   by_case : Progress S p k o y → IsCounted p o y
   by_case (waits w) = let out = w.free.out in absurd (cc)
@@ -77,7 +79,7 @@ counted_as S p k o y leaves is = by_case is.progress where
   by_case (counted c) = c
   by_case (answered a) = let out = a.free.out in absurd (cc)
 
-module _ (S : CombineSite) (node : ℕ → ℕ) (words : List ℕ) (laid : IsLaid (combine_table S node) words) (sides : List RankSide) (g : CombineGood S words sides) (apart : IsApart (combine_table S node) sides) (r : ℕ) (x : RankSide) (has : slice_get sides r ≡ Some x) where
+module _ (S : WaySite) (node : ℕ → ℕ) (words : List ℕ) (laid : IsLaid (combine_table S node) words) (sides : List RankSide) (g : CombineGood S words sides) (apart : IsApart (combine_table S node) sides) (r : ℕ) (x : RankSide) (has : slice_get sides r ≡ Some x) where
   -- the side that some stage leaves
   abbrev left_by : Worked TheCombineSide → RankSide
   left_by t = side_turned x.standing t

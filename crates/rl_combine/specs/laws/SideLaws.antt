@@ -5,11 +5,12 @@ use Rattle.rl_step.specs.declared.events.Standing.TheVariants.{Out, Writer}
 use Rattle.rl_work.specs.WorkGood.{WorkSide as Seat}
 use Rattle.rl_combine.specs.declared.stage.CombineStage.{CombineStage}
 use Rattle.rl_combine.specs.declared.stage.CombineStage.TheVariants.{Rest, Post, Raise, Look, Count, Sweep, Copy, Read, Journal, Volume, Answer, Mark, Collect, Lower}
-use Rattle.rl_combine.specs.Posts.{CombineSite, ThePost}
+use Rattle.rl_combine.specs.Posts.{ThePost}
+use Rattle.rl_site.specs.Site.{WaySite}
 use Rattle.rl_combine.specs.Combine.{opened_of, in_hand}
 use Rattle.rl_combine.specs.CombineGood.{RankSide, Progress, waits, handled, counted, answered, IsPosted, OwnAt, SweepAt}
 
-module _ (S : CombineSite) (p : ThePost) (k : ℕ) (z : RankSide) (y : Seat) where
+module _ (S : WaySite) (p : ThePost) (k : ℕ) (z : RankSide) (y : Seat) where
   -- where the flag is 1 the call is posted
   pub posted_at : (st : CombineStage) → OwnAt S p k z y st → p.flag ≡ 1 → IsPosted S p k (opened_of z.work) y
   posted_at Rest o e = let f = o.1 in absurd (omega arith)

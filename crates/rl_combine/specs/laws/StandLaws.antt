@@ -14,7 +14,7 @@ use Rattle.rl_step.specs.declared.events.Event.{Event}
 use Rattle.rl_step.specs.declared.events.Standing.{Standing}
 use Rattle.rl_step.specs.declared.events.Standing.TheVariants.{Out, Asking, Writer, Reader, Leaving}
 use Rattle.rl_step.specs.Lock.{IsHolder, Shift}
-use Rattle.rl_site.specs.Site.{lock_base}
+use Rattle.rl_site.specs.Site.{lock_base, WaySite}
 use Rattle.rl_site.specs.Opens.{IsOpen, opening_words}
 use Rattle.rl_work.specs.Ways.{IsLaid, IsFirst, SameWork, GoesOnAt, TouchesAs, TellsTouch}
 use Rattle.rl_site.specs.laws.OpeningLaws.{opening_size}
@@ -23,7 +23,7 @@ use Rattle.rl_work.specs.WorkGood.{WorkSide as Seat, WorkGood, IsDone, IsFirst a
 use Rattle.rl_work.specs.laws.AtomLaws.{opening_good}
 use Rattle.rl_combine.specs.declared.stage.CombineStage.{CombineStage}
 use Rattle.rl_combine.specs.declared.stage.CombineStage.TheVariants.{Rest, Post, Raise, Look, Count, Sweep, Copy, Read, Journal, Volume, Answer, Mark, Collect, Lower}
-use Rattle.rl_combine.specs.Posts.{CombineSite, ThePost, combine_ranks, post_word, post_of}
+use Rattle.rl_combine.specs.Posts.{ThePost, combine_ranks, post_word, post_of}
 use Rattle.rl_combine.specs.Combine.{TheCombineSide, combine_is_open, combine_touch_at, in_hand, combine_stage_atom, combine_table, with_open}
 use Rattle.rl_combine.specs.CombineGood.{RankSide, front_of, HasAsked, IsFree, OwnAt, SweepAt, CombineGood}
 use Rattle.rl_combine.specs.laws.PostLaws.{same_post}
@@ -36,11 +36,11 @@ zero_at (suc n) zero = refl
 zero_at (suc n) (suc i) = zero_at n i
 
 -- the first seat of a rank
-abbrev first_seat : CombineSite → RankSide → Seat
+abbrev first_seat : WaySite → RankSide → Seat
 first_seat S x = record { standing = Out; work = first_work S.site.geom x.work.kept.room }
 
 -- before the first call the rule holds
-pub begins : (S : CombineSite) (node : ℕ → ℕ) → GeomFits S.site.geom → (n : ℕ) → lock_base S.site ≤ S.behind → lock_base S.site + n ≡ S.behind + 9 * combine_ranks S → (sides : List RankSide) → length sides ≡ combine_ranks S →
+pub begins : (S : WaySite) (node : ℕ → ℕ) → GeomFits S.site.geom → (n : ℕ) → lock_base S.site ≤ S.behind → lock_base S.site + n ≡ S.behind + 9 * combine_ranks S → (sides : List RankSide) → length sides ≡ combine_ranks S →
     ((r : ℕ) (x : RankSide) → slice_get sides r ≡ Some x → IsFirst (combine_table S node) r x) → CombineGood S (opening_words S.site ++ replicate n 0) sides
 begins S node fits n low all sides ranks first =
     let words : List ℕ = opening_words S.site ++ replicate n 0 in
@@ -83,7 +83,7 @@ begins S node fits n low all sides ranks first =
         subst (λ (u : Seat). IsFree u x.work.kept) (ap (first_seat S) (sym same) ∙ q.2) (record { out = refl; has = mine })
 
 -- words of the lock alone change
-pub frame : (S : CombineSite) (node : ℕ → ℕ) (words others : List ℕ) (sides : List RankSide) → CombineGood S words sides → IsLaid (combine_table S node) words → SameWork (combine_table S node) words others → CombineGood S others sides
+pub frame : (S : WaySite) (node : ℕ → ℕ) (words others : List ℕ) (sides : List RankSide) → CombineGood S words sides → IsLaid (combine_table S node) words → SameWork (combine_table S node) words others → CombineGood S others sides
 frame S node words others sides g laid same =
     let posts : (k : ℕ) → post_of S others k ≡ post_of S words k = λ k. same_post S k words others (λ m h. same.behind (post_word S k m) (omega arith)) in
     record {
@@ -99,7 +99,7 @@ frame S node words others sides g laid same =
     sweep_frame : (r : ℕ) (x : RankSide) → slice_get sides r ≡ Some x → ((k : ℕ) → post_of S others k ≡ post_of S words k) → SweepAt S others g.seats r x.work x.work.stage
     sweep_frame r x there posts = sweep_same S node words laid sides g others r x same.before (posts r) (λ k e. posts k) (g.sweeps r x there)
 
-module _ (S : CombineSite) (node : ℕ → ℕ) (words : List ℕ) (laid : IsLaid (combine_table S node) words) (sides : List RankSide) (g : CombineGood S words sides) (r : ℕ) (x : RankSide) (has : slice_get sides r ≡ Some x) where
+module _ (S : WaySite) (node : ℕ → ℕ) (words : List ℕ) (laid : IsLaid (combine_table S node) words) (sides : List RankSide) (g : CombineGood S words sides) (r : ℕ) (x : RankSide) (has : slice_get sides r ≡ Some x) where
   own_now : (y : Seat) → slice_get g.seats r ≡ Some y → OwnAt S (post_of S words r) r x y x.work.stage
   own_now y seat = g.own r x y has seat
 
@@ -236,7 +236,7 @@ module _ (S : CombineSite) (node : ℕ → ℕ) (words : List ℕ) (laid : IsLai
       touches_as (post_of S words r) s.0 x.work.stage (own_now s.0 s.1)
 
 -- each atom before the lock's words is told as a touch
-pub tells_at : (S : CombineSite) (r : ℕ) (x : TheCombineSide) (at : Atom) (seated : Standing) (calls : List Call) → lock_base S.site ≤ S.behind → (stage : CombineStage) → combine_stage_atom S r x stage ≡ Some at → TellsTouch (lock_base S.site) at seated calls (combine_touch_at stage)
+pub tells_at : (S : WaySite) (r : ℕ) (x : TheCombineSide) (at : Atom) (seated : Standing) (calls : List Call) → lock_base S.site ≤ S.behind → (stage : CombineStage) → combine_stage_atom S r x stage ≡ Some at → TellsTouch (lock_base S.site) at seated calls (combine_touch_at stage)
 tells_at S r x at seated calls low stage p = by_stage stage p where
   on_load : (w : ℕ) (t : Option Bool) → (w < lock_base S.site → t ≡ Some false) → Load w ≡ at → TellsTouch (lock_base S.site) at seated calls t
   on_load w t told p = subst (λ z. TellsTouch (lock_base S.site) z seated calls t) p (λ under. inl (told under))

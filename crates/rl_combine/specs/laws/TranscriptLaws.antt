@@ -8,15 +8,17 @@ use Rattle.rl_word.specs.laws.Places.{get_map}
 use Rattle.rl_model.specs.declared.entry.Entry.{Entry}
 use Rattle.rl_model.specs.Call.{is_update}
 use Rattle.rl_journal.specs.Legal.{updates, is_of}
-use Rattle.rl_site.specs.Site.{journal_by}
+use Rattle.rl_site.specs.Site.{journal_by, WaySite}
 use Rattle.rl_site.specs.Transcript.{TheTranscript}
 use Rattle.rl_work.specs.Work.{more_entries}
 use Rattle.rl_work.specs.WorkGood.{WorkSide as Seat, transcript_of}
 use Rattle.rl_work.specs.laws.RuleLaws.{journal_is}
 use Rattle.rl_combine.specs.declared.stage.CombineStage.{CombineStage}
 use Rattle.rl_combine.specs.declared.stage.CombineStage.TheVariants.{Rest, Post, Raise, Look, Count, Sweep, Copy, Read, Journal, Volume, Answer, Mark, Collect, Lower}
-use Rattle.rl_combine.specs.Posts.{CombineSite, post_of, answered_entry}
-use Rattle.rl_combine.specs.Combine.{TheCombineSide, opened_of, combine_is_open, is_call, early_by, early_open, early, transcript}
+use Rattle.rl_combine.specs.Posts.{post_of, answered_entry}
+use Rattle.rl_combine.specs.Combine.{TheCombineSide, opened_of, combine_is_open, is_call, early, transcript}
+use Rattle.rl_combine.specs.laws.Cases.{early_open}
+use Rattle.rl_combine.specs.laws.Cases.{early_by}
 use Rattle.rl_combine.specs.CombineGood.{RankSide, front_of, HasOpen, IsPosting, IsAnswered, Progress, waits, handled, counted, answered, IsPosted, OwnAt, CombineGood}
 
 -- two tests, one after the other
@@ -50,16 +52,16 @@ one_numbered s es f all update same =
     ∙ ap (λ b. cond b (f ∷ []) []) hit
 
 -- The entries that a rank has by the words: those that it keeps, or one more, which is done early.
-pub record HasNone (S : CombineSite) (words : List ℕ) (k : ℕ) (x : TheCombineSide) (y : Seat) : Type 0 where
+pub record HasNone (S : WaySite) (words : List ℕ) (k : ℕ) (x : TheCombineSide) (y : Seat) : Type 0 where
   pub none : early S words k x ≡ []
   pub has : y.work.transcript ≡ x.kept
 
-pub record HasOne (S : CombineSite) (words : List ℕ) (k : ℕ) (x : TheCombineSide) (y : Seat) : Type 0 where
+pub record HasOne (S : WaySite) (words : List ℕ) (k : ℕ) (x : TheCombineSide) (y : Seat) : Type 0 where
   pub entry : Entry
   pub one : early S words k x ≡ entry ∷ []
   pub has : y.work.transcript ≡ more_entries x.kept (entry ∷ [])
 
-module _ (S : CombineSite) (words : List ℕ) (sides : List RankSide) (g : CombineGood S words sides) (k : ℕ) (z : RankSide) (y : Seat) (seat : slice_get g.seats k ≡ Some y) where
+module _ (S : WaySite) (words : List ℕ) (sides : List RankSide) (g : CombineGood S words sides) (k : ℕ) (z : RankSide) (y : Seat) (seat : slice_get g.seats k ≡ Some y) where
   -- the rank's updates in the journal, of a call by its number
   calls_in : (s : ℕ) → filter (is_call k s) (journal_by S.site words) ≡ filter (λ e. e.seq == s) (filter updates y.work.transcript.items)
   calls_in s =

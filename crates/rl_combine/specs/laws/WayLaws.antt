@@ -8,7 +8,7 @@ use Rattle.rl_step.specs.declared.events.Stepped.TheVariants.{Moved}
 use Rattle.rl_step.specs.Do.{do_got}
 use Rattle.rl_site.specs.Opens.{IsOpen}
 use Rattle.rl_work.specs.Ways.{WorkTable, WorkLaws, IsSide, Works, AnswersAs, look, own_look, opened_look, opened_mode}
-use Rattle.rl_combine.specs.Posts.{CombineSite}
+use Rattle.rl_site.specs.Site.{WaySite}
 use Rattle.rl_combine.specs.Combine.{TheCombineSide, combine_table, combine_after, early, combine_is_open, combine_with_block}
 use Rattle.rl_combine.specs.CombineGood.{RankSide, CombineGood}
 use Rattle.rl_combine.specs.laws.CombineLaws.{atom_keeps}
@@ -17,7 +17,7 @@ use Rattle.rl_combine.specs.laws.PlainLaws.{plain, fronts}
 use Rattle.rl_combine.specs.laws.LookLaws.{legal, sorted, short, own, volume}
 use Rattle.rl_combine.specs.laws.ChangeLaws.{same_look, closed, opened, changes, turns, follows, moved, tenures}
 
-module _ (S : CombineSite) (node : ℕ → ℕ) where
+module _ (S : WaySite) (node : ℕ → ℕ) where
   abbrev T : WorkTable TheCombineSide
   T = combine_table S node
 

@@ -10,10 +10,9 @@ use Rattle.std.proofs.lemmas.Bool.Decides.{nat_tests}
 use Rattle.rl_model.specs.declared.call.Call.{Call}
 use Rattle.rl_model.specs.declared.geom.Geom.{Geom}
 use Rattle.rl_model.specs.Call.{shard_of, is_update}
-use Rattle.rl_model.specs.Asked.{Asked, IsAsked, AreUpdates, asks_update}
+use Rattle.rl_model.specs.Asked.{Asked, IsAsked, AreUpdates, asks_update, batch_number}
 use Rattle.rl_model.proofs.Counts.{count-append, count-cons}
 use Rattle.rl_ops.specs.Ops.{total_calls}
-use Rattle.rl_journal.specs.Blocks.{batch_number}
 use Rattle.rl_site.specs.Opens.{places_needed}
 use Rattle.rl_core.specs.Asks.{is_on, sizes_of, IsBlockOf, AreBlocks, block_from, block_shard, call_shard, place_after, asked_after, asked_of, is_update_on}
 use Rattle.rl_core.specs.RankGood.{AsksNext}

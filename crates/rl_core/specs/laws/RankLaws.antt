@@ -9,9 +9,9 @@ use Rattle.rl_model.specs.declared.call.Call.{Call}
 use Rattle.rl_model.specs.declared.entry.Entry.{Entry}
 use Rattle.rl_model.specs.declared.geom.Geom.{Geom}
 use Rattle.rl_model.specs.Call.{shard_of, is_update}
-use Rattle.rl_model.specs.Asked.{Asked}
+use Rattle.rl_model.specs.Asked.{Asked, batch_number}
 use Rattle.rl_model.proofs.Counts.{count-cons}
-use Rattle.rl_journal.specs.Blocks.{calls_of, batch_number}
+use Rattle.rl_journal.specs.Blocks.{calls_of}
 use Rattle.rl_journal.specs.Legal.{updates}
 use Rattle.rl_journal.specs.Ranks.{IsInOrder, IsRankInOrder, IsEntryOf, AreAsked}
 use Rattle.rl_journal.specs.laws.RankLaws.{block_more}

@@ -1,5 +1,6 @@
 -- The history's parts: its updates, in their order, are the journal, and its entries of a rank are that rank's transcript.
 use Rattle.std.specs.Prelude.{◌≡◌, ℕ, zero, suc, ◌+◌, ◌<◌, ◌≤◌, ◌==◌, nat_le, Bool, true, false, not, ◌&&◌, cond, List, [], ◌∷◌, ◌++◌, filter, length, slice_get, Some, refl}
+use Rattle.std.specs.List.{AllByRecursion}
 use Rattle.std.proofs.Common.{sym, ◌∙◌, ap, subst, arith, length-append, append_assoc}
 use Rattle.std.proofs.lemmas.Bool.Decides.{nat_tests}
 use Rattle.std.proofs.lemmas.List.{append-nil}
@@ -9,7 +10,7 @@ use Rattle.rl_model.specs.declared.entry.Entry.{Entry}
 use Rattle.rl_model.specs.declared.geom.Geom.{Geom}
 use Rattle.rl_journal.specs.Legal.{updates, is_of, IsLegal}
 use Rattle.rl_journal.specs.Ranks.{IsInOrder, Follows}
-use Rattle.rl_journal.specs.History.{looked_at, reads_at, history_from, history, Each, AreOwn}
+use Rattle.rl_journal.specs.History.{looked_at, reads_at, history_from, history, AreOwn}
 use Rattle.rl_journal.specs.laws.LegalLaws.{placed, IsMarked, marked}
 use Rattle.rl_journal.specs.laws.Lists.{filter_all, filter_none, get_left, all_at}
 
@@ -114,14 +115,14 @@ stores n e =
       | false ↦ grind (arith, nat_tests)
     ]
 
-at_some : (P : Entry → Type 0) (es : List Entry) → Each P es → (i : ℕ) (e : Entry) → slice_get es i ≡ Some e → P e
+at_some : (P : Entry → Type 0) (es : List Entry) → AllByRecursion P es → (i : ℕ) (e : Entry) → slice_get es i ≡ Some e → P e
 at_some P [] each i e has = absurd (cc)
 at_some P (x ∷ es) each zero e has = subst P (same_Some _ _ has) each.0
 at_some P (x ∷ es) each (suc i) e has = at_some P es each.1 i e has
 
-each_filter : (P : Entry → Type 0) (p : Entry → Bool) (es : List Entry) → Each P es → Each P (filter p es)
+each_filter : (P : Entry → Type 0) (p : Entry → Bool) (es : List Entry) → AllByRecursion P es → AllByRecursion P (filter p es)
 each_filter P p [] each = tt
-each_filter P p (e ∷ es) each = elim (p e) as (λ b. Each P (cond b (e ∷ filter p es) (filter p es))) [ true ↦ (each.0, each_filter P p es each.1) | false ↦ each_filter P p es each.1 ]
+each_filter P p (e ∷ es) each = elim (p e) as (λ b. AllByRecursion P (cond b (e ∷ filter p es) (filter p es))) [ true ↦ (each.0, each_filter P p es each.1) | false ↦ each_filter P p es each.1 ]
 
 -- ---- the updates
 

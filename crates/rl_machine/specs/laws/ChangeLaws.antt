@@ -14,7 +14,8 @@ use Rattle.rl_core.specs.Asks.{block_shard}
 use Rattle.rl_core.specs.laws.TouchLaws.{only_writers}
 use Rattle.rl_core.specs.ShardTables.{ShardTable}
 use Rattle.rl_machine.specs.Running.{ShardRun, Running}
-use Rattle.rl_machine.specs.ShardSteps.{events_of, opened_at, opened_on, makes, made_at, atom_on}
+use Rattle.rl_machine.specs.ShardSteps.{opened_at, opened_on, makes, made_at, atom_on}
+use Rattle.rl_step.specs.Traces.{events_of}
 use Rattle.rl_machine.specs.Run.{changed_if, place_of, opens, next_block, opened_if, block_opened, stepped}
 use Rattle.rl_machine.specs.laws.MachineLaws.{events-more}
 use Rattle.rl_machine.specs.Promises.{IsShardSound}

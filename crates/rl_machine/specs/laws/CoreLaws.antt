@@ -22,7 +22,7 @@ use Rattle.rl_core.specs.laws.OpsBridge.{CanBegin}
 use Rattle.rl_core.specs.ShardTables.{ShardTable}
 use Rattle.rl_core.specs.ShardLaws.{GoodOf, CauseOf, FurtherOf, LawsOf, IsLaidAtSite}
 use Rattle.rl_machine.specs.Running.{ShardRun, Running, TheShard, TheMachine, shard_run, running, cores_of}
-use Rattle.rl_machine.specs.ShardSteps.{events_of}
+use Rattle.rl_step.specs.Traces.{events_of}
 use Rattle.rl_machine.specs.Start.{site_of, first_shards, start}
 use Rattle.rl_machine.specs.laws.StartLaws.{shard_first, shards_length, AreCores, start_good}
 use Rattle.rl_machine.specs.Run.{on_shard, run_of, trace_of, AreThere}

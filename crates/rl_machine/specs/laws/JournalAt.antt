@@ -7,7 +7,7 @@ use Rattle.rl_site.specs.Site.{places, lock_base}
 use Rattle.rl_core.specs.ShardTables.{ShardTable, journal_at}
 use Rattle.rl_core.specs.ShardLaws.{GoodOf, CauseOf, FurtherOf, LawsOf}
 use Rattle.rl_machine.specs.declared.shard.ShardState.{ShardState}
-use Rattle.rl_machine.specs.ShardSteps.{events_of}
+use Rattle.rl_step.specs.Traces.{events_of}
 use Rattle.rl_machine.specs.State.{IsGood}
 
 module _ (C V : Type 0) (table : C → ShardTable V) (good : GoodOf C V) (cause : CauseOf C V) (further : FurtherOf C) (layout : C → Layout) (laws : LawsOf C V table good cause further layout) (s : ShardState C V) (is : IsGood good s) where

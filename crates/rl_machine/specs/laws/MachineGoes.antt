@@ -13,7 +13,8 @@ use Rattle.rl_core.specs.laws.AskLaws.{inside}
 use Rattle.rl_core.specs.ShardTables.{ShardTable}
 use Rattle.rl_core.specs.ShardLaws.{GoodOf, CauseOf, FurtherOf, LawsOf, IsSeated, AllShut, ShardCoreLaws}
 use Rattle.rl_machine.specs.Running.{ShardRun, Running}
-use Rattle.rl_machine.specs.ShardSteps.{events_of, opened_at, opened_on, makes, made_at, atom_on, answer_on, open_at, open_on}
+use Rattle.rl_machine.specs.ShardSteps.{opened_at, opened_on, makes, made_at, atom_on, answer_on, open_at, open_on}
+use Rattle.rl_step.specs.Traces.{events_of}
 use Rattle.rl_machine.specs.Run.{changed, changed_if, on_shard, calls_by, sizes_by, place_of, has_open_call, opens, opened_if, atom_made, stepped, IsAllClosed}
 use Rattle.rl_machine.specs.MachineGood.{MachineGood}
 use Rattle.rl_machine.specs.laws.MachineLaws.{Found, found_at, laws_of, seated, OpensAt, opens_at}

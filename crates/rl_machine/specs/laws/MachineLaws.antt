@@ -22,7 +22,8 @@ use Rattle.rl_core.specs.laws.RankLaws.{closed_all, all_done, block_fits, rank_o
 use Rattle.rl_core.specs.ShardTables.{ShardTable}
 use Rattle.rl_core.specs.ShardLaws.{GoodOf, CauseOf, FurtherOf, LawsOf, MayOpen, IsSeated, IsDeskOf, ShardCoreLaws}
 use Rattle.rl_machine.specs.Running.{ShardRun, Running}
-use Rattle.rl_machine.specs.ShardSteps.{events_of, numbered, opened_at, opened_on, makes, made_at, atom_on, deeds_to, deeds_at, deeds_on, desk_at, desk_on, open_at, open_on}
+use Rattle.rl_machine.specs.ShardSteps.{numbered, opened_at, opened_on, makes, made_at, atom_on, deeds_to, deeds_at, deeds_on, desk_at, desk_on, open_at, open_on}
+use Rattle.rl_step.specs.Traces.{events_of}
 use Rattle.rl_machine.specs.Run.{desks_by, changed, changed_if, on_shard, calls_by, sizes_by, place_of, has_open_call, opens, opened_if, block_opened, atom_answer, atom_made, stepped, run_of, AreThere}
 use Rattle.rl_machine.specs.laws.RunActs.{acts_with, atom_acts, step_acts, run_acts}
 use Rattle.rl_machine.specs.MachineGood.{IsShardOf, MachineGood}

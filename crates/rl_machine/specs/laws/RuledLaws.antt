@@ -8,7 +8,8 @@ use Rattle.rl_step.specs.Lock.{Deed}
 use Rattle.rl_core.specs.ShardTables.{ShardTable}
 use Rattle.rl_core.specs.ShardLaws.{GoodOf, CauseOf, FurtherOf, LawsOf}
 use Rattle.rl_machine.specs.Running.{ShardRun, Running}
-use Rattle.rl_machine.specs.ShardSteps.{events_of, desk_at, desk_on}
+use Rattle.rl_machine.specs.ShardSteps.{desk_at, desk_on}
+use Rattle.rl_step.specs.Traces.{events_of}
 use Rattle.rl_machine.specs.Run.{desks_by, place_of}
 use Rattle.rl_machine.specs.MachineGood.{MachineGood}
 use Rattle.rl_machine.specs.laws.MachineLaws.{found_at, laws_of, seated}

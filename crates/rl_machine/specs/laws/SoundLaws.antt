@@ -17,12 +17,14 @@ use Rattle.rl_core.specs.RankGood.{entries_in}
 use Rattle.rl_core.specs.ShardTables.{ShardTable}
 use Rattle.rl_core.specs.ShardLaws.{GoodOf, CauseOf, FurtherOf, LawsOf}
 use Rattle.rl_machine.specs.Running.{ShardRun, Running}
-use Rattle.rl_machine.specs.ShardSteps.{events_of, desk_at, desk_on, kept_on, open_at, open_on}
+use Rattle.rl_machine.specs.ShardSteps.{desk_at, desk_on, kept_on, open_at, open_on}
+use Rattle.rl_step.specs.Traces.{events_of}
 use Rattle.rl_machine.specs.Run.{desks_by, on_shard, calls_by, sizes_by, place_of, kept_by, done_of, block_opened, IsAllClosed, IsShut}
 use Rattle.rl_machine.specs.laws.BlockEnds.{rest_begins, work_begins}
 use Rattle.rl_machine.specs.MachineGood.{IsShardOf, MachineGood}
 use Rattle.rl_machine.specs.laws.MachineLaws.{found_at, laws_of, seated, block_good}
 use Rattle.rl_machine.specs.Promises.{shard_journal, transcripts_on, IsShardSound, IsSound}
+use Rattle.rl_machine.specs.Changes.{OnlyWritersChange}
 use Rattle.rl_machine.specs.laws.ChangeLaws.{step_comes}
 
 -- the entries of a rank's desks
@@ -127,8 +129,6 @@ module _ (C V : Type 0) (table : C → ShardTable V) (good : GoodOf C V) (cause 
   is_sound =
       record {
         shards = λ s S has. shard_sound C V table good cause further layout laws cores acts m g s S has;
-        changes = λ k s S N h has there.
-            step_comes m k s S N (λ T is. shard_sound C V table good cause further layout laws cores acts (block_opened m k) (block_good C V table good cause further layout laws cores acts m k g h) s T is) has there;
         order = rank_order;
         done = rank_done;
         whole = rank_whole;
@@ -142,3 +142,8 @@ module _ (C V : Type 0) (table : C → ShardTable V) (good : GoodOf C V) (cause 
         counted = counts;
         shut = all_shut;
       }
+
+  -- the shards are sound once a block is opened too, so the atom behind it is a writer's where it changes what the lock guards
+  pub only_writers : OnlyWritersChange m
+  only_writers k s S N h has there =
+      step_comes m k s S N (λ T is. shard_sound C V table good cause further layout laws cores acts (block_opened m k) (block_good C V table good cause further layout laws cores acts m k g h) s T is) has there

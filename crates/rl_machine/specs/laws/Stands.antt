@@ -8,7 +8,8 @@ use Rattle.rl_core.specs.ShardLaws.{GoodOf, CauseOf, FurtherOf, LawsOf}
 use Rattle.rl_machine.specs.declared.shard.ShardState.{ShardState}
 use Rattle.rl_machine.specs.declared.state.MachineState.{MachineState}
 use Rattle.rl_machine.specs.Running.{ShardRun, Running, shard_run, running}
-use Rattle.rl_machine.specs.ShardSteps.{events_of, desk_at, desk_on, open_at, open_on}
+use Rattle.rl_machine.specs.ShardSteps.{desk_at, desk_on, open_at, open_on}
+use Rattle.rl_step.specs.Traces.{events_of}
 use Rattle.rl_machine.specs.Run.{desks_by, on_shard, calls_by, place_of, has_open_call, opens}
 use Rattle.rl_machine.specs.laws.RestLaws.{open_shuts}
 use Rattle.rl_machine.specs.MachineGood.{IsMachine}

@@ -20,7 +20,8 @@ use Rattle.rl_core.specs.laws.RankLaws.{all_done}
 use Rattle.rl_core.specs.ShardTables.{ShardTable}
 use Rattle.rl_core.specs.ShardLaws.{GoodOf, CauseOf, FurtherOf, LawsOf, MayOpen, IsSeated, ShardCoreLaws}
 use Rattle.rl_machine.specs.Running.{ShardRun, Running}
-use Rattle.rl_machine.specs.ShardSteps.{events_of, opened_at, opened_on, makes, made_at, atom_on, answer_to, answer_at, answer_on, desk_at, desk_on, open_at, open_on, kept_on}
+use Rattle.rl_machine.specs.ShardSteps.{opened_at, opened_on, makes, made_at, atom_on, answer_to, answer_at, answer_on, desk_at, desk_on, open_at, open_on, kept_on}
+use Rattle.rl_step.specs.Traces.{events_of}
 use Rattle.rl_machine.specs.Run.{desks_by, changed, changed_if, on_shard, calls_by, sizes_by, place_of, has_open_call, opens, next_block, opened_if, block_opened, atom_answer, only_counted, atom_made, stepped, answer_of_step}
 use Rattle.rl_machine.specs.MachineGood.{MachineGood}
 use Rattle.rl_machine.specs.laws.MachineLaws.{Found, found_at, laws_of, seated, not_open, OpensAt, opens_at, block_good, opened_calls}

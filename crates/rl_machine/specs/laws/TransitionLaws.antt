@@ -15,7 +15,8 @@ use Rattle.rl_core.specs.ShardTables.{ShardTable}
 use Rattle.rl_core.specs.ShardTables.{transition_by}
 use Rattle.rl_core.specs.ShardLaws.{GoodOf, CauseOf, FurtherOf, LawsOf}
 use Rattle.rl_machine.specs.Running.{ShardRun, Running}
-use Rattle.rl_machine.specs.ShardSteps.{events_of, deeds_to, deeds_at, deeds_on, transition_of, transitions_at, transitions_by}
+use Rattle.rl_machine.specs.ShardSteps.{deeds_to, deeds_at, deeds_on, transition_of, transitions_at, transitions_by}
+use Rattle.rl_step.specs.Traces.{events_of}
 use Rattle.rl_machine.specs.Run.{on_shard, place_of, opens, block_opened, stepped, AreThere}
 use Rattle.rl_machine.specs.laws.RunActs.{acts_with, atom_acts, step_acts, run_acts}
 use Rattle.rl_machine.specs.RunTransitions.{atom_there, step_there, transitions_on}

@@ -13,7 +13,7 @@ use Rattle.rl_core.specs.ShardEnding.{LeftOf, EndsOf}
 use Rattle.rl_core.specs.ShardGuiding.{UrgentOf, GuidesOf, ShardGuides}
 use Rattle.rl_machine.specs.declared.state.MachineState.{MachineState}
 use Rattle.rl_machine.specs.Running.{ShardRun, Running}
-use Rattle.rl_machine.specs.ShardSteps.{events_of}
+use Rattle.rl_step.specs.Traces.{events_of}
 use Rattle.rl_machine.specs.Run.{place_of, has_open_call, opens, calls_by, IsAllClosed}
 use Rattle.rl_machine.specs.MachineGood.{IsMachine, MachineGood}
 use Rattle.rl_machine.specs.State.{machine_view}

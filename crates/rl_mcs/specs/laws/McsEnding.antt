@@ -15,7 +15,8 @@ use Rattle.rl_queue.specs.Lane.{Busy}
 use Rattle.rl_queue.specs.Queue.{QueueTurn, queue_next_word, status_word, turn_at, moves_to, moves_with, joined_at, leave_at}
 use Rattle.rl_tree.specs.declared.view.TreeView.{TreeView}
 use Rattle.rl_tree.specs.declared.rooted.Rooted.{Rooted}
-use Rattle.rl_tree.specs.Tree.{is_none, path, works_for, at_level, hook_by, at_hook, tree_plan, walk_turn, standing_by, tree_standing}
+use Rattle.rl_tree.specs.Tree.{is_none, path, works_for, at_level, hook_by, at_hook, tree_plan, walk_turn, tree_standing}
+use Rattle.rl_tree.specs.laws.Cases.{standing_by}
 use Rattle.rl_tree.specs.Elements.{ranks_in, names_in, tree_of}
 use Rattle.rl_tree.specs.TreeShape.{IsWellShaped}
 use Rattle.rl_tree.specs.laws.TreeHolders.{at_root}

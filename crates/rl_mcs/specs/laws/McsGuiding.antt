@@ -8,7 +8,8 @@ use Rattle.rl_queue.specs.Urgency.{loaded, urgent_at}
 use Rattle.rl_queue.specs.laws.UrgencyLaws.{few_at, urgent_busy, urgent_free, free_urgent}
 use Rattle.rl_tree.specs.declared.view.TreeView.{TreeView}
 use Rattle.rl_tree.specs.declared.rooted.Rooted.{Rooted}
-use Rattle.rl_tree.specs.Tree.{hook_by, path, works_for, plan_by, tree_plan, tree_standing}
+use Rattle.rl_tree.specs.Tree.{hook_by, path, works_for, tree_plan, tree_standing}
+use Rattle.rl_tree.specs.laws.Cases.{plan_by}
 use Rattle.rl_tree.specs.Elements.{names_in, tree_of}
 use Rattle.rl_tree.specs.TreeShape.{IsWellShaped}
 use Rattle.rl_tree.specs.laws.RankGoes.{GoesIn, RankGoes}

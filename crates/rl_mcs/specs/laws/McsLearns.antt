@@ -13,7 +13,8 @@ use Rattle.rl_queue.specs.declared.view.Phase.{Phase}
 use Rattle.rl_queue.specs.declared.view.Phase.TheVariants.{Settle}
 use Rattle.rl_tree.specs.declared.rooted.Rooted.{Rooted}
 use Rattle.rl_tree.specs.declared.view.TreeView.{TreeView}
-use Rattle.rl_tree.specs.Tree.{TheTree, at_hook, resume_by, tree_standing, standing_by, entry_if}
+use Rattle.rl_tree.specs.Tree.{TheTree, at_hook, resume_by, tree_standing, entry_if}
+use Rattle.rl_tree.specs.laws.Cases.{standing_by}
 use Rattle.rl_tree.specs.Elements.{how_many, ranks_in, of_tree, tree_of, queues_from}
 use Rattle.rl_tree.specs.TreeGood.{GoodAt}
 use Rattle.rl_tree.specs.TreeShape.{IsWellShaped}

@@ -16,7 +16,8 @@ use Rattle.rl_core.specs.ShardTables.{ShardTable, site_with}
 use Rattle.rl_core.specs.ShardLaws.{GoodOf}
 use Rattle.rl_step.specs.LockQueues.{queues_of, readers_share, lock_under, spares_gets}
 use Rattle.rl_journal.specs.Blocks.{is_tenure}
-use Rattle.rl_journal.specs.History.{Each, AreOwn}
+use Rattle.rl_journal.specs.History.{AreOwn}
+use Rattle.std.specs.List.{AllByRecursion}
 use Rattle.rl_journal.specs.Legal.{IsLegal, table_after}
 use Rattle.rl_journal.specs.laws.Lists.{all_at}
 use Rattle.rl_journal.specs.Ranks.{IsInOrder, IsOwn, IsRankInOrder}
@@ -43,7 +44,7 @@ use Rattle.rl_run.specs.Told.{told_of, IsClosedShard, IsRankDone, AreClosedShard
 use Rattle.rl_run.specs.Runs.{AreNew, HasRun, told, told_by, made_of, wanted}
 use Rattle.rl_run.specs.laws.RunLaws.{wanted_at, wanted_long}
 
-each_of : (P : Entry → Type 0) (t : List Entry) → ((i : ℕ) (e : Entry) → slice_get t i ≡ Some e → P e) → Each P t
+each_of : (P : Entry → Type 0) (t : List Entry) → ((i : ℕ) (e : Entry) → slice_get t i ≡ Some e → P e) → AllByRecursion P t
 each_of P [] at = tt
 each_of P (e ∷ t) at = (at 0 e refl, each_of P t (λ i f g. at (suc i) f g))
 

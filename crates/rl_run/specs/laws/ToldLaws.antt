@@ -11,11 +11,10 @@ use Rattle.std.proofs.lemmas.List.Sums.{sum_by-cons}
 use Rattle.std.proofs.lemmas.Option.{same_Some}
 use Rattle.rl_model.specs.declared.call.Call.{Call}
 use Rattle.rl_model.specs.declared.entry.Entry.{Entry}
-use Rattle.rl_model.specs.Asked.{Asked}
+use Rattle.rl_model.specs.Asked.{Asked, batch_number}
 use Rattle.rl_model.proofs.Counts.{count-cons}
-use Rattle.rl_journal.specs.Blocks.{batch_number}
 use Rattle.rl_journal.specs.Legal.{is_of}
-use Rattle.rl_journal.specs.History.{Each, AreOwn}
+use Rattle.rl_journal.specs.History.{AreOwn}
 use Rattle.rl_journal.specs.Ranks.{count_in}
 use Rattle.rl_ops.specs.CallSpelling.{CallFits}
 use Rattle.rl_ops.specs.Blocks.{AreOneBlock, sizes_of}
@@ -123,7 +122,7 @@ few_entries (t ∷ ts) (l ∷ lists) e le =
 abbrev pub is_beyond : ℕ → Entry → Bool
 is_beyond n e = not (nat_lt e.rank n)
 
-none_beyond : (n r : ℕ) (t : List Entry) → Each (λ e. e.rank ≡ r) t → r < n → count_by (is_beyond n) t ≡ 0
+none_beyond : (n r : ℕ) (t : List Entry) → AllByRecursion (λ e. e.rank ≡ r) t → r < n → count_by (is_beyond n) t ≡ 0
 none_beyond n r [] each h = refl
 none_beyond n r (e ∷ t) each h =
     let low : e.rank < n = let same = each.0 in omega arith in

@@ -16,7 +16,8 @@ use Rattle.rl_queue.specs.declared.view.Phase.TheVariants.{Clear}
 use Rattle.rl_queue.specs.Queue.{leave_at}
 use Rattle.rl_tree.specs.declared.view.TreeView.{TreeView}
 use Rattle.rl_tree.specs.laws.TreeCalls.{granted_is}
-use Rattle.rl_tree.specs.Tree.{at_hook, tree_standing, at_level, hook_by, standing_by}
+use Rattle.rl_tree.specs.Tree.{at_hook, tree_standing, at_level, hook_by}
+use Rattle.rl_tree.specs.laws.Cases.{standing_by}
 use Rattle.rl_tree.specs.TreeGood.{GoodAt}
 use Rattle.rl_tree.specs.TreeFacts.{TreeFacts}
 use Rattle.rl_tree.specs.laws.TreeStandings.{holds_is, phase_leaves, not_reader, writer_holds}

@@ -17,7 +17,8 @@ use Rattle.rl_queue.specs.laws.Stuck.{GetsOn}
 use Rattle.rl_queue.specs.Urgency.{loaded}
 use Rattle.rl_queue.specs.laws.TurnsFall.{turn_falls}
 use Rattle.rl_tree.specs.declared.view.TreeView.{TreeView}
-use Rattle.rl_tree.specs.Tree.{is_none, path, works_for, at_level, hook_by, at_hook, plan_by, tree_plan, walk_turn}
+use Rattle.rl_tree.specs.Tree.{is_none, path, works_for, at_level, hook_by, at_hook, tree_plan, walk_turn}
+use Rattle.rl_tree.specs.laws.Cases.{plan_by}
 use Rattle.rl_tree.specs.Elements.{names_in, tree_of}
 use Rattle.rl_tree.specs.TreeFacts.{TreeFacts}
 use Rattle.rl_tree.specs.TreeShape.{IsWellShaped}

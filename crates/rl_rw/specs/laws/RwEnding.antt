@@ -1,5 +1,5 @@
 -- RMA-RW has no dead end: the chosen rank goes on, and where none is urgent all are out.
-use Rattle.std.specs.Prelude.{◌≡◌, ℕ, zero, suc, ◌+◌, ◌*◌, ◌<◌, ◌≤◌, ◌==◌, Bool, true, false, if◌then◌else◌, List, slice_get, Some, None, refl}
+use Rattle.std.specs.Prelude.{◌≡◌, ℕ, zero, suc, ◌+◌, ◌*◌, ◌<◌, ◌≤◌, ◌==◌, Bool, true, false, if◌then◌else◌, List, slice_get, Some, None, refl, is_some}
 use Rattle.std.proofs.Common.{sym, ◌∙◌, ap, inl, inr, ⊎_elim, arith}
 use Rattle.std.proofs.lemmas.Option.{same_Some}
 use Rattle.rl_word.specs.declared.classes.Mode.{Mode}
@@ -11,7 +11,8 @@ use Rattle.rl_queue.specs.Queue.{leave_at}
 use Rattle.rl_queue.specs.Urgency.{loaded}
 use Rattle.rl_tree.specs.declared.view.TreeView.{TreeView}
 use Rattle.rl_tree.specs.declared.rooted.Rooted.{Rooted}
-use Rattle.rl_tree.specs.Tree.{has_above, tree_plan, standing_by}
+use Rattle.rl_tree.specs.Tree.{tree_plan}
+use Rattle.rl_tree.specs.laws.Cases.{standing_by}
 use Rattle.rl_tree.specs.Elements.{ranks_in, tree_of}
 use Rattle.rl_tree.specs.TreeFacts.{TreeFacts}
 use Rattle.rl_tree.specs.laws.TreeLaid.{laid_shaped}
@@ -195,13 +196,13 @@ module _ (K : Shared) (n : ℕ) (F : TreeFacts K.rooted n) (d : IsSound K) (S : 
       }
 
 -- so it is with the lock that was made: at least one reader may come to a counter
-pub ends_of : (rooted : Rooted) (readers group : ℕ) → IsTreeLaid rooted (levels_of rooted.shape) → has_above rooted.root ≡ true → readers ≤ 1000 → 0 < group → 0 < readers →
+pub ends_of : (rooted : Rooted) (readers group : ℕ) → IsTreeLaid rooted (levels_of rooted.shape) → is_some rooted.root ≡ true → readers ≤ 1000 → 0 < group → 0 < readers →
     LockEnds (rw_table (shared_of rooted readers group)) (rw_left (shared_of rooted readers group) (levels_of rooted.shape)) (RwGood (shared_of rooted readers group) (levels_of rooted.shape)) (rw_most (shared_of rooted readers group) (levels_of rooted.shape))
 ends_of rooted readers group laid limited few grouped some =
     let S : IsWellShaped rooted (levels_of rooted.shape) = laid_shaped rooted (levels_of rooted.shape) laid in
     rw_ends (shared_of rooted readers group) (levels_of rooted.shape) (tree_facts rooted (levels_of rooted.shape) S) (sound_of (shared_of rooted readers group) (levels_of rooted.shape) S limited few grouped) S some
 
-pub guides_of : (rooted : Rooted) (readers group : ℕ) → IsTreeLaid rooted (levels_of rooted.shape) → has_above rooted.root ≡ true → readers ≤ 1000 → 0 < group → 0 < readers →
+pub guides_of : (rooted : Rooted) (readers group : ℕ) → IsTreeLaid rooted (levels_of rooted.shape) → is_some rooted.root ≡ true → readers ≤ 1000 → 0 < group → 0 < readers →
     LockGuides (rw_table (shared_of rooted readers group)) (rw_left (shared_of rooted readers group) (levels_of rooted.shape)) (RwGood (shared_of rooted readers group) (levels_of rooted.shape)) (rw_urgent (shared_of rooted readers group))
 guides_of rooted readers group laid limited few grouped some =
     let S : IsWellShaped rooted (levels_of rooted.shape) = laid_shaped rooted (levels_of rooted.shape) laid in

@@ -17,7 +17,8 @@ use Rattle.rl_queue.specs.laws.Choices.{choose}
 use Rattle.rl_queue.specs.Queue.{turn_at}
 use Rattle.rl_queue.specs.laws.QueueTurns.{turn_all}
 use Rattle.rl_tree.specs.declared.view.TreeView.{TreeView}
-use Rattle.rl_tree.specs.Tree.{TheTree, is_none, path, names_at, works_for, settles_below, goes_up, gives_up, goes_down, tree_walk, learn_by, tree_learn, at_hook, resume_by, tree_resume, entry_if}
+use Rattle.rl_tree.specs.Tree.{TheTree, is_none, path, names_at, works_for, settles_below, goes_up, gives_up, goes_down, tree_walk, tree_learn, at_hook, resume_by, tree_resume, entry_if}
+use Rattle.rl_tree.specs.laws.Cases.{learn_by}
 use Rattle.rl_tree.specs.Elements.{tree_of}
 use Rattle.rl_counter.specs.declared.view.Doing.{Doing}
 use Rattle.rl_counter.specs.declared.view.Doing.TheVariants.{Nothing, Arrive, Refused, SeeTail, Swap, Round, RoundTail, Inside, Put, Count, Compare, TakeOut, TakeOff}

@@ -18,7 +18,8 @@ use Rattle.rl_queue.specs.declared.view.Phase.{Phase}
 use Rattle.rl_queue.specs.declared.view.Phase.TheVariants.{Settle}
 use Rattle.rl_queue.specs.laws.Choices.{choose}
 use Rattle.rl_tree.specs.declared.view.TreeView.{TreeView}
-use Rattle.rl_tree.specs.Tree.{at_hook, tree_standing, entry_if, hook_by, standing_by}
+use Rattle.rl_tree.specs.Tree.{at_hook, tree_standing, entry_if, hook_by}
+use Rattle.rl_tree.specs.laws.Cases.{standing_by}
 use Rattle.rl_tree.specs.Elements.{ranks_in, tree_of, how_many, tree_spot, queues_from}
 use Rattle.rl_tree.specs.TreeGood.{GoodAt, IsAbove}
 use Rattle.rl_tree.specs.laws.TreeStandings.{hook_cases, above_is, rests_at as tree_rests}

@@ -1,5 +1,5 @@
 -- RMA-RW meets the laws of a lock, given what it needs of its tree.
-use Rattle.std.specs.Prelude.{◌<◌, ◌≤◌, ◌≡◌, ℕ, zero, suc, ◌+◌, ◌-◌, ◌*◌, ◌/◌, ◌^◌, ◌==◌, ◌&&◌, Bool, true, false, List, [], ◌∷◌, length, map, nat_lt, if◌then◌else◌, slice_get, slice_index, Some, None, refl, replicate}
+use Rattle.std.specs.Prelude.{◌<◌, ◌≤◌, ◌≡◌, ℕ, zero, suc, ◌+◌, ◌-◌, ◌*◌, ◌/◌, ◌^◌, ◌==◌, ◌&&◌, Bool, true, false, List, [], ◌∷◌, length, map, nat_lt, if◌then◌else◌, slice_get, slice_index, Some, None, refl, replicate, is_some}
 use Rattle.std.proofs.Common.{sym, ◌∙◌, ap, subst, inl, ⊎_elim, arith}
 use Rattle.std.proofs.lemmas.Bool.Decides.{nat_tests, eqb_tells}
 use Rattle.std.proofs.lemmas.List.{length-map, length-replicate}
@@ -21,7 +21,7 @@ use Rattle.rl_step.specs.Queues.{settled, passed, tenures}
 use Rattle.rl_queue.specs.laws.Choices.{choose}
 use Rattle.rl_tree.specs.declared.view.TreeView.{TreeView}
 use Rattle.rl_tree.specs.declared.rooted.Rooted.{Rooted}
-use Rattle.rl_tree.specs.Tree.{at_hook, tree_standing, tree_learn, has_above}
+use Rattle.rl_tree.specs.Tree.{at_hook, tree_standing, tree_learn}
 use Rattle.rl_tree.specs.Elements.{ranks_in, tree_of, how_many, leaf_of_rank, out_at}
 use Rattle.rl_tree.specs.TreeShape.{IsWellShaped, IsTreeLaid, levels_of}
 use Rattle.rl_tree.specs.laws.TreeLaid.{laid_shaped}
@@ -234,11 +234,11 @@ module _ (K : Shared) (levels : ℕ) (F : TreeFacts K.rooted levels) (d : IsSoun
         fits s r v a h = fits_at K levels F d s r v.tree v.counter.counter v.counter.doing a h.is_good h.has h.planned
 
 -- what is asked of the numbers follows from the shape and the settings
-pub sound_of : (K : Shared) (levels : ℕ) → IsWellShaped K.rooted levels → has_above K.rooted.root ≡ true → K.readers ≤ 1000 → 0 < K.group → IsSound K
+pub sound_of : (K : Shared) (levels : ℕ) → IsWellShaped K.rooted levels → is_some K.rooted.root ≡ true → K.readers ≤ 1000 → 0 < K.group → IsSound K
 sound_of K levels S limited few grouped = record { limited = limited; few = few; seats = S.ranks; grouped = grouped; small = S.few; seated = S.seated }
 
 -- so all laws hold of a tree as a lock keeps it, with a budget of the root, at most 1000 readers to a counter, and groups of a rank at least
-pub laws_of : (rooted : Rooted) (readers group : ℕ) → IsTreeLaid rooted (levels_of rooted.shape) → has_above rooted.root ≡ true → readers ≤ 1000 → 0 < group →
+pub laws_of : (rooted : Rooted) (readers group : ℕ) → IsTreeLaid rooted (levels_of rooted.shape) → is_some rooted.root ≡ true → readers ≤ 1000 → 0 < group →
     LockLaws (rw_table (shared_of rooted readers group)) (RwGood (shared_of rooted readers group) (levels_of rooted.shape)) (KeepsBatches (shared_of rooted readers group)) (layout_of rooted.shape)
 laws_of rooted readers group laid limited few grouped =
     let S : IsWellShaped rooted (levels_of rooted.shape) = laid_shaped rooted (levels_of rooted.shape) laid in

@@ -15,7 +15,8 @@ use Rattle.rl_queue.specs.Queue.{TheNames, queue_next_word, status_word, plan_at
 use Rattle.rl_queue.specs.Urgency.{loaded}
 use Rattle.rl_queue.specs.laws.Stuck.{Stuck}
 use Rattle.rl_tree.specs.declared.view.TreeView.{TreeView}
-use Rattle.rl_tree.specs.Tree.{path, works_for, plan_by, tree_plan, tree_standing}
+use Rattle.rl_tree.specs.Tree.{path, works_for, tree_plan, tree_standing}
+use Rattle.rl_tree.specs.laws.Cases.{plan_by}
 use Rattle.rl_tree.specs.Elements.{names_in, tree_of}
 use Rattle.rl_tree.specs.TreeFacts.{TreeFacts}
 use Rattle.rl_tree.specs.TreeShape.{IsWellShaped}

@@ -13,7 +13,8 @@ use Rattle.rl_queue.specs.declared.view.Phase.TheVariants.{Settle}
 use Rattle.rl_queue.specs.Queue.{plan_at}
 use Rattle.rl_queue.specs.laws.RankViewLaws.{each_set}
 use Rattle.rl_tree.specs.declared.view.TreeView.{TreeView}
-use Rattle.rl_tree.specs.Tree.{TheTree, names_at, works_for, tree_plan, plan_by, hook_by, at_hook, resume_by, tree_resume, tree_standing}
+use Rattle.rl_tree.specs.Tree.{TheTree, names_at, works_for, tree_plan, hook_by, at_hook, resume_by, tree_resume, tree_standing}
+use Rattle.rl_tree.specs.laws.Cases.{plan_by}
 use Rattle.rl_tree.specs.Elements.{ranks_in}
 use Rattle.rl_tree.specs.TreeGood.{GoodAt, IsAbove}
 use Rattle.rl_tree.specs.laws.TreeStandings.{above_is, hook_cases, out_is}

@@ -1,5 +1,5 @@
 -- The words of the counters stand behind those of the tree, and no two are one; an act keeps the counters that it doesn't speak of.
-use Rattle.std.specs.Prelude.{Bool, false, nat_lt, ◌≡◌, ◌≢◌, ◌⊎◌, ℕ, suc, ◌+◌, ◌-◌, ◌*◌, ◌/◌, ◌<◌, ◌≤◌, true, List, [], ◌∷◌, ◌++◌, length, slice_index, slice_set, Some, refl}
+use Rattle.std.specs.Prelude.{Bool, false, nat_lt, ◌≡◌, ◌≢◌, ◌⊎◌, ℕ, suc, ◌+◌, ◌-◌, ◌*◌, ◌/◌, ◌<◌, ◌≤◌, true, List, [], ◌∷◌, ◌++◌, length, slice_index, slice_set, Some, refl, is_some}
 use Rattle.std.proofs.Common.{sym, ◌∙◌, ap, subst, inl, inr, ⊎_elim, arith}
 use Rattle.std.proofs.lemmas.Bool.Decides.{eqb_tells, nat_tests}
 use Rattle.std.proofs.Math.Nat.{div-mul-le_self, le-div_iff_mul-le, suc-mul}
@@ -13,7 +13,6 @@ use Rattle.rl_step.specs.Batches.{Batched}
 use Rattle.rl_step.specs.laws.BatchLaws.{MayEnter, act_batches}
 use Rattle.rl_queue.specs.laws.RankWordLaws.{every_second_at, length-every_second}
 use Rattle.rl_tree.specs.Elements.{ranks_in, how_many}
-use Rattle.rl_tree.specs.Tree.{has_above}
 use Rattle.rl_counter.specs.declared.view.Doing.{Doing}
 use Rattle.rl_counter.specs.CounterGood.{AreCounted, AreSound}
 use Rattle.rl_counter.specs.CounterStatements.{IsOfGroup}
@@ -25,7 +24,7 @@ use Rattle.rl_rw.specs.laws.RwEnters.{rw_fits}
 -- what is asked of the numbers: a budget for the root, few readers, few ranks, groups of one rank at least, few elements, and ranks
 -- that sit on nodes
 pub record IsSound (K : Shared) : Type 0 where
-  pub limited : has_above K.rooted.root ≡ true
+  pub limited : is_some K.rooted.root ≡ true
   pub few : K.readers ≤ 1000
   pub seats : ranks_in K.rooted ≤ 32
   pub grouped : 0 < K.group

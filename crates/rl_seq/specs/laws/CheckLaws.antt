@@ -17,7 +17,7 @@ use Rattle.rl_journal.specs.Legal.{table_after}
 use Rattle.rl_journal.specs.Ranks.{IsOwn}
 use Rattle.rl_work.specs.declared.stage.Stage.TheVariants.{Rest}
 use Rattle.rl_work.specs.Locked.{first_reads}
-use Rattle.rl_site.specs.Site.{lock_base, volume_of}
+use Rattle.rl_site.specs.Site.{lock_base, volume_of, WaySite}
 use Rattle.rl_work.specs.Unlocked.{wanted_by}
 use Rattle.rl_work.specs.Ways.{side_turned, standing_done}
 use Rattle.rl_work.specs.Work.{TheWork, WorkTurned, at_stage as at_work_stage, has_work, stores, seen_on, with_seen}
@@ -27,9 +27,10 @@ use Rattle.rl_seq.specs.laws.FitLaws.{fit_at, locked_there, even_calm}
 use Rattle.rl_seq.specs.laws.KeepLaws.{stays, getting_on}
 use Rattle.rl_seq.specs.laws.OutcomeLaws.{IsReadOff, read_entry, reads_off}
 use Rattle.rl_seq.specs.laws.RestLaws.{read_joins}
-use Rattle.rl_seq.specs.Site.{SeqSite, front, version_in}
+use Rattle.rl_seq.specs.Site.{front, version_in}
 use Rattle.rl_seq.specs.SeqGood.{SeqRank, SeqGood, IsGetting, IsReadingOut, as_locked, is_between}
-use Rattle.rl_seq.specs.SeqWork.{seq_at_stage, checked_by}
+use Rattle.rl_seq.specs.SeqWork.{seq_at_stage}
+use Rattle.rl_seq.specs.laws.Cases.{checked_by}
 
 -- a get is no update
 pub no_update : (c : Call) → reads c ≡ true → is_update c ≡ false
@@ -48,7 +49,7 @@ get_alone (c ∷ cs) a e = (c, one cs (a.alone (no_update c e)), e) where
   one [] h = refl
   one (d ∷ ds) h = absurd (omega arith)
 
-module _ (at : SeqSite) (words : List ℕ) (low : lock_base at.site ≤ at.behind) (size : length words ≡ at.behind + 1) (sides : List SeqRank) (g : SeqGood at words sides) (r : ℕ) (x : SeqRank) (has : slice_get sides r ≡ Some x) where
+module _ (at : WaySite) (words : List ℕ) (low : lock_base at.site ≤ at.behind) (size : length words ≡ at.behind + 1) (sides : List SeqRank) (g : SeqGood at words sides) (r : ℕ) (x : SeqRank) (has : slice_get sides r ≡ Some x) where
   module _ (version count : ℕ) (e : x.work.stage ≡ stage.Again version count) (f : IsReadingOut at.site (front at words) (version_in at words) r x.standing x.work.work version count None) where
     -- the version is the one found: the get is done
     gets : version_in at words ≡ version → SeqGood at words (slice_set sides r (record { standing = standing_done x.standing; work = seq_at_stage (seen_on at.site.geom at.site.shard r x.work.work count).work stage.Locked }))

@@ -10,7 +10,7 @@ use Rattle.rl_volume.specs.Words.{volume_words}
 use Rattle.rl_work.specs.laws.AtomLaws.{atom_can, can_name, can_turn}
 use Rattle.rl_work.specs.laws.EndLaws.{plain_atom}
 use Rattle.rl_work.specs.laws.RoomLaws.{journal_short}
-use Rattle.rl_site.specs.Site.{count_word, lock_base, places}
+use Rattle.rl_site.specs.Site.{count_word, lock_base, places, WaySite}
 use Rattle.rl_work.specs.Ways.{IsSide, MayWork, MayTurn}
 use Rattle.rl_work.specs.Work.{TheWork, CanName, CanTurn, work_atom}
 use Rattle.rl_work.specs.WorkGood.{WorkSide, HasOpen}
@@ -20,12 +20,12 @@ use Rattle.rl_seq.specs.laws.CheckLaws.{get_alone}
 use Rattle.rl_seq.specs.laws.FitLaws.{fit_at, locked_there}
 use Rattle.rl_seq.specs.laws.FrontLaws.{IsInFront, in_front, front_get}
 use Rattle.rl_seq.specs.laws.KeepLaws.{wanted_there, wanted_unseen}
-use Rattle.rl_seq.specs.Site.{SeqSite, front, version_in}
+use Rattle.rl_seq.specs.Site.{front, version_in}
 use Rattle.rl_seq.specs.SeqCode.{CanNameAt, CanTurnAt}
 use Rattle.rl_seq.specs.SeqGood.{SeqRank, SeqGood, IsGetting, as_locked, locked_at}
 use Rattle.rl_seq.specs.SeqWork.{TheSeqWork, seq_stage_atom, seq_table}
 
-module _ (at : SeqSite) (home : ℕ) where
+module _ (at : WaySite) (home : ℕ) where
   module _ (words : List ℕ) (sides : List SeqRank) (r : ℕ) (x : SeqRank) (s : IsSide (seq_table at home) (SeqGood at) words sides r x) where
     abbrev w : TheWork
     w = x.work.work

@@ -10,12 +10,12 @@ use Rattle.rl_step.specs.Lock.{IsHolder}
 use Rattle.rl_work.specs.declared.stage.Stage.{Stage}
 use Rattle.rl_work.specs.declared.stage.Stage.TheVariants.{Rest, Begin, Read, Journal, Volume}
 use Rattle.rl_work.specs.laws.AtomLaws.{stores_alone}
-use Rattle.rl_site.specs.Site.{Site}
+use Rattle.rl_site.specs.Site.{Site, WaySite}
 use Rattle.rl_work.specs.Work.{TheWork, stores}
 use Rattle.rl_work.specs.WorkGood.{WorkSide, IsApart, is_writing}
 use Rattle.rl_seq.specs.declared.stage.SeqStage.{SeqStage}
 use Rattle.rl_seq.specs.declared.stage.SeqStage.TheVariants as stage
-use Rattle.rl_seq.specs.Site.{SeqSite, front, version_in}
+use Rattle.rl_seq.specs.Site.{front, version_in}
 use Rattle.rl_seq.specs.SeqGood.{SeqRank, SeqGood, IsSeqApart, IsQuiet, IsOdd, IsReadingOut, HasVersion, SeqFitsAt, as_locked, locked_at, is_between}
 
 -- the stages of a block of updates that is decided
@@ -122,7 +122,7 @@ locked_apart sides apart = record { excludes = excludes; reads = reads } where
       let u = get_map_back as_locked sides r x a in
       absurd (apart.no_readers r u.0 u.1 (standing_back u.0 Reader (λ q. cc) (ap (λ (z : WorkSide). z.standing) u.2 ∙ e)))
 
-module _ (at : SeqSite) (words : List ℕ) (sides : List SeqRank) (g : SeqGood at words sides) where
+module _ (at : WaySite) (words : List ℕ) (sides : List SeqRank) (g : SeqGood at words sides) where
   -- of a rank, by where it stands
   pub fit_at : (r : ℕ) (x : SeqRank) → slice_get sides r ≡ Some x → (st : SeqStage) → x.work.stage ≡ st → SeqFitsAt at.site (front at words) (version_in at words) r x.standing x.work.work st
   fit_at r x has st e = subst (SeqFitsAt at.site (front at words) (version_in at words) r x.standing x.work.work) e (g.fits r x has)

@@ -6,8 +6,8 @@ use Rattle.rl_word.specs.declared.acts.Atom.{Atom}
 use Rattle.rl_word.specs.declared.acts.Atom.TheVariants as atom
 use Rattle.rl_step.specs.Do.{CanDo, do_got, do_words}
 use Rattle.rl_work.specs.PlainWork.{IsPlain}
-use Rattle.rl_site.specs.Site.{lock_base}
-use Rattle.rl_seq.specs.Site.{SeqSite, front, version_in}
+use Rattle.rl_site.specs.Site.{lock_base, WaySite}
+use Rattle.rl_seq.specs.Site.{front, version_in}
 
 -- a store among the first words of a list is one on them alone
 take_set_in : (n : ℕ) (l : List ℕ) (i v : ℕ) → i < n → take n (slice_set l i v) ≡ slice_set (take n l) i v
@@ -16,7 +16,7 @@ take_set_in (suc n) [] i v h = refl
 take_set_in (suc n) (x ∷ xs) zero v h = refl
 take_set_in (suc n) (x ∷ xs) (suc i) v h = ap (λ z. x ∷ z) (take_set_in n xs i v (omega arith))
 
-module _ (at : SeqSite) (words : List ℕ) (behind : lock_base at.site ≤ at.behind) (size : length words ≡ at.behind + 1) where
+module _ (at : WaySite) (words : List ℕ) (behind : lock_base at.site ≤ at.behind) (size : length words ≡ at.behind + 1) where
   pub front_long : length (front at words) ≡ lock_base at.site
   front_long = length-take-le (lock_base at.site) words (omega arith)
 

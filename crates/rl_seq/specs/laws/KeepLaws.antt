@@ -14,7 +14,7 @@ use Rattle.rl_volume.specs.Seen.{AgreesWith, value_of}
 use Rattle.rl_volume.proofs.NextWord.{next_there, next_unseen}
 use Rattle.rl_volume.proofs.SeenLaws.{agrees_more}
 use Rattle.rl_work.specs.declared.stage.Stage.TheVariants.{Rest}
-use Rattle.rl_site.specs.Site.{count_word, volume_base, lock_base, volume_of}
+use Rattle.rl_site.specs.Site.{count_word, volume_base, lock_base, volume_of, WaySite}
 use Rattle.rl_work.specs.Unlocked.{wanted, wanted_by, with_word}
 use Rattle.rl_site.specs.laws.VolumeLaws.{volume_get}
 use Rattle.rl_work.specs.Ways.{side_turned}
@@ -25,9 +25,10 @@ use Rattle.rl_seq.specs.declared.stage.SeqStage.TheVariants as stage
 use Rattle.rl_seq.specs.laws.FitLaws.{fit_at, locked_there}
 use Rattle.rl_seq.specs.laws.FrontLaws.{front_get, version_stored, front_kept}
 use Rattle.rl_seq.specs.laws.RestLaws.{rest_stays}
-use Rattle.rl_seq.specs.Site.{SeqSite, front, version_in}
+use Rattle.rl_seq.specs.Site.{front, version_in}
 use Rattle.rl_seq.specs.SeqGood.{AreWanted, SeqRank, SeqGood, IsQuiet, IsEven, IsGetting, IsReadingOut, HasVersion, StillHas, SeqFits, SeqFitsAt, as_locked, is_between}
-use Rattle.rl_seq.specs.SeqWork.{seq_at_stage, read_by, looked_by}
+use Rattle.rl_seq.specs.SeqWork.{seq_at_stage, read_by}
+use Rattle.rl_seq.specs.laws.Cases.{looked_by}
 
 -- a word that a block wants is one of the volume
 pub wanted_there : (geom : Geom) → GeomFits geom → (cs : List Call) (pairs : List (ℕ × ℕ)) (word : ℕ) → wanted_by geom cs pairs ≡ Some word → word < volume_words geom
@@ -51,7 +52,7 @@ wanted_more geom cs pairs word got named is i h =
     ap (wanted_by geom cs) (take-append-le i pairs last (omega arith)) ∙ named i low ∙ ap (λ (p : ℕ × ℕ). Some p.0) (sym (get_or_append_left pairs last (0, 0) i low)))
     (same_or_not i (length pairs))
 
-module _ (at : SeqSite) (words : List ℕ) (low : lock_base at.site ≤ at.behind) (size : length words ≡ at.behind + 1) (sides : List SeqRank) (g : SeqGood at words sides) (r : ℕ) (x : SeqRank) (has : slice_get sides r ≡ Some x) where
+module _ (at : WaySite) (words : List ℕ) (low : lock_base at.site ≤ at.behind) (size : length words ≡ at.behind + 1) (sides : List SeqRank) (g : SeqGood at words sides) (r : ℕ) (x : SeqRank) (has : slice_get sides r ≡ Some x) where
   -- the state after a step of the rank
   pub good_after : (vs : List ℕ) (y : SeqRank) → WorkGood at.site (front at vs) (slice_set (map as_locked sides) r (as_locked y))
       → (IsQuiet (slice_set sides r y) → IsEven (version_in at vs) (slice_index (front at vs) count_word)) → SeqFits at.site (front at vs) (version_in at vs) r y

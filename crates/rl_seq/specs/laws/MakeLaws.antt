@@ -16,7 +16,7 @@ use Rattle.rl_work.specs.laws.AtomLaws.{atom_keeps, atom_can}
 use Rattle.rl_work.specs.PlainWork.{IsPlain}
 use Rattle.rl_work.specs.laws.EndLaws.{plain_atom}
 use Rattle.rl_work.specs.Locked.{first_reads}
-use Rattle.rl_site.specs.Site.{count_word, volume_base, lock_base}
+use Rattle.rl_site.specs.Site.{count_word, volume_base, lock_base, WaySite}
 use Rattle.rl_work.specs.laws.LockedLaws.{front_names}
 use Rattle.rl_work.specs.Ways.{IsWorkAtom, IsFrontAtom, side_turned, standing_done}
 use Rattle.rl_work.specs.Work.{TheWork, WorkTurned, has_work, stores, stage_atom, work_atom, work_after}
@@ -28,20 +28,20 @@ use Rattle.rl_seq.specs.laws.FitLaws.{locked_apart, fit_at, locked_there}
 use Rattle.rl_seq.specs.laws.FrontLaws.{IsInFront, in_front}
 use Rattle.rl_seq.specs.laws.KeepLaws.{stays, looks, counts, reads_word, wanted_there}
 use Rattle.rl_seq.specs.laws.OutcomeLaws.{Outcome, load_outcome, load_changes}
-use Rattle.rl_seq.specs.Site.{SeqSite, front, version_in}
+use Rattle.rl_seq.specs.Site.{front, version_in}
 use Rattle.rl_seq.specs.SeqGood.{SeqRank, SeqGood, IsSeqApart, SeqFits, as_locked, locked_at, is_between}
 use Rattle.rl_seq.specs.SeqWork.{seq_at_stage, loaded_by, loaded_on, seq_touch_at, seq_stage_atom, seq_stage_after, seq_table}
 use Rattle.rl_seq.specs.laws.WriterLaws.{finds, opens_version, closes_version, writes_on}
 
 -- a side with an atom has an open block
-pub works_on : (at : SeqSite) (w : TheWork) (st : Stage) (a : Atom) → stage_atom at.site.geom w st ≡ Some a → has_work st ≡ true
+pub works_on : (at : WaySite) (w : TheWork) (st : Stage) (a : Atom) → stage_atom at.site.geom w st ≡ Some a → has_work st ≡ true
 works_on at w Rest a e = absurd (cc)
 works_on at w Begin a e = refl
 works_on at w (Read count word) a e = refl
 works_on at w (Journal made) a e = refl
 works_on at w (Volume made) a e = refl
 
-module _ (at : SeqSite) (words : List ℕ) (low : lock_base at.site ≤ at.behind) (size : length words ≡ at.behind + 1) (sides : List SeqRank) (g : SeqGood at words sides) (r : ℕ) (x : SeqRank) (has : slice_get sides r ≡ Some x) where
+module _ (at : WaySite) (words : List ℕ) (low : lock_base at.site ≤ at.behind) (size : length words ≡ at.behind + 1) (sides : List SeqRank) (g : SeqGood at words sides) (r : ℕ) (x : SeqRank) (has : slice_get sides r ≡ Some x) where
   -- a rank that loads inside the lock holds it
   pub loads_holding : Rests x.standing → x.work.stage ≡ stage.Locked → (a : Atom) → work_atom at.site.geom x.work.work ≡ Some a → IsHolder x.standing
   loads_holding rests e a planned =

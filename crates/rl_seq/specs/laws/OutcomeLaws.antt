@@ -19,10 +19,14 @@ use Rattle.rl_volume.specs.Decision.{decision}
 use Rattle.rl_work.specs.declared.stage.Stage.{Stage}
 use Rattle.rl_work.specs.declared.stage.Stage.TheVariants.{Rest, Begin, Read, Journal, Volume}
 use Rattle.rl_work.specs.Ways.{Worked}
-use Rattle.rl_work.specs.Work.{TheWork, WorkTurned, stage_atom, stage_after, to_stage, with_seen, with_stop, with_call, block_close_by, block_close, stops_block, read_next, read_on, left_of, seen_on, written_on, has_work, stores}
+use Rattle.rl_work.specs.Work.{TheWork, WorkTurned, stage_atom, stage_after, to_stage, with_seen, with_stop, with_call, block_close, stops_block, read_next, read_on, left_of, seen_on, written_on, has_work, stores}
+use Rattle.rl_work.specs.laws.Cases.{block_close_by}
 use Rattle.rl_seq.specs.declared.stage.SeqStage.TheVariants as stage
-use Rattle.rl_seq.specs.Site.{SeqSite, seq_version_word}
-use Rattle.rl_seq.specs.SeqWork.{TheSeqWork, checked_by, goes_to, is_over, loaded_by, looked_by, lost, read_by, stored_by, waits}
+use Rattle.rl_seq.specs.Site.{seq_version_word}
+use Rattle.rl_site.specs.Site.{WaySite}
+use Rattle.rl_seq.specs.SeqWork.{TheSeqWork, goes_to, is_over, loaded_by, lost, read_by, waits}
+use Rattle.rl_seq.specs.laws.Cases.{looked_by}
+use Rattle.rl_seq.specs.laws.Cases.{stored_by, checked_by}
 
 -- the block's calls stay; it is over at rest, and goes on to write from the first word of the journal
 pub record Outcome (calls : List Call) (t : WorkTurned) : Type 0 where
@@ -133,7 +137,7 @@ module _ (P : Worked TheSeqWork → Type 0) where
   stored_each version w true closes goes = closes
   stored_each version w false closes goes = goes
 
-  pub looked_each : (at : SeqSite) (w : TheWork) (got : ℕ) (even : Bool) → P (goes_to w (stage.Count got)) → P (waits w (seq_version_word at) got) → P (looked_by at w got even)
+  pub looked_each : (at : WaySite) (w : TheWork) (got : ℕ) (even : Bool) → P (goes_to w (stage.Count got)) → P (waits w (seq_version_word at) got) → P (looked_by at w got even)
   looked_each at w got true finds waits = finds
   looked_each at w got false finds waits = waits
 
@@ -141,7 +145,7 @@ module _ (P : Worked TheSeqWork → Type 0) where
   read_each w version count (Some word) reads checks = reads word
   read_each w version count None reads checks = checks
 
-  pub checked_each : (at : SeqSite) (rank : ℕ) (w : TheWork) (version count got : ℕ) (same : Bool) → P (is_over (seen_on at.site.geom at.site.shard rank w count).work) → P (lost w version got)
+  pub checked_each : (at : WaySite) (rank : ℕ) (w : TheWork) (version count got : ℕ) (same : Bool) → P (is_over (seen_on at.site.geom at.site.shard rank w count).work) → P (lost w version got)
       → P (checked_by at rank w version count got same)
   checked_each at rank w version count got true ends loses = ends
   checked_each at rank w version count got false ends loses = loses

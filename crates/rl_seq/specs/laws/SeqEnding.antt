@@ -24,7 +24,7 @@ use Rattle.rl_work.specs.Locked.{first_reads}
 use Rattle.rl_work.specs.LockedLeft.{one_unless, words_unseen, far_at, far as work_far}
 use Rattle.rl_work.specs.laws.LockedSteps.{BeginsAnew, stage_less}
 use Rattle.rl_work.specs.laws.UnseenLaws.{appended_stays, appended_seen, words_unseen_falls, few_words_unseen}
-use Rattle.rl_site.specs.Site.{volume_base}
+use Rattle.rl_site.specs.Site.{volume_base, WaySite}
 use Rattle.rl_work.specs.Unlocked.{wanted, wanted_by, with_word}
 use Rattle.rl_work.specs.Ways.{Works}
 use Rattle.rl_work.specs.Work.{TheWork, WorkTurned, CanTurn, stage_atom, stores, with_block, with_seen, work_after, seen_on}
@@ -41,8 +41,10 @@ use Rattle.rl_seq.specs.laws.OutcomeLaws.{load_outcome, reads_off, read_each}
 use Rattle.rl_seq.specs.SeqCode.{CanTurnAt}
 use Rattle.rl_seq.specs.SeqGood.{SeqRank, SeqGood, IsGetting, IsReadingOut}
 use Rattle.rl_seq.specs.SeqLeft.{open_far, far_in, far, anew, near_in, near, most_near, seq_left, seq_most}
-use Rattle.rl_seq.specs.SeqWork.{TheSeqWork, seq_at_stage, seq_block, stage_of, seq_stage_atom, seq_stage_after, seq_after, is_over, loaded_by, stored_by, looked_by, checked_by, seq_table}
-use Rattle.rl_seq.specs.Site.{SeqSite, version_in, front}
+use Rattle.rl_seq.specs.SeqWork.{TheSeqWork, seq_at_stage, seq_block, seq_stage_atom, seq_stage_after, seq_after, is_over, loaded_by, seq_table}
+use Rattle.rl_seq.specs.laws.Cases.{stored_by}
+use Rattle.rl_seq.specs.laws.Cases.{stage_of, looked_by, checked_by}
+use Rattle.rl_seq.specs.Site.{version_in, front}
 use Rattle.rl_seq.specs.laws.StateLaws as state
 use Rattle.rl_seq.specs.laws.VersionLaws.{writers_odd}
 
@@ -120,7 +122,7 @@ grows_both change f g vs n r k v u long has far_few near_few =
 
 -- ---- an atom of a rank that may be let work
 
-module _ (at : SeqSite) (home : ℕ) where
+module _ (at : WaySite) (home : ℕ) where
   abbrev V : ℕ
   V = volume_words at.site.geom
 

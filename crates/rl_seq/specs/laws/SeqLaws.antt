@@ -5,13 +5,13 @@ use Rattle.std.proofs.lemmas.List.{append-nil}
 use Rattle.rl_step.specs.Do.{do_got}
 use Rattle.rl_work.specs.Ways.{WorkLaws}
 use Rattle.rl_seq.specs.laws.MakeLaws.{makes_at, plain_at, fronts_at}
-use Rattle.rl_seq.specs.Site.{SeqSite}
+use Rattle.rl_site.specs.Site.{WaySite}
 use Rattle.rl_seq.specs.SeqGood.{SeqGood}
 use Rattle.rl_seq.specs.SeqWork.{seq_table}
 use Rattle.rl_seq.specs.laws.StateLaws as state
 use Rattle.rl_seq.specs.laws.StepLaws as step
 
-pub seq_laws : (at : SeqSite) (home : ℕ) → WorkLaws (seq_table at home) (SeqGood at)
+pub seq_laws : (at : WaySite) (home : ℕ) → WorkLaws (seq_table at home) (SeqGood at)
 seq_laws at home =
     record {
       few_words = λ few. omega arith;

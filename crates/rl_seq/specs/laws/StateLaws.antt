@@ -21,7 +21,7 @@ use Rattle.rl_work.specs.Locked.{first_reads}
 use Rattle.rl_site.specs.laws.OpeningLaws.{opening_size}
 use Rattle.rl_work.specs.laws.RoomLaws.{journal_short}
 use Rattle.rl_work.specs.laws.RuleLaws.{journal_is, always_legal, always_sorted}
-use Rattle.rl_site.specs.Site.{count_word, lock_base, places, volume_of, journal_by}
+use Rattle.rl_site.specs.Site.{count_word, lock_base, places, volume_of, journal_by, WaySite}
 use Rattle.rl_site.specs.Opens.{IsOpen, opening_words, IsOwnTranscript}
 use Rattle.rl_work.specs.Ways.{WorkTable, IsSide, IsFirst, SameWork, look, opened_look, opened_standing, opened_mode, transcripts_from}
 use Rattle.rl_work.specs.Work.{TheWork, first_work, with_block, at_stage as at_work_stage, has_work}
@@ -31,9 +31,11 @@ use Rattle.rl_seq.specs.declared.stage.SeqStage.TheVariants as stage
 use Rattle.rl_seq.specs.laws.FitLaws.{fit_at, locked_there, decided_writes, is_decided, no_store}
 use Rattle.rl_seq.specs.laws.KeepLaws.{stays}
 use Rattle.rl_seq.specs.laws.RestLaws.{rest_stays}
-use Rattle.rl_seq.specs.Site.{SeqSite, front, version_in}
+use Rattle.rl_seq.specs.Site.{front, version_in}
 use Rattle.rl_seq.specs.SeqGood.{SeqRank, SeqGood, IsEven, SeqFits, SeqFitsAt, as_locked, locked_at, is_between}
-use Rattle.rl_seq.specs.SeqWork.{TheSeqWork, seq_at_stage, first_seq, asks, asks_by, stage_of, seq_block, seq_is_open, is_open_at, ended_at, seq_table}
+use Rattle.rl_seq.specs.SeqWork.{TheSeqWork, seq_at_stage, first_seq, asks, seq_block, seq_is_open, is_open_at, ended_at, seq_table}
+use Rattle.rl_seq.specs.laws.Cases.{asks_by}
+use Rattle.rl_seq.specs.laws.Cases.{stage_of}
 
 -- the transcript of a side is that of the work inside the lock
 same_items : (x : SeqRank) → (as_locked x).work.transcript.items ≡ x.work.work.transcript.items
@@ -61,7 +63,7 @@ closed_at w (stage.Open v) e = absurd (cc)
 closed_at w (stage.Write v) e = absurd (cc)
 closed_at w (stage.Close v) e = absurd (cc)
 
-module _ (at : SeqSite) (home : ℕ) where
+module _ (at : WaySite) (home : ℕ) where
   abbrev T : WorkTable TheSeqWork
   T = seq_table at home
 

@@ -11,7 +11,7 @@ use Rattle.rl_word.specs.declared.classes.Mode.TheVariants as mode
 use Rattle.rl_model.specs.declared.call.Call.{Call}
 use Rattle.rl_model.specs.declared.call.Call.TheVariants as call
 use Rattle.rl_model.specs.declared.entry.Entry.{Entry}
-use Rattle.rl_model.specs.Asked.{asks_update}
+use Rattle.rl_model.specs.Asked.{asks_update, batch_number}
 use Rattle.rl_model.specs.Call.{reads}
 use Rattle.rl_model.proofs.Counts.{count-append, count-cons}
 use Rattle.rl_step.specs.declared.events.Standing.{Standing}
@@ -20,7 +20,7 @@ use Rattle.rl_step.specs.declared.events.Stepped.TheVariants.{Moved}
 use Rattle.rl_step.specs.Lock.{IsHolder, Suits}
 use Rattle.rl_step.specs.Do.{do_got}
 use Rattle.rl_volume.specs.Seen.{next_word}
-use Rattle.rl_journal.specs.Blocks.{batch_number, calls_of, is_tenure}
+use Rattle.rl_journal.specs.Blocks.{calls_of, is_tenure}
 use Rattle.rl_work.specs.declared.stage.Stage.{Stage}
 use Rattle.rl_work.specs.declared.stage.Stage.TheVariants.{Rest, Begin, Read, Journal, Volume}
 use Rattle.rl_work.specs.laws.AtomLaws.{few_replies, entry_calls, holder_asks}
@@ -28,7 +28,7 @@ use Rattle.rl_work.specs.PlainWork.{Rises}
 use Rattle.rl_work.specs.laws.EndLaws.{tells_rise, Ends, EndsBy, turn_ends}
 use Rattle.rl_work.specs.Locked.{first_reads}
 use Rattle.rl_work.specs.laws.LockedLaws.{locked_laws, work_tells}
-use Rattle.rl_site.specs.Site.{lock_base}
+use Rattle.rl_site.specs.Site.{lock_base, WaySite}
 use Rattle.rl_work.specs.Unlocked.{wanted, wanted_by, with_word}
 use Rattle.rl_site.specs.Opens.{IsOpen, IsGetAlone}
 use Rattle.rl_work.specs.Ways.{WorkTable, Worked, IsApart, IsSide, Works, Look, AtomWork, GoesOnAt, TouchesAs, AsksOut, AnswersAs, IsLoadAtom, mode_after, side_after, tenure_of, tenure_by, TellsTouch}
@@ -42,9 +42,11 @@ use Rattle.rl_seq.specs.laws.FitLaws.{fit_at, locked_there, decided_writes, is_d
 use Rattle.rl_seq.specs.laws.MakeLaws.{works_on, loads_holding}
 use Rattle.rl_seq.specs.laws.FrontLaws.{front_long}
 use Rattle.rl_seq.specs.laws.OutcomeLaws.{Outcome, load_outcome, StoreOutcome, store_outcome, IsReadOff, reads_off, read_entry, IsMoved, loaded_each, stored_each, looked_each, read_each, checked_each}
-use Rattle.rl_seq.specs.Site.{SeqSite, front, version_in}
+use Rattle.rl_seq.specs.Site.{front, version_in}
 use Rattle.rl_seq.specs.SeqGood.{SeqRank, SeqGood, IsSeqApart, IsQuiet, IsGetting, HasJoined, as_locked, locked_at, is_between}
-use Rattle.rl_seq.specs.SeqWork.{TheSeqWork, seq_at_stage, seq_atom, seq_stage_atom, seq_stage_after, seq_after, loaded_by, stored_by, looked_by, looked_on, checked_by, checked_on, seq_touch_at, seq_is_open, is_open_at, seq_owes, owes_at, ended_at, before_last, seq_table}
+use Rattle.rl_seq.specs.SeqWork.{TheSeqWork, seq_at_stage, seq_atom, seq_stage_atom, seq_stage_after, seq_after, loaded_by, looked_on, checked_on, seq_touch_at, seq_is_open, is_open_at, seq_owes, owes_at, ended_at, before_last, seq_table}
+use Rattle.rl_seq.specs.laws.Cases.{looked_by}
+use Rattle.rl_seq.specs.laws.Cases.{stored_by, checked_by}
 
 -- a rank whose last ask was to write stands as a writer where it holds
 holds_writing : (shares : Bool) (st : Standing) → Suits shares mode.Write st → IsHolder st → st ≡ Writer
@@ -101,7 +103,7 @@ last_off xs ys = let same : length (xs ++ ys) - length ys ≡ length xs = omega 
 abbrev looks_so : TheWork → Bool → Look
 looks_so w seq_owes = record { calls = w.calls; seq = w.seq; items = w.transcript.items; room = w.transcript.room; owes = seq_owes }
 
-module _ (at : SeqSite) (home : ℕ) where
+module _ (at : WaySite) (home : ℕ) where
   abbrev T : WorkTable TheSeqWork
   T = seq_table at home
 

@@ -21,7 +21,7 @@ use Rattle.rl_step.specs.Do.{do_words}
 use Rattle.rl_work.specs.laws.AtomLaws.{atom_can}
 use Rattle.rl_work.specs.laws.EndLaws.{plain_atom}
 use Rattle.rl_work.specs.Locked.{first_reads}
-use Rattle.rl_site.specs.Site.{count_word, volume_base, lock_base, volume_of}
+use Rattle.rl_site.specs.Site.{count_word, volume_base, lock_base, volume_of, WaySite}
 use Rattle.rl_work.specs.Unlocked.{wanted, wanted_by, with_word}
 use Rattle.rl_work.specs.Ways.{Works}
 use Rattle.rl_work.specs.Work.{TheWork, work_atom}
@@ -32,9 +32,11 @@ use Rattle.rl_seq.specs.laws.FitLaws.{is_decided, fit_at, locked_there, decided_
 use Rattle.rl_seq.specs.laws.FrontLaws.{IsInFront, in_front, version_stored}
 use Rattle.rl_seq.specs.laws.KeepLaws.{wanted_there}
 use Rattle.rl_seq.specs.laws.OutcomeLaws.{IsMoved, loaded_each, stored_each, read_each}
-use Rattle.rl_seq.specs.Site.{SeqSite, seq_version_word, version_in, front}
+use Rattle.rl_seq.specs.Site.{seq_version_word, version_in, front}
 use Rattle.rl_seq.specs.SeqGood.{AreWanted, SeqRank, SeqGood, IsQuiet, as_locked, locked_at, is_between, HasVersion}
-use Rattle.rl_seq.specs.SeqWork.{seq_atom, seq_stage_atom, seq_stage_after, looked_by, checked_by, seq_table}
+use Rattle.rl_seq.specs.SeqWork.{seq_atom, seq_stage_atom, seq_stage_after, seq_table}
+use Rattle.rl_seq.specs.laws.Cases.{checked_by}
+use Rattle.rl_seq.specs.laws.Cases.{looked_by}
 use Rattle.rl_seq.specs.Rule.{is_getting, found_version, found_count}
 
 decided_between : (st : SeqStage) → is_between st ≡ true → is_decided st ≡ true
@@ -76,7 +78,7 @@ few_pairs geom cs pairs asked get wanted = by_length (length pairs) refl where
       let top = most a.0 a.2 in
       omega arith
 
-module _ (at : SeqSite) (words : List ℕ) (sides : List SeqRank) (g : SeqGood at words sides) where
+module _ (at : WaySite) (words : List ℕ) (sides : List SeqRank) (g : SeqGood at words sides) where
   pub odd_between : (version_in at words % 2 ≡ 0) ↔ IsQuiet sides
   odd_between = (even_quiet at words sides g, λ q. (g.quiet q).even)
 
@@ -159,7 +161,7 @@ module _ (at : SeqSite) (words : List ℕ) (sides : List SeqRank) (g : SeqGood a
       by_stage (stage.Write v) e d = absurd (cc)
       by_stage (stage.Close v) e d = absurd (cc)
 
-pub never_lowers : (at : SeqSite) (home : ℕ) (words : List ℕ) (sides : List SeqRank) (r : ℕ) (x : SeqRank) (a : Atom) → Works (seq_table at home) (SeqGood at) words sides r x a → version_in at words ≤ version_in at (do_words a words)
+pub never_lowers : (at : WaySite) (home : ℕ) (words : List ℕ) (sides : List SeqRank) (r : ℕ) (x : SeqRank) (a : Atom) → Works (seq_table at home) (SeqGood at) words sides r x a → version_in at words ≤ version_in at (do_words a words)
 never_lowers at home words sides r x a m = by_stage x.work.stage refl m.planned where
   g : SeqGood at words sides
   g = m.side.is_good
@@ -196,7 +198,7 @@ never_lowers at home words sides r x a m = by_stage x.work.stage refl m.planned 
   by_stage (stage.Write v) e p = inside (stage.Write v) e refl p
   by_stage (stage.Close v) e p = let now = (fit_at at words sides g r x m.side.there (stage.Close v) e).2.one_more in stored (v + 2) (omega arith) p
 
-module _ (at : SeqSite) (r : ℕ) (w : TheWork) (got : ℕ) where
+module _ (at : WaySite) (r : ℕ) (w : TheWork) (got : ℕ) where
   -- an answer is Moved but in two cases
   abbrev Waits : ℕ → ℕ → SeqStage → Type 0
   Waits word value st = (st ≡ stage.Look) × (got % 2 ≢ 0) × (word ≡ seq_version_word at) × (value ≡ got)

@@ -16,7 +16,7 @@ use Rattle.rl_work.specs.declared.stage.Stage.{Stage}
 use Rattle.rl_work.specs.declared.stage.Stage.TheVariants.{Rest, Begin, Read, Journal, Volume}
 use Rattle.rl_work.specs.laws.AtomLaws.{atom_keeps, atom_can, entry_calls}
 use Rattle.rl_work.specs.laws.EndLaws.{plain_atom, tells_rise}
-use Rattle.rl_site.specs.Site.{count_word, volume_base, journal_base, lock_base}
+use Rattle.rl_site.specs.Site.{count_word, volume_base, journal_base, lock_base, WaySite}
 use Rattle.rl_work.specs.Ways.{side_turned, standing_done}
 use Rattle.rl_work.specs.Work.{WorkTurned, has_work, stores, stage_atom, stage_after, to_stage, work_atom, work_after, write_atom, written_on}
 use Rattle.rl_work.specs.WorkGood.{WorkSide, WorkGood, FitsAt, IsDecided, side_turned as locked_turned, standing_after as locked_standing}
@@ -24,11 +24,12 @@ use Rattle.rl_seq.specs.declared.stage.SeqStage.TheVariants as stage
 use Rattle.rl_seq.specs.laws.FitLaws.{is_decided, between_decided, fits_odd, fits_raised, locked_apart, fit_at, locked_there, decided_writes}
 use Rattle.rl_seq.specs.laws.FrontLaws.{IsInFront, in_front}
 use Rattle.rl_seq.specs.laws.KeepLaws.{good_after, stays, version_moves, locked_same, never_quiet, not_alone}
-use Rattle.rl_seq.specs.Site.{SeqSite, front, version_in}
+use Rattle.rl_seq.specs.Site.{front, version_in}
 use Rattle.rl_seq.specs.SeqGood.{SeqRank, SeqGood, IsSeqApart, IsQuiet, IsEven, IsOdd, HasJoined, SeqFits, as_locked, is_between}
-use Rattle.rl_seq.specs.SeqWork.{seq_at_stage, stored_by}
+use Rattle.rl_seq.specs.SeqWork.{seq_at_stage}
+use Rattle.rl_seq.specs.laws.Cases.{stored_by}
 
-module _ (at : SeqSite) (words : List ℕ) (low : lock_base at.site ≤ at.behind) (size : length words ≡ at.behind + 1) (sides : List SeqRank) (g : SeqGood at words sides) (apart : IsSeqApart sides) (r : ℕ) (x : SeqRank) (has : slice_get sides r ≡ Some x) where
+module _ (at : WaySite) (words : List ℕ) (low : lock_base at.site ≤ at.behind) (size : length words ≡ at.behind + 1) (sides : List SeqRank) (g : SeqGood at words sides) (apart : IsSeqApart sides) (r : ℕ) (x : SeqRank) (has : slice_get sides r ≡ Some x) where
   -- beside a writer no other block is decided
   alone_decided : x.standing ≡ Writer → (i : ℕ) (u : SeqRank) → i ≢ r → slice_get sides i ≡ Some u → is_decided u.work.stage ≡ false
   alone_decided writer i u ne get =

@@ -1,5 +1,5 @@
 -- An act of a rank in the queue at its level: all queues stay good, no other head moves, and what the other ranks tell stays true.
-use Rattle.std.specs.Prelude.{◌≡◌, ◌≢◌, ◌⊎◌, ℕ, zero, suc, ◌+◌, ◌<◌, ◌≤◌, ◌==◌, true, false, List, ◌++◌, length, if◌then◌else◌, slice_get, slice_index, slice_set, Some, refl}
+use Rattle.std.specs.Prelude.{◌≡◌, ◌≢◌, ◌⊎◌, ℕ, zero, suc, ◌+◌, ◌<◌, ◌≤◌, ◌==◌, true, false, List, ◌++◌, length, if◌then◌else◌, slice_get, slice_index, slice_set, Some, refl, is_some}
 use Rattle.std.proofs.Common.{sym, ◌∙◌, ap, subst, inl, inr, ⊎_elim, arith}
 use Rattle.std.proofs.lemmas.Option.{slice_get_within}
 use Rattle.rl_word.specs.laws.Places.{same_or_not, get_set_cases}
@@ -20,7 +20,7 @@ use Rattle.rl_queue.specs.laws.QueueTurns.{turn_all, other_head_stays}
 use Rattle.rl_queue.specs.Heads.{head_in}
 use Rattle.rl_queue.specs.laws.QueueHeads.{HeadStep, head_act}
 use Rattle.rl_tree.specs.declared.view.TreeView.{TreeView}
-use Rattle.rl_tree.specs.Tree.{has_above, hook_by, path, works_for, behind_at, at_level}
+use Rattle.rl_tree.specs.Tree.{hook_by, path, works_for, behind_at, at_level}
 use Rattle.rl_tree.specs.declared.rooted.Rooted.{Rooted}
 use Rattle.rl_tree.specs.Elements.{how_many, ranks_in, leaf_of_rank, is_node, names_in, tree_of, queue_at}
 use Rattle.rl_tree.specs.TreeGood.{Rest, way_at, way_of, below_by, Gate, gate_of, granted_in, Matches, Spent, Tells, Shaped, InQueue, IsGoodBy, TreeGood}
@@ -147,7 +147,7 @@ module _ (K : Rooted) (levels : ℕ) (T : IsTreed K levels) (v : TreeView) (ov :
   -- AN ACT THAT LEAVES ITS RANK AT ITS LEVEL keeps the tree good: the gate of its queue stays, it goes the same way, and how it
   -- stands above a queue below matches still.
   pub stays_at_level : ((p : ℕ) → (tree_of K).parent R ≡ Some p → gate_of (head_in (lane_of (names_in K R) us (F R)) (L R)) ≡ gate_of (head_in (lane_of (names_in K R) ws (g.phase R)) (g.line R))) → granted_in (head_in (lane_of (names_in K R) us (F R)) (L R)) ≡ granted_in (head_in (lane_of (names_in K R) ws (g.phase R)) (g.line R)) →
-      way_at tu.phase ≡ way_at v.phase → (way_at tu.phase ≡ Rest → ⊥) → hook_by false tu.phase ≡ false → Spent (has_above (names_in K R).budget) tu.phase → ((x : Gate) → Matches x v.phase → Matches x tu.phase) →
+      way_at tu.phase ≡ way_at v.phase → (way_at tu.phase ≡ Rest → ⊥) → hook_by false tu.phase ≡ false → Spent (is_some (names_in K R).budget) tu.phase → ((x : Gate) → Matches x v.phase → Matches x tu.phase) →
       IsGoodBy K levels F L g.ended us (slice_set vs v.rank (at_level v v.level tu.phase)) (t ++ tu.events)
   stays_at_level gate granted way moves unhooked spent matches =
       let w : TreeView = at_level v v.level tu.phase in
@@ -168,9 +168,9 @@ module _ (K : Rooted) (levels : ℕ) (T : IsTreed K levels) (v : TreeView) (ov :
             (λ c. others.here i u c.0 c.1) (cases i u h);
         gates = λ x p there up. gates_now x p there up;
         spent = λ x m. ⊎_elim
-            (λ q. ⊎_elim (λ r. subst (λ z. Spent (has_above (names_in K z).budget) (F z m)) (sym q) (subst (λ z. Spent (has_above (names_in K R).budget) (F R z)) (sym r) (subst (Spent (has_above (names_in K R).budget)) (sym (put_here g.phase R M tu.phase)) spent)))
-            (λ r. subst (Spent (has_above (names_in K x).budget)) (sym (put_away g.phase R M tu.phase x m (inr r))) (g.by.spent x m)) (same_or_not m M))
-            (λ q. subst (Spent (has_above (names_in K x).budget)) (sym (put_away g.phase R M tu.phase x m (inl q))) (g.by.spent x m)) (same_or_not x R);
+            (λ q. ⊎_elim (λ r. subst (λ z. Spent (is_some (names_in K z).budget) (F z m)) (sym q) (subst (λ z. Spent (is_some (names_in K R).budget) (F R z)) (sym r) (subst (Spent (is_some (names_in K R).budget)) (sym (put_here g.phase R M tu.phase)) spent)))
+            (λ r. subst (Spent (is_some (names_in K x).budget)) (sym (put_away g.phase R M tu.phase x m (inr r))) (g.by.spent x m)) (same_or_not m M))
+            (λ q. subst (Spent (is_some (names_in K x).budget)) (sym (put_away g.phase R M tu.phase x m (inl q))) (g.by.spent x m)) (same_or_not x R);
         tenured = λ x there. ten x there;
       } where
         gate_same : (x p : ℕ) → x < how_many K → (tree_of K).parent x ≡ Some p → gate_of (head_in (lane_of (names_in K x) us (F x)) (L x)) ≡ gate_of (head_in (lane_of (names_in K x) ws (g.phase x)) (g.line x))

@@ -1,6 +1,6 @@
 -- What a rank does outside the queue's acts: it loads its element's status and begins to leave above, asks, begins to leave its node's
 -- queue; and what happens beside all queues.
-use Rattle.std.specs.Prelude.{◌≡◌, ◌≢◌, ℕ, zero, suc, ◌+◌, ◌<◌, ◌≤◌, ◌==◌, ◌&&◌, Bool, true, false, List, [], ◌∷◌, ◌++◌, length, nat_lt, if◌then◌else◌, slice_get, slice_index, slice_set, Option, Some, refl}
+use Rattle.std.specs.Prelude.{◌≡◌, ◌≢◌, ℕ, zero, suc, ◌+◌, ◌<◌, ◌≤◌, ◌==◌, ◌&&◌, Bool, true, false, List, [], ◌∷◌, ◌++◌, length, nat_lt, if◌then◌else◌, slice_get, slice_index, slice_set, Option, Some, refl, is_some}
 use Rattle.std.proofs.Common.{sym, ◌∙◌, ap, subst, inl, inr, ⊎_elim, arith}
 use Rattle.std.proofs.lemmas.Option.{same_Some}
 use Rattle.rl_word.specs.laws.Places.{same_or_not}
@@ -20,7 +20,7 @@ use Rattle.rl_queue.specs.laws.QueueFits.{holder_told}
 use Rattle.rl_queue.specs.Heads.{Head, head_in}
 use Rattle.rl_queue.specs.laws.QueueHeads.{head_first, head_kept, unlisted}
 use Rattle.rl_tree.specs.declared.view.TreeView.{TreeView}
-use Rattle.rl_tree.specs.Tree.{has_above, path, works_for, behind_at, at_level}
+use Rattle.rl_tree.specs.Tree.{path, works_for, behind_at, at_level}
 use Rattle.rl_tree.specs.declared.rooted.Rooted.{Rooted}
 use Rattle.rl_tree.specs.Elements.{how_many, ranks_in, leaf_of_rank, is_node, is_in, names_in, tree_of, queue_at}
 use Rattle.rl_step.specs.LockQueues.{is_at}
@@ -106,12 +106,12 @@ module _ (K : Rooted) (levels : ℕ) (T : IsTreed K levels) (v : TreeView) (ov :
   rest = all_others K levels T ws vs t g v.rank all_there
 
   -- THE LOAD OF A STATUS begins the leave of the rank's element above.
-  pub query_keeps : v.query ≡ true → IsGoodBy K levels (put g.phase Q N (Look (told_left (names_in K Q).budget (slice_index ws (status_word (names_in K Q) N))) (has_above (names_in K Q).budget))) g.line (λ x. g.ended x + count (x == Q)) ws (slice_set vs v.rank (at_level v v.level (Look (told_left (names_in K Q).budget (slice_index ws (status_word (names_in K Q) N))) (has_above (names_in K Q).budget)))) t
+  pub query_keeps : v.query ≡ true → IsGoodBy K levels (put g.phase Q N (Look (told_left (names_in K Q).budget (slice_index ws (status_word (names_in K Q) N))) (is_some (names_in K Q).budget))) g.line (λ x. g.ended x + count (x == Q)) ws (slice_set vs v.rank (at_level v v.level (Look (told_left (names_in K Q).budget (slice_index ws (status_word (names_in K Q) N))) (is_some (names_in K Q).budget)))) t
   query_keeps asks = at v.level refl where
-    at : (n : ℕ) → v.level ≡ n → IsGoodBy K levels (put g.phase Q N (Look (told_left (names_in K Q).budget (slice_index ws (status_word (names_in K Q) N))) (has_above (names_in K Q).budget))) g.line (λ x. g.ended x + count (x == Q)) ws (slice_set vs v.rank (at_level v v.level (Look (told_left (names_in K Q).budget (slice_index ws (status_word (names_in K Q) N))) (has_above (names_in K Q).budget)))) t
+    at : (n : ℕ) → v.level ≡ n → IsGoodBy K levels (put g.phase Q N (Look (told_left (names_in K Q).budget (slice_index ws (status_word (names_in K Q) N))) (is_some (names_in K Q).budget))) g.line (λ x. g.ended x + count (x == Q)) ws (slice_set vs v.rank (at_level v v.level (Look (told_left (names_in K Q).budget (slice_index ws (status_word (names_in K Q) N))) (is_some (names_in K Q).budget)))) t
     at zero lv = let b : 0 < v.level = sh.above asks in absurd (omega arith)
     at (suc j) lv =
-        let u : Bool = has_above (names_in K Q).budget in
+        let u : Bool = is_some (names_in K Q).budget in
         let told : ℕ = told_left (names_in K Q).budget (slice_index ws (status_word (names_in K Q) N)) in
         let p : Phase = Look told u in
         let G : ℕ → ℕ → Phase = put g.phase Q N p in
@@ -166,7 +166,7 @@ module _ (K : Rooted) (levels : ℕ) (T : IsTreed K levels) (v : TreeView) (ov :
         let a : (if is_node K x then 0 else granted_in (moved Q N p x)) ≡ (if is_node K x then 0 else granted_in (before x)) = ap (λ z. if is_node K x then 0 else granted_in z) (head_put K levels T ws g.phase g.line Q N p x ne) in
         let c = no_count (g.ended x) (x == Q) (other_test x Q ne) in omega arith)
         (same_or_not x Q) in
-        let spent_now : AllSpent K levels T (put g.phase Q N p) = spent_put K levels T g.phase Q N p g.by.spent (spent_look (has_above (names_in K Q).budget) told) in
+        let spent_now : AllSpent K levels T (put g.phase Q N p) = spent_put K levels T g.phase Q N p g.by.spent (spent_look (is_some (names_in K Q).budget) told) in
         assembles K levels T ws (put g.phase Q N p) g.line d t vs v.rank (at_level v v.level p) refl ov
         (record { within = low; resting = λ e. cc; above = λ e. cc; three = sh.three; hooked = λ e. cc })
         rest_now good
@@ -208,7 +208,7 @@ module _ (K : Rooted) (levels : ℕ) (T : IsTreed K levels) (v : TreeView) (ov :
       (record { within = omega arith; resting = λ e. refl; above = λ e. cc; three = sh.three; hooked = λ e. cc })
       rest_now good (λ k b. absurd (omega arith)) (put_here g.phase v.leaf v.rank Clear)
       (λ x p tx ux. subst (λ z. Matches z (put g.phase v.leaf v.rank Clear p x)) (ap gate_of (sym (heads x))) (subst (Matches (gate_of (before x))) (sym (put_away g.phase v.leaf v.rank Clear p x (inl (not_leaf x p tx ux)))) (g.by.gates x p tx ux)))
-      (spent_put K levels T g.phase v.leaf v.rank Clear g.by.spent (spent_clear (has_above (names_in K v.leaf).budget)))
+      (spent_put K levels T g.phase v.leaf v.rank Clear g.by.spent (spent_clear (is_some (names_in K v.leaf).budget)))
       (λ x tx. ap (λ y. g.ended x + (if is_node K x then 0 else granted_in y)) (heads x) ∙ g.by.tenured x tx)
 
   -- a rank's departure ends one tenure of its node's queue, and none of any other
@@ -225,7 +225,7 @@ module _ (K : Rooted) (levels : ℕ) (T : IsTreed K levels) (v : TreeView) (ov :
         ap count (ap (λ z. z && is_in K x v.rank) e ∙ off)
 
   -- LEAVING: who is inside begins to leave its node's queue, which has something above it.
-  pub leave_tree : (left : ℕ) → v.level ≡ 0 → v.query ≡ false → v.phase ≡ Granted left → has_above (names_in K v.leaf).budget ≡ true → IsGoodBy K levels (put g.phase v.leaf v.rank (Look left true)) g.line (λ x. g.ended x + count (x == v.leaf)) ws (slice_set vs v.rank (at_level v 0 (Look left true))) (t ++ event.LeaveW v.rank ∷ [])
+  pub leave_tree : (left : ℕ) → v.level ≡ 0 → v.query ≡ false → v.phase ≡ Granted left → is_some (names_in K v.leaf).budget ≡ true → IsGoodBy K levels (put g.phase v.leaf v.rank (Look left true)) g.line (λ x. g.ended x + count (x == v.leaf)) ws (slice_set vs v.rank (at_level v 0 (Look left true))) (t ++ event.LeaveW v.rank ∷ [])
   leave_tree left lv nq inside above =
       let p : Phase = Look left true in
       let d : ℕ → ℕ = λ x. g.ended x + count (x == v.leaf) in

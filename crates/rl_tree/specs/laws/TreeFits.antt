@@ -14,7 +14,8 @@ use Rattle.rl_queue.specs.RankWords.{every_second}
 use Rattle.rl_queue.specs.laws.RankWordLaws.{length-every_second}
 use Rattle.rl_tree.specs.declared.rooted.Rooted.{Rooted}
 use Rattle.rl_tree.specs.declared.view.TreeView.{TreeView}
-use Rattle.rl_tree.specs.Tree.{path, works_for, plan_by}
+use Rattle.rl_tree.specs.Tree.{path, works_for}
+use Rattle.rl_tree.specs.laws.Cases.{plan_by}
 use Rattle.rl_tree.specs.Elements.{how_many, ranks_in, leaf_of_rank, is_node, of_elements, names_in, tree_of}
 use Rattle.rl_tree.specs.Fits.{IsPlaced, acting, MayPlan, StatusFits, GotFitsBy, TreeMayLearn}
 use Rattle.rl_tree.specs.TreeGood.{Tells, IsGrantedAt, InQueue, TreeGood}

@@ -1,6 +1,6 @@
 -- Where some rank isn't out, some rank goes on. Three short inductions: a member that is on its way has a rank that works for it (up the
 -- tree); below an element that has its queue somebody goes on (down); and a rank that is stuck waits for one that works higher (up).
-use Rattle.std.specs.Prelude.{◌≡◌, ◌⊎◌, ℕ, zero, suc, ◌+◌, ◌<◌, ◌≤◌, Bool, true, false, List, length, slice_get, slice_index, Some, refl}
+use Rattle.std.specs.Prelude.{◌≡◌, ◌⊎◌, ℕ, zero, suc, ◌+◌, ◌<◌, ◌≤◌, Bool, true, false, List, length, slice_get, slice_index, Some, refl, unwrap_or}
 use Rattle.std.proofs.Common.{sym, ◌∙◌, ap, subst, inl, inr, ⊎_elim, arith}
 use Rattle.std.proofs.lemmas.Bool.{cases_lt}
 use Rattle.rl_word.specs.laws.Places.{some_at}
@@ -13,7 +13,8 @@ use Rattle.rl_queue.specs.laws.LaneLaws.{busy_or_idle}
 use Rattle.rl_queue.specs.Queue.{queue_next_word, status_word}
 use Rattle.rl_queue.specs.laws.StandingLaws.{not_out_busy}
 use Rattle.rl_tree.specs.declared.view.TreeView.{TreeView}
-use Rattle.rl_tree.specs.Tree.{or_zero, hook_by, path, works_for, behind_at, standing_by, tree_standing}
+use Rattle.rl_tree.specs.Tree.{hook_by, path, works_for, behind_at, tree_standing}
+use Rattle.rl_tree.specs.laws.Cases.{standing_by}
 use Rattle.rl_tree.specs.declared.rooted.Rooted.{Rooted}
 use Rattle.rl_tree.specs.Elements.{how_many, ranks_in, names_in, tree_of}
 use Rattle.rl_tree.specs.TreeGood.{Tells, IsGrantedAt, way_of, InQueue, TreeGood}
@@ -129,7 +130,7 @@ module _ (K : Rooted) (levels : ℕ) (S : IsWellShaped K levels) (ws : List ℕ)
       let a = agent c m h.0 n.there dm (climbs_busy (g.phase m h.0) h.1) (climbs_not (g.phase m h.0) h.1) in
       let lt : c < a.view.level =
       ⊎_elim (λ k. k) (λ e. let p = at_level m h.0 c a e in absurd (not_here a.rank a.view m h.0 a.has p.0 p.1 h.1 n.low)) (level_cases c a.view.level a.level) in
-      record { rank = a.rank; view = a.view; has = a.has; level = omega arith; at = ap (λ y. or_zero ((tree_of K).parent y)) a.at ∙ ap or_zero n.mine; mine = a.at })
+      record { rank = a.rank; view = a.view; has = a.has; level = omega arith; at = ap (λ y. unwrap_or ((tree_of K).parent y) 0) a.at ∙ ap (λ o. unwrap_or o 0) n.mine; mine = a.at })
       (member_is K S.root_free q m ((g.by.queue q lq).inv.inside m busy))
 
   -- BELOW AN ELEMENT THAT HAS ITS QUEUE SOMEBODY GOES ON
@@ -137,7 +138,7 @@ module _ (K : Rooted) (levels : ℕ) (S : IsWellShaped K levels) (ws : List ℕ)
   above_goes d e p x up a climbs h =
       ⊎_elim
       (λ lt.
-      let at : path (tree_of K) a.view.leaf (suc d) ≡ p = ap (λ y. or_zero ((tree_of K).parent y)) a.at ∙ ap or_zero up in
+      let at : path (tree_of K) a.view.leaf (suc d) ≡ p = ap (λ y. unwrap_or ((tree_of K).parent y) 0) a.at ∙ ap (λ o. unwrap_or o 0) up in
       let le : suc d ≤ a.view.level = omega arith in
       ⊎_elim
       (λ more_up. absurd (climbs_not (g.phase p e) (higher a.rank a.view (suc d) p e a.has more_up at a.at) h))

@@ -22,7 +22,8 @@ use Rattle.rl_queue.specs.laws.QueueFits.{alone_finds}
 use Rattle.rl_queue.specs.Heads.{head_in}
 use Rattle.rl_queue.specs.laws.QueueHeads.{head_first}
 use Rattle.rl_tree.specs.declared.view.TreeView.{TreeView}
-use Rattle.rl_tree.specs.Tree.{hook_by, path, member_at, works_for, plan_by, tree_plan, at_hook, tree_standing}
+use Rattle.rl_tree.specs.Tree.{hook_by, path, member_at, works_for, tree_plan, at_hook, tree_standing}
+use Rattle.rl_tree.specs.laws.Cases.{plan_by}
 use Rattle.rl_tree.specs.declared.rooted.Rooted.{Rooted}
 use Rattle.rl_tree.specs.Elements.{how_many, ranks_in, leaf_of_rank, is_node, names_in, tree_of, queue_at}
 use Rattle.rl_tree.specs.TreeGood.{gate_at, gate_of, granted_in, Matches, Tells, IsGrantedAt, way_of, InQueue, TreeGood}

@@ -1,6 +1,6 @@
 -- The hook above the root, for a lock that goes on there later: a head of the root stands at it, and so does one that gives up what is
 -- above; and the entry goes on from there.
-use Rattle.std.specs.Prelude.{◌≡◌, ℕ, suc, ◌+◌, ◌<◌, ◌≤◌, true, false, List, ◌++◌, length, if◌then◌else◌, slice_get, slice_set, Option, Some, None, refl}
+use Rattle.std.specs.Prelude.{◌≡◌, ℕ, suc, ◌+◌, ◌<◌, ◌≤◌, true, false, List, ◌++◌, length, if◌then◌else◌, slice_get, slice_set, Option, Some, None, refl, is_some}
 use Rattle.std.proofs.Common.{sym, ◌∙◌, ap, subst, inl, ⊎_elim, arith}
 use Rattle.rl_word.specs.laws.Places.{same_or_not}
 use Rattle.rl_step.specs.declared.events.Event.{Event}
@@ -13,7 +13,7 @@ use Rattle.rl_queue.specs.Lane.{lane_of}
 use Rattle.rl_queue.specs.Heads.{head_in}
 use Rattle.rl_queue.specs.laws.QueueHeads.{head_first}
 use Rattle.rl_tree.specs.declared.view.TreeView.{TreeView}
-use Rattle.rl_tree.specs.Tree.{has_above, path, works_for, behind_at, at_level, settles_below}
+use Rattle.rl_tree.specs.Tree.{path, works_for, behind_at, at_level, settles_below}
 use Rattle.rl_tree.specs.declared.rooted.Rooted.{Rooted}
 use Rattle.rl_tree.specs.Elements.{how_many, ranks_in, leaf_of_rank, is_node, names_in, tree_of}
 use Rattle.rl_step.specs.LockQueues.{is_at}
@@ -66,7 +66,7 @@ hook_leaves K levels T v ov hv ws vs t g has all_there nq s gave lv =
     subst (λ z. Matches z (put g.phase q m p y x)) (sym (ap gate_of (head_put K levels T ws g.phase g.line q m p x ne)))
     (match_put K levels T g.phase q m p _ (λ h. resume_matches s _ (subst (Matches _) was h)) y x (g.by.gates x y tx ux)))
     (same_or_not x q))
-    (spent_put K levels T g.phase q m p g.by.spent (spent_resume (has_above (names_in K q).budget) s))
+    (spent_put K levels T g.phase q m p g.by.spent (spent_resume (is_some (names_in K q).budget) s))
     (λ x tx.
     let same : granted_in (head_in (lane_of (names_in K x) ws (put g.phase q m p x)) (g.line x)) ≡ granted_in (head_in (lane_of (names_in K x) ws (g.phase x)) (g.line x)) =
     ⊎_elim (λ e. subst (λ z. granted_in (head_in (lane_of (names_in K z) ws (put g.phase q m p z)) (g.line z)) ≡ granted_in (head_in (lane_of (names_in K z) ws (g.phase z)) (g.line z))) (sym e) (ap granted_in heads.1 ∙ resume_none s ∙ sym (ap granted_in heads.0)))

@@ -1,5 +1,5 @@
 -- A settlement that climbs keeps the tree good: one act in which a rank settles in its queues from an upper one down.
-use Rattle.std.specs.Prelude.{◌≡◌, ◌≢◌, ◌⊎◌, ℕ, zero, suc, ◌<◌, ◌≤◌, ◌==◌, ◌&&◌, Bool, true, false, List, ◌++◌, length, slice_get, slice_index, slice_set, Some, refl}
+use Rattle.std.specs.Prelude.{◌≡◌, ◌≢◌, ◌⊎◌, ℕ, zero, suc, ◌<◌, ◌≤◌, ◌==◌, ◌&&◌, Bool, true, false, List, ◌++◌, length, slice_get, slice_index, slice_set, Some, refl, is_some}
 use Rattle.std.proofs.Common.{sym, ◌∙◌, ap, subst, inl, inr, ⊎_elim, arith}
 use Rattle.rl_word.specs.laws.Places.{same_or_not, get_set_cases}
 use Rattle.rl_step.specs.declared.events.Event.{Event}
@@ -10,7 +10,7 @@ use Rattle.rl_queue.specs.Queue.{status_word}
 use Rattle.rl_queue.specs.Lane.{lane_of, IsFirst}
 use Rattle.rl_queue.specs.Heads.{head_in}
 use Rattle.rl_tree.specs.declared.view.TreeView.{TreeView}
-use Rattle.rl_tree.specs.Tree.{has_above, hook_by, path, works_for, behind_at, at_level, settles_below}
+use Rattle.rl_tree.specs.Tree.{hook_by, path, works_for, behind_at, at_level, settles_below}
 use Rattle.rl_tree.specs.declared.rooted.Rooted.{Rooted}
 use Rattle.rl_tree.specs.Elements.{how_many, ranks_in, leaf_of_rank, names_in, tree_of}
 use Rattle.rl_tree.specs.TreeGood.{way_of, below_by, gate_of, Matches, Spent, IsGrantedAt, Tells, Shaped, IsGoodBy}
@@ -56,11 +56,11 @@ module _ (K : Rooted) (levels : ℕ) (T : IsTreed K levels) where
       (λ q. inl q)
       (same_or_not (path (tree_of K) u.leaf k) (path (tree_of K) v.leaf i))
 
-  spent_settled : (v : TreeView) (ov : v.leaf ≡ leaf_of_rank K v.rank) (hv : v.rank < ranks_in K) (F : ℕ → ℕ → Phase) (j : ℕ) → ((q m : ℕ) → Spent (has_above (names_in K q).budget) (F q m)) → (q m : ℕ) → Spent (has_above (names_in K q).budget) (settled K levels T v ov hv F j q m)
+  spent_settled : (v : TreeView) (ov : v.leaf ≡ leaf_of_rank K v.rank) (hv : v.rank < ranks_in K) (F : ℕ → ℕ → Phase) (j : ℕ) → ((q m : ℕ) → Spent (is_some (names_in K q).budget) (F q m)) → (q m : ℕ) → Spent (is_some (names_in K q).budget) (settled K levels T v ov hv F j q m)
   spent_settled v ov hv F zero h q m = h q m
   spent_settled v ov hv F (suc j) h q m =
       spent_settled v ov hv (put F (el K levels T v ov hv j) (me K levels T v ov hv j) (whole K levels T v ov hv j)) j
-      (λ x y. choose (Spent (has_above (names_in K x).budget)) ((x == el K levels T v ov hv j) && (y == me K levels T v ov hv j)) (whole K levels T v ov hv j) (F x y) (spent_granted (has_above (names_in K x).budget) _) (h x y)) q m
+      (λ x y. choose (Spent (is_some (names_in K x).budget)) ((x == el K levels T v ov hv j) && (y == me K levels T v ov hv j)) (whole K levels T v ov hv j) (F x y) (spent_granted (is_some (names_in K x).budget) _) (h x y)) q m
 
   -- A settlement that climbs: where all queues are good, and rank r must settle in all below level j, and has the queue at level j, if
   -- there is one, the tree is good once it has settled in each of them from the upper one down, and is inside.
@@ -68,7 +68,7 @@ module _ (K : Rooted) (levels : ℕ) (T : IsTreed K levels) where
       v.rank ≡ r → length v.behind ≡ 3 → OthersTell K levels F vs r → AllGood K levels T ws F L e t → j ≤ suc levels → ((i : ℕ) → i < j → F (el K levels T v ov hv i) (me K levels T v ov hv i) ≡ Settle) →
       (j ≤ levels → IsGrantedAt (F (el K levels T v ov hv j) (me K levels T v ov hv j))) →
       ((x p : ℕ) → x < how_many K → (tree_of K).parent x ≡ Some p → ((i : ℕ) → i < j → x ≢ el K levels T v ov hv i) → Matches (gate_of (head_in (lane_of (names_in K x) ws (F x)) (L x))) (F p x)) →
-      ((x m : ℕ) → Spent (has_above (names_in K x).budget) (F x m)) → Owes K levels T v ov hv ws F L e t j → settled K levels T v ov hv F j (el K levels T v ov hv 0) (me K levels T v ov hv 0) ≡ q → IsGrantedAt q →
+      ((x m : ℕ) → Spent (is_some (names_in K x).budget) (F x m)) → Owes K levels T v ov hv ws F L e t j → settled K levels T v ov hv F j (el K levels T v ov hv 0) (me K levels T v ov hv 0) ≡ q → IsGrantedAt q →
       IsGoodBy K levels (settled K levels T v ov hv F j) L e ws (slice_set vs r (at_level v 0 q)) (t ++ settles_below (tree_of K) v j)
   climbs ws F L e t vs v r j q ov hv vr three others g le st top gates spent owes now inside =
       let w : TreeView = at_level v 0 q in

@@ -1,11 +1,11 @@
 -- A proper shape that holds the home, with a budget on every element but the root, is what a lock asks of its tree.
-use Rattle.std.specs.Prelude.{◌≡◌, ℕ, zero, suc, ◌<◌, ◌≤◌, length, slice_get, slice_index, true, Option, Some, None, refl}
+use Rattle.std.specs.Prelude.{◌≡◌, ℕ, zero, suc, ◌<◌, ◌≤◌, length, slice_get, slice_index, true, Option, Some, None, refl, is_some}
 use Rattle.std.proofs.Common.{sym, ◌∙◌, ap, subst, arith}
 use Rattle.std.proofs.lemmas.Option.{slice_get_within}
 use Rattle.rl_word.specs.declared.shapes.Element.{Element}
 use Rattle.rl_word.specs.Shapes.{IsProper}
 use Rattle.rl_step.specs.LockQueues.{parent_of, budget_by}
-use Rattle.rl_tree.specs.Tree.{has_above, path}
+use Rattle.rl_tree.specs.Tree.{path}
 use Rattle.rl_tree.specs.declared.rooted.Rooted.{Rooted}
 use Rattle.rl_tree.specs.Elements.{how_many, ranks_in, leaf_of_rank, names_in, tree_of}
 use Rattle.rl_tree.specs.laws.TreeProper.{root_free, rising, seated, path_root, is_treed, depth_same, levels_are, reached, first_there}
@@ -40,7 +40,7 @@ laid_shaped K levels d =
       ranks = d.ranks;
       modest = d.modest;
     } where
-      has_budget : (e p : ℕ) → e < how_many K → parent_of (slice_get K.shape.elements e) ≡ Some p → has_above (names_in K e).budget ≡ true
+      has_budget : (e p : ℕ) → e < how_many K → parent_of (slice_get K.shape.elements e) ≡ Some p → is_some (names_in K e).budget ≡ true
       has_budget zero p lt up = let bad : None ≡ Some p = sym d.root_free ∙ up in cc
       has_budget (suc e) p lt up = d.budgeted (suc e) (omega arith) lt
 

@@ -1,5 +1,5 @@
 -- All that is said of a tree's good states holds.
-use Rattle.std.specs.Prelude.{◌≡◌, ℕ, zero, suc, ◌+◌, ◌-◌, ◌<◌, ◌==◌, Bool, true, false, List, [], if◌then◌else◌, slice_index, Option, Some, None, refl}
+use Rattle.std.specs.Prelude.{◌≡◌, ℕ, zero, suc, ◌+◌, ◌-◌, ◌<◌, ◌==◌, Bool, true, false, List, [], if◌then◌else◌, slice_index, Option, Some, None, refl, is_some}
 use Rattle.std.proofs.Common.{sym, ◌∙◌, ap, subst, inl, inr, ⊎_elim, arith}
 use Rattle.rl_word.specs.Acts.{word_of, told}
 use Rattle.rl_step.specs.declared.events.Event.{Event}
@@ -14,7 +14,9 @@ use Rattle.rl_queue.specs.laws.QueueActs.{pass_more}
 use Rattle.rl_queue.specs.laws.QueueMoves.{queue_fifo, queue_within}
 use Rattle.rl_queue.specs.laws.QueueFits.{alone_moves_on, waits_on}
 use Rattle.rl_tree.specs.declared.view.TreeView.{TreeView}
-use Rattle.rl_tree.specs.Tree.{TheTree, has_above, is_none, hook_by, path, works_for, names_at, behind_at, inside_from, goes_down, tree_walk, plan_by, tree_plan, learn_by, at_hook, resume_by, tree_standing}
+use Rattle.rl_tree.specs.Tree.{TheTree, is_none, hook_by, path, works_for, names_at, behind_at, inside_from, goes_down, tree_walk, tree_plan, at_hook, resume_by, tree_standing}
+use Rattle.rl_tree.specs.laws.Cases.{learn_by}
+use Rattle.rl_tree.specs.laws.Cases.{plan_by}
 use Rattle.rl_tree.specs.declared.rooted.Rooted.{Rooted}
 use Rattle.rl_tree.specs.Elements.{how_many, names_in, tree_of}
 use Rattle.rl_tree.specs.TreeGood.{Spent, IsGrantedAt, InQueue, is_open, TreeGood, IsAbove}
@@ -99,8 +101,8 @@ module _ (K : Rooted) (levels : ℕ) (S : IsWellShaped K levels) where
       ⊎_elim (λ e. e)
       (λ a.
       let m : ℕ = works_for (tree_of K) v levels in
-      let spent : Spent (has_above K.root) v.phase = subst (Spent (has_above (names_in K 0).budget)) (root_phase K levels S ws vs t x.is_good.tree x.all r v x.has hook) (x.is_good.tree.by.spent 0 m) in
-      absurd (spent_above (has_above K.root) v.phase (ap has_above unlimited) spent a))
+      let spent : Spent (is_some K.root) v.phase = subst (Spent (is_some (names_in K 0).budget)) (root_phase K levels S ws vs t x.is_good.tree x.all r v x.has hook) (x.is_good.tree.by.spent 0 m) in
+      absurd (spent_above (is_some K.root) v.phase (ap is_some unlimited) spent a))
       (hook_cases v.query v.phase hook).1
 
   moves_on_at : MovesOnAlone K levels

@@ -1,6 +1,6 @@
 -- What keeps a tree good, with its root's gate: where a rank asks and where it begins to leave, each act, and what goes on from the hook;
 -- and that all of it fits the laws of a lock.
-use Rattle.std.specs.Prelude.{◌≡◌, ◌≢◌, ℕ, zero, suc, ◌<◌, ◌≤◌, Bool, true, false, List, [], ◌∷◌, ◌++◌, length, slice_get, slice_index, slice_set, Option, Some, None, refl}
+use Rattle.std.specs.Prelude.{◌≡◌, ◌≢◌, ℕ, zero, suc, ◌<◌, ◌≤◌, Bool, true, false, List, [], ◌∷◌, ◌++◌, length, slice_get, slice_index, slice_set, Option, Some, None, refl, is_some}
 use Rattle.std.proofs.Common.{sym, ◌∙◌, ap, subst, inl, inr, ⊎_elim, arith}
 use Rattle.std.proofs.lemmas.List.{append-nil, set-get_or}
 use Rattle.std.proofs.lemmas.Option.{same_Some}
@@ -20,7 +20,9 @@ use Rattle.rl_queue.specs.Heads.{head_in}
 use Rattle.rl_queue.specs.laws.QueueHeads.{head_first}
 use Rattle.rl_queue.specs.Standings.{standing_of}
 use Rattle.rl_tree.specs.declared.view.TreeView.{TreeView}
-use Rattle.rl_tree.specs.Tree.{has_above, path, member_at, works_for, behind_at, names_at, at_level, settles_below, inside_from, at_hook, plan_by, learn_by, resume_by, standing_by, tree_standing}
+use Rattle.rl_tree.specs.Tree.{path, member_at, works_for, behind_at, names_at, at_level, settles_below, inside_from, at_hook, resume_by, tree_standing}
+use Rattle.rl_tree.specs.laws.Cases.{learn_by}
+use Rattle.rl_tree.specs.laws.Cases.{plan_by, standing_by}
 use Rattle.rl_tree.specs.declared.rooted.Rooted.{Rooted}
 use Rattle.rl_tree.specs.Elements.{ranks_in, leaf_of_rank, of_tree, names_in, tree_of}
 use Rattle.rl_tree.specs.TreeGood.{way_of, below_by, gate_of, is_open, root_open, Tells, InQueue, IsGrantedAt, IsGoodBy, GoodAt}
@@ -112,7 +114,7 @@ module _ (K : Rooted) (levels : ℕ) (S : IsWellShaped K levels) (inside : Bool)
       let l = granted_is v.phase s.1 in
       let high = S.high in
       let low : v.level ≡ 0 = at_rest K levels S ws vs t x.is_good.tree x.all r v x.has s.0 (inr s.1) in
-      let above : has_above (names_in K v.leaf).budget ≡ true = S.budgeted v.leaf (path (tree_of K) v.leaf 1) (level_there K levels S ws vs t x.is_good.tree x.all r v 0 x.has (omega arith)) (up 0 (omega arith)) in
+      let above : is_some (names_in K v.leaf).budget ≡ true = S.budgeted v.leaf (path (tree_of K) v.leaf 1) (level_there K levels S ws vs t x.is_good.tree x.all r v 0 x.has (omega arith)) (up 0 (omega arith)) in
       let k : GoodAt K levels inside ws (slice_set vs v.rank (at_level v 0 (Look l.0 true))) (t ++ event.LeaveW v.rank ∷ []) =
       record {
         tree = made K levels (put x.is_good.tree.phase v.leaf v.rank (Look l.0 true)) x.is_good.tree.line _ ws (slice_set vs v.rank (at_level v 0 (Look l.0 true))) (t ++ event.LeaveW v.rank ∷ []) (leave_tree K levels S.treed v own there ws vs t x.is_good.tree mine x.all l.0 low s.0 l.1 above);
@@ -129,7 +131,7 @@ module _ (K : Rooted) (levels : ℕ) (S : IsWellShaped K levels) (inside : Bool)
   N = works_for (tree_of K) v v.level
 
   abbrev looks : Phase
-  looks = Look (told_left (names_in K (path (tree_of K) v.leaf v.level)).budget (slice_index ws (status_word (names_in K (path (tree_of K) v.leaf v.level)) (works_for (tree_of K) v v.level)))) (has_above (names_in K (path (tree_of K) v.leaf v.level)).budget)
+  looks = Look (told_left (names_in K (path (tree_of K) v.leaf v.level)).budget (slice_index ws (status_word (names_in K (path (tree_of K) v.leaf v.level)) (works_for (tree_of K) v v.level)))) (is_some (names_in K (path (tree_of K) v.leaf v.level)).budget)
 
   low : v.level ≤ levels
   low = (x.is_good.tree.by.shaped r v x.has).within

@@ -1,6 +1,6 @@
 -- Acts that take a rank to another level of its path: a head below the root begins above, one that gives up what is above asks for
 -- its element's status, one that has left goes on below, and one that is passed a queue settles in all below.
-use Rattle.std.specs.Prelude.{◌≡◌, ◌≢◌, ℕ, zero, suc, ◌+◌, ◌<◌, ◌≤◌, Bool, true, false, List, [], ◌∷◌, ◌++◌, length, if◌then◌else◌, slice_get, slice_index, slice_set, Option, Some, None, refl, ◌==◌, ◌&&◌}
+use Rattle.std.specs.Prelude.{◌≡◌, ◌≢◌, ℕ, zero, suc, ◌+◌, ◌<◌, ◌≤◌, Bool, true, false, List, [], ◌∷◌, ◌++◌, length, if◌then◌else◌, slice_get, slice_index, slice_set, Option, Some, None, refl, ◌==◌, ◌&&◌, is_some}
 use Rattle.std.proofs.Common.{sym, ◌∙◌, ap, subst, inl, inr, ⊎_elim, arith, length-set}
 use Rattle.std.proofs.lemmas.Option.{same_Some}
 use Rattle.rl_word.specs.laws.Places.{same_or_not}
@@ -19,7 +19,7 @@ use Rattle.rl_queue.specs.laws.QueueTurns.{turn_all}
 use Rattle.rl_queue.specs.Heads.{Head, head_in}
 use Rattle.rl_queue.specs.laws.QueueHeads.{head_first, head_kept, HeadStep, head, unlisted}
 use Rattle.rl_tree.specs.declared.view.TreeView.{TreeView}
-use Rattle.rl_tree.specs.Tree.{has_above, hook_by, path, member_at, works_for, behind_at, at_level, asks_status, leaves_behind, settles_below}
+use Rattle.rl_tree.specs.Tree.{hook_by, path, member_at, works_for, behind_at, at_level, asks_status, leaves_behind, settles_below}
 use Rattle.rl_tree.specs.declared.rooted.Rooted.{Rooted}
 use Rattle.rl_tree.specs.Elements.{how_many, ranks_in, leaf_of_rank, is_node, names_in, tree_of, queue_at}
 use Rattle.rl_tree.specs.TreeGood.{Up, Down, Rest, way_at, way_of, below_by, Gate, Shut, Asking, Open, Releasing, gate_at, gate_of, granted_in, one_if, Matches, Spent, IsGrantedAt, Shaped, InQueue, IsGoodBy, TreeGood, open_if}
@@ -232,8 +232,8 @@ module _ (K : Rooted) (levels : ℕ) (T : IsTreed K levels) (v : TreeView) (ov :
       let cell_x : put P (path (tree_of K) v.leaf (suc v.level)) Q Clear p x ≡ P p x = put_away P (path (tree_of K) v.leaf (suc v.level)) Q Clear p x (inr nx) in
       subst (λ z. Matches z (put P (path (tree_of K) v.leaf (suc v.level)) Q Clear p x)) (ap gate_of (sym heads)) (subst (Matches (gate_of (after x))) (sym cell_x) (gates_away (λ y m. subst (Matches y) (sym settles) (matches y m)) x p tx ux nx)))
       (same_or_not x Q) in
-      let spent1 : AllSpent K levels T P = spent_put K levels T g.phase Q N turn.phase g.by.spent (subst (Spent (has_above (names_in K Q).budget)) (sym settles) (spent_settle (has_above (names_in K Q).budget))) in
-      let spent2 : AllSpent K levels T (put P (path (tree_of K) v.leaf (suc v.level)) Q Clear) = spent_put K levels T P (path (tree_of K) v.leaf (suc v.level)) Q Clear spent1 (spent_clear (has_above (names_in K (path (tree_of K) v.leaf (suc v.level))).budget)) in
+      let spent1 : AllSpent K levels T P = spent_put K levels T g.phase Q N turn.phase g.by.spent (subst (Spent (is_some (names_in K Q).budget)) (sym settles) (spent_settle (is_some (names_in K Q).budget))) in
+      let spent2 : AllSpent K levels T (put P (path (tree_of K) v.leaf (suc v.level)) Q Clear) = spent_put K levels T P (path (tree_of K) v.leaf (suc v.level)) Q Clear spent1 (spent_clear (is_some (names_in K (path (tree_of K) v.leaf (suc v.level))).budget)) in
       let ten = tenured_put (path (tree_of K) v.leaf (suc v.level)) Q Clear (tenured_now granted) (ap granted_in head_above) in
       let went : way_of v.query v.phase ≡ Up = ap (λ z. way_of z v.phase) no_query ∙ up in
       assembles K levels T W (put P (path (tree_of K) v.leaf (suc v.level)) Q Clear) Z g.ended (t ++ turn.events) vs v.rank (at_level v (suc v.level) Clear) refl ov
@@ -246,7 +246,7 @@ module _ (K : Rooted) (levels : ℕ) (T : IsTreed K levels) (v : TreeView) (ov :
       gated spent2 ten
 
   -- ONE THAT GIVES UP WHAT IS ABOVE asks for the status of its element there.
-  pub releases_above : (s : Option ℕ) → turn.phase ≡ Above s → v.level < levels → levels ≤ 3 → gate_of (before Q) ≡ Open → gate_of (after Q) ≡ Releasing → granted_in (after Q) ≡ granted_in (before Q) → way_at v.phase ≡ Down → ((y : Gate) → Matches y v.phase → Matches y (Above s)) → Spent (has_above (names_in K Q).budget) (Above s) →
+  pub releases_above : (s : Option ℕ) → turn.phase ≡ Above s → v.level < levels → levels ≤ 3 → gate_of (before Q) ≡ Open → gate_of (after Q) ≡ Releasing → granted_in (after Q) ≡ granted_in (before Q) → way_at v.phase ≡ Down → ((y : Gate) → Matches y v.phase → Matches y (Above s)) → Spent (is_some (names_in K Q).budget) (Above s) →
       IsGoodBy K levels P Z g.ended W (slice_set vs v.rank (asks_status (leaves_behind v v.level s) (suc v.level))) (t ++ turn.events)
   releases_above s gives lt three opens releases granted down matches spent =
       let U : ℕ = path (tree_of K) v.leaf (suc v.level) in
@@ -264,7 +264,7 @@ module _ (K : Rooted) (levels : ℕ) (T : IsTreed K levels) (v : TreeView) (ov :
       subst (λ z. Matches (gate_of (after z)) (P p z)) (sym e) (subst (λ z. Matches (gate_of (after Q)) (P z Q)) (sym pe) done))
       (λ nx. gates_away (λ y m. subst (Matches y) (sym gives) (matches y m)) x p tx ux nx)
       (same_or_not x Q) in
-      let spent1 : AllSpent K levels T P = spent_put K levels T g.phase Q N turn.phase g.by.spent (subst (Spent (has_above (names_in K Q).budget)) (sym gives) spent) in
+      let spent1 : AllSpent K levels T P = spent_put K levels T g.phase Q N turn.phase g.by.spent (subst (Spent (is_some (names_in K Q).budget)) (sym gives) spent) in
       let went : way_of v.query v.phase ≡ Down = ap (λ z. way_of z v.phase) no_query ∙ down in
       let room : v.level < length v.behind = let three3 : length v.behind ≡ 3 = sh.three in omega arith in
       assembles K levels T W P Z g.ended (t ++ turn.events) vs v.rank (asks_status (leaves_behind v v.level s) (suc v.level)) refl ov
@@ -288,7 +288,7 @@ module _ (K : Rooted) (levels : ℕ) (T : IsTreed K levels) (v : TreeView) (ov :
       let c : P p x ≡ g.phase p x = cell_of K levels T v ov hv ws vs t g d has no_query all_there a pl x p tx ux (λ j e. let bad : 0 ≡ suc j = sym lv ∙ e in cc) in
       let gs : gate_of (after x) ≡ gate_of (before x) = ⊎_elim (λ e. subst (λ z. gate_of (after z) ≡ gate_of (before z)) (sym e) (gate p (ap (tree_of K).parent (sym e) ∙ ux))) (λ n. ap gate_of (away x tx n)) (same_or_not x Q) in
       subst (λ z. Matches z (P p x)) (sym gs) (subst (Matches (gate_of (before x))) (sym c) (g.by.gates x p tx ux)) in
-      let spent1 : AllSpent K levels T P = spent_put K levels T g.phase Q N turn.phase g.by.spent (subst (Spent (has_above (names_in K Q).budget)) (sym left) (spent_idle (has_above (names_in K Q).budget))) in
+      let spent1 : AllSpent K levels T P = spent_put K levels T g.phase Q N turn.phase g.by.spent (subst (Spent (is_some (names_in K Q).budget)) (sym left) (spent_idle (is_some (names_in K Q).budget))) in
       assembles K levels T W P Z g.ended (t ++ turn.events) vs v.rank (at_level v 0 Idle) refl ov
       (record { within = omega arith; resting = λ e. refl; above = λ e. cc; three = sh.three; hooked = λ e. cc })
       rest good (λ k b. absurd (omega arith))
@@ -339,8 +339,8 @@ module _ (K : Rooted) (levels : ℕ) (T : IsTreed K levels) (v : TreeView) (ov :
       (match_put K levels T P (path (tree_of K) v.leaf j) (works_for (tree_of K) v j) (resume_at (Above (behind_at v.behind j))) (gate_of (before x)) (λ y. resume_matches (behind_at v.behind j) (gate_of (before x)) (subst (Matches (gate_of (before x))) was2 y)) p x
       (subst (Matches (gate_of (before x))) (sym c) (g.by.gates x p tx ux))))
       (same_or_not x (path (tree_of K) v.leaf j)) in
-      let spent1 : AllSpent K levels T P = spent_put K levels T g.phase Q N turn.phase g.by.spent (subst (Spent (has_above (names_in K Q).budget)) (sym left) (spent_idle (has_above (names_in K Q).budget))) in
-      let spent2 : AllSpent K levels T (put P (path (tree_of K) v.leaf j) (works_for (tree_of K) v j) (resume_at (Above (behind_at v.behind j)))) = spent_put K levels T P (path (tree_of K) v.leaf j) (works_for (tree_of K) v j) (resume_at (Above (behind_at v.behind j))) spent1 (spent_resume (has_above (names_in K (path (tree_of K) v.leaf j)).budget) (behind_at v.behind j)) in
+      let spent1 : AllSpent K levels T P = spent_put K levels T g.phase Q N turn.phase g.by.spent (subst (Spent (is_some (names_in K Q).budget)) (sym left) (spent_idle (is_some (names_in K Q).budget))) in
+      let spent2 : AllSpent K levels T (put P (path (tree_of K) v.leaf j) (works_for (tree_of K) v j) (resume_at (Above (behind_at v.behind j)))) = spent_put K levels T P (path (tree_of K) v.leaf j) (works_for (tree_of K) v j) (resume_at (Above (behind_at v.behind j))) spent1 (spent_resume (is_some (names_in K (path (tree_of K) v.leaf j)).budget) (behind_at v.behind j)) in
       let ten = tenured_put (path (tree_of K) v.leaf j) (works_for (tree_of K) v j) (resume_at (Above (behind_at v.behind j))) (tenured_now granted) (ap granted_in heads.1 ∙ resume_none (behind_at v.behind j) ∙ sym (ap granted_in heads.0)) in
       assembles K levels T W (put P (path (tree_of K) v.leaf j) (works_for (tree_of K) v j) (resume_at (Above (behind_at v.behind j)))) Z g.ended (t ++ turn.events) vs v.rank (at_level v j (resume_at (Above (behind_at v.behind j)))) refl ov
       (record { within = lj; resting = λ e. let bad : Down ≡ Rest = sym (resume_way (behind_at v.behind j)) ∙ e in cc; above = λ e. cc; three = sh.three; hooked = λ e. let bad : true ≡ false = sym e ∙ resume_unhooked (behind_at v.behind j) in cc })
@@ -365,10 +365,10 @@ module _ (K : Rooted) (levels : ℕ) (T : IsTreed K levels) (v : TreeView) (ov :
       (record { within = low; resting = λ e. cc; above = λ e. cc; three = sh.three; hooked = λ e. lv })
       rest good (λ k b. under k b ∙ ap (λ z. below_by z (behind_at v.behind k)) went) (here_now ∙ settles)
       (root_gates lv (λ y m. subst (Matches y) (sym settles) (matches y m)))
-      (spent_put K levels T g.phase Q N turn.phase g.by.spent (subst (Spent (has_above (names_in K Q).budget)) (sym settles) (spent_settle (has_above (names_in K Q).budget)))) (tenured_now granted)
+      (spent_put K levels T g.phase Q N turn.phase g.by.spent (subst (Spent (is_some (names_in K Q).budget)) (sym settles) (spent_settle (is_some (names_in K Q).budget)))) (tenured_now granted)
 
   -- and one that gives the root up does.
-  pub releases_at_hook : (s : Option ℕ) → turn.phase ≡ Above s → v.level ≡ levels → granted_in (after Q) ≡ granted_in (before Q) → way_at v.phase ≡ Down → ((y : Gate) → Matches y v.phase → Matches y (Above s)) → Spent (has_above (names_in K Q).budget) (Above s) →
+  pub releases_at_hook : (s : Option ℕ) → turn.phase ≡ Above s → v.level ≡ levels → granted_in (after Q) ≡ granted_in (before Q) → way_at v.phase ≡ Down → ((y : Gate) → Matches y v.phase → Matches y (Above s)) → Spent (is_some (names_in K Q).budget) (Above s) →
       IsGoodBy K levels P Z g.ended W (slice_set vs v.rank (at_level (leaves_behind v v.level s) v.level (Above s))) (t ++ turn.events)
   releases_at_hook s gives lv granted down matches spent =
       let went : way_of v.query v.phase ≡ Down = ap (λ z. way_of z v.phase) no_query ∙ down in
@@ -378,7 +378,7 @@ module _ (K : Rooted) (levels : ℕ) (T : IsTreed K levels) (v : TreeView) (ov :
       (λ k b. let ne : k ≢ v.level = λ e. absurd (omega arith) in under k b ∙ ap (λ z. below_by z (behind_at v.behind k)) went ∙ ap Above (sym (behind_other s v.behind v.level k ne)))
       (here_now ∙ gives)
       (root_gates lv (λ y m. subst (Matches y) (sym gives) (matches y m)))
-      (spent_put K levels T g.phase Q N turn.phase g.by.spent (subst (Spent (has_above (names_in K Q).budget)) (sym gives) spent)) (tenured_now granted)
+      (spent_put K levels T g.phase Q N turn.phase g.by.spent (subst (Spent (is_some (names_in K Q).budget)) (sym gives) spent)) (tenured_now granted)
 
   -- A HEAD THAT HAS BEEN PASSED THE QUEUE: it has the queue, and so has each below, which must settle, in the same act.
   module _ (waits : v.phase ≡ Wait) (left : ℕ) (passed : turn.phase ≡ Granted left) (by_pass : is_pass (slice_index ws (status_word (names_in K Q) N)) ≡ true) where
@@ -422,10 +422,10 @@ module _ (K : Rooted) (levels : ℕ) (T : IsTreed K levels) (v : TreeView) (ov :
         ⊎_elim (λ q. subst (λ z. owed K levels T v ov hv W P Z z ≡ owed K levels T v ov hv ws g.phase g.line z + debt K levels T v ov hv v.level z) (sym q) here_owed) (λ ne. other_owed x tx ne) (same_or_not x Q) in
         omega arith
 
-    spent_now : (x m : ℕ) → Spent (has_above (names_in K x).budget) (P x m)
+    spent_now : (x m : ℕ) → Spent (is_some (names_in K x).budget) (P x m)
     spent_now x m =
-        choose (Spent (has_above (names_in K x).budget)) ((x == Q) && (m == N)) turn.phase (g.phase x m)
-        (subst (Spent (has_above (names_in K x).budget)) (sym passed) (spent_granted (has_above (names_in K x).budget) left)) (g.by.spent x m)
+        choose (Spent (is_some (names_in K x).budget)) ((x == Q) && (m == N)) turn.phase (g.phase x m)
+        (subst (Spent (is_some (names_in K x).budget)) (sym passed) (spent_granted (is_some (names_in K x).budget) left)) (g.by.spent x m)
 
     -- the state is good after it
     pub passed_climbs : (q : Phase) → settled K levels T v ov hv P v.level (el K levels T v ov hv 0) (me K levels T v ov hv 0) ≡ q → IsGrantedAt q →

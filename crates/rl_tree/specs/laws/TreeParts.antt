@@ -1,5 +1,5 @@
 -- A state of a tree put together from its parts, and what a move of one member of a queue on a rank's path leaves of each.
-use Rattle.std.specs.Prelude.{◌≡◌, ◌≢◌, ◌⊎◌, ℕ, suc, ◌+◌, ◌<◌, ◌≤◌, ◌==◌, ◌&&◌, Bool, true, false, List, length, nat_lt, if◌then◌else◌, slice_get, slice_set, Some, refl}
+use Rattle.std.specs.Prelude.{◌≡◌, ◌≢◌, ◌⊎◌, ℕ, suc, ◌+◌, ◌<◌, ◌≤◌, ◌==◌, ◌&&◌, Bool, true, false, List, length, nat_lt, if◌then◌else◌, slice_get, slice_set, Some, refl, is_some}
 use Rattle.std.proofs.Common.{sym, ◌∙◌, ap, subst, inl, inr, ⊎_elim, arith}
 use Rattle.std.proofs.lemmas.Option.{slice_get_within}
 use Rattle.rl_word.specs.laws.Places.{same_or_not, get_set_cases}
@@ -12,7 +12,7 @@ use Rattle.rl_queue.specs.QueueGood.{QueueGood}
 use Rattle.rl_queue.specs.laws.QueueLaws.{still_keeps}
 use Rattle.rl_queue.specs.Heads.{head_in}
 use Rattle.rl_tree.specs.declared.view.TreeView.{TreeView}
-use Rattle.rl_tree.specs.Tree.{has_above, path, member_at, works_for, behind_at}
+use Rattle.rl_tree.specs.Tree.{path, member_at, works_for, behind_at}
 use Rattle.rl_tree.specs.declared.rooted.Rooted.{Rooted}
 use Rattle.rl_tree.specs.Elements.{how_many, ranks_in, leaf_of_rank, is_node, names_in, tree_of, queue_at}
 use Rattle.rl_step.specs.LockQueues.{is_at}
@@ -31,7 +31,7 @@ module _ (K : Rooted) (levels : ℕ) (T : IsTreed K levels) where
   Gated ws F L = (x p : ℕ) → x < how_many K → (tree_of K).parent x ≡ Some p → Matches (gate_of (head_in (lane_of (names_in K x) ws (F x)) (L x))) (F p x)
 
   abbrev pub AllSpent : (ℕ → ℕ → Phase) → Type 0
-  AllSpent F = (q m : ℕ) → Spent (has_above (names_in K q).budget) (F q m)
+  AllSpent F = (q m : ℕ) → Spent (is_some (names_in K q).budget) (F q m)
 
   abbrev pub Tenured : List ℕ → (ℕ → ℕ → Phase) → (ℕ → List ℕ) → (ℕ → ℕ) → List Event → Type 0
   Tenured ws F L e t = (q : ℕ) → q < how_many K → e q + (if is_node K q then 0 else granted_in (head_in (lane_of (names_in K q) ws (F q)) (L q))) ≡ tenures (queue_at K q) t
@@ -105,13 +105,13 @@ module _ (K : Rooted) (levels : ℕ) (T : IsTreed K levels) where
       }
 
   -- what is spent stays so
-  pub spent_put : (F : ℕ → ℕ → Phase) (q m : ℕ) (p : Phase) → AllSpent F → Spent (has_above (names_in K q).budget) p → AllSpent (put F q m p)
+  pub spent_put : (F : ℕ → ℕ → Phase) (q m : ℕ) (p : Phase) → AllSpent F → Spent (is_some (names_in K q).budget) p → AllSpent (put F q m p)
   spent_put F q m p h s x y =
       ⊎_elim
       (λ a. ⊎_elim
-      (λ b. subst (λ z. Spent (has_above (names_in K z).budget) (put F q m p z y)) (sym a) (subst (λ z. Spent (has_above (names_in K q).budget) (put F q m p q z)) (sym b) (subst (Spent (has_above (names_in K q).budget)) (sym (put_here F q m p)) s)))
-      (λ b. subst (Spent (has_above (names_in K x).budget)) (sym (put_away F q m p x y (inr b))) (h x y)) (same_or_not y m))
-      (λ a. subst (Spent (has_above (names_in K x).budget)) (sym (put_away F q m p x y (inl a))) (h x y)) (same_or_not x q)
+      (λ b. subst (λ z. Spent (is_some (names_in K z).budget) (put F q m p z y)) (sym a) (subst (λ z. Spent (is_some (names_in K q).budget) (put F q m p q z)) (sym b) (subst (Spent (is_some (names_in K q).budget)) (sym (put_here F q m p)) s)))
+      (λ b. subst (Spent (is_some (names_in K x).budget)) (sym (put_away F q m p x y (inr b))) (h x y)) (same_or_not y m))
+      (λ a. subst (Spent (is_some (names_in K x).budget)) (sym (put_away F q m p x y (inl a))) (h x y)) (same_or_not x q)
 
   -- a place matches a gate still where the phase that is put there does
   pub match_put : (F : ℕ → ℕ → Phase) (q m : ℕ) (p : Phase) (y : Gate) → (Matches y (F q m) → Matches y p) → (s x : ℕ) → Matches y (F s x) → Matches y (put F q m p s x)

@@ -1,5 +1,5 @@
 -- A proper shape is a tree as the proofs take it: paths go up to element 0 in so many steps, and depths are counted from the leaves.
-use Rattle.std.specs.Prelude.{◌≡◌, ℕ, zero, suc, ◌+◌, ◌-◌, ◌<◌, ◌≤◌, ◌==◌, ◌||◌, Bool, true, false, List, [], ◌∷◌, length, slice_get, slice_index, Option, Some, None, refl}
+use Rattle.std.specs.Prelude.{◌≡◌, ℕ, zero, suc, ◌+◌, ◌-◌, ◌<◌, ◌≤◌, ◌==◌, ◌||◌, Bool, true, false, List, [], ◌∷◌, length, slice_get, slice_index, Option, Some, None, refl, unwrap_or}
 use Rattle.std.proofs.Common.{sym, ◌∙◌, ap, subst, arith}
 use Rattle.std.proofs.lemmas.Option.{same_Some, slice_get_within, get_or_from_slice_get}
 use Rattle.rl_word.specs.laws.Places.{some_at}
@@ -7,7 +7,7 @@ use Rattle.rl_word.specs.declared.shapes.Element.{Element}
 use Rattle.rl_word.specs.Shapes.{IsProper, IsParent, IsUnder}
 use Rattle.rl_step.specs.laws.QueueLemmas.{eqb_means}
 use Rattle.rl_queue.specs.laws.Choices.{same_test}
-use Rattle.rl_tree.specs.Tree.{or_zero, path}
+use Rattle.rl_tree.specs.Tree.{path}
 use Rattle.rl_tree.specs.declared.rooted.Rooted.{Rooted}
 use Rattle.rl_tree.specs.Elements.{how_many, ranks_in, first_node_of, leaf_of_rank, is_node, tree_of}
 use Rattle.rl_step.specs.LockQueues.{parent_of, stands}
@@ -137,14 +137,14 @@ module _ (K : Rooted) (P : IsProper K.shape) where
   path_under l zero n m e u = let same : m ≡ n = omega arith in subst (λ z. IsUnder K.shape.elements 0 z l) same u
   path_under l (suc j) n m e u =
       let k = path_under l j (suc n) m (omega arith) u in
-      subst (IsUnder K.shape.elements 0 n) (sym (ap or_zero (parent_is (path (tree_of K) l j) k.0 k.1))) k.2
+      subst (IsUnder K.shape.elements 0 n) (sym (ap (λ o. unwrap_or o 0) (parent_is (path (tree_of K) l j) k.0 k.1))) k.2
 
   path_at : (r j n : ℕ) → r < ranks_in K → P.levels ≡ j + n → IsUnder K.shape.elements 0 n (path (tree_of K) (leaf_of_rank K r) j)
   path_at r j n lt e = path_under (leaf_of_rank K r) j n P.levels e (leaf_deep r lt)
 
   path_shift : (l p j : ℕ) → (tree_of K).parent l ≡ Some p → path (tree_of K) l (suc j) ≡ path (tree_of K) p j
-  path_shift l p zero e = ap or_zero e
-  path_shift l p (suc j) e = ap (λ z. or_zero ((tree_of K).parent z)) (path_shift l p j e)
+  path_shift l p zero e = ap (λ o. unwrap_or o 0) e
+  path_shift l p (suc j) e = ap (λ z. unwrap_or ((tree_of K).parent z) 0) (path_shift l p j e)
 
   path_top : (s e l : ℕ) → IsUnder K.shape.elements e s l → path (tree_of K) l s ≡ e
   path_top zero e l u = u
@@ -170,7 +170,7 @@ module _ (K : Rooted) (P : IsProper K.shape) where
         path_step r j n h e =
             let k = path_at r j (suc n) h e in
             let a = parent_is (path (tree_of K) (leaf_of_rank K r) j) k.0 k.1 in
-            a ∙ ap Some (sym (ap or_zero a))
+            a ∙ ap Some (sym (ap (λ o. unwrap_or o 0) a))
 
         node_low : (e : ℕ) → is_node K e ≡ true → depth_of e ≡ 0
         node_low e h =

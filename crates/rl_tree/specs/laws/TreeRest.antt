@@ -1,6 +1,6 @@
 -- The good states of a tree where none of its acts is made: the opening one, after an event of no queue, after a write behind its words,
 -- and while no rank is in a call.
-use Rattle.std.specs.Prelude.{◌≡◌, ℕ, ◌+◌, ◌<◌, List, [], replicate, if◌then◌else◌, slice_get, slice_index, slice_set, Option, Some, refl}
+use Rattle.std.specs.Prelude.{◌≡◌, ℕ, ◌+◌, ◌<◌, List, [], replicate, if◌then◌else◌, slice_get, slice_index, slice_set, Option, Some, refl, is_some}
 use Rattle.std.proofs.Common.{sym, ◌∙◌, ap, subst, get_or-set_other, arith}
 use Rattle.rl_step.specs.declared.events.Event.{Event}
 use Rattle.rl_step.specs.declared.events.Event.TheVariants as event
@@ -18,7 +18,6 @@ use Rattle.rl_queue.specs.QueueGood.{QueueGood}
 use Rattle.rl_queue.specs.laws.QueueLaws.{still_keeps}
 use Rattle.rl_queue.specs.Heads.{head_in}
 use Rattle.rl_tree.specs.declared.view.TreeView.{TreeView}
-use Rattle.rl_tree.specs.Tree.{has_above}
 use Rattle.rl_tree.specs.declared.rooted.Rooted.{Rooted}
 use Rattle.rl_tree.specs.Elements.{how_many, ranks_in, leaf_of_rank, is_node, of_tree, names_in, queue_at, out_at}
 use Rattle.rl_tree.specs.TreeGood.{gate_of, granted_in, Matches, Tells, Shaped, InQueue, is_open, IsGoodBy}
@@ -132,7 +131,7 @@ module _ (K : Rooted) (levels : ℕ) (S : IsWellShaped K levels) where
           below = λ r v j h b. let z : v.level ≡ 0 = ap (λ y. y.level) (first r v h) in absurd (omega arith);
           here = λ r v h. subst (λ z. Tells z z.query Idle) (sym (first r v h)) refl;
           gates = λ e p lt up. refl;
-          spent = λ q m. spent_idle (has_above (names_in K q).budget);
+          spent = λ q m. spent_idle (is_some (names_in K q).budget);
           tenured = λ q lq. let z : (if is_node K q then 0 else 0) ≡ 0 = else_zero (is_node K q) 0 refl in omega arith;
         }
 

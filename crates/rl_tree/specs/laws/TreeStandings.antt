@@ -12,7 +12,9 @@ use Rattle.rl_queue.specs.Lane.{IsFirst}
 use Rattle.rl_queue.specs.Standings.{standing_of}
 use Rattle.rl_queue.specs.laws.StandingLaws.{no_reader, out_idle, suits_at}
 use Rattle.rl_tree.specs.declared.view.TreeView.{TreeView}
-use Rattle.rl_tree.specs.Tree.{TheTree, hook_by, works_for, names_at, plan_by, standing_by}
+use Rattle.rl_tree.specs.Tree.{TheTree, hook_by, works_for, names_at}
+use Rattle.rl_tree.specs.laws.Cases.{standing_by}
+use Rattle.rl_tree.specs.laws.Cases.{plan_by}
 use Rattle.rl_tree.specs.TreeGood.{Open, gate_at, is_open, IsGrantedAt, IsAbove}
 use Rattle.rl_tree.specs.laws.TreeLawful.{rests_by}
 

@@ -1,5 +1,5 @@
 -- Which acts leave a rank at its level, and that they keep the tree good.
-use Rattle.std.specs.Prelude.{◌≡◌, ◌⊎◌, ℕ, suc, ◌<◌, Bool, true, false, List, ◌++◌, length, slice_get, slice_set, Option, Some, None, refl}
+use Rattle.std.specs.Prelude.{◌≡◌, ◌⊎◌, ℕ, suc, ◌<◌, Bool, true, false, List, ◌++◌, length, slice_get, slice_set, Option, Some, None, refl, is_some}
 use Rattle.std.proofs.Common.{sym, ◌∙◌, ap, subst, inl, inr, ⊎_elim}
 use Rattle.rl_word.specs.declared.acts.Act.{Act}
 use Rattle.rl_step.specs.declared.events.Event.{Event}
@@ -9,7 +9,7 @@ use Rattle.rl_queue.specs.Queue.{plan_at}
 use Rattle.rl_queue.specs.Heads.{Head}
 use Rattle.rl_queue.specs.laws.QueueHeads.{head, HeadStep}
 use Rattle.rl_tree.specs.declared.view.TreeView.{TreeView}
-use Rattle.rl_tree.specs.Tree.{has_above, hook_by, path, works_for, at_level}
+use Rattle.rl_tree.specs.Tree.{hook_by, path, works_for, at_level}
 use Rattle.rl_tree.specs.declared.rooted.Rooted.{Rooted}
 use Rattle.rl_tree.specs.Elements.{how_many, ranks_in, leaf_of_rank, names_in, tree_of}
 use Rattle.rl_tree.specs.TreeGood.{Up, Down, Rest, way_at, Gate, Shut, Asking, Open, Releasing, gate_at, gate_of, granted_in, Matches, Spent, IsGoodBy, TreeGood}
@@ -19,12 +19,12 @@ use Rattle.rl_tree.specs.TreeShape.{IsTreed}
 
 -- a member goes from phase p to q and stays at its level: what follows for the gate, in a queue with something above it
 pub record Stays (B : Option ℕ) (p q : Phase) : Type 0 where
-  pub gate : (m s : ℕ) (x y : Option Head) → has_above B ≡ true → HeadStep B m p q s x y → gate_of y ≡ gate_of x
+  pub gate : (m s : ℕ) (x y : Option Head) → is_some B ≡ true → HeadStep B m p q s x y → gate_of y ≡ gate_of x
   pub granted : (m s : ℕ) (x y : Option Head) → HeadStep B m p q s x y → granted_in y ≡ granted_in x
   pub way : way_at q ≡ way_at p
   pub moves : way_at q ≡ Rest → ⊥
   pub unhooked : hook_by false q ≡ false
-  pub spent : Spent (has_above B) q
+  pub spent : Spent (is_some B) q
   pub matches : (x : Gate) → Matches x p → Matches x q
 
 spent_any : (b : Bool) → Spent b Reset
@@ -32,7 +32,7 @@ spent_any true = tt
 spent_any false = tt
 
 -- joining
-joining : (B : Option ℕ) (p q : Phase) → ((m s : ℕ) (x y : Option Head) → HeadStep B m p q s x y → y ≡ x) → way_at q ≡ Up → way_at p ≡ Up → hook_by false q ≡ false → Spent (has_above B) q → ((x : Gate) → Matches x p → Matches x q) → Stays B p q
+joining : (B : Option ℕ) (p q : Phase) → ((m s : ℕ) (x y : Option Head) → HeadStep B m p q s x y → y ≡ x) → way_at q ≡ Up → way_at p ≡ Up → hook_by false q ≡ false → Spent (is_some B) q → ((x : Gate) → Matches x p → Matches x q) → Stays B p q
 joining B p q same wq wp un sp ma =
     record {
       gate = λ m s x y h f. ap gate_of (same m s x y f);
@@ -73,26 +73,26 @@ spent_hand true s left = tt
 spent_hand false s left = tt
 
 pub stays_clear : (B : Option ℕ) → Stays B Clear Reset
-stays_clear B = joining B Clear Reset (λ m s x y f. f) refl refl refl (spent_any (has_above B)) (join_matches Clear Reset tt (λ h. cc) (λ h. h) (λ h. h))
+stays_clear B = joining B Clear Reset (λ m s x y f. f) refl refl refl (spent_any (is_some B)) (join_matches Clear Reset tt (λ h. cc) (λ h. h) (λ h. h))
 
 pub stays_reset : (B : Option ℕ) (g : ℕ) → Stays B Reset (Swing g)
-stays_reset B g = joining B Reset (Swing g) (λ m s x y f. f) refl refl refl (spent_swing (has_above B) g) (join_matches Reset (Swing g) tt (λ h. cc) (λ h. h) (λ h. h))
+stays_reset B g = joining B Reset (Swing g) (λ m s x y f. f) refl refl refl (spent_swing (is_some B) g) (join_matches Reset (Swing g) tt (λ h. cc) (λ h. h) (λ h. h))
 
 pub stays_swing : (B : Option ℕ) (g h : ℕ) → Stays B (Swing g) (Swing h)
-stays_swing B g h = joining B (Swing g) (Swing h) (λ m s x y f. f) refl refl refl (spent_swing (has_above B) h) (join_matches (Swing g) (Swing h) tt (λ k. cc) (λ k. k) (λ k. k))
+stays_swing B g h = joining B (Swing g) (Swing h) (λ m s x y f. f) refl refl refl (spent_swing (is_some B) h) (join_matches (Swing g) (Swing h) tt (λ k. cc) (λ k. k) (λ k. k))
 
 pub stays_link : (B : Option ℕ) (g h : ℕ) → Stays B (Swing g) (Link h)
-stays_link B g h = joining B (Swing g) (Link h) (λ m s x y f. f) refl refl refl (spent_link (has_above B) h) (join_matches (Swing g) (Link h) tt (λ k. cc) (λ k. k) (λ k. k))
+stays_link B g h = joining B (Swing g) (Link h) (λ m s x y f. f) refl refl refl (spent_link (is_some B) h) (join_matches (Swing g) (Link h) tt (λ k. cc) (λ k. k) (λ k. k))
 
 pub stays_linked : (B : Option ℕ) (g : ℕ) → Stays B (Link g) Wait
-stays_linked B g = joining B (Link g) Wait (λ m s x y f. f) refl refl refl (spent_wait (has_above B)) (join_matches (Link g) Wait tt (λ k. cc) (λ k. k) (λ k. k))
+stays_linked B g = joining B (Link g) Wait (λ m s x y f. f) refl refl refl (spent_wait (is_some B)) (join_matches (Link g) Wait tt (λ k. cc) (λ k. k) (λ k. k))
 
 pub stays_wait : (B : Option ℕ) → Stays B Wait Wait
-stays_wait B = joining B Wait Wait (λ m s x y f. f) refl refl refl (spent_wait (has_above B)) (λ x h. h)
+stays_wait B = joining B Wait Wait (λ m s x y f. f) refl refl refl (spent_wait (is_some B)) (λ x h. h)
 
 -- leaving: with something above, a look hands a pass on, or gives up what is above; the rest of a leave has no pass left
-leaving : (B : Option ℕ) (p q : Phase) → ((m s : ℕ) (x y : Option Head) → HeadStep B m p q s x y → ((x ≡ head m p s) × (y ≡ head m q s)) ⊎ (y ≡ x)) → (has_above B ≡ true → (s : ℕ) → gate_at q s ≡ gate_at p s) → granted_in (head 0 p 0) ≡ 0 → granted_in (head 0 q 0) ≡ 0 → way_at q ≡ Down → way_at p ≡ Down →
-    hook_by false q ≡ false → Spent (has_above B) q → ((x : Gate) → Matches x p → Matches x q) → Stays B p q
+leaving : (B : Option ℕ) (p q : Phase) → ((m s : ℕ) (x y : Option Head) → HeadStep B m p q s x y → ((x ≡ head m p s) × (y ≡ head m q s)) ⊎ (y ≡ x)) → (is_some B ≡ true → (s : ℕ) → gate_at q s ≡ gate_at p s) → granted_in (head 0 p 0) ≡ 0 → granted_in (head 0 q 0) ≡ 0 → way_at q ≡ Down → way_at p ≡ Down →
+    hook_by false q ≡ false → Spent (is_some B) q → ((x : Gate) → Matches x p → Matches x q) → Stays B p q
 leaving B p q step gate gp gq wq wp un sp ma =
     record {
       gate = λ m s x y h f. ⊎_elim (λ e. ap gate_of e.1 ∙ gate h s ∙ sym (ap gate_of e.0)) (λ e. ap gate_of e) (step m s x y f);
@@ -105,7 +105,7 @@ leaving B p q step gate gp gq wq wp un sp ma =
     }
 
 pub stays_pass : (B : Option ℕ) (k s : ℕ) → Stays B (Look (suc k) true) (Hand s (suc k))
-stays_pass B k s = leaving B (Look (suc k) true) (Hand s (suc k)) (λ m u x y f. inl f) (λ h u. refl) refl refl refl refl refl (spent_hand (has_above B) s (suc k)) (leave_matches (Look (suc k) true) (Hand s (suc k)) tt (λ h. cc) (λ h. h) (λ h. h))
+stays_pass B k s = leaving B (Look (suc k) true) (Hand s (suc k)) (λ m u x y f. inl f) (λ h u. refl) refl refl refl refl refl (spent_hand (is_some B) s (suc k)) (leave_matches (Look (suc k) true) (Hand s (suc k)) tt (λ h. cc) (λ h. h) (λ h. h))
 
 pub stays_flat_hand : (left s : ℕ) → Stays None (Look left false) (Hand s left)
 stays_flat_hand left s = leaving None (Look left false) (Hand s left) (λ m u x y f. inl f) (λ h. cc) refl refl refl refl refl tt (leave_matches (Look left false) (Hand s left) tt (λ h. cc) (λ h. h) (λ h. h))
@@ -117,20 +117,20 @@ spent_same : (b : Bool) (left : ℕ) → Spent b (Close left) → Spent b (Await
 spent_same true left h = h
 spent_same false left h = tt
 
-pub stays_close : (B : Option ℕ) (left : ℕ) → Spent (has_above B) (Close left) → Stays B (Close left) (Await left)
-stays_close B left sp = leaving B (Close left) (Await left) (λ m u x y f. inl f) (λ h u. refl) refl refl refl refl refl (spent_same (has_above B) left sp) (leave_matches (Close left) (Await left) tt (λ h. cc) (λ h. h) (λ h. h))
+pub stays_close : (B : Option ℕ) (left : ℕ) → Spent (is_some B) (Close left) → Stays B (Close left) (Await left)
+stays_close B left sp = leaving B (Close left) (Await left) (λ m u x y f. inl f) (λ h u. refl) refl refl refl refl refl (spent_same (is_some B) left sp) (leave_matches (Close left) (Await left) tt (λ h. cc) (λ h. h) (λ h. h))
 
-pub stays_await : (B : Option ℕ) (left : ℕ) → Spent (has_above B) (Await left) → Stays B (Await left) (Await left)
+pub stays_await : (B : Option ℕ) (left : ℕ) → Spent (is_some B) (Await left) → Stays B (Await left) (Await left)
 stays_await B left sp = leaving B (Await left) (Await left) (λ m u x y f. inr f) (λ h u. refl) refl refl refl refl refl sp (λ x h. h)
 
 await_gate : (b : Bool) (s left u : ℕ) → Spent b (Await left) → b ≡ true → gate_at (Hand s left) u ≡ gate_at (Await left) u
 await_gate true s left u sp e = ap (λ z. gate_at (Hand s z) u) sp
 await_gate false s left u sp e = cc
 
-pub stays_hand : (B : Option ℕ) (left s : ℕ) → Spent (has_above B) (Await left) → Stays B (Await left) (Hand s left)
-stays_hand B left s sp = leaving B (Await left) (Hand s left) (λ m u x y f. inl f) (λ h u. await_gate (has_above B) s left u sp h) refl refl refl refl refl (spent_hand (has_above B) s left) (leave_matches (Await left) (Hand s left) tt (λ h. cc) (λ h. h) (λ h. h))
+pub stays_hand : (B : Option ℕ) (left s : ℕ) → Spent (is_some B) (Await left) → Stays B (Await left) (Hand s left)
+stays_hand B left s sp = leaving B (Await left) (Hand s left) (λ m u x y f. inl f) (λ h u. await_gate (is_some B) s left u sp h) refl refl refl refl refl (spent_hand (is_some B) s left) (leave_matches (Await left) (Hand s left) tt (λ h. cc) (λ h. h) (λ h. h))
 
-module _ (K : Rooted) (levels : ℕ) (T : IsTreed K levels) (budgeted : (e p : ℕ) → e < how_many K → (tree_of K).parent e ≡ Some p → has_above (names_in K e).budget ≡ true) (v : TreeView) (ov : v.leaf ≡ leaf_of_rank K v.rank) (hv : v.rank < ranks_in K) (ws : List ℕ) (vs : List TreeView) (t : List Event) (g : TreeGood K levels ws vs t) (d : IsWorded K (length ws)) (has : slice_get vs v.rank ≡ Some v)
+module _ (K : Rooted) (levels : ℕ) (T : IsTreed K levels) (budgeted : (e p : ℕ) → e < how_many K → (tree_of K).parent e ≡ Some p → is_some (names_in K e).budget ≡ true) (v : TreeView) (ov : v.leaf ≡ leaf_of_rank K v.rank) (hv : v.rank < ranks_in K) (ws : List ℕ) (vs : List TreeView) (t : List Event) (g : TreeGood K levels ws vs t) (d : IsWorded K (length ws)) (has : slice_get vs v.rank ≡ Some v)
     (no_query : v.query ≡ false) (all_there : length vs ≡ ranks_in K) (a : Act) (pl : plan_at (names_in K (path (tree_of K) v.leaf v.level)) (works_for (tree_of K) v v.level) v.phase ≡ Some a) where
   -- An act that leaves its rank at its level keeps the tree good.
   pub level_keeps : Stays (names_in K (path (tree_of K) v.leaf v.level)).budget v.phase (tu K levels T v ov hv ws vs t g d has no_query all_there a pl).phase →

@@ -1,5 +1,5 @@
 -- Each act in a tree away from the hook: the tree stays good, its root's gate moves as it may, and the events fit the laws of a lock.
-use Rattle.std.specs.Prelude.{◌≡◌, ◌≢◌, ◌⊎◌, ℕ, zero, suc, ◌+◌, ◌-◌, ◌<◌, ◌≤◌, ◌==◌, ◌&&◌, Bool, true, false, List, [], ◌∷◌, ◌++◌, length, nat_lt, if◌then◌else◌, slice_get, slice_index, slice_set, Option, Some, None, refl}
+use Rattle.std.specs.Prelude.{◌≡◌, ◌≢◌, ◌⊎◌, ℕ, zero, suc, ◌+◌, ◌-◌, ◌<◌, ◌≤◌, ◌==◌, ◌&&◌, Bool, true, false, List, [], ◌∷◌, ◌++◌, length, nat_lt, if◌then◌else◌, slice_get, slice_index, slice_set, Option, Some, None, refl, is_some}
 use Rattle.std.proofs.Common.{sym, ◌∙◌, ap, subst, inl, inr, ⊎_elim, arith}
 use Rattle.std.proofs.lemmas.List.{append-nil}
 use Rattle.std.proofs.lemmas.Option.{same_Some}
@@ -23,7 +23,7 @@ use Rattle.rl_queue.specs.Heads.{Head, head_in}
 use Rattle.rl_queue.specs.laws.QueueHeads.{head_kept, HeadStep, unlisted}
 use Rattle.rl_queue.specs.Standings.{standing_of}
 use Rattle.rl_tree.specs.declared.view.TreeView.{TreeView}
-use Rattle.rl_tree.specs.Tree.{TheTree, has_above, is_none, path, member_at, works_for, behind_at, names_at, at_level, asks_status, leaves_behind, settles_below, inside_from, goes_up, gives_up, walk_turn, at_hook, tree_standing, entry_if}
+use Rattle.rl_tree.specs.Tree.{TheTree, is_none, path, member_at, works_for, behind_at, names_at, at_level, asks_status, leaves_behind, settles_below, inside_from, goes_up, gives_up, walk_turn, at_hook, tree_standing, entry_if}
 use Rattle.rl_tree.specs.declared.rooted.Rooted.{Rooted}
 use Rattle.rl_tree.specs.Elements.{how_many, ranks_in, leaf_of_rank, is_node, names_in, tree_of}
 use Rattle.rl_step.specs.LockQueues.{is_at}
@@ -54,12 +54,12 @@ resume_standing (Some s) = refl
 pass_pos : (s : ℕ) → s ≡ 1 → is_pass s ≡ false
 pass_pos s e = ap is_pass e
 
-none_above : (B : Option ℕ) → has_above B ≡ false → B ≡ None
+none_above : (B : Option ℕ) → is_some B ≡ false → B ≡ None
 none_above None e = refl
 none_above (Some b) e = cc
 
 -- the gate after a hand over
-hand_gate : (B : Option ℕ) (left : ℕ) → has_above B ≡ true → open_if (is_pass (status_code B left)) ≡ open_if (some_left left)
+hand_gate : (B : Option ℕ) (left : ℕ) → is_some B ≡ true → open_if (is_pass (status_code B left)) ≡ open_if (some_left left)
 hand_gate None left h = cc
 hand_gate (Some b) zero h = refl
 hand_gate (Some b) (suc k) h = ap (λ z. open_if (is_pass z)) (code_more b k)
@@ -93,7 +93,7 @@ pub record Acting (K : Rooted) (levels : ℕ) (o : Bool) (ws : List ℕ) (vs : L
 -- what is asked of what it learns
 pub record Steps (K : Rooted) (levels : ℕ) (o : Bool) (us : List ℕ) (vs : List TreeView) (t : List Event) (v : TreeView) (u : Told TreeView) : Type 0 where
   pub good : TreeGood K levels us (slice_set vs v.rank u.view) (t ++ u.events)
-  pub moves : has_above K.root ≡ true → GateMoves (at_hook u.view) u.view.phase o (root_open K us good.phase good.line)
+  pub moves : is_some K.root ≡ true → GateMoves (at_hook u.view) u.view.phase o (root_open K us good.phase good.line)
   pub fits : LearnFits K v.rank v u
 
 -- the tree that is good by these phases and lines
@@ -173,10 +173,10 @@ module _ (K : Rooted) (levels : ℕ) (S : IsWellShaped K levels) (ws : List ℕ)
   up r l w p b a x lt = subst (λ z. (tree_of K).parent (path (tree_of K) z w) ≡ Some (path (tree_of K) z (suc w))) (sym x.own) (S.treed.up r w x.there lt)
 
   -- each queue on the path has a budget, where the root has one
-  limited : (r l w : ℕ) (p : Phase) (b : List (Option ℕ)) (a : Act) (x : Acting K levels o ws vs t r l w p b a) → has_above K.root ≡ true → has_above (N l w).budget ≡ true
+  limited : (r l w : ℕ) (p : Phase) (b : List (Option ℕ)) (a : Act) (x : Acting K levels o ws vs t r l w p b a) → is_some K.root ≡ true → is_some (N l w).budget ≡ true
   limited r l w p b a x lim =
       ⊎_elim
-      (λ e. ap has_above (ap (λ z. (names_in K (path (tree_of K) l z)).budget) e ∙ ap (λ z. (names_in K (path (tree_of K) z levels)).budget) x.own ∙ ap (λ z. (names_in K z).budget) (S.one_root r x.there)) ∙ lim)
+      (λ e. ap is_some (ap (λ z. (names_in K (path (tree_of K) l z)).budget) e ∙ ap (λ z. (names_in K (path (tree_of K) z levels)).budget) x.own ∙ ap (λ z. (names_in K z).budget) (S.one_root r x.there)) ∙ lim)
       (λ ne. let low : w ≤ levels = within r l w p b a x in S.budgeted (R l w) (R l (suc w)) (el_there r l w p b a x w low) (up r l w p b a x (omega arith)))
       (same_or_not w levels)
 
@@ -271,10 +271,10 @@ module _ (K : Rooted) (levels : ℕ) (S : IsWellShaped K levels) (ws : List ℕ)
 
   -- ONE WHOSE LEAVE HAS ENDED at its level
   ends : (r l w : ℕ) (p : Phase) (b : List (Option ℕ)) (a : Act) (x : Acting K levels o ws vs t r l w p b a) (es : List Event) → turn r l w p a ≡ record { phase = Idle; events = es; waits = false } →
-      (has_above (N l w).budget ≡ true → gate_of (aft r l w p b a x) ≡ gate_of (bef r l w p b a x)) → granted_in (aft r l w p b a x) ≡ granted_in (bef r l w p b a x) → way_at p ≡ Down → standing_of p ≡ standing.Leaving →
+      (is_some (N l w).budget ≡ true → gate_of (aft r l w p b a x) ≡ gate_of (bef r l w p b a x)) → granted_in (aft r l w p b a x) ≡ granted_in (bef r l w p b a x) → way_at p ≡ Down → standing_of p ≡ standing.Leaving →
       holds_only es ≡ [] → InOrder es → length es ≤ 5 → Named K es → Goal r l w p b a (turn r l w p a)
   ends r l zero p b a x es e gate granted goes st none order few names =
-      let above : (q : ℕ) → (tree_of K).parent (R l zero) ≡ Some q → has_above (N l zero).budget ≡ true = λ q f. S.budgeted (R l zero) q (el_there r l zero p b a x zero (within r l zero p b a x)) f in
+      let above : (q : ℕ) → (tree_of K).parent (R l zero) ≡ Some q → is_some (N l zero).budget ≡ true = λ q f. S.budgeted (R l zero) q (el_there r l zero p b a x zero (within r l zero p b a x)) f in
       let k = ends_leaf K levels S.treed (going r l zero p b) x.own x.there ws vs t x.good x.worded x.has refl x.all_there a x.planned (ap (λ z. z.phase) e) refl (λ q f. gate (above q f)) granted in
       subst (Goal r l zero p b a) (sym e)
       (record {
@@ -284,7 +284,7 @@ module _ (K : Rooted) (levels : ℕ) (S : IsWellShaped K levels) (ws : List ℕ)
         fits = fits_plain K r (going r l zero p b) (record { view = at_level (going r l zero p b) 0 Idle; events = es; waits = false }) refl (subst (λ z. Shift r z standing.Out (holds_only es)) (sym st) none) order few names;
       })
   ends r l (suc j) p b a x es e gate granted goes st none order few names =
-      let above : (q : ℕ) → (tree_of K).parent (R l (suc j)) ≡ Some q → has_above (N l (suc j)).budget ≡ true = λ q f. S.budgeted (R l (suc j)) q (el_there r l (suc j) p b a x (suc j) (within r l (suc j) p b a x)) f in
+      let above : (q : ℕ) → (tree_of K).parent (R l (suc j)) ≡ Some q → is_some (N l (suc j)).budget ≡ true = λ q f. S.budgeted (R l (suc j)) q (el_there r l (suc j) p b a x (suc j) (within r l (suc j) p b a x)) f in
       let low : suc j ≤ levels = within r l (suc j) p b a x in
       let k = ends_above K levels S.treed (going r l (suc j) p b) x.own x.there ws vs t x.good x.worded x.has refl x.all_there a x.planned j (ap (λ z. z.phase) e) refl (λ q f. gate (above q f)) granted goes in
       subst (Goal r l (suc j) p b a) (sym e)
@@ -299,7 +299,7 @@ module _ (K : Rooted) (levels : ℕ) (S : IsWellShaped K levels) (ws : List ℕ)
 
   -- ONE THAT GIVES UP what is above
   releases : (r l w : ℕ) (p : Phase) (b : List (Option ℕ)) (a : Act) (x : Acting K levels o ws vs t r l w p b a) (s : Option ℕ) → turn r l w p a ≡ moves_to (Above s) → w < levels →
-      gate_of (bef r l w p b a x) ≡ Open → gate_of (aft r l w p b a x) ≡ Releasing → granted_in (aft r l w p b a x) ≡ granted_in (bef r l w p b a x) → way_at p ≡ Down → ((y : Gate) → Matches y p → Matches y (Above s)) → Spent (has_above (N l w).budget) (Above s) → standing_of p ≡ standing.Leaving →
+      gate_of (bef r l w p b a x) ≡ Open → gate_of (aft r l w p b a x) ≡ Releasing → granted_in (aft r l w p b a x) ≡ granted_in (bef r l w p b a x) → way_at p ≡ Down → ((y : Gate) → Matches y p → Matches y (Above s)) → Spent (is_some (N l w).budget) (Above s) → standing_of p ≡ standing.Leaving →
       Goal r l w p b a (turn r l w p a)
   releases r l w p b a x s e lt opens releasing granted goes matches spent st =
       let k = releases_above K levels S.treed (going r l w p b) x.own x.there ws vs t x.good x.worded x.has refl x.all_there a x.planned s (ap (λ z. z.phase) e) lt S.low opens releasing granted goes matches spent in
@@ -376,7 +376,7 @@ module _ (K : Rooted) (levels : ℕ) (S : IsWellShaped K levels) (ws : List ℕ)
       }))
 
   arrives_out : (r l w : ℕ) (p : Phase) (b : List (Option ℕ)) (a : Act) (x : Acting K levels o ws vs t r l w p b a) (s : Option ℕ) → turn r l w p a ≡ moves_to (Above s) → w ≡ levels →
-      gate_of (bef r l w p b a x) ≡ Open → gate_of (aft r l w p b a x) ≡ Releasing → granted_in (aft r l w p b a x) ≡ granted_in (bef r l w p b a x) → way_at p ≡ Down → ((y : Gate) → Matches y p → Matches y (Above s)) → Spent (has_above (N l w).budget) (Above s) → standing_of p ≡ standing.Leaving →
+      gate_of (bef r l w p b a x) ≡ Open → gate_of (aft r l w p b a x) ≡ Releasing → granted_in (aft r l w p b a x) ≡ granted_in (bef r l w p b a x) → way_at p ≡ Down → ((y : Gate) → Matches y p → Matches y (Above s)) → Spent (is_some (N l w).budget) (Above s) → standing_of p ≡ standing.Leaving →
       Goal r l w p b a (turn r l w p a)
   arrives_out r l w p b a x s e lv opens releasing granted goes matches spent st =
       let k = releases_at_hook K levels S.treed (going r l w p b) x.own x.there ws vs t x.good x.worded x.has refl x.all_there a x.planned s (ap (λ z. z.phase) e) lv granted goes matches spent in
@@ -470,18 +470,18 @@ module _ (K : Rooted) (levels : ℕ) (S : IsWellShaped K levels) (ws : List ℕ)
 
   -- a look at the next word
   look_learns : (r l w left : ℕ) (u : Bool) (b : List (Option ℕ)) (a : Act) (x : Acting K levels o ws vs t r l w (Look left u) b a) → Goal r l w (Look left u) b a (turn r l w (Look left u) a)
-  look_learns r l w left u b a x = at u (has_above (N l w).budget) refl refl x (subst (Spent (has_above (N l w).budget)) (phase_was r l w (Look left u) b a x) (x.good.by.spent (R l w) (M r l w))) where
-    gives : (x : Acting K levels o ws vs t r l w (Look left true) b a) (s : Option ℕ) → has_above (N l w).budget ≡ true → turn r l w (Look left true) a ≡ moves_to (Above s) → Goal r l w (Look left true) b a (turn r l w (Look left true) a)
+  look_learns r l w left u b a x = at u (is_some (N l w).budget) refl refl x (subst (Spent (is_some (N l w).budget)) (phase_was r l w (Look left u) b a x) (x.good.by.spent (R l w) (M r l w))) where
+    gives : (x : Acting K levels o ws vs t r l w (Look left true) b a) (s : Option ℕ) → is_some (N l w).budget ≡ true → turn r l w (Look left true) a ≡ moves_to (Above s) → Goal r l w (Look left true) b a (turn r l w (Look left true) a)
     gives x s above e =
         let low : w ≤ levels = within r l w (Look left true) b a x in
         let h = heads r l w (Look left true) b a x (Above s) (ap (λ y. y.phase) e) in
-        let yes : Spent (has_above (N l w).budget) (Above s) = subst (λ z. Spent z (Above s)) (sym above) tt in
+        let yes : Spent (is_some (N l w).budget) (Above s) = subst (λ z. Spent z (Above s)) (sym above) tt in
         ⊎_elim
         (λ q. arrives_out r l w (Look left true) b a x s e q (ap gate_of h.0) (ap gate_of h.1) (ap granted_in h.1 ∙ sym (ap granted_in h.0)) refl (look_above left true s) yes refl)
         (λ ne. releases r l w (Look left true) b a x s e (omega arith) (ap gate_of h.0) (ap gate_of h.1) (ap granted_in h.1 ∙ sym (ap granted_in h.0)) refl (look_above left true s) yes refl)
         (same_or_not w levels)
 
-    at : (u h : Bool) → u ≡ u → has_above (N l w).budget ≡ h → (x : Acting K levels o ws vs t r l w (Look left u) b a) → Spent (has_above (N l w).budget) (Look left u) → Goal r l w (Look left u) b a (turn r l w (Look left u) a)
+    at : (u h : Bool) → u ≡ u → is_some (N l w).budget ≡ h → (x : Acting K levels o ws vs t r l w (Look left u) b a) → Spent (is_some (N l w).budget) (Look left u) → Goal r l w (Look left u) b a (turn r l w (Look left u) a)
     at true true eq above x spent =
         ⊎_elim
         (λ z. gives x None above (ap (λ y. moves_to (if y then Above None else if left == 0 then Above (Some (got a - 1)) else Hand (got a - 1) left)) z.0))
@@ -514,13 +514,13 @@ module _ (K : Rooted) (levels : ℕ) (S : IsWellShaped K levels) (ws : List ℕ)
       ends r l w (Close left) b a x [] e (λ lim. ap gate_of h.1 ∙ sym (ap gate_of h.0)) (ap granted_in h.1 ∙ sym (ap granted_in h.0)) refl refl refl tt (omega arith) tt)
       (λ z.
       let e : turn r l w (Close left) a ≡ moves_to (Await left) = ap (λ y. if y then moves_to Idle else moves_to (Await left)) z.0 in
-      let spent : Spent (has_above (N l w).budget) (Close left) = subst (Spent (has_above (N l w).budget)) (phase_was r l w (Close left) b a x) (x.good.by.spent (R l w) (M r l w)) in
+      let spent : Spent (is_some (N l w).budget) (Close left) = subst (Spent (is_some (N l w).budget)) (phase_was r l w (Close left) b a x) (x.good.by.spent (R l w) (M r l w)) in
       quiet r l w (Close left) b a x (Await left) false e (stays_close (N l w).budget left spent) refl refl)
       (eqb_tells (got a) (M r l w + 1))
 
   await_learns : (r l w left : ℕ) (b : List (Option ℕ)) (a : Act) (x : Acting K levels o ws vs t r l w (Await left) b a) → Goal r l w (Await left) b a (turn r l w (Await left) a)
   await_learns r l w left b a x =
-      let spent : Spent (has_above (N l w).budget) (Await left) = subst (Spent (has_above (N l w).budget)) (phase_was r l w (Await left) b a x) (x.good.by.spent (R l w) (M r l w)) in
+      let spent : Spent (is_some (N l w).budget) (Await left) = subst (Spent (is_some (N l w).budget)) (phase_was r l w (Await left) b a x) (x.good.by.spent (R l w) (M r l w)) in
       ⊎_elim
       (λ z. quiet r l w (Await left) b a x (Await left) true (ap (λ y. if y then waits_at (Await left) else moves_to (Hand (got a - 1) left)) z.0) (stays_await (N l w).budget left spent) refl refl)
       (λ z. quiet r l w (Await left) b a x (Hand (got a - 1) left) false (ap (λ y. if y then waits_at (Await left) else moves_to (Hand (got a - 1) left)) z.0) (stays_hand (N l w).budget left (got a - 1) spent) refl refl)

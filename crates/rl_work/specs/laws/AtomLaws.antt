@@ -26,10 +26,10 @@ use Rattle.rl_volume.proofs.StartLaws.{starts, start_size}
 use Rattle.rl_work.specs.declared.stage.Stage.{Stage}
 use Rattle.rl_work.specs.declared.stage.Stage.TheVariants.{Rest, Begin, Read, Journal, Volume}
 use Rattle.rl_journal.specs.Journal.{spelled}
-use Rattle.rl_journal.specs.Blocks.{calls_of, size_of, batch_number}
+use Rattle.rl_journal.specs.Blocks.{calls_of, size_of}
 use Rattle.rl_journal.specs.Legal.{updates, table_after, IsLegalBlock, IsLegalRead}
 use Rattle.rl_journal.specs.Ranks.{IsOwn}
-use Rattle.rl_model.specs.Asked.{asks_update}
+use Rattle.rl_model.specs.Asked.{asks_update, batch_number}
 use Rattle.rl_journal.specs.laws.JournalLaws.{agrees_none}
 use Rattle.rl_journal.specs.laws.Lists.{all_at}
 use Rattle.rl_site.specs.Site.{Site, places, count_word, volume_base, journal_base, lock_base}

@@ -18,13 +18,14 @@ use Rattle.rl_volume.specs.Seen.{value_or_zero}
 use Rattle.rl_volume.specs.Decision.{decision}
 use Rattle.std.specs.Prelude.{All}
 use Rattle.std.proofs.lemmas.List.Elements.{All-head, All-tail}
-use Rattle.rl_journal.specs.Blocks.{calls_of, undone, batch_number, AreParts}
+use Rattle.rl_journal.specs.Blocks.{calls_of, undone, AreParts}
 use Rattle.rl_journal.specs.Ranks.{IsOwn}
-use Rattle.rl_model.specs.Asked.{asks_update}
+use Rattle.rl_model.specs.Asked.{asks_update, batch_number}
 use Rattle.rl_work.specs.laws.TurnLaws.{entries_calls}
 use Rattle.rl_site.specs.Opens.{Tells}
 use Rattle.rl_site.specs.Transcript.{TheTranscript}
-use Rattle.rl_work.specs.Work.{TheWork, WorkTurned, stage_atom, write_atom, stage_after, with_seen, with_stop, with_call, batch_in, entries_of, block_close_by, block_close, stops_block, read_next, read_on, left_of, written_on, journal_on, to_stage}
+use Rattle.rl_work.specs.Work.{TheWork, WorkTurned, stage_atom, write_atom, stage_after, with_seen, with_stop, with_call, batch_in, entries_of, block_close, stops_block, read_next, read_on, left_of, written_on, journal_on, to_stage}
+use Rattle.rl_work.specs.laws.Cases.{block_close_by}
 use Rattle.rl_work.specs.PlainWork.{IsPlain, Rises}
 
 plain_write : (at : ℕ) (o : Option Write) → IsPlain (write_atom at o)

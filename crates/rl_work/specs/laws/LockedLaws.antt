@@ -40,7 +40,9 @@ use Rattle.rl_work.specs.laws.RoomLaws.{journal_short}
 use Rattle.rl_work.specs.laws.RuleLaws.{journal_is, always_legal, always_sorted}
 use Rattle.rl_work.specs.PlainWork.{IsPlain, Rises}
 use Rattle.rl_work.specs.laws.EndLaws.{plain_atom, tells_rise, Ends, EndsBy, turn_ends}
-use Rattle.rl_work.specs.Locked.{mode_by, mode_of, follow_by, locked_table, locked_good}
+use Rattle.rl_work.specs.Locked.{mode_of, locked_table, locked_good}
+use Rattle.rl_work.specs.laws.Cases.{follow_by}
+use Rattle.rl_work.specs.laws.Cases.{mode_by}
 use Rattle.rl_work.specs.Ways.{WorkTable, WorkLaws, IsApart, IsSide, Works, IsFirst, IsWorkAtom, Look, AtomWork, MayWork, MayTurn, GoesOnAt, TouchesAs, AsksOut, mode_after, side_after, standing_after, tenure_of, tenure_by, transcripts_from, IsFrontAtom, TellsTouch}
 
 -- a lock that readers share gives them to gets alone, and no writer to a get; another lock has no reader

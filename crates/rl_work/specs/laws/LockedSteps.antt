@@ -18,7 +18,8 @@ use Rattle.rl_volume.specs.Seen.{value_of, with_value, patched, next_word, value
 use Rattle.rl_volume.specs.Decision.{decision, put_in_cell, put_by, add_by, cas_by, take_inline, take_out, place_in, value_word_of}
 use Rattle.rl_work.specs.declared.stage.Stage.{Stage}
 use Rattle.rl_work.specs.declared.stage.Stage.TheVariants.{Rest, Begin, Read, Journal, Volume}
-use Rattle.rl_work.specs.Work.{TheWork, WorkTurned, CanTurn, to_stage, batch_in, block_close, block_close_by, decision_of, entries_of, left_of, read_next, read_on, seen_on, stage_after, stops_block, with_call, with_seen, with_stop, written_on}
+use Rattle.rl_work.specs.Work.{TheWork, WorkTurned, CanTurn, to_stage, batch_in, block_close, decision_of, entries_of, left_of, read_next, read_on, seen_on, stage_after, stops_block, with_call, with_seen, with_stop, written_on}
+use Rattle.rl_work.specs.laws.Cases.{block_close_by}
 use Rattle.rl_work.specs.LockedLeft.{one_unless, words_unseen, far_at, far}
 use Rattle.rl_work.specs.laws.UnseenLaws.{appended_stays, appended_seen, patched_stays, words_unseen_less, words_unseen_falls, few_words_unseen}
 

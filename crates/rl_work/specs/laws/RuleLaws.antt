@@ -7,14 +7,15 @@ use Rattle.rl_journal.specs.Journal.{journal_in}
 use Rattle.rl_journal.specs.laws.ReadBack.{journaled, journal_read}
 use Rattle.rl_journal.specs.Legal.{IsLegal}
 use Rattle.rl_journal.specs.Ranks.{IsOwn}
-use Rattle.rl_journal.specs.History.{history, Each, AreOwn, IsSorted}
+use Rattle.rl_journal.specs.History.{history, AreOwn, IsSorted}
+use Rattle.std.specs.List.{AllByRecursion}
 use Rattle.rl_journal.specs.laws.HistorySorted.{history_sorted}
 use Rattle.rl_site.specs.Site.{Site, journal_base, journal_of}
 use Rattle.rl_site.specs.Opens.{IsOwnTranscript}
 use Rattle.rl_work.specs.WorkGood.{WorkSide, WorkGood, transcripts}
 
 -- what holds of all elements, one by one
-each_of : (shard rank r : ℕ) → rank ≡ r → (es : List Entry) → All (IsOwn shard rank) es → Each (λ e. e.rank ≡ r) es
+each_of : (shard rank r : ℕ) → rank ≡ r → (es : List Entry) → All (IsOwn shard rank) es → AllByRecursion (λ e. e.rank ≡ r) es
 each_of shard rank r same [] all = tt
 each_of shard rank r same (e ∷ es) all = ((All-head (IsOwn shard rank) e es all).rank_is ∙ same, each_of shard rank r same es (All-tail (IsOwn shard rank) e es all))
 

@@ -10,7 +10,8 @@ use Rattle.rl_model.specs.declared.geom.Geom.{Geom}
 use Rattle.rl_model.specs.Table.{Table, apply}
 use Rattle.rl_volume.specs.declared.write.Write.{Write}
 use Rattle.rl_volume.specs.Decision.{words_written}
-use Rattle.rl_journal.specs.Blocks.{stops, in_turn, any_stops, undone, only_first, apply_batch, apply_block, size_of, batch_number, AreUpdates, calls_of, replies_of, AreParts}
+use Rattle.rl_journal.specs.Blocks.{stops, in_turn, any_stops, undone, only_first, apply_batch, apply_block, size_of, AreUpdates, calls_of, replies_of, AreParts}
+use Rattle.rl_model.specs.Asked.{batch_number}
 use Rattle.rl_journal.specs.Ranks.{IsOwn}
 use Rattle.rl_work.specs.Work.{entries_of, stops_block}
 

@@ -32,18 +32,19 @@ use Rattle.rl_model.specs.declared.entry.Reply.TheVariants.{Undone}
 use Rattle.rl_work.specs.declared.stage.Stage.{Stage}
 use Rattle.rl_work.specs.declared.stage.Stage.TheVariants.{Rest, Begin, Read, Journal, Volume}
 use Rattle.rl_journal.specs.Journal.{Agrees, spelled}
-use Rattle.rl_journal.specs.Blocks.{AreParts, IsBlock, stops, in_turn, any_stops, undone, apply_block, batch_number, calls_of}
+use Rattle.rl_journal.specs.Blocks.{AreParts, IsBlock, stops, in_turn, any_stops, undone, apply_block, calls_of}
 use Rattle.rl_journal.specs.laws.BlockLaws.{part_at}
 use Rattle.rl_journal.specs.Legal.{table_after, updates, IsLegalBlock, IsLegal}
 use Rattle.rl_journal.specs.Ranks.{IsOwn}
-use Rattle.rl_model.specs.Asked.{asks_update}
+use Rattle.rl_model.specs.Asked.{asks_update, batch_number}
 use Rattle.rl_journal.specs.laws.JournalLaws.{agrees_elsewhere, agrees_append, agrees_more, length_spelled, spelled_append, agrees_none}
 use Rattle.rl_journal.specs.laws.LegalLaws.{table_more, legal_update, in_order_block}
 use Rattle.rl_journal.specs.laws.Lists.{filter_all, all_at}
 use Rattle.rl_site.specs.Site.{Site, places, count_word, volume_base, journal_base, volume_of}
 use Rattle.rl_work.specs.laws.TurnLaws.{written_append, turn_length, turn_table, turn_replies, any_append, batch_alone, batch_size, batch_few, batch_not_one, block_runs, block_stops, stops_is, goes_is, entries_calls, entries_replies, entries_length, entries_parts, entries_own}
 use Rattle.rl_site.specs.Transcript.{TheTranscript}
-use Rattle.rl_work.specs.Work.{TheWork, WorkTurned, at_rest, at_stage, to_stage, journal_on, with_seen, with_call, with_stop, batch_in, entries_of, block_close_by, block_close, stops_block, read_next, read_on, left_of, seen_on}
+use Rattle.rl_work.specs.Work.{TheWork, WorkTurned, at_rest, at_stage, to_stage, journal_on, with_seen, with_call, with_stop, batch_in, entries_of, block_close, stops_block, read_next, read_on, left_of, seen_on}
+use Rattle.rl_work.specs.laws.Cases.{block_close_by}
 use Rattle.rl_site.specs.Opens.{IsOwnTranscript, places_needed}
 use Rattle.rl_work.specs.WorkGood.{WorkSide, IsApart, transcripts, HasOpen, IsNext, IsDecided, FitsAt, Fits, IsSpelled, is_writing, IsPartly, HasDecided, IsReading, WorkGood, side_turned}
 use Rattle.rl_site.specs.laws.VolumeLaws.{volume_before, volume_behind, volume_set, volume_get}

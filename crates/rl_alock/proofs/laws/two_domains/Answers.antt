@@ -3,7 +3,8 @@ use Rattle.std.proofs.Common.{◌≡◌, ◌∙◌, ap, sym, ⊎_elim, ◌==◌,
 use Rattle.std.proofs.lemmas.Bool.Decides.{eqb_tells}
 use Rattle.rl_word.specs.declared.acts.Act.TheVariants.{LocalCas}
 use Rattle.rl_word.specs.Acts.{by_card}
-use Rattle.rl_alock.specs.Alock.{cohort_by, domain}
+use Rattle.rl_alock.specs.Alock.{domain}
+use Rattle.rl_alock.specs.laws.Cases.{cohort_by}
 use Rattle.rl_alock.proofs.laws.two_domains.Goals as goal
 
 not_card : (b : Bool) → not b ≡ true → b ≡ false

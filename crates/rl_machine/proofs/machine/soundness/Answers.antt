@@ -1,7 +1,8 @@
 -- The invariant says it, now and after every run.
 use Rattle.std.proofs.Common.{length, sym, subst}
 use Rattle.rl_machine.specs.Promises.{IsSound}
-use Rattle.rl_machine.specs.laws.SoundLaws.{is_sound}
+use Rattle.rl_machine.specs.Changes.{OnlyWritersChange}
+use Rattle.rl_machine.specs.laws.SoundLaws.{is_sound, only_writers}
 use Rattle.rl_machine.specs.Run.{run_of, AreThere}
 use Rattle.rl_machine.specs.laws.RunActs.{run_acts}
 use Rattle.rl_machine.specs.laws.MachineLaws.{run_good}
@@ -24,4 +25,14 @@ returns-clause-stays g c = λ ks there.
     let low = subst (λ z. AreThere (length z.calls) ks) (sym c.machine.view_is) there in
     subst (λ z. IsSound (run_of (running g.C.ShardCore.shard_table z) ks)) c.machine.view_is
     (is_sound _ _ g.C.ShardCore.shard_table g.C.ShardCore.good g.C.ShardCore.cause g.C.ShardCore.further g.C.ShardCore.layout g.met.C.ShardCore.shard_laws (cores_of m) (run_acts is.acts run ks) (run_of run ks)
+    (run_good _ _ g.C.ShardCore.shard_table g.C.ShardCore.good g.C.ShardCore.cause g.C.ShardCore.further g.C.ShardCore.layout g.met.C.ShardCore.shard_laws (cores_of m) is.acts run ks is.is_good low))
+
+pub returns-clause-changes : goal.returns-clause-changes
+returns-clause-changes g c = λ ks there.
+    let m = machine_view c.machine.inside.state in
+    let run = running g.C.ShardCore.shard_table m in
+    let is = c.machine.invariant in
+    let low = subst (λ z. AreThere (length z.calls) ks) (sym c.machine.view_is) there in
+    subst (λ z. OnlyWritersChange (run_of (running g.C.ShardCore.shard_table z) ks)) c.machine.view_is
+    (only_writers _ _ g.C.ShardCore.shard_table g.C.ShardCore.good g.C.ShardCore.cause g.C.ShardCore.further g.C.ShardCore.layout g.met.C.ShardCore.shard_laws (cores_of m) (run_acts is.acts run ks) (run_of run ks)
     (run_good _ _ g.C.ShardCore.shard_table g.C.ShardCore.good g.C.ShardCore.cause g.C.ShardCore.further g.C.ShardCore.layout g.met.C.ShardCore.shard_laws (cores_of m) is.acts run ks is.is_good low))

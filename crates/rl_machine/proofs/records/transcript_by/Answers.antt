@@ -2,7 +2,8 @@
 use Rattle.std.proofs.Common.{◌∙◌, ap, sym, refl}
 use Rattle.std.proofs.lemmas.Result.{IfOk-weaker}
 use Rattle.rl_core.specs.Desks.{desk_entries}
-use Rattle.rl_machine.specs.ShardSteps.{desk_at, events_of}
+use Rattle.rl_machine.specs.ShardSteps.{desk_at}
+use Rattle.rl_step.specs.Traces.{events_of}
 use Rattle.rl_machine.proofs.records.transcript_by.Goals as goal
 
 pub transcript-requires-clause-seen : goal.transcript-requires-clause-seen

@@ -3,7 +3,8 @@ use Rattle.std.proofs.Common.{◌≡◌, ◌∙◌, ◌++◌, Some, None, slice_
 use Rattle.rl_step.specs.Do.{do_got}
 use Rattle.rl_machine.specs.Running.{shard_run}
 use Rattle.rl_machine.specs.State.{shard_view}
-use Rattle.rl_machine.specs.ShardSteps.{events_of, numbered}
+use Rattle.rl_machine.specs.ShardSteps.{numbered}
+use Rattle.rl_step.specs.Traces.{events_of}
 use Rattle.rl_machine.specs.laws.StepLaws.{Advances, advanced_shard, shard_by}
 use Rattle.rl_machine.proofs.shard.atom_on.Goals as goal
 use Rattle.rl_machine.proofs.shard.atom_on.Goals.{After-advance_flat-stepped}

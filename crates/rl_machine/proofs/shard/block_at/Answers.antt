@@ -2,7 +2,8 @@
 use Rattle.std.proofs.Common.{ap, sym, subst, ◌∙◌}
 use Rattle.rl_word.specs.laws.Places.{some_at}
 use Rattle.rl_machine.specs.Running.{shard_run}
-use Rattle.rl_machine.specs.ShardSteps.{events_of, opened_at, atom_on, answer_on}
+use Rattle.rl_machine.specs.ShardSteps.{opened_at, atom_on, answer_on}
+use Rattle.rl_step.specs.Traces.{events_of}
 use Rattle.rl_machine.specs.State.{shard_view}
 use Rattle.rl_machine.proofs.shard.block_at.Goals as goal
 

@@ -2,6 +2,7 @@ use Rattle.std.proofs.Common.{◌≡◌, ◌≤◌, length, sum_by, IfOk, ap, sy
 use Rattle.std.proofs.lemmas.List.{length-map}
 use Rattle.rl_ops.specs.Schedule.{steps_of}
 use Rattle.rl_machine.specs.Running.{running, shard_run}
+use Rattle.rl_machine.specs.Changes.{OnlyWritersChange}
 use Rattle.rl_machine.specs.Promises.{IsSound}
 use Rattle.rl_locks.specs.OnShards.{EachShard}
 use Rattle.rl_program.specs.Replay.{report_in, queue_count, run_with}
@@ -53,7 +54,7 @@ returns-clause-kept g c =
     let homes = c.as_slice-homes.ensures.value ∙ ap (λ p. p.homes) c.place.view_is in
     let says = says_is g.C.ShardCore.defined place c.args.ops schedule _ _ _ _ _ c.in_ok-shape.ensures.exact c.knobs-knobs.ensures geom homes c.as_slice-turns.ensures g.C.ShardCore.promised c.in_ok-machine.ensures.further in
     let queues = keeps_is g.C.ShardCore.name place _ _ _ _ _ c.requires.kind c.in_ok-shape.ensures.exact c.knobs-knobs.ensures homes run c.in_ok-machine.ensures.queues in
-    where_ok c.report_of_machine.result (is_kept g.C.ShardCore.defined place c.args.ops schedule g.C.ShardCore.promised g.C.Promising.ways (subst IsSound run c.in_ok-machine.ensures.sound) queues says
+    where_ok c.report_of_machine.result (is_kept g.C.ShardCore.defined place c.args.ops schedule g.C.ShardCore.promised g.C.Promising.ways (subst IsSound run c.in_ok-machine.ensures.sound) (subst OnlyWritersChange run c.in_ok-machine.ensures.changes) queues says
     (subst (EachShard g.C.Promising.ways) run c.ways_of_machine.ensures.now))
 
 pub returns-clause-lawful : goal.returns-clause-lawful

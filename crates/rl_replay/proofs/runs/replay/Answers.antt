@@ -1,5 +1,5 @@
 -- One turn more, and what every run from the start promises.
-use Rattle.std.proofs.Common.{◌≡◌, ◌+◌, ◌≤◌, Some, length, slice_get, slice_index_or, take, ap, sym, subst, ◌∙◌, arith}
+use Rattle.std.proofs.Common.{[], ◌≡◌, ◌+◌, ◌≤◌, Some, length, slice_get, slice_index_or, take, ap, sym, subst, ◌∙◌, arith}
 use Rattle.std.proofs.lemmas.Option.{slice_get-get_or}
 use Rattle.rl_step.specs.Answers.{steps_made}
 use Rattle.rl_ops.specs.declared.schedule.Turn.{Turn}
@@ -66,3 +66,6 @@ returns-clause-queues g c =
     let run = c.loop-turn.invariant.0 ∙ ap (λ ts. run_of first (ranks_of_turns ts)) (ap (λ n. take n c.args.turns.now) done ∙ take-length c.args.turns.now) in
     subst (EachKeepsQueues g.C.ShardCore.name c.args.shape.now c.args.knobs c.args.homes.now) (ap (λ m. run_of m (ranks_of_turns c.args.turns.now)) c.in_ok-machine.ensures.made ∙ sym run)
     (c.in_ok-machine.ensures.keeps (ranks_of_turns c.args.turns.now) there)
+
+pub returns-clause-changes : goal.returns-clause-changes
+returns-clause-changes g c = c.soundness.ensures.changes [] tt

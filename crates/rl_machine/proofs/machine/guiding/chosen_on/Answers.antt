@@ -1,7 +1,7 @@
 -- One rank after the other is looked at.
 use Rattle.std.proofs.Common.{sym, subst, arith}
 use Rattle.rl_machine.specs.laws.Choosing.{AreBest, all_chosen}
-use Rattle.rl_machine.specs.ShardSteps.{events_of}
+use Rattle.rl_step.specs.Traces.{events_of}
 use Rattle.rl_machine.proofs.machine.guiding.chosen_on.Goals as goal
 
 pub urgency-urgency-requires : goal.urgency-urgency-requires

@@ -2,7 +2,7 @@
 use Rattle.std.proofs.Common.{sym, subst}
 use Rattle.rl_step.specs.Core.{home_at}
 use Rattle.rl_step.specs.Do.{TheWindow, CanDo}
-use Rattle.rl_machine.specs.ShardSteps.{events_of}
+use Rattle.rl_step.specs.Traces.{events_of}
 use Rattle.rl_machine.proofs.machine.next_atoms.next_on.Goals as goal
 
 pub found-requires : goal.found-requires

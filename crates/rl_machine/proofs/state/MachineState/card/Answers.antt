@@ -1,5 +1,5 @@
 -- The view is one that may be.
-use Rattle.rl_machine.specs.ShardSteps.{events_of}
+use Rattle.rl_step.specs.Traces.{events_of}
 use Rattle.rl_machine.proofs.state.MachineState.card.Goals as goal
 
 pub card-requires : goal.card-requires

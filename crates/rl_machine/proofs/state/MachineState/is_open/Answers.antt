@@ -1,5 +1,5 @@
 -- What the view tells is so of the rank where it stands.
-use Rattle.rl_machine.specs.ShardSteps.{events_of}
+use Rattle.rl_step.specs.Traces.{events_of}
 use Rattle.rl_machine.proofs.state.MachineState.is_open.Goals as goal
 
 pub is_open-requires : goal.is_open-requires

@@ -1,7 +1,7 @@
 -- A rank whose view on the shard of its last block is open stands there.
 use Rattle.std.proofs.Common.{sym, ◌∙◌}
 use Rattle.rl_machine.specs.laws.Stands.{open_stands, open_opens}
-use Rattle.rl_machine.specs.ShardSteps.{events_of}
+use Rattle.rl_step.specs.Traces.{events_of}
 use Rattle.rl_machine.proofs.state.MachineState.open_place.Goals as goal
 
 pub is_open-requires : goal.is_open-requires

@@ -1,7 +1,7 @@
 -- The rank's view on the shard where it was seen last says it.
 use Rattle.std.proofs.Common.{sym}
 use Rattle.rl_machine.specs.laws.IdleLaws.{seen_goes}
-use Rattle.rl_machine.specs.ShardSteps.{events_of}
+use Rattle.rl_step.specs.Traces.{events_of}
 use Rattle.rl_machine.proofs.state.MachineState.round.Goals as goal
 
 pub round-requires : goal.round-requires
