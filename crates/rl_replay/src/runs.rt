@@ -118,7 +118,8 @@ fn take_turn<C: Resting>(
 /// `shape` says where the ranks sit, `knobs` are the settings of each shard's lock, `geom` is the size of the table, `homes`
 /// says for each shard the node that its words live on, and `ops` what each rank asks for; the ranks of the turns are the
 /// shape's, and there are fewer than 2^32 steps in all. Refused only for want of memory. Whatever the schedule, the machine
-/// is sound (`IsSound`); on each shard the lock's queues, whose members and budgets are the placement's, keep their promises;
+/// is sound (`IsSound`), and whichever step comes next, only a writer's changes what a lock guards;
+/// on each shard the lock's queues, whose members and budgets are the placement's, keep their promises;
 /// and what a lock promises beside holds of its events on each shard, and of the atoms there, by the lock's words before and after each.
 /// The contract speaks of the run by its definition (`run_of` of `rl_machine`), which knows no vectors.
 ///

@@ -18,4 +18,4 @@ early_by S words rank x update = if update then filter (is_call rank x.seq) (jou
 
 -- of a call that is open or not
 abbrev pub early_open : WaySite → List ℕ → ℕ → TheCombineSide → Bool → List Entry
-early_open S words rank x open = if open then early_by S words rank x (is_update x.call) else []
+early_open S words rank x is_open = if is_open then early_by S words rank x (is_update x.call) else []
