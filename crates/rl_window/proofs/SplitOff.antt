@@ -1,6 +1,5 @@
 -- The seats that are split off, one by one.
-use Rattle.std.proofs.Common.{◌≡◌, ℕ, zero, suc, ◌+◌, ◌<◌, ◌⊎◌, inl, inr, List, [], ◌∷◌, ◌++◌, map, length, get_or, drop, slice_get, Some, sym, refl, ap, ◌∙◌, subst, ⊎_elim, arith, length-append, append_assoc}
-use Rattle.std.specs.List.{remove}
+use Rattle.std.proofs.Common.{◌≡◌, ℕ, zero, suc, ◌+◌, ◌⊎◌, inl, inr, List, [], ◌∷◌, ◌++◌, map, length, drop, slice_get, Some, sym, refl, ap, ◌∙◌, subst, ⊎_elim, length-append, append_assoc}
 use Rattle.std.proofs.lemmas.Option.{same_Some}
 use mathlib.Core.List.{map-append}
 use Rattle.atomic_table.specs.Table.{Me}
@@ -13,10 +12,6 @@ use Rattle.rl_window.specs.declared.knows.Knows.TheVariants.{Root, Rank}
 use Rattle.rl_window.specs.declared.window.WinSeat.{WinSeat}
 use Rattle.rl_window.specs.Plays.{without_next, next_seat, first_of}
 use Rattle.rl_window.specs.Seats.{IsOpening, view_of}
-
-pub front : {A : Type 0} (l : List A) (x : A) → 0 < length l → x ≡ get_or l 0 x → l ≡ x ∷ remove l 0
-front [] x h e = absurd (omega arith)
-front (y ∷ ys) x h e = λ k. sym e k ∷ ys
 
 seat_at_end : {A : Type 0} (l : List A) (a b : A) (j : ℕ) → slice_get (l ++ a ∷ []) j ≡ Some b → (slice_get l j ≡ Some b) ⊎ ((j ≡ length l) × (a ≡ b))
 seat_at_end [] a b zero e = inr (refl, same_Some _ _ e)

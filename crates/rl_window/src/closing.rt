@@ -1,6 +1,6 @@
 //! How a window is closed: the seats are joined to the root seat, one by one, and the words are read.
 
-ghost use Rattle.std.specs.Prelude.{◌≡◌, ◌+◌, ◌<◌, ◌≤◌, ℕ, List, [], ◌++◌, map, take, Some, IfOk, IfErr, vec_len, vec_capacity};
+ghost use Rattle.std.specs.Prelude.{◌≡◌, ◌+◌, ◌<◌, ◌≤◌, ℕ, List, [], ◌∷◌, ◌++◌, map, take, Some, IfOk, IfErr, vec_len, vec_capacity};
 ghost use Rattle.std.specs.Mem.Slots.{slots_items, slots_len, IsFull};
 ghost use Rattle.rl_window.specs.Plays.{with_ended, CanEnd};
 ghost use Rattle.rl_window.specs.Seats.{view_of, IsAll, AreKept, IsClosing};
@@ -44,26 +44,26 @@ fn join<C: Core>(
     join_told::<C, Brand>(table, root, seat, view);
 }
 
-/// Joins the first of the seats that are left, and keeps its view.
+/// Joins a seat, the first of those that are left, and keeps its view.
 fn join_one<C: Core>(
     table: &SharedTable<C, C::View>,
     root: &mut Seat<u8, Knows<C, C::View>>,
-    seats: &mut Vec<WinSeat<C>>,
+    seat: WinSeat<C>,
     views: &mut Vec<C::View>,
 )
     requires table { (root.old.table_id ≡ table.now.table_id) × (0 < table.now.table_id.words) }
-    requires room { (0 < vec_len seats.old) × (vec_len views.old < vec_capacity views.old) }
-    requires closing { IsClosing C.rule table.now.key table.now.table_id root.old seats.old.items views.old.items }
-    ensures closing { IsClosing C.rule table.now.key table.now.table_id root.new seats.new.items views.new.items }
+    requires room { vec_len views.old < vec_capacity views.old }
+    requires closing { (rest : List (WinSeat C C.View)) × IsClosing C.rule table.now.key table.now.table_id root.old (seat ∷ rest) views.old.items }
+    ensures closing { (rest : List (WinSeat C C.View)) → IsClosing C.rule table.now.key table.now.table_id root.old (seat ∷ rest) views.old.items → IsClosing C.rule table.now.key table.now.table_id root.new rest views.new.items }
     ensures table { root.new.table_id ≡ root.old.table_id }
-    ensures views { views.old.items ++ map view_of seats.old.items ≡ views.new.items ++ map view_of seats.new.items }
-    ensures room { (vec_len seats.new + 1 ≡ vec_len seats.old) × (vec_len views.new ≡ vec_len views.old + 1) × (vec_capacity views.new ≡ vec_capacity views.old) }
+    ensures views { views.new.items ≡ views.old.items ++ seat.view ∷ [] }
+    ensures room { (vec_len views.new ≡ vec_len views.old + 1) × (vec_capacity views.new ≡ vec_capacity views.old) }
 {
     let WinSeat {
         seat,
         view,
         rank: _,
-    } = seats.remove(0);
+    } = seat;
     join(table, root, seat, &view);
     views.push_reserved(view);
 }
@@ -72,7 +72,7 @@ fn join_one<C: Core>(
 fn join_all<C: Core>(
     table: &SharedTable<C, C::View>,
     root: &mut Seat<u8, Knows<C, C::View>>,
-    mut seats: Vec<WinSeat<C>>,
+    seats: Vec<WinSeat<C>>,
     views: &mut Vec<C::View>,
 )
     requires table { (root.old.table_id ≡ table.now.table_id) × (0 < table.now.table_id.words) }
@@ -81,8 +81,8 @@ fn join_all<C: Core>(
     ensures closing { IsClosing C.rule table.now.key table.now.table_id root.new [] views.new.items }
     ensures views { views.new.items ≡ views.old.items ++ map view_of seats.items }
 {
-    while seats.len() > 0 {
-        join_one(table, root, &mut seats, views);
+    for seat in seats {
+        join_one(table, root, seat, views);
     }
 }
 

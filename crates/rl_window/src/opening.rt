@@ -34,22 +34,21 @@ fn split_next<C: Core>(
     table.split_seat::<SplitsNext>(root)
 }
 
-/// Makes the seat of the next rank with the first of the views that are left.
+/// Makes the seat of the next rank, whose view this is.
 fn split_one<C: Core>(
     table: &SharedTable<C, C::View>,
     root: &mut Seat<u8, Knows<C, C::View>>,
-    views: &mut Vec<C::View>,
+    view: C::View,
     seats: &mut Vec<WinSeat<C>>,
 )
     requires table { (root.old.table_id ≡ table.now.table_id) × (0 < table.now.table_id.words) }
-    requires room { (0 < vec_len views.old) × (vec_len seats.old < vec_capacity seats.old) × (vec_len seats.old < 2 ^ 32) }
-    requires opening { IsOpening table.now.key table.now.table_id root.old views.old.items seats.old.items }
-    ensures opening { IsOpening table.now.key table.now.table_id root.new views.new.items seats.new.items }
+    requires room { (vec_len seats.old < vec_capacity seats.old) × (vec_len seats.old < 2 ^ 32) }
+    requires opening { (rest : List C.View) × IsOpening table.now.key table.now.table_id root.old (view ∷ rest) seats.old.items }
+    ensures opening { (rest : List C.View) → IsOpening table.now.key table.now.table_id root.old (view ∷ rest) seats.old.items → IsOpening table.now.key table.now.table_id root.new rest seats.new.items }
     ensures table { root.new.table_id ≡ root.old.table_id }
-    ensures room { (vec_len views.new + 1 ≡ vec_len views.old) × (vec_len seats.new ≡ vec_len seats.old + 1) × (vec_capacity seats.new ≡ vec_capacity seats.old) }
+    ensures room { (vec_len seats.new ≡ vec_len seats.old + 1) × (vec_capacity seats.new ≡ vec_capacity seats.old) }
 {
     let rank = seats.len() as u32;
-    let view = views.remove(0);
     let seat = split_next(table, root, &view);
     seats.push_reserved(WinSeat { seat, view, rank });
 }
@@ -58,7 +57,7 @@ fn split_one<C: Core>(
 fn split_all<C: Core>(
     table: &SharedTable<C, C::View>,
     root: &mut Seat<u8, Knows<C, C::View>>,
-    mut views: Vec<C::View>,
+    views: Vec<C::View>,
     seats: &mut Vec<WinSeat<C>>,
 )
     requires table { (root.old.table_id ≡ table.now.table_id) × (0 < table.now.table_id.words) }
@@ -66,8 +65,8 @@ fn split_all<C: Core>(
     requires opening { IsOpening table.now.key table.now.table_id root.old views.items seats.old.items }
     ensures opening { IsOpening table.now.key table.now.table_id root.new [] seats.new.items }
 {
-    while views.len() > 0 {
-        split_one(table, root, &mut views, seats);
+    for view in views {
+        split_one(table, root, view, seats);
     }
 }
 
