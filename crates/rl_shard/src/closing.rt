@@ -99,27 +99,25 @@ pub fn take_parts<C: ShardCore>(
     Ok(Parts { closed, inner })
 }
 
-/// Moves the window's seats out of the shard's.
+/// Moves the window's seats out of the shard's, which are turned round and taken from the back: so none moves but the one that is taken.
 pub fn take_seats<C: ShardCore>(seats: &mut Vec<Seat<C>>, inner: &mut Vec<WinSeat<Counting<C>>>)
     requires { vec_len seats.old + vec_len inner.old ≤ vec_capacity inner.old }
     ensures inner { inner.new.items ≡ inner.old.items ++ map inner_of seats.old.items }
     ensures seats { (seats.new.items ≡ []) × (vec_capacity seats.new ≡ vec_capacity seats.old) }
 {
-    while seats.len() > 0 {
-        let Seat { seat } = seats.remove(0);
+    seats.reverse();
+    while let Some(Seat { seat }) = seats.pop() {
         inner.push_reserved(seat);
     }
 }
 
 /// Makes the shard's seats of the window's.
-pub fn give_seats<C: ShardCore>(mut inner: Vec<WinSeat<Counting<C>>>, seats: &mut Vec<Seat<C>>)
+pub fn give_seats<C: ShardCore>(inner: Vec<WinSeat<Counting<C>>>, seats: &mut Vec<Seat<C>>)
     requires { vec_len inner + vec_len seats.old ≤ vec_capacity seats.old }
     ensures { seats.new.items ≡ seats.old.items ++ map seated inner.items }
 {
-    while inner.len() > 0 {
-        seats.push_reserved(Seat {
-            seat: inner.remove(0),
-        });
+    for seat in inner {
+        seats.push_reserved(Seat { seat });
     }
 }
 
@@ -167,14 +165,14 @@ fn read_pairs<C: ShardCore>(core: &C, words: &[u64], pairs: &mut Vec<(u64, u64)>
 /// Takes the transcripts out of the views.
 fn take_transcripts<C: ShardCore>(
     core: &C,
-    mut views: Vec<CountedView<C::View>>,
+    views: Vec<CountedView<C::View>>,
     transcripts: &mut Vec<Vec<Entry>>,
 )
     requires { vec_len views + vec_len transcripts.old ≤ vec_capacity transcripts.old }
     ensures { map vec_items transcripts.new.items ≡ map vec_items transcripts.old.items ++ map (entries_in (C.shard_table core.now)) views.items }
 {
-    while views.len() > 0 {
-        let CountedView { whole, tallies: _ } = views.remove(0);
+    for view in views {
+        let CountedView { whole, tallies: _ } = view;
         transcripts.push_reserved(core.into_entries(whole));
     }
 }
