@@ -16,13 +16,12 @@ use std::alloc::{AllocError as OutOfMemory, Global};
 /// The seats of each rank.
 pub fn rows_of<C: ShardCore>(
     alloc: Global,
-    mut callers: Vec<Caller<C>>,
+    callers: Vec<Caller<C>>,
 ) -> Result<Vec<Vec<Seat<C>>>, OutOfMemory>
     ensures { IfOk result (λ rows. map vec_items rows.items ≡ map seats_of callers.items) }
 {
     let mut rows = Vec::with_capacity(alloc, callers.len())?;
-    while callers.len() > 0 {
-        let caller = callers.remove(0);
+    for caller in callers {
         rows.push_reserved(caller.seats());
     }
     Ok(rows)

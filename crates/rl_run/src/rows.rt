@@ -27,17 +27,19 @@ pub fn first_seats<T: Drop>(
 /// One seat more in each row: those of the next shard, in the order of the ranks.
 pub fn deal_seats<T: Drop>(
     alloc: Global,
-    mut rows: Vec<Vec<T>>,
-    mut column: Vec<T>,
+    rows: Vec<Vec<T>>,
+    column: Vec<T>,
 ) -> Result<Vec<Vec<T>>, OutOfMemory>
     requires { vec_len column ≡ vec_len rows }
     ensures { IfOk result (λ dealt. map vec_items dealt.items ≡ with_column (map vec_items rows.items) column.items) }
 {
     let mut dealt = Vec::with_capacity(alloc, rows.len())?;
-    while rows.len() > 0 {
-        let mut row = rows.remove(0);
-        row.push(column.remove(0))?;
-        dealt.push_reserved(row);
+    let mut seats = column.into_iter();
+    for mut row in rows {
+        if let Some(seat) = seats.next() {
+            row.push(seat)?;
+            dealt.push_reserved(row);
+        }
     }
     Ok(dealt)
 }

@@ -154,11 +154,6 @@ module _ {X T : Type 0} (f : X → List T) where
   pub next_some : (rows rest : List X) (row : X) → rows ≡ row ∷ rest → ((r : ℕ) (ys : List T) → slice_get (map f rows) r ≡ Some ys → 0 < length ys) → (0 < length (f row)) × ((r : ℕ) (ys : List T) → slice_get (map f rest) r ≡ Some ys → 0 < length ys)
   next_some rows rest row e some = (some 0 (f row) (ap (λ l. slice_get (map f l) 0) e), λ r ys g. some (suc r) ys (ap (λ l. slice_get (map f l) (suc r)) e ∙ g))
 
-  -- one list more of a list of structs
-  pub next_lists : {Y : Type 0} (h : Y → List T) (hands rest : List Y) (hand : Y) (row : X) (done : List X) (all : List (List T)) → hands ≡ hand ∷ rest → f row ≡ h hand → map f done ++ map h hands ≡ all → map f (done ++ row ∷ []) ++ map h rest ≡ all
-  next_lists h hands rest hand row done all e same is =
-      ap (λ l. l ++ map h rest) (map-append f done (row ∷ [])) ∙ append_assoc (map f done) (f row ∷ []) (map h rest) ∙ ap (λ l. map f done ++ l ∷ map h rest) same ∙ ap (λ l. map f done ++ map h l) (sym e) ∙ is
-
 -- two lists as long, that agree in something at each place
 pub same_map : {X Y : Type 0} (f : X → Y) (xs ys : List X) → length ys ≡ length xs → ((i : ℕ) (d : X) → i < length xs → f (get_or ys i d) ≡ f (get_or xs i d)) → map f ys ≡ map f xs
 same_map f [] [] long same = refl
