@@ -22,13 +22,13 @@ use Rattle.rl_ops.specs.ScheduleReading.{schedule_at, IsReadAsSchedule}
 use Rattle.rl_machine.specs.Running.{Running}
 use Rattle.rl_machine.specs.Run.{run_of, stepped, turn_ranks, ranks_of_turns, steps_in}
 use Rattle.rl_machine.specs.MachineEnding.{AllDone}
-use Rattle.rl_machine.specs.laws.ReplayLaws.{stepped_one, run_append, ranks_there}
+use Rattle.rl_machine.specs.laws.ReplayLaws.{stepped_one, run_append}
 use Rattle.rl_machine.specs.Start.{start_of}
-use Rattle.rl_locks.specs.Kinds.{Defined}
+use Rattle.rl_locks.specs.Kinds.{Defined, Urgent}
 use Rattle.rl_inputs.specs.declared.complaint.Which.TheVariants as which
 use Rattle.rl_inputs.specs.Reading.{refused_in, scheduled}
 use Rattle.rl_finish.specs.WayOn.{HasSteps, AreWhole}
-use Rattle.rl_completed.specs.Completing.{is_stop, MakesSteps, machine_after, Completes, IsComplete, IsTooLong}
+use Rattle.rl_completed.specs.Completing.{is_stop, MakesSteps, machine_after, GoNext, Completes, IsComplete, IsTooLong}
 
 pub steps_are : (turns : List Turn) → steps_in turns ≡ sum_by steps_of turns
 steps_are [] = refl
@@ -125,10 +125,11 @@ reached defined place ops given m run there =
     let made = counts.0 in
     (ap (λ z. steps_made z.steps) run ∙ omega (arith, made, none, many), ap (λ z. length z.calls) run ∙ ap length counts.1 ∙ there)
 
-module _ {V : Type 0} (defined : Defined V) (place : ThePlace) (ops : Ops) (given : Schedule) (more : List Turn) (m : Running V) (unstopped : AllByRecursion MakesSteps given.turns) (run : m ≡ run_of (machine_after defined place ops given.turns) (ranks_of_turns more)) where
+module _ {V : Type 0} (defined : Defined V) (urgent : Urgent V) (place : ThePlace) (ops : Ops) (given : Schedule) (more : List Turn) (m : Running V) (unstopped : AllByRecursion MakesSteps given.turns) (run : m ≡ run_of (machine_after defined place ops given.turns) (ranks_of_turns more))
+    (next : GoNext defined urgent place ops given.turns (ranks_of_turns more)) where
   -- turns that end all calls make a schedule complete
   pub completes : ScheduleFits (length place.paths) given → AreWhole more → AllByRecursion (TurnFits (length place.paths)) more → steps_in given.turns + steps_in more ≤ MOST_STEPS → AllDone m →
-      Completes defined place ops given (record { turns = given.turns ++ more })
+      Completes defined urgent place ops given (record { turns = given.turns ++ more })
   completes fits whole there few done =
       let all = AllByRecursion-append MakesSteps given.turns more unstopped (whole_steps more whole) in
       let start = start_of defined (shape_of place) (knobs_of place.lock) place.geom place.homes ops in
@@ -136,18 +137,20 @@ module _ {V : Type 0} (defined : Defined V) (place : ThePlace) (ops : Ops) (give
       record {
         more = more;
         behind = refl;
+        next = next;
+        turns = whole;
         unstopped = all;
         fits = record { fit = AllByRecursion-append (TurnFits (length place.paths)) given.turns more fits.fit there; few = steps; stopped = stay_stopped (given.turns ++ more) all };
         done = subst (λ z. AllDone z) (run ∙ sym (ap (run_of start) (ranks_append given.turns more) ∙ run_append start (ranks_of_turns given.turns) (ranks_of_turns more))) done;
       }
 
   -- turns that take all the steps that there may be, and don't end all calls, are too few
-  pub too_long : AllByRecursion (TurnFits (length place.paths)) more → steps_in given.turns + steps_in more ≡ MOST_STEPS → (AllDone m → ⊥) → IsTooLong defined place ops given
-  too_long there full undone =
+  pub too_long : steps_in given.turns + steps_in more ≡ MOST_STEPS → (AllDone m → ⊥) → IsTooLong defined urgent place ops given
+  too_long full undone =
       record {
         unstopped = unstopped;
         more = ranks_of_turns more;
-        there = ranks_there (length place.paths) more there;
+        next = next;
         full = ap (λ n. steps_in given.turns + n) (length_ranks more) ∙ full;
         undone = λ done. undone (subst (λ z. AllDone z) (sym run) done);
       }
@@ -162,12 +165,12 @@ taken place whole text few read =
     rw test (ap (refused_in which.Schedule) read)
 
 -- the text of a schedule that is another one made complete
-pub is_complete : {V : Type 0} (defined : Defined V) (place : ThePlace) (ops : Ops) (given whole : Schedule) (text : List ℕ) → length place.paths ≤ 32 → Completes defined place ops given whole →
-    text ≡ schedule_spelling whole → length text ≤ 16777216 → IsReadAsSchedule text whole → IsComplete defined place ops given text
-is_complete defined place ops given whole text ranks all spells few read =
-    record { whole = whole; completes = all; spells = spells; again = taken place whole text few (read (length place.paths) (omega (arith, ranks)) all.fits) }
+module _ {V : Type 0} (defined : Defined V) (urgent : Urgent V) (place : ThePlace) (ops : Ops) (given whole : Schedule) (ranks : length place.paths ≤ 32) (all : Completes defined urgent place ops given whole) where
+  is_complete : (text : List ℕ) → text ≡ schedule_spelling whole → length text ≤ 16777216 → IsReadAsSchedule text whole → IsComplete defined urgent place ops given text
+  is_complete text spells few read =
+      record { whole = whole; completes = all; spells = spells; again = taken place whole text few (read (length place.paths) (omega (arith, ranks)) all.fits) }
 
-pub complete_ok : {V : Type 0} {E : Type 0} (defined : Defined V) (place : ThePlace) (ops : Ops) (given whole : Schedule) (result : Result (Vec ℕ) E) → length place.paths ≤ 32 → Completes defined place ops given whole →
-    IfOk result (λ text. (text.items ≡ schedule_spelling whole) × (length text.items ≤ 16777216)) → IfOk result (λ text. IsReadAsSchedule text.items whole) → IfOk result (λ text. IsComplete defined place ops given text.items)
-complete_ok defined place ops given whole (Err why) ranks all is read = tt
-complete_ok defined place ops given whole (Ok text) ranks all is read = is_complete defined place ops given whole text.items ranks all is.0 is.1 read
+  pub complete_ok : {E : Type 0} (result : Result (Vec ℕ) E) → IfOk result (λ text. (text.items ≡ schedule_spelling whole) × (length text.items ≤ 16777216)) → IfOk result (λ text. IsReadAsSchedule text.items whole) →
+      IfOk result (λ text. IsComplete defined urgent place ops given text.items)
+  complete_ok (Err why) is read = tt
+  complete_ok (Ok text) is read = is_complete text.items is.0 is.1 read

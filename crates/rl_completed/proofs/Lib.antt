@@ -1,1 +1,2 @@
 pub mod CompletingLaws
+pub mod NextLaws

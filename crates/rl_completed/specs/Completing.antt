@@ -12,10 +12,11 @@ use Rattle.rl_ops.specs.declared.schedule.Schedule.{Schedule}
 use Rattle.rl_ops.specs.declared.schedule.TheConstants.{MOST_STEPS}
 use Rattle.rl_ops.specs.Schedule.{ScheduleFits, schedule_spelling}
 use Rattle.rl_machine.specs.Running.{Running}
-use Rattle.rl_machine.specs.Run.{run_of, ranks_of_turns, steps_in, AreThere}
+use Rattle.rl_machine.specs.Run.{run_of, ranks_of_turns, steps_in}
 use Rattle.rl_machine.specs.MachineEnding.{AllDone}
-use Rattle.rl_machine.specs.Start.{start_of}
-use Rattle.rl_locks.specs.Kinds.{Defined}
+use Rattle.rl_machine.specs.Start.{site_of, start_of}
+use Rattle.rl_finish.specs.WayOn.{IsWayOn, AreWhole}
+use Rattle.rl_locks.specs.Kinds.{Defined, Urgent}
 use Rattle.rl_inputs.specs.Reading.{scheduled}
 use Rattle.rl_completed.specs.declared.uncompleted.Reason.{Reason}
 use Rattle.rl_completed.specs.declared.uncompleted.Reason.TheVariants.{Stopped, Steps, Bytes}
@@ -36,35 +37,46 @@ abbrev pub MakesSteps : Turn → Type 0
 MakesSteps (turn.Steps rank count) = Unit {0}
 MakesSteps (turn.Stop rank) = ⊥
 
-module _ {V : Type 0} (defined : Defined V) (place : ThePlace) (ops : Ops) where
-  -- the machine after these turns, for a rank's machine as it is defined
-  abbrev pub machine_after : List Turn → Running V
-  machine_after turns = run_of (start_of defined (shape_of place) (knobs_of place.lock) place.geom place.homes ops) (ranks_of_turns turns)
+-- the machine after these turns, for a rank's machine as it is defined
+abbrev pub machine_after : {V : Type 0} → Defined V → ThePlace → Ops → List Turn → Running V
+machine_after defined place ops turns = run_of (start_of defined (shape_of place) (knobs_of place.lock) place.geom place.homes ops) (ranks_of_turns turns)
 
-  -- A schedule is another one made complete: the given turns stand in front as they were, no rank is stopped, all is as in any schedule of the
-  -- placement, and after it all calls of all ranks are done.
+module _ {V : Type 0} (defined : Defined V) (urgent : Urgent V) (place : ThePlace) (ops : Ops) where
+  -- how urgently a rank goes on at each shard from one on, where these are their homes
+  abbrev pub urgencies_from : ℕ → List ℕ → List (List ℕ → V → Option ℕ)
+  urgencies_from s [] = []
+  urgencies_from s (home ∷ homes) = urgent (shape_of place) home (knobs_of place.lock) (site_of place.geom ops.by_rank s) ∷ urgencies_from (s + 1) homes
+
+  -- behind these turns whoever goes next makes a step, one after the other: they are these ranks
+  abbrev pub GoNext : List Turn → List ℕ → Type 0
+  GoNext turns ranks = IsWayOn (λ urgency. urgency) (urgencies_from 0 place.homes) (machine_after defined place ops turns) ranks
+
+  -- A schedule is another one made complete: the given turns stand in front as they were, and behind them those of whoever goes next, no rank is
+  -- stopped, all is as in any schedule of the placement, and after it all calls of all ranks are done.
   pub record Completes (given whole : Schedule) : Type 0 where
     pub more : List Turn
     pub behind : whole.turns ≡ given.turns ++ more
+    pub next : GoNext given.turns (ranks_of_turns more)
+    pub turns : AreWhole more
     pub unstopped : AllByRecursion MakesSteps whole.turns
     pub fits : ScheduleFits (length place.paths) whole
-    pub done : AllDone (machine_after whole.turns)
+    pub done : AllDone (machine_after defined place ops whole.turns)
 
-  -- A schedule has no room for its way on: some steps behind it, as many as a schedule still may have, don't end all calls.
+  -- A schedule has no room for its way on: as many steps of whoever goes next as it still may have don't end all calls.
   pub record IsTooLong (given : Schedule) : Type 0 where
     pub unstopped : AllByRecursion MakesSteps given.turns
     pub more : List ℕ
-    pub there : AreThere (length place.paths) more
+    pub next : GoNext given.turns more
     pub full : steps_in given.turns + length more ≡ MOST_STEPS
-    pub undone : AllDone (run_of (machine_after given.turns) more) → ⊥
+    pub undone : AllDone (run_of (machine_after defined place ops given.turns) more) → ⊥
 
   -- what the turns behind a schedule are, or why there are none
-  abbrev pub IsWayOn : Schedule → Result (List Turn) Uncompleted → Type 0
-  IsWayOn given (Ok more) = Completes given (record { turns = given.turns ++ more })
-  IsWayOn given (Err (Refused (Stopped line))) = ⊥
-  IsWayOn given (Err (Refused Steps)) = IsTooLong given
-  IsWayOn given (Err (Refused Bytes)) = ⊥
-  IsWayOn given (Err Memory) = Unit {0}
+  abbrev pub ComeBehind : Schedule → Result (List Turn) Uncompleted → Type 0
+  ComeBehind given (Ok more) = Completes given (record { turns = given.turns ++ more })
+  ComeBehind given (Err (Refused (Stopped line))) = ⊥
+  ComeBehind given (Err (Refused Steps)) = IsTooLong given
+  ComeBehind given (Err (Refused Bytes)) = ⊥
+  ComeBehind given (Err Memory) = Unit {0}
 
   -- A text is a schedule made complete: it spells it, and is read as it where it stands in a file.
   pub record IsComplete (given : Schedule) (text : List ℕ) : Type 0 where
@@ -73,7 +85,7 @@ module _ {V : Type 0} (defined : Defined V) (place : ThePlace) (ops : Ops) where
     pub spells : text ≡ schedule_spelling whole
     pub again : scheduled place text ≡ Ok whole
 
-  -- A schedule that is complete has a text that is too long for a file.
+  -- The schedule that is complete has a text that is too long for a file.
   pub record HasLongText (given : Schedule) : Type 0 where
     pub whole : Schedule
     pub completes : Completes given whole

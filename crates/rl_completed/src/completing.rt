@@ -9,8 +9,8 @@ ghost use Rattle.rl_ops.specs.Ops.{OpsFit};
 ghost use Rattle.rl_ops.specs.Schedule.{ScheduleFits, schedule_spelling, steps_of};
 ghost use Rattle.rl_ops.specs.ScheduleReading.{IsReadAsSchedule};
 ghost use Rattle.rl_inputs.specs.Reading.{SuitsLock};
-ghost use Rattle.rl_locks.specs.Kinds.{lock_kind_of};
-ghost use Rattle.rl_completed.specs.Completing.{MakesSteps, IsComplete, IsWayOn, IsWhyNot, IsLong};
+ghost use Rattle.rl_locks.specs.Kinds.{Urgent, GoesAsDefined, lock_kind_of};
+ghost use Rattle.rl_completed.specs.Completing.{MakesSteps, ComeBehind, IsComplete, IsWhyNot, IsLong};
 
 use crate::stops::first_stop;
 use crate::uncompleted::{Reason, Uncompleted};
@@ -47,7 +47,7 @@ fn way_on_with<C: Resting + ShardGuiding>(
     requires suits { SuitsLock place.now ops }
     requires schedule { ScheduleFits (length place.now.paths) schedule.now }
     requires unstopped { AllByRecursion MakesSteps schedule.now.turns }
-    ensures { IsWayOn C.defined place.now ops schedule.now result }
+    ensures { (urgent : Urgent C.View) → GoesAsDefined C.shard_table C.urgent C.defined urgent → ComeBehind C.defined urgent place.now ops schedule.now result }
 {
     let shape = place.shape(alloc)?;
     let knobs = place.knobs();
@@ -76,7 +76,7 @@ impl CoreTask for WayTask<'_> {
 
     ghost takes = { λ r place. OpsFit (length place.paths) place.geom.shards r.ops × SuitsLock place r.ops × ScheduleFits (length place.paths) r.schedule.now × AllByRecursion MakesSteps r.schedule.now.turns };
 
-    ghost gives = { λ r place kind result. IsWayOn kind.defined place r.ops r.schedule.now result };
+    ghost gives = { λ r place kind result. ComeBehind kind.defined kind.urgent place r.ops r.schedule.now result };
 
     fn over<C: Resting + Promising + ShardGuiding>(
         self,
@@ -113,9 +113,9 @@ fn text_within(alloc: Global, schedule: &Schedule) -> Result<Vec<u8>, Uncomplete
 /// The text of a schedule made complete: its turns as they are, and behind them those of the way on, by which all calls of all ranks end. A
 /// replay of the placement and the calls takes it.
 ///
-/// The calls and the schedule are of the placement's ranks, and no batch is among the calls where the lock does none. Refused where a rank is
-/// stopped, at the line of the first stop; where the whole has more than 2,000,000 steps; where its text has more than 16,777,216 bytes; and
-/// for want of memory.
+/// The calls and the schedule are of the placement's ranks, and no batch is among the calls where the lock does none. The way on is the steps of
+/// whoever goes next, one after the other, as the kind of the lock defines it. Refused where a rank is stopped, at the line of the first stop;
+/// where the way on makes the whole longer than 2,000,000 steps, or its text longer than 16,777,216 bytes; and for want of memory.
 pub fn completed(
     alloc: Global,
     place: &Place,
@@ -126,8 +126,8 @@ pub fn completed(
     requires calls { OpsFit (length place.now.paths) place.now.geom.shards ops }
     requires suits { SuitsLock place.now ops }
     requires schedule { ScheduleFits (length place.now.paths) schedule }
-    ensures complete { IfOk result (λ text. IsComplete (lock_kind_of place.now.lock).defined place.now ops schedule text.items) }
-    ensures why_not { IfErr result (IsWhyNot (lock_kind_of place.now.lock).defined place.now ops schedule) }
+    ensures complete { IfOk result (λ text. IsComplete (lock_kind_of place.now.lock).defined (lock_kind_of place.now.lock).urgent place.now ops schedule text.items) }
+    ensures why_not { IfErr result (IsWhyNot (lock_kind_of place.now.lock).defined (lock_kind_of place.now.lock).urgent place.now ops schedule) }
 {
     if let Some(line) = first_stop(schedule.turns.as_slice()) {
         return Err(Uncompleted::Refused(Reason::Stopped { line }));

@@ -5,8 +5,8 @@
 //! - What can't be made complete is told by its reason ([`Reason`]): a rank that is stopped, or a schedule that would have more steps or
 //!   more bytes than a schedule may have.
 //!
-//! Promise: a replay takes the text, and all is done then (`specs/Completing`); each reason comes exactly where it holds, and want of memory
-//! alone is free.
+//! Promise: a replay takes the text, and all is done then; the further turns are those of whoever goes next (`specs/Completing`). Each reason
+//! comes exactly where it holds, and want of memory alone is free.
 //! Not said here: that the way on is the shortest, or fair.
 #![tactic(auto)]
 

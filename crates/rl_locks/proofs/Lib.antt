@@ -7,3 +7,4 @@ pub mod SweepLaws
 pub mod CombinerLaws
 pub mod PostHomes
 pub mod SwapLaws
+pub mod UrgencyLaws

@@ -5,7 +5,7 @@ ghost use Rattle.rl_step.specs.LockQueues.{lock_under, does_batches};
 ghost use Rattle.rl_place.specs.LockWords.{name_of};
 ghost use Rattle.rl_place.specs.Places.{ThePlace, IsProper};
 ghost use Rattle.rl_place.specs.Shapes.{shape_of, knobs_of};
-ghost use Rattle.rl_locks.specs.Kinds.{LockKind, lock_kind_of};
+ghost use Rattle.rl_locks.specs.Kinds.{LockKind, Urgent, GoesAsDefined, lock_kind_of};
 
 use crate::ways::Promising;
 use crate::{AlockCore, CombineCore, DmcsCore, McsCore, RwCore, SeqCore, SpinCore};
@@ -24,14 +24,15 @@ pub trait CoreTask {
     ghost gives: { Self → ThePlace → LockKind → Self.Out → Type 0 };
 
     /// Does it with this core, which is that of the placement's lock: the settings suit it, it asks for the lock on which that one
-    /// stands, and it does batches where that one does them.
+    /// stands, and it does batches where that one does them. The kind is the core's, with whichever definition of how urgently ranks go
+    /// on the core keeps to.
     fn over<C: Resting + Promising + ShardGuiding>(self, place: &Place) -> Self::Out
         requires proper { IsProper place.now }
         requires takes { takes self place.now }
         requires knobs { C.suits_knobs (shape_of place.now) (knobs_of place.now.lock) }
         requires kind { C.name ≡ lock_under (name_of place.now.lock) }
         requires batches { C.batches ≡ does_batches (name_of place.now.lock) }
-        ensures { gives self place.now (record { View = C.View; defined = C.defined; promised = C.promised; ways = C.ways }) result };
+        ensures { (urgent : Urgent C.View) → GoesAsDefined C.shard_table C.urgent C.defined urgent → gives self place.now (record { View = C.View; defined = C.defined; urgent = urgent; promised = C.promised; ways = C.ways }) result };
 }
 
 /// Does a task with the core of a placement's lock.
