@@ -6,7 +6,8 @@ reads can't make a statement of it true or false, so nobody has to believe it: t
 and with it what only that rests on.
 
 A field is read where its name stands behind a point, whatever is before the point. Where a side of an equation is a table, or a value that holds tables, all
-fields are read; what a side is says the type of the field, of the definition or of the binder at its head."""
+fields are read; what a side is says the type of the field, of the definition or of the binder at its head. A field behind another is one of a record that the
+other's type names."""
 import re
 from house_specs import CLOSES, OPENS, TOKEN, Item, bare
 
@@ -47,7 +48,13 @@ class Tables:
             if more <= self.holders:
                 break
             self.holders |= more
-        self.holding_fields = {name for it, fields in records.items() for name, text in fields.items() if self.holds(it.unit, text)}
+        # of each field that is a table, or holds one: the records that have it, each with what its type names
+        self.holding_fields = {}
+        for it, fields in records.items():
+            for name, text in fields.items():
+                if self.holds(it.unit, text):
+                    self.holding_fields.setdefault(name, {})[it.key] = self.meanings(it.unit, result_of(text))
+        self.named_types = {it.key for it in types}
         values = {it.key: self.meanings(it.unit, result_of(bare(it.lines[0]))) for it in specs if it.kind in ("abbrev", "unfoldable")}
         self.holding = {key for key, of in values.items() if of & self.holders}
         self.written = tables | {key for key, of in values.items() if of & tables}
@@ -76,7 +83,19 @@ class Tables:
         path = token.rstrip(".").split(".")
         key = self.house.meaning(item.unit, token)
         first = bound[path[0]] if path[0] in bound else key in self.holding if key else given and path[0][:1].isalpha()
-        return bool(first) and all(it in self.holding_fields for it in path[1:])
+        return bool(first) and self.leads(path[1:])
+
+    def leads(self, path):
+        """Fields one behind the other may end at a table, or at what holds one."""
+        records = None
+        for field in path:
+            found = [of for record, of in self.holding_fields.get(field, {}).items() if records is None or record in records]
+            if not found:
+                return False
+            records = set().union(*found)
+            if records & self.named_types:    # (another name of a type, whose records aren't looked for)
+                records = None
+        return True
 
     def part_of(self, item, read):
         """The record or the value without the fields that aren't read."""

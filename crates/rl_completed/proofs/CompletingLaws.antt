@@ -24,7 +24,8 @@ use Rattle.rl_machine.specs.Run.{run_of, stepped, turn_ranks, ranks_of_turns, st
 use Rattle.rl_machine.specs.MachineEnding.{AllDone}
 use Rattle.rl_machine.specs.laws.ReplayLaws.{stepped_one, run_append}
 use Rattle.rl_machine.specs.Start.{start_of}
-use Rattle.rl_locks.specs.Kinds.{Defined, Urgent}
+use Rattle.rl_locks.specs.Kinds.{Defined}
+use Rattle.rl_locks.specs.Urgencies.{Urgent}
 use Rattle.rl_inputs.specs.declared.complaint.Which.TheVariants as which
 use Rattle.rl_inputs.specs.Reading.{refused_in, scheduled}
 use Rattle.rl_finish.specs.WayOn.{HasSteps, AreWhole}

@@ -19,7 +19,8 @@ use Rattle.rl_machine.specs.Run.{changed_if, changed, place_of, next_block, open
 use Rattle.rl_machine.specs.GoesNext.{IsChosenOn, GoesOnOpen, GoesNext}
 use Rattle.rl_machine.specs.Start.{site_of, first_shards, start_of}
 use Rattle.rl_finish.specs.WayOn.{IsWayOn}
-use Rattle.rl_locks.specs.Kinds.{Defined, Urgent, GoesAsDefined}
+use Rattle.rl_locks.specs.Kinds.{Defined}
+use Rattle.rl_locks.specs.Urgencies.{Urgent, GoesAsDefined}
 use Rattle.rl_completed.specs.Completing.{machine_after, urgencies_from, GoNext}
 
 -- ---- a run leaves the tables of the shards

@@ -16,7 +16,8 @@ use Rattle.rl_machine.specs.Run.{run_of, ranks_of_turns, steps_in}
 use Rattle.rl_machine.specs.MachineEnding.{AllDone}
 use Rattle.rl_machine.specs.Start.{site_of, start_of}
 use Rattle.rl_finish.specs.WayOn.{IsWayOn, AreWhole}
-use Rattle.rl_locks.specs.Kinds.{Defined, Urgent}
+use Rattle.rl_locks.specs.Kinds.{Defined}
+use Rattle.rl_locks.specs.Urgencies.{Urgent}
 use Rattle.rl_inputs.specs.Reading.{scheduled}
 use Rattle.rl_completed.specs.declared.uncompleted.Reason.{Reason}
 use Rattle.rl_completed.specs.declared.uncompleted.Reason.TheVariants.{Stopped, Steps, Bytes}

@@ -9,7 +9,8 @@ ghost use Rattle.rl_ops.specs.Ops.{OpsFit};
 ghost use Rattle.rl_ops.specs.Schedule.{ScheduleFits, schedule_spelling, steps_of};
 ghost use Rattle.rl_ops.specs.ScheduleReading.{IsReadAsSchedule};
 ghost use Rattle.rl_inputs.specs.Reading.{SuitsLock};
-ghost use Rattle.rl_locks.specs.Kinds.{Urgent, GoesAsDefined, lock_kind_of};
+ghost use Rattle.rl_locks.specs.Kinds.{lock_kind_of};
+ghost use Rattle.rl_locks.specs.Urgencies.{Urgent, GoesAsDefined, urgency_of};
 ghost use Rattle.rl_completed.specs.Completing.{MakesSteps, ComeBehind, IsComplete, IsWhyNot, IsLong};
 
 use crate::stops::first_stop;
@@ -76,7 +77,7 @@ impl CoreTask for WayTask<'_> {
 
     ghost takes = { λ r place. OpsFit (length place.paths) place.geom.shards r.ops × SuitsLock place r.ops × ScheduleFits (length place.paths) r.schedule.now × AllByRecursion MakesSteps r.schedule.now.turns };
 
-    ghost gives = { λ r place kind result. ComeBehind kind.defined kind.urgent place r.ops r.schedule.now result };
+    ghost gives = { λ r place kind urgent result. ComeBehind kind.defined urgent place r.ops r.schedule.now result };
 
     fn over<C: Resting + Promising + ShardGuiding>(
         self,
@@ -126,8 +127,8 @@ pub fn completed(
     requires calls { OpsFit (length place.now.paths) place.now.geom.shards ops }
     requires suits { SuitsLock place.now ops }
     requires schedule { ScheduleFits (length place.now.paths) schedule }
-    ensures complete { IfOk result (λ text. IsComplete (lock_kind_of place.now.lock).defined (lock_kind_of place.now.lock).urgent place.now ops schedule text.items) }
-    ensures why_not { IfErr result (IsWhyNot (lock_kind_of place.now.lock).defined (lock_kind_of place.now.lock).urgent place.now ops schedule) }
+    ensures complete { IfOk result (λ text. IsComplete (lock_kind_of place.now.lock).defined (urgency_of place.now.lock) place.now ops schedule text.items) }
+    ensures why_not { IfErr result (IsWhyNot (lock_kind_of place.now.lock).defined (urgency_of place.now.lock) place.now ops schedule) }
 {
     if let Some(line) = first_stop(schedule.turns.as_slice()) {
         return Err(Uncompleted::Refused(Reason::Stopped { line }));

@@ -239,7 +239,7 @@ impl CoreTask for DrawTask<'_> {
 
     ghost takes = { λ r place. OpsFit (length place.paths) place.geom.shards r.ops.now × SuitsLock place r.ops.now × SketchFits (length place.paths) r.sketch.now };
 
-    ghost gives = { λ r place kind result. IfOk result (λ drawn. ComesTo kind.defined place r.ops.now r.sketch.now drawn × FitsWhole (length place.paths) drawn) };
+    ghost gives = { λ r place kind urgent result. IfOk result (λ drawn. ComesTo kind.defined place r.ops.now r.sketch.now drawn × FitsWhole (length place.paths) drawn) };
 
     fn over<C: Resting + Promising + ShardGuiding>(
         self,

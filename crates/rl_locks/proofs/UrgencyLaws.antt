@@ -48,7 +48,8 @@ use Rattle.rl_rank.specs.Split.{card_atom}
 use Rattle.rl_rank.specs.Whole.{lock_or_work, lock_words, next_of, work_plan}
 use Rattle.rl_rank.specs.WholeGuiding.{card_urgency, free_urgency, whole_urgent}
 use Rattle.rl_rank.specs.WholeShards.{shard_at, whole_shard}
-use Rattle.rl_locks.specs.Kinds.{Defined, Urgent, Way, locked, optimistic, combining, under, urgent_under, GoesAsDefined, spin, dmcs, cohorts, cohort_lock, cohort_urgent, alock, mcs, rw, seq, combine}
+use Rattle.rl_locks.specs.Kinds.{Defined, Way, locked, optimistic, combining, under, spin, dmcs, cohorts, cohort_lock, alock, mcs, rw, seq, combine}
+use Rattle.rl_locks.specs.Urgencies.{Urgent, urgent_under, GoesAsDefined, cohort_urgent, urgent_on_spin, urgent_on_dmcs, urgent_on_alock, urgent_on_mcs, urgent_on_rw, urgent_on_seq, urgent_on_combine}
 use Rattle.rl_spin.specs.contracts.spin.SpinAlgo.TheImpl as by_spin
 use Rattle.rl_spin.specs.contracts.guiding.SpinGuiding.TheImpl as spin_guides
 use Rattle.rl_queue.specs.contracts.dmcs.DmcsAlgo.TheImpl as by_dmcs
@@ -249,10 +250,10 @@ module _ {A V : Type 0} (table : A → LockTable V) (urgency : A → List ℕ �
   plain_goes : GoAs (tables table by_locked.ghosts.table) urgency (under lock locked) (urgent_under lock urgent locked)
   plain_goes = goes_as_defined table by_locked.ghosts.table urgency lock locked urgent stands (λ w shape home site behind x. refl) alike
 
-pub spin_goes : GoAs (tables by_spin.ghosts.table by_locked.ghosts.table) spin_guides.ghosts.urgent spin.defined spin.urgent
+pub spin_goes : GoAs (tables by_spin.ghosts.table by_locked.ghosts.table) spin_guides.ghosts.urgent spin.defined urgent_on_spin
 spin_goes = plain_goes by_spin.ghosts.table spin_guides.ghosts.urgent by_spin.ghosts.defined (λ shape home knobs. spin_urgent) (λ a shape home knobs v. refl) (λ a shape home knobs v same ws. refl)
 
-pub dmcs_goes : GoAs (tables by_dmcs.ghosts.table by_locked.ghosts.table) dmcs_guides.ghosts.urgent dmcs.defined dmcs.urgent
+pub dmcs_goes : GoAs (tables by_dmcs.ghosts.table by_locked.ghosts.table) dmcs_guides.ghosts.urgent dmcs.defined urgent_on_dmcs
 dmcs_goes =
     plain_goes by_dmcs.ghosts.table dmcs_guides.ghosts.urgent by_dmcs.ghosts.defined (λ shape home knobs. dmcs_urgent (length shape.node_of)) (λ a shape home knobs v. refl)
     (λ a shape home knobs v same ws. dmcs_alike a.home home a.node_of.items shape.node_of v same ws)
@@ -262,24 +263,24 @@ cohorts_alike : (a : _) (shape : TheShape) (home : ℕ) (knobs : Knobs) (v : Alo
     alock_guides.ghosts.urgent a ws v ≡ cohort_urgent shape home knobs ws v
 cohorts_alike a shape home knobs v same ws = alock_alike (cohorts_of a.home a.node_of.items a.local a.remote) (cohorts shape home knobs) v same ws
 
-pub alock_goes : GoAs (tables by_alock.ghosts.table by_locked.ghosts.table) alock_guides.ghosts.urgent alock.defined alock.urgent
+pub alock_goes : GoAs (tables by_alock.ghosts.table by_locked.ghosts.table) alock_guides.ghosts.urgent alock.defined urgent_on_alock
 alock_goes = plain_goes by_alock.ghosts.table alock_guides.ghosts.urgent cohort_lock cohort_urgent (λ a shape home knobs v. refl) cohorts_alike
 
-pub mcs_goes : GoAs (tables by_mcs.ghosts.table by_locked.ghosts.table) mcs_guides.ghosts.urgent mcs.defined mcs.urgent
+pub mcs_goes : GoAs (tables by_mcs.ghosts.table by_locked.ghosts.table) mcs_guides.ghosts.urgent mcs.defined urgent_on_mcs
 mcs_goes =
     plain_goes by_mcs.ghosts.table mcs_guides.ghosts.urgent by_mcs.ghosts.defined (λ shape home knobs. mcs_urgent (mcs_tree home shape)) (λ a shape home knobs v. refl)
     (λ a shape home knobs v same ws. mcs_alike a.tree.rooted (mcs_tree home shape) v same ws)
 
-pub rw_goes : GoAs (tables by_rw.ghosts.table by_locked.ghosts.table) rw_guides.ghosts.urgent rw.defined rw.urgent
+pub rw_goes : GoAs (tables by_rw.ghosts.table by_locked.ghosts.table) rw_guides.ghosts.urgent rw.defined urgent_on_rw
 rw_goes =
     plain_goes by_rw.ghosts.table rw_guides.ghosts.urgent by_rw.ghosts.defined (λ shape home knobs. rw_urgent (shared_in home shape knobs)) (λ a shape home knobs v. refl)
     (λ a shape home knobs v same ws. rw_alike (shared_of a.tree.rooted a.counters.readers a.group) (shared_in home shape knobs) v same ws)
 
 -- ALock with another way of working
-pub seq_goes : GoAs (tables by_alock.ghosts.table by_seq.ghosts.table) alock_guides.ghosts.urgent seq.defined seq.urgent
+pub seq_goes : GoAs (tables by_alock.ghosts.table by_seq.ghosts.table) alock_guides.ghosts.urgent seq.defined urgent_on_seq
 seq_goes =
     goes_as_defined by_alock.ghosts.table by_seq.ghosts.table alock_guides.ghosts.urgent cohort_lock optimistic cohort_urgent (λ a shape home knobs v. refl) (λ w shape home site behind x. refl) cohorts_alike
 
-pub combine_goes : GoAs (tables by_alock.ghosts.table by_combine.ghosts.table) alock_guides.ghosts.urgent combine.defined combine.urgent
+pub combine_goes : GoAs (tables by_alock.ghosts.table by_combine.ghosts.table) alock_guides.ghosts.urgent combine.defined urgent_on_combine
 combine_goes =
     goes_as_defined by_alock.ghosts.table by_combine.ghosts.table alock_guides.ghosts.urgent cohort_lock combining cohort_urgent (λ a shape home knobs v. refl) (λ w shape home site behind x. refl) cohorts_alike

@@ -1,22 +1,17 @@
 -- The kinds of locks, each with the way in which blocks are done under it. One place says which kind guards the shards of a placement
 -- (`lock_kind_of`): for a replay and for a run by threads, for their reports and for what is promised.
-use Rattle.std.specs.Prelude.{◌≡◌, ℕ, List, length, Option}
+use Rattle.std.specs.Prelude.{ℕ, List}
 use Rattle.rl_word.specs.Shapes.{TheShape}
 use Rattle.rl_word.specs.declared.shapes.Knobs.{Knobs}
 use Rattle.rl_step.specs.declared.events.Event.{Event}
 use Rattle.rl_step.specs.Lock.{LockTable, no_more}
 use Rattle.rl_step.specs.Transitions.{Transition}
 use Rattle.rl_spin.specs.Spin.{spin_table}
-use Rattle.rl_spin.specs.SpinUrgency.{spin_urgent}
 use Rattle.rl_queue.specs.Dmcs.{dmcs_table}
-use Rattle.rl_queue.specs.DmcsUrgency.{dmcs_urgent}
 use Rattle.rl_alock.specs.declared.view.AlockView.{AlockView}
 use Rattle.rl_alock.specs.Alock.{Cohorts, alock_table, BoundsOvertaking}
-use Rattle.rl_alock.specs.AlockUrgency.{alock_urgent}
 use Rattle.rl_mcs.specs.Mcs.{mcs_table, mcs_tree}
-use Rattle.rl_mcs.specs.McsUrgency.{mcs_urgent}
 use Rattle.rl_rw.specs.Rw.{shared_in, rw_table, BoundsBatches}
-use Rattle.rl_rw.specs.RwUrgency.{rw_urgent}
 use Rattle.rl_site.specs.Site.{Site, WaySite}
 use Rattle.rl_work.specs.Work.{TheWork}
 use Rattle.rl_work.specs.Ways.{WorkTable}
@@ -27,7 +22,6 @@ use Rattle.rl_combine.specs.Combine.{TheCombineSide, combine_table}
 use Rattle.rl_core.specs.ShardTables.{ShardTable}
 use Rattle.rl_rank.specs.declared.whole.WholeView.{WholeView}
 use Rattle.rl_rank.specs.Running.{lock_with, kinds}
-use Rattle.rl_rank.specs.WholeGuiding.{whole_urgent}
 use Rattle.rl_rank.specs.WholeShards.{whole_shard}
 use Rattle.rl_locks.specs.OnShards.{OfShard}
 use Rattle.rl_locks.specs.Holding.{KeepsReads}
@@ -40,21 +34,15 @@ use Rattle.rl_place.specs.declared.lock.Lock.TheVariants as lock
 abbrev pub Defined : Type 0 → Type 0
 Defined V = TheShape → ℕ → Knobs → Site → ShardTable V
 
--- by the same, how urgently a rank goes on there, by the shard's words and what the rank knows: the smaller number first, and none of who waits
--- for others or has no block open
-abbrev pub Urgent : Type 0 → Type 0
-Urgent V = TheShape → ℕ → Knobs → Site → List ℕ → V → Option ℕ
-
 -- by the first three, what is promised of the events on the shard and of its atoms, by the lock's words before and after each
 abbrev pub Promised : Type 1
 Promised = TheShape → ℕ → Knobs → List Event → List Transition → Type 0
 
--- A kind of lock: what a rank knows on one shard; the rank's machine there, and how urgently it goes on; what the kind promises of events and
--- acts beyond what every lock promises; and what its way of doing blocks promises of a shard's words and of its ranks' views.
+-- A kind of lock: what a rank knows on one shard; the rank's machine there; what the kind promises of events and acts beyond what every lock
+-- promises; and what its way of doing blocks promises of a shard's words and of its ranks' views.
 pub record LockKind : Type 1 where
   pub View : Type 0
   pub defined : Defined View
-  pub urgent : Urgent View
   pub promised : Promised
   pub ways : OfShard View
 
@@ -80,25 +68,15 @@ combining shape home site behind =
 abbrev pub under : {V K : Type 0} → (TheShape → ℕ → Knobs → LockTable V) → Way K → Defined (WholeView V K)
 under lock way shape home knobs site = whole_shard (lock_with (kinds lock way shape home knobs) site) home
 
--- and how urgently its ranks go on, by how urgently they go on at the lock
-abbrev pub urgent_under : {V K : Type 0} → (TheShape → ℕ → Knobs → LockTable V) → (TheShape → ℕ → Knobs → List ℕ → V → Option ℕ) → Way K → Urgent (WholeView V K)
-urgent_under lock urgent way shape home knobs site = whole_urgent (lock_with (kinds lock way shape home knobs) site) (urgent shape home knobs)
-
--- Each of these cores lets its ranks go on as it is defined: as urgently as the kind says whose machine it has.
-abbrev pub GoesAsDefined : {C V : Type 0} → (C → ShardTable V) → (C → List ℕ → V → Option ℕ) → Defined V → Urgent V → Type 0
-GoesAsDefined table urgency defined urgent =
-    (core : _) (shape : TheShape) (home : ℕ) (knobs : Knobs) (site : Site) (words : List ℕ) (v : _) → table core ≡ defined shape home knobs site → urgency core words v ≡ urgent shape home knobs site words v
-
--- a lock that is defined so, lets its ranks go on so, and promises this beyond every lock, with each block under it
-abbrev pub plain : {V : Type 0} → (TheShape → ℕ → Knobs → LockTable V) → (TheShape → ℕ → Knobs → List ℕ → V → Option ℕ) → Promised → LockKind
-plain {V} lock urgent promised =
-    record { View = WholeView V TheWork; defined = under lock locked; urgent = urgent_under lock urgent locked; promised = promised; ways = KeepsReads }
+-- a lock that is defined so and promises this beyond every lock, with each block under it
+abbrev pub plain : {V : Type 0} → (TheShape → ℕ → Knobs → LockTable V) → Promised → LockKind
+plain {V} lock promised = record { View = WholeView V TheWork; defined = under lock locked; promised = promised; ways = KeepsReads }
 
 abbrev pub spin : LockKind
-spin = plain (λ shape home knobs. spin_table home) (λ shape home knobs. spin_urgent) (λ shape home knobs. no_more)
+spin = plain (λ shape home knobs. spin_table home) (λ shape home knobs. no_more)
 
 abbrev pub dmcs : LockKind
-dmcs = plain (λ shape home knobs. dmcs_table home shape.node_of) (λ shape home knobs. dmcs_urgent (length shape.node_of)) (λ shape home knobs. no_more)
+dmcs = plain (λ shape home knobs. dmcs_table home shape.node_of) (λ shape home knobs. no_more)
 
 abbrev pub cohorts : TheShape → ℕ → Knobs → Cohorts
 cohorts shape home knobs = record { home = home; node_of = shape.node_of; local = knobs.local; remote = knobs.remote }
@@ -106,46 +84,26 @@ cohorts shape home knobs = record { home = home; node_of = shape.node_of; local 
 abbrev pub cohort_lock : TheShape → ℕ → Knobs → LockTable AlockView
 cohort_lock shape home knobs = alock_table (cohorts shape home knobs)
 
--- how urgently a rank goes on there
-abbrev pub cohort_urgent : TheShape → ℕ → Knobs → List ℕ → AlockView → Option ℕ
-cohort_urgent shape home knobs = alock_urgent (cohorts shape home knobs)
-
 -- after each announcement of a cohort, and until it enters, the other enters at most as often as its budget and once more
 abbrev pub bounds_cohorts : Promised
 bounds_cohorts shape home knobs = BoundsOvertaking (cohorts shape home knobs)
 
 abbrev pub alock : LockKind
-alock = plain cohort_lock cohort_urgent bounds_cohorts
+alock = plain cohort_lock bounds_cohorts
 
 abbrev pub mcs : LockKind
-mcs = plain (λ shape home knobs. mcs_table (mcs_tree home shape)) (λ shape home knobs. mcs_urgent (mcs_tree home shape)) (λ shape home knobs. no_more)
+mcs = plain (λ shape home knobs. mcs_table (mcs_tree home shape)) (λ shape home knobs. no_more)
 
 -- while no atom lowers the arrive word of a group at most as many readers of the group enter as the settings say
 abbrev pub rw : LockKind
-rw =
-    plain (λ shape home knobs. rw_table (shared_in home shape knobs)) (λ shape home knobs. rw_urgent (shared_in home shape knobs))
-    (λ shape home knobs. BoundsBatches (shared_in home shape knobs))
+rw = plain (λ shape home knobs. rw_table (shared_in home shape knobs)) (λ shape home knobs. BoundsBatches (shared_in home shape knobs))
 
 -- these two stand on ALock, and promise what it does
 abbrev pub seq : LockKind
-seq =
-    record {
-      View = WholeView AlockView TheSeqWork;
-      defined = under cohort_lock optimistic;
-      urgent = urgent_under cohort_lock cohort_urgent optimistic;
-      promised = bounds_cohorts;
-      ways = KeepsGets;
-    }
+seq = record { View = WholeView AlockView TheSeqWork; defined = under cohort_lock optimistic; promised = bounds_cohorts; ways = KeepsGets }
 
 abbrev pub combine : LockKind
-combine =
-    record {
-      View = WholeView AlockView TheCombineSide;
-      defined = under cohort_lock combining;
-      urgent = urgent_under cohort_lock cohort_urgent combining;
-      promised = bounds_cohorts;
-      ways = KeepsCombining;
-    }
+combine = record { View = WholeView AlockView TheCombineSide; defined = under cohort_lock combining; promised = bounds_cohorts; ways = KeepsCombining }
 
 -- the kind of a placement's lock
 abbrev pub lock_kind_of : Lock → LockKind

@@ -1,5 +1,6 @@
 -- to be believed
 pub mod Kinds
+pub mod Urgencies
 pub mod Loads
 pub mod Holding
 pub mod OnShards

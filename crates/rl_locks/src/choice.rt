@@ -5,7 +5,8 @@ ghost use Rattle.rl_step.specs.LockQueues.{lock_under, does_batches};
 ghost use Rattle.rl_place.specs.LockWords.{name_of};
 ghost use Rattle.rl_place.specs.Places.{ThePlace, IsProper};
 ghost use Rattle.rl_place.specs.Shapes.{shape_of, knobs_of};
-ghost use Rattle.rl_locks.specs.Kinds.{LockKind, Urgent, GoesAsDefined, lock_kind_of};
+ghost use Rattle.rl_locks.specs.Kinds.{LockKind, lock_kind_of};
+ghost use Rattle.rl_locks.specs.Urgencies.{Urgent, GoesAsDefined, urgency_of};
 
 use crate::ways::Promising;
 use crate::{AlockCore, CombineCore, DmcsCore, McsCore, RwCore, SeqCore, SpinCore};
@@ -20,26 +21,26 @@ pub trait CoreTask {
     /// What must hold of the placement.
     ghost takes: { Self → ThePlace → Type 0 };
 
-    /// What holds of what comes of it, by the placement and the kind of its lock.
-    ghost gives: { Self → ThePlace → LockKind → Self.Out → Type 0 };
+    /// What holds of what comes of it, by the placement, the kind of its lock and how urgently that lets its ranks go on.
+    ghost gives: { Self → ThePlace → (kind : LockKind) → Urgent kind.View → Self.Out → Type 0 };
 
     /// Does it with this core, which is that of the placement's lock: the settings suit it, it asks for the lock on which that one
-    /// stands, and it does batches where that one does them. The kind is the core's, with whichever definition of how urgently ranks go
-    /// on the core keeps to.
+    /// stands, and it does batches where that one does them. The kind is the core's, and its ranks go on as urgently as
+    /// whichever definition says that the core keeps to.
     fn over<C: Resting + Promising + ShardGuiding>(self, place: &Place) -> Self::Out
         requires proper { IsProper place.now }
         requires takes { takes self place.now }
         requires knobs { C.suits_knobs (shape_of place.now) (knobs_of place.now.lock) }
         requires kind { C.name ≡ lock_under (name_of place.now.lock) }
         requires batches { C.batches ≡ does_batches (name_of place.now.lock) }
-        ensures { (urgent : Urgent C.View) → GoesAsDefined C.shard_table C.urgent C.defined urgent → gives self place.now (record { View = C.View; defined = C.defined; urgent = urgent; promised = C.promised; ways = C.ways }) result };
+        ensures { (urgent : Urgent C.View) → GoesAsDefined C.shard_table C.urgent C.defined urgent → gives self place.now (record { View = C.View; defined = C.defined; promised = C.promised; ways = C.ways }) urgent result };
 }
 
 /// Does a task with the core of a placement's lock.
 pub fn over_lock<T: CoreTask>(place: &Place, task: T) -> T::Out
     requires proper { IsProper place.now }
     requires takes { T.takes task place.now }
-    ensures { T.gives task place.now (lock_kind_of place.now.lock) result }
+    ensures { T.gives task place.now (lock_kind_of place.now.lock) (urgency_of place.now.lock) result }
 {
     match &place.lock {
         Lock::Spin => task.over::<SpinCore>(place),

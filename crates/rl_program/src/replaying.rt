@@ -67,7 +67,7 @@ impl CoreTask for ReplayTask<'_> {
 
     ghost takes = { λ r place. OpsFit (length place.paths) place.geom.shards r.ops × SuitsLock place r.ops × ScheduleFits (length place.paths) r.schedule.now };
 
-    ghost gives = { λ r place kind result.
+    ghost gives = { λ r place kind urgent result.
         IfOk result (λ report. report ≡ report_in (queue_count place) (run_with kind.defined place r.ops r.schedule.now))
         × IfOk result (λ _. IsKept kind.defined kind.promised kind.ways place r.ops r.schedule.now)
         × IfOk result (λ report. IsLawfulReplay place r.ops report) };

@@ -82,7 +82,7 @@ impl CoreTask for ListTask<'_> {
 
     ghost takes = { λ r place. OpsFit (length place.paths) place.geom.shards r.ops × SuitsLock place r.ops × ScheduleFits (length place.paths) r.schedule.now };
 
-    ghost gives = { λ r place kind result. IfOk result (λ text. text.items ≡ listing_with kind.defined place r.ops r.schedule.now r.window) };
+    ghost gives = { λ r place kind urgent result. IfOk result (λ text. text.items ≡ listing_with kind.defined place r.ops r.schedule.now r.window) };
 
     fn over<C: Resting + Promising + ShardGuiding>(
         self,

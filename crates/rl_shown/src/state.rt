@@ -151,7 +151,7 @@ impl CoreTask for StateTask<'_> {
 
     ghost takes = { λ r place. OpsFit (length place.paths) place.geom.shards r.ops × SuitsLock place r.ops × ScheduleFits (length place.paths) r.schedule.now };
 
-    ghost gives = { λ r place kind result. IfOk result (λ text. text.items ≡ state_with kind.defined place r.ops r.schedule.now r.step) };
+    ghost gives = { λ r place kind urgent result. IfOk result (λ text. text.items ≡ state_with kind.defined place r.ops r.schedule.now r.step) };
 
     fn over<C: Resting + Promising + ShardGuiding>(
         self,

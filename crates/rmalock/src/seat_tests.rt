@@ -200,7 +200,7 @@ impl CoreTask for SeatsTask<'_> {
 
     ghost takes = { λ b place. Unit {0} };
 
-    ghost gives = { λ b place kind told. Unit {0} };
+    ghost gives = { λ b place kind urgent told. Unit {0} };
 
     fn over<C: Resting + Promising + ShardGuiding>(
         self,

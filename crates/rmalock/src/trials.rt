@@ -136,7 +136,7 @@ impl CoreTask for TrialTask<'_> {
         OpsFit (length place.paths) place.geom.shards t.ops × SuitsLock place t.ops
         × OpsFit (length place.paths) place.geom.shards t.again × SuitsLock place t.again };
 
-    ghost gives = { λ t place kind told. Unit {0} };
+    ghost gives = { λ t place kind urgent told. Unit {0} };
 
     fn over<C: Resting + Promising + ShardGuiding>(
         self,

@@ -5,6 +5,7 @@ use Rattle.rl_inputs.specs.declared.complaint.Complaint.{Complaint}
 use Rattle.rl_inputs.specs.declared.replay.Replay.{Replay}
 use Rattle.rl_inputs.specs.Files.{Names, Texts, AreTexts, MayOpenFiles, name_of, spelled, refused_line}
 use Rattle.rl_locks.specs.Kinds.{lock_kind_of}
+use Rattle.rl_locks.specs.Urgencies.{urgency_of}
 use Rattle.rl_completed.specs.declared.uncompleted.Reason.{Reason}
 use Rattle.rl_completed.specs.Completing.{IsComplete, IsReason, reason_line}
 use Rattle.rmalock_finish.specs.declared.answering.Answer.{Answer}
@@ -22,11 +23,11 @@ asked_by _ = None
 
 -- with status 0 a text is the schedule of a replay made complete
 abbrev pub Completes : Replay → List ℕ → Type 0
-Completes replay text = IsComplete (lock_kind_of replay.place.lock).defined (lock_kind_of replay.place.lock).urgent replay.place replay.ops replay.schedule text
+Completes replay text = IsComplete (lock_kind_of replay.place.lock).defined (urgency_of replay.place.lock) replay.place replay.ops replay.schedule text
 
 -- with status 2 it is the line of a reason that holds, for a schedule file of this name
 abbrev pub TellsReason : List ℕ → Replay → List ℕ → Type 0
-TellsReason name replay text = (reason : Reason) × IsReason (lock_kind_of replay.place.lock).defined (lock_kind_of replay.place.lock).urgent replay.place replay.ops replay.schedule reason × (text ≡ reason_line name reason)
+TellsReason name replay text = (reason : Reason) × IsReason (lock_kind_of replay.place.lock).defined (urgency_of replay.place.lock) replay.place replay.ops replay.schedule reason × (text ≡ reason_line name reason)
 
 abbrev pub AnswersReplay : List ℕ → Replay → ℕ → List ℕ → Type 0
 AnswersReplay name replay status text = ((status ≡ 0) × Completes replay text) ⊎ ((status ≡ 2) × TellsReason name replay text)

@@ -243,7 +243,7 @@ impl CoreTask for RecordTask<'_> {
 
     ghost takes = { λ r place. OpsFit (length place.paths) place.geom.shards r.ops × SuitsLock place r.ops × ScheduleFits (length place.paths) r.schedule.now × (r.window.to ≤ 2000000) };
 
-    ghost gives = { λ r place kind result. IfOk result (λ lanes. vec_len lanes ≡ length place.paths) };
+    ghost gives = { λ r place kind urgent result. IfOk result (λ lanes. vec_len lanes ≡ length place.paths) };
 
     fn over<C: Resting + Promising + ShardGuiding>(
         self,

@@ -2,6 +2,7 @@
 use Rattle.std.proofs.Common.{◌≡◌, ap, sym, subst, ◌∙◌}
 use Rattle.rl_place.specs.declared.lock.Lock.{Lock}
 use Rattle.rl_locks.specs.Kinds.{LockKind, lock_kind_of}
+use Rattle.rl_locks.specs.Urgencies.{Urgent, urgency_of}
 use Rattle.rl_locks.proofs.BudgetLaws.{budgeted, suits_rw}
 use Rattle.rl_locks.proofs.UrgencyLaws.{spin_goes, dmcs_goes, alock_goes, mcs_goes, rw_goes, seq_goes, combine_goes}
 use Rattle.rl_locks.proofs.choice.over_lock.Goals as goal
@@ -13,40 +14,40 @@ pub over-requires-in-Rw-clause-knobs : goal.over-requires-in-Rw-clause-knobs
 over-requires-in-Rw-clause-knobs g c = suits_rw c.args.place.now _ _ _ _ c.requires.proper (ap (λ p. p.lock) (sym c.place.view_is) ∙ c.in-Rw.is)
 
 -- what is said of the kind of this lock is said of the placement's
-of_kind : (said : LockKind → Type 0) (its here : Lock) → its ≡ here → said (lock_kind_of here) → said (lock_kind_of its)
-of_kind said its here is done = subst (λ l. said (lock_kind_of l)) (sym is) done
+of_kind : (said : (kind : LockKind) → Urgent kind.View → Type 0) (its here : Lock) → its ≡ here → said (lock_kind_of here) (urgency_of here) → said (lock_kind_of its) (urgency_of its)
+of_kind said its here is done = subst (λ l. said (lock_kind_of l) (urgency_of l)) (sym is) done
 
 pub returns-in-Spin : goal.returns-in-Spin
 returns-in-Spin g c =
-    of_kind (λ kind. g.T.CoreTask.gives c.args.task c.args.place.now kind c.over.result) c.args.place.now.lock _ (ap (λ p. p.lock) (sym c.place.view_is) ∙ c.in-Spin.is)
+    of_kind (λ kind urgent. g.T.CoreTask.gives c.args.task c.args.place.now kind urgent c.over.result) c.args.place.now.lock _ (ap (λ p. p.lock) (sym c.place.view_is) ∙ c.in-Spin.is)
     (c.over.ensures _ spin_goes)
 
 pub returns-in-Dmcs : goal.returns-in-Dmcs
 returns-in-Dmcs g c =
-    of_kind (λ kind. g.T.CoreTask.gives c.args.task c.args.place.now kind c.over-in-Dmcs.result) c.args.place.now.lock _ (ap (λ p. p.lock) (sym c.place.view_is) ∙ c.in-Dmcs.is)
+    of_kind (λ kind urgent. g.T.CoreTask.gives c.args.task c.args.place.now kind urgent c.over-in-Dmcs.result) c.args.place.now.lock _ (ap (λ p. p.lock) (sym c.place.view_is) ∙ c.in-Dmcs.is)
     (c.over-in-Dmcs.ensures _ dmcs_goes)
 
 pub returns-in-Alock : goal.returns-in-Alock
 returns-in-Alock g c =
-    of_kind (λ kind. g.T.CoreTask.gives c.args.task c.args.place.now kind c.over-in-Alock.result) c.args.place.now.lock _ (ap (λ p. p.lock) (sym c.place.view_is) ∙ c.in-Alock.is)
+    of_kind (λ kind urgent. g.T.CoreTask.gives c.args.task c.args.place.now kind urgent c.over-in-Alock.result) c.args.place.now.lock _ (ap (λ p. p.lock) (sym c.place.view_is) ∙ c.in-Alock.is)
     (c.over-in-Alock.ensures _ alock_goes)
 
 pub returns-in-Mcs : goal.returns-in-Mcs
 returns-in-Mcs g c =
-    of_kind (λ kind. g.T.CoreTask.gives c.args.task c.args.place.now kind c.over-in-Mcs.result) c.args.place.now.lock _ (ap (λ p. p.lock) (sym c.place.view_is) ∙ c.in-Mcs.is)
+    of_kind (λ kind urgent. g.T.CoreTask.gives c.args.task c.args.place.now kind urgent c.over-in-Mcs.result) c.args.place.now.lock _ (ap (λ p. p.lock) (sym c.place.view_is) ∙ c.in-Mcs.is)
     (c.over-in-Mcs.ensures _ mcs_goes)
 
 pub returns-in-Rw : goal.returns-in-Rw
 returns-in-Rw g c =
-    of_kind (λ kind. g.T.CoreTask.gives c.args.task c.args.place.now kind c.over-in-Rw.result) c.args.place.now.lock _ (ap (λ p. p.lock) (sym c.place.view_is) ∙ c.in-Rw.is)
+    of_kind (λ kind urgent. g.T.CoreTask.gives c.args.task c.args.place.now kind urgent c.over-in-Rw.result) c.args.place.now.lock _ (ap (λ p. p.lock) (sym c.place.view_is) ∙ c.in-Rw.is)
     (c.over-in-Rw.ensures _ rw_goes)
 
 pub returns-in-Seq : goal.returns-in-Seq
 returns-in-Seq g c =
-    of_kind (λ kind. g.T.CoreTask.gives c.args.task c.args.place.now kind c.over-in-Seq.result) c.args.place.now.lock _ (ap (λ p. p.lock) (sym c.place.view_is) ∙ c.in-Seq.is)
+    of_kind (λ kind urgent. g.T.CoreTask.gives c.args.task c.args.place.now kind urgent c.over-in-Seq.result) c.args.place.now.lock _ (ap (λ p. p.lock) (sym c.place.view_is) ∙ c.in-Seq.is)
     (c.over-in-Seq.ensures _ seq_goes)
 
 pub returns-in-Combine : goal.returns-in-Combine
 returns-in-Combine g c =
-    of_kind (λ kind. g.T.CoreTask.gives c.args.task c.args.place.now kind c.over-in-Combine.result) c.args.place.now.lock _ (ap (λ p. p.lock) (sym c.place.view_is) ∙ c.in-Combine.is)
+    of_kind (λ kind urgent. g.T.CoreTask.gives c.args.task c.args.place.now kind urgent c.over-in-Combine.result) c.args.place.now.lock _ (ap (λ p. p.lock) (sym c.place.view_is) ∙ c.in-Combine.is)
     (c.over-in-Combine.ensures _ combine_goes)
