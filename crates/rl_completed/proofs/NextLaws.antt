@@ -16,7 +16,7 @@ use Rattle.rl_core.specs.Asks.{block_shard}
 use Rattle.rl_machine.specs.Running.{ShardRun, Running, TheShard, TheMachine, shard_run, running, shard_cores, cores_of}
 use Rattle.rl_machine.specs.ShardSteps.{opened_at, opened_on, makes, made_at, atom_on}
 use Rattle.rl_machine.specs.Run.{changed_if, changed, place_of, next_block, opens, opened_if, block_opened, stepped, run_of, ranks_of_turns}
-use Rattle.rl_machine.specs.GoesNext.{IsChosenOn, GoesOnOpen, GoesNext}
+use Rattle.rl_machine.specs.GoesNext.{IsChosenOn, GoesNext}
 use Rattle.rl_machine.specs.Start.{site_of, first_shards, start_of}
 use Rattle.rl_finish.specs.WayOn.{IsWayOn}
 use Rattle.rl_locks.specs.Kinds.{Defined}
