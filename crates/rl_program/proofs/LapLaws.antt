@@ -1,5 +1,5 @@
 -- Laps: who has work, and what no turn changes.
-use Rattle.std.proofs.Common.{◌≡◌, ℕ, zero, suc, ◌+◌, ◌-◌, ◌<◌, ◌≤◌, min, length, Bool, true, false, ◌||◌, ◌⊎◌, inl, inr, refl, sym, ap, ◌∙◌, add-one, arith}
+use Rattle.std.proofs.Common.{nat_lt, ⊎_elim, ◌≡◌, ℕ, zero, suc, ◌+◌, ◌-◌, ◌<◌, ◌≤◌, min, length, Bool, true, false, ◌||◌, ◌⊎◌, inl, inr, refl, sym, ap, ◌∙◌, add-one, arith}
 use Rattle.std.proofs.lemmas.Bool.{lt-ltb, le-ltb}
 use Rattle.rl_word.specs.laws.Places.{same_or_not}
 use Rattle.rl_machine.specs.Running.{Running}
@@ -13,6 +13,15 @@ or_true false = refl
 pub or_false : (b : Bool) → (b || false) ≡ b
 or_false true = refl
 or_false false = refl
+
+-- a step may be made where some are left
+pub may_left : (most made left : ℕ) → left ≡ most - made → nat_lt made most ≡ nat_lt 0 left
+may_left most made left is =
+    ⊎_elim (λ some. lt-ltb made most (omega (arith, some, is)) ∙ sym (lt-ltb 0 left some)) (λ none. le-ltb made most (omega (arith, none, is)) ∙ sym (le-ltb 0 left none)) (some_or_none left)
+  where
+    some_or_none : (n : ℕ) → (0 < n) ⊎ (n ≤ 0)
+    some_or_none zero = inr (omega arith)
+    some_or_none (suc n) = inl (omega arith)
 
 module _ {V : Type 0} (m : Running V) where
   -- one of them has it

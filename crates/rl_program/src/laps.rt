@@ -60,9 +60,12 @@ fn take_turns<C: Resting>(
     ensures many { length rests.new.items ≡ length rests.old.items }
     ensures rested { IfOk result (λ _. AllRested C.with_sight (running C.shard_table machine.new) rests.new.items) }
 {
+    // Counted down here, which is faster than adding up the machine's five counters before each step.
+    let mut left = u64::from(most).saturating_sub(machine.steps().made());
     for rank in 0..ranks {
-        if may_step(machine, most) {
+        if left > 0 {
             take_steps(machine, rests, rank, 1)?;
+            left -= 1;
         }
     }
     Ok(())

@@ -1,5 +1,6 @@
--- The ranks so far have taken their turns, and what is noted of each rank is true.
-use Rattle.std.proofs.Common.{◌≡◌, length}
+-- The ranks so far have taken their turns, what is noted of each rank is true, and so many steps are left.
+use Rattle.std.proofs.Common.{◌≡◌, ◌-◌, length}
+use Rattle.rl_step.specs.Answers.{steps_made}
 use Rattle.rl_machine.specs.Running.{running}
 use Rattle.rl_replay.specs.Rested.{AllRested}
 use Rattle.rl_program.specs.Laps.{turns}
@@ -10,3 +11,4 @@ invariant-loop-rank g l =
     (running g.C.ShardCore.shard_table l.machine ≡ turns l.most (running g.C.ShardCore.shard_table l.fn.machine) l.rank)
     × (length l.rests.items ≡ length l.fn.rests.items)
     × AllRested g.C.Resting.with_sight (running g.C.ShardCore.shard_table l.machine) l.rests.items
+    × (l.left ≡ l.most - steps_made l.machine.steps)
