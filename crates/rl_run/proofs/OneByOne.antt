@@ -5,6 +5,12 @@ use Rattle.std.proofs.lemmas.List.Elements.{All-head, All-tail}
 use Rattle.rl_run.specs.Rows.{IsGrid, IsColumn, heads, tails, AreEnded}
 use Rattle.rl_run.specs.laws.RowLaws.{EndsSoFar, first_column, other_columns, goes_next, goes_end, heads_long, rows_some, no_rows}
 
+-- the rows in turn are as many as the rows
+pub first_rooted : {W T X Y : Type 0} (f : X → List T) (h : Y → List T) (Root : ℕ → W → Type 0) (ws : List W) (rows : List X) (turns : List Y) (n m : ℕ) → All (Root n) ws → n ≡ length rows → m ≡ length turns → map h turns ≡ map f rows → All (Root m) ws
+first_rooted f h Root ws rows turns n m rooted en em is =
+    let long : m ≡ n = em ∙ sym (length-map turns h) ∙ ap length is ∙ length-map rows f ∙ sym en in
+    subst (λ k. All (Root k) ws) (sym long) rooted
+
 module _ {W T E X : Type 0} (f : X → List T) (P : W → ℕ → T → Type 0) (Root : ℕ → W → Type 0) (Q : W → List T → E → Type 0) (ws rest : List W) (w : W) (rows : List X) where
   pub column_seats : (column : List T) → ws ≡ w ∷ rest → IsGrid P ws (map f rows) → column ≡ heads (map f rows) → IsColumn P w column
   column_seats column more grid first =

@@ -8,7 +8,7 @@ ghost use Rattle.rl_run.specs.Rows.{IsGrid, IsColumn, AreEnded};
 ghost use Rattle.rl_run.specs.Runs.{IsShutSeat};
 
 use crate::caller::Caller;
-use crate::rows::first_seats;
+use crate::rows::{next_seats, rows_in_turn};
 use rl_core::ShardCore;
 use rl_shard::{Closed, Seat, Shard};
 use std::alloc::{AllocError as OutOfMemory, Global};
@@ -42,18 +42,18 @@ fn close_one<C: ShardCore>(shard: Shard<C>, column: Vec<Seat<C>>) -> Result<Clos
 /// Closes the shards one after the other, each with its seats in the order of the ranks. Refused only for want of memory.
 pub fn close_all<C: ShardCore>(
     alloc: Global,
-    mut shards: Vec<Shard<C>>,
-    mut rows: Vec<Vec<Seat<C>>>,
+    shards: Vec<Shard<C>>,
+    rows: Vec<Vec<Seat<C>>>,
 ) -> Result<Vec<Closed>, OutOfMemory>
     requires rooted { All (IsShardOf C.shard_table (vec_len rows)) shards.items }
     requires grid { IsGrid (IsShutSeat C.shard_table C.good C.layout) shards.items (map vec_items rows.items) }
     ensures { IfOk result (λ ends. AreEnded (IsEnd C.shard_table C.layout) shards.items (map vec_items rows.items) ends.items) }
 {
     let mut ends = Vec::with_capacity(alloc, shards.len())?;
-    while shards.len() > 0 {
-        let shard = shards.remove(0);
-        let (column, rest) = first_seats(alloc, rows)?;
-        rows = rest;
+    let mut left = rows_in_turn(alloc, rows)?;
+    for shard in shards {
+        let (column, rest) = next_seats(alloc, left)?;
+        left = rest;
         ends.push_reserved(close_one(shard, column)?);
     }
     Ok(ends)

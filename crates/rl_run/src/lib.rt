@@ -2,7 +2,7 @@
 //!
 //! - A *caller* (`Caller`) makes the calls of a rank, block after block, each on the shard of its calls: it opens the next block where none
 //!   is open, and steps the rank's seat there.
-//! - The seats lie in *rows*, one for each rank, with a seat for each shard; shards are closed by *columns*, each with the first seat of
+//! - The seats lie in *rows*, one for each rank, with a seat for each shard; shards are closed by *columns*, each with the next seat of
 //!   every row.
 //! - A *gate* (of `rl_io`) is told of each block and each step.
 //!
@@ -28,7 +28,7 @@ pub use caller::Caller;
 pub use closing::{close_all, rows_of};
 pub use opening::{begin_all, callers_of, open_all};
 pub use reporting::{part_of, replies_fit, tallies_fit};
-pub use rows::{deal_seats, first_seats};
+pub use rows::deal_seats;
 pub use run::run_callers;
 pub use whole_run::run_all;
 pub use working::work_all;

@@ -19,13 +19,17 @@ use rl_shard::{Seat, Shard};
 use rl_word::{Knobs, Shape};
 use std::alloc::{AllocError as OutOfMemory, Global};
 
-// So many empty rows.
-fn empty_rows<T: Drop>(alloc: Global, ranks: usize) -> Result<Vec<Vec<T>>, OutOfMemory>
+// So many empty rows, each with room for a seat of each shard, so that it moves none while it grows.
+fn empty_rows<T: Drop>(
+    alloc: Global,
+    ranks: usize,
+    shards: usize,
+) -> Result<Vec<Vec<T>>, OutOfMemory>
     ensures { IfOk result (λ rows. map vec_items rows.items ≡ replicate ranks []) }
 {
     let mut rows = Vec::new(alloc);
     for _ in 0..ranks {
-        rows.push(Vec::new(alloc))?;
+        rows.push(Vec::with_capacity(alloc, shards)?)?;
     }
     Ok(rows)
 }
@@ -52,7 +56,7 @@ pub fn open_all<C: ShardCore>(
 {
     let mut rooms = ops.rooms(alloc, geom)?;
     let mut shards = Vec::new(alloc);
-    let mut rows = empty_rows(alloc, ops.by_rank.as_slice().len())?;
+    let mut rows = empty_rows(alloc, ops.by_rank.as_slice().len(), geom.shards as usize)?;
     for number in 0..geom.shards {
         let home = homes[number as usize];
         let room = rooms.remove(0);

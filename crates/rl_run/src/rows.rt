@@ -1,25 +1,42 @@
 //! Seats as a row for each rank, and as a column for each shard.
 
-ghost use Rattle.std.specs.Prelude.{◌≡◌, ◌<◌, ℕ, List, length, map, slice_get, Some, IfOk, vec_items, vec_len};
+ghost use Rattle.std.specs.Prelude.{◌≡◌, map, IfOk, vec_items, vec_len};
+ghost use Rattle.std.specs.Vec.Iter.{into_iter_items};
 ghost use Rattle.rl_run.specs.Rows.{heads, tails, with_column};
 
 use std::alloc::{AllocError as OutOfMemory, Global};
+use std::vec::IntoIter;
 
-/// The first seat of each row, which are the seats of the first shard, and the rest of each row.
-pub fn first_seats<T: Drop>(
+/// The rows, each to be gone through from its first seat on: where that one is taken, no other seat moves.
+pub(crate) fn rows_in_turn<T: Drop>(
     alloc: Global,
-    mut rows: Vec<Vec<T>>,
-) -> Result<(Vec<T>, Vec<Vec<T>>), OutOfMemory>
-    requires some { (r : ℕ) (row : List T) → slice_get (map vec_items rows.items) r ≡ Some row → 0 < length row }
-    ensures first { IfOk result (λ p. p.0.items ≡ heads (map vec_items rows.items)) }
-    ensures rest { IfOk result (λ p. map vec_items p.1.items ≡ tails (map vec_items rows.items)) }
+    rows: Vec<Vec<T>>,
+) -> Result<Vec<IntoIter<T>>, OutOfMemory>
+    ensures { IfOk result (λ turns. map into_iter_items turns.items ≡ map vec_items rows.items) }
+{
+    let mut turns = Vec::with_capacity(alloc, rows.len())?;
+    for row in rows {
+        turns.push_reserved(row.into_iter());
+    }
+    Ok(turns)
+}
+
+/// The next seat of each row, which are the seats of the next shard, and the rest of each row.
+pub(crate) fn next_seats<T: Drop>(
+    alloc: Global,
+    rows: Vec<IntoIter<T>>,
+) -> Result<(Vec<T>, Vec<IntoIter<T>>), OutOfMemory>
+    ensures first { IfOk result (λ p. p.0.items ≡ heads (map into_iter_items rows.items)) }
+    ensures rest { IfOk result (λ p. map into_iter_items p.1.items ≡ tails (map into_iter_items rows.items)) }
 {
     let mut column = Vec::with_capacity(alloc, rows.len())?;
     let mut rest = Vec::with_capacity(alloc, rows.len())?;
-    while rows.len() > 0 {
-        let mut row = rows.remove(0);
-        column.push_reserved(row.remove(0));
+    for mut row in rows {
+        let seat = row.next();
         rest.push_reserved(row);
+        if let Some(seat) = seat {
+            column.push_reserved(seat);
+        }
     }
     Ok((column, rest))
 }

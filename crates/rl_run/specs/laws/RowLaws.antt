@@ -1,8 +1,8 @@
 -- What rows say of their columns; a column more; and shards that end one after the other.
-use Rattle.std.specs.Prelude.{◌≡◌, ℕ, zero, suc, ◌<◌, List, [], ◌∷◌, ◌++◌, length, take, drop, map, slice_get, slice_set, Some, refl}
+use Rattle.std.specs.Prelude.{◌≡◌, ℕ, zero, suc, ◌<◌, List, [], ◌∷◌, ◌++◌, length, drop, map, slice_get, slice_set, Some, refl}
 use Rattle.std.specs.List.{remove}
 use Rattle.std.proofs.Common.{sym, ◌∙◌, ap, subst, arith, ⊎_elim, length-append, append_assoc, get_or}
-use Rattle.std.proofs.lemmas.List.{length-map, map-append, append-nil}
+use Rattle.std.proofs.lemmas.List.{length-map, append-nil}
 use Rattle.std.proofs.lemmas.Option.{same_Some}
 use lib.ListN.{length-set}
 use Rattle.rl_word.specs.laws.Places.{get_map_back, get_set_cases}
@@ -132,27 +132,6 @@ ended_at P Q (v ∷ ws) rows (f ∷ es) G a (suc s) w e gw ge =
 pub first_is : {X : Type 0} (l : List X) (x : X) → 0 < length l → x ≡ get_or l 0 x → l ≡ x ∷ remove l 0
 first_is [] x h e = absurd (omega arith)
 first_is (y ∷ ys) x h e = λ k. sym e k ∷ ys
-
--- one row more is cut in its first seat and the others
-module _ {X T : Type 0} (f : X → List T) where
-  row_cut : (xs : List T) (x : T) (ys : List T) → xs ≡ x ∷ ys → (take 1 xs ≡ x ∷ []) × (drop 1 xs ≡ ys)
-  row_cut xs x ys e = (ap (take 1) e, ap (drop 1) e)
-
-  more_heads : (rows rest : List X) (row next : X) (x : T) → rows ≡ row ∷ rest → f row ≡ x ∷ f next → heads (map f rows) ≡ x ∷ heads (map f rest)
-  more_heads rows rest row next x e cut = ap (λ l. heads (map f l)) e ∙ ap (λ l. l ++ heads (map f rest)) (row_cut (f row) x (f next) cut).0
-
-  more_tails : (rows rest : List X) (row next : X) (x : T) → rows ≡ row ∷ rest → f row ≡ x ∷ f next → tails (map f rows) ≡ f next ∷ tails (map f rest)
-  more_tails rows rest row next x e cut = ap (λ l. tails (map f l)) e ∙ ap (λ l. l ∷ tails (map f rest)) (row_cut (f row) x (f next) cut).1
-
-  pub next_heads : (rows rest : List X) (row next : X) (x : T) (column all : List T) → rows ≡ row ∷ rest → f row ≡ x ∷ f next → column ++ heads (map f rows) ≡ all → (column ++ x ∷ []) ++ heads (map f rest) ≡ all
-  next_heads rows rest row next x column all e cut is = append_assoc column (x ∷ []) (heads (map f rest)) ∙ ap (λ l. column ++ l) (sym (more_heads rows rest row next x e cut)) ∙ is
-
-  pub next_tails : (rows rest : List X) (row next : X) (x : T) (done : List X) (all : List (List T)) → rows ≡ row ∷ rest → f row ≡ x ∷ f next → map f done ++ tails (map f rows) ≡ all → map f (done ++ next ∷ []) ++ tails (map f rest) ≡ all
-  next_tails rows rest row next x done all e cut is =
-      ap (λ l. l ++ tails (map f rest)) (map-append f done (next ∷ [])) ∙ append_assoc (map f done) (f next ∷ []) (tails (map f rest)) ∙ ap (λ l. map f done ++ l) (sym (more_tails rows rest row next x e cut)) ∙ is
-
-  pub next_some : (rows rest : List X) (row : X) → rows ≡ row ∷ rest → ((r : ℕ) (ys : List T) → slice_get (map f rows) r ≡ Some ys → 0 < length ys) → (0 < length (f row)) × ((r : ℕ) (ys : List T) → slice_get (map f rest) r ≡ Some ys → 0 < length ys)
-  next_some rows rest row e some = (some 0 (f row) (ap (λ l. slice_get (map f l) 0) e), λ r ys g. some (suc r) ys (ap (λ l. slice_get (map f l) (suc r)) e ∙ g))
 
 -- two lists as long, that agree in something at each place
 pub same_map : {X Y : Type 0} (f : X → Y) (xs ys : List X) → length ys ≡ length xs → ((i : ℕ) (d : X) → i < length xs → f (get_or ys i d) ≡ f (get_or xs i d)) → map f ys ≡ map f xs

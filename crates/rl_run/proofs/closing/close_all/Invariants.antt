@@ -1,4 +1,5 @@
 use Rattle.std.proofs.Common.{All, map, vec_items, vec_len, vec_capacity, ◌+◌, ◌≤◌}
+use Rattle.std.specs.Vec.Iter.{into_iter_items, into_iter_len}
 use Rattle.rl_run.specs.Rows.{IsGrid}
 use Rattle.rl_run.specs.laws.RowLaws.{EndsSoFar}
 use Rattle.rl_shard.specs.Shards.{IsShardOf}
@@ -6,11 +7,9 @@ use Rattle.rl_shard.specs.Ends.{IsEnd}
 use Rattle.rl_run.specs.Runs.{IsShutSeat}
 use Rattle.rl_run.proofs.closing.close_all.Given as goal
 
-abbrev pub invariant-loop-alloc : goal.invariant-loop-alloc
-invariant-loop-alloc g l =
-    All (IsShardOf g.C.ShardCore.shard_table (vec_len l.rows)) l.shards.items × IsGrid (IsShutSeat g.C.ShardCore.shard_table g.C.ShardCore.good g.C.ShardCore.layout) l.shards.items (map vec_items l.rows.items)
-    × EndsSoFar (IsEnd g.C.ShardCore.shard_table g.C.ShardCore.layout) l.fn.shards.items (map vec_items l.fn.rows.items) l.shards.items (map vec_items l.rows.items) l.ends.items
-    × (vec_len l.shards + vec_len l.ends ≤ vec_capacity l.ends)
-
-abbrev pub decreases-loop-alloc : goal.decreases-loop-alloc
-decreases-loop-alloc g l = vec_len l.shards
+abbrev pub invariant-loop-shard : goal.invariant-loop-shard
+invariant-loop-shard g l =
+    All (IsShardOf g.C.ShardCore.shard_table (vec_len l.left)) (into_iter_items l.shard-iterator)
+    × IsGrid (IsShutSeat g.C.ShardCore.shard_table g.C.ShardCore.good g.C.ShardCore.layout) (into_iter_items l.shard-iterator) (map into_iter_items l.left.items)
+    × EndsSoFar (IsEnd g.C.ShardCore.shard_table g.C.ShardCore.layout) l.fn.shards.items (map vec_items l.fn.rows.items) (into_iter_items l.shard-iterator) (map into_iter_items l.left.items) l.ends.items
+    × (into_iter_len l.shard-iterator + vec_len l.ends ≤ vec_capacity l.ends)
