@@ -68,6 +68,16 @@ def cone_of(house, found):
     return house.cone(nodes) if any(part for part, _ in found) else house.cone_of_statements(nodes)
 
 
+def twins(house, names):
+    """The names of definitions and types that mean more than one thing within what these rest on, each with its meanings."""
+    why, _ = cone_of(house, [roots_of(house, name) for name in names])
+    meanings = {}
+    for key in {key for key, _ in why}:
+        if house.items[key].kind not in ("member", "value"):
+            meanings.setdefault(house.items[key].name, []).append(".".join(house.items[key].whole))
+    return {name: sorted(of) for name, of in meanings.items() if len(of) > 1}
+
+
 def counted(house, names):
     """The definitions, their lines, the types and members of the code, their lines."""
     why, _ = cone_of(house, [roots_of(house, name) for name in names])
