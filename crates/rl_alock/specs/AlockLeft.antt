@@ -40,7 +40,8 @@ abbrev pub far_of : AlockView → ℕ
 far_of v = far v.queue.phase v.entry
 
 abbrev pub near_of : Cohorts → List ℕ → AlockView → ℕ
-near_of K words v = near (slice_index words (tail_no (cohort_of K v.queue.member))) (slice_index words victim_no) (cohort_of K v.queue.member) v.queue.phase v.entry
+near_of K words v = near (slice_index words (tail_no (cohort_of K v.queue.member))) (slice_index words victim_no)
+    (cohort_of K v.queue.member) v.queue.phase v.entry
 
 abbrev pub alock_left : Cohorts → List ℕ → List AlockView → ℕ
 alock_left K words views = two_sums 3 far_of (near_of K words) views

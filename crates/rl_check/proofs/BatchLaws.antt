@@ -1,5 +1,5 @@
 -- Where entries stand in batches.
-use Rattle.std.proofs.Common.{◌≡◌, ℕ, zero, suc, ◌+◌, ◌<◌, ◌≤◌, true, false, not, List, Some, refl, sym, ap, subst, ◌∙◌, ⊎_elim, arith}
+use Rattle.std.proofs.Common.{◌≡◌, ℕ, zero, suc, ◌+◌, ◌<◌, ◌≤◌, true, false, not, List, Option, Some, None, refl, sym, ap, subst, ◌∙◌, ⊎_elim, arith}
 use Rattle.std.specs.Prelude.{slice_get}
 use Rattle.std.proofs.lemmas.Option.{same_Some, slice_get_within}
 use Rattle.std.proofs.lemmas.Bool.Decides.{nat_tests}
@@ -9,7 +9,7 @@ use Rattle.rl_journal.specs.Blocks.{is_last}
 use Rattle.rl_journal.specs.Legal.{updates}
 use Rattle.rl_check.specs.Entries.{before, GoesOnInBatch, IsFirstOfBlock, MayFollow, IsWholeBatch}
 use Rattle.rl_check.specs.OneThread.{is_begun, BatchesFit, IsBroken}
-use Rattle.rl_check.proofs.Places.{below_next}
+use Rattle.rl_check.proofs.Places.{below_next, away}
 
 pub goes_beyond : (d : Entry) → is_last d ≡ false → d.part + 1 < d.batch
 goes_beyond d h = grind (arith, nat_tests)
@@ -22,6 +22,16 @@ not_last d h = grind (arith, nat_tests)
 
 pub is_the_last : (d : Entry) → d.batch ≤ d.part + 1 → is_last d ≡ true
 is_the_last d h = grind (arith, nat_tests)
+
+-- what isn't begun is at its end, and what is, isn't
+pub none_left : (o : Option Entry) (d : Entry) → is_begun o ≡ false → o ≡ Some d → is_last d ≡ true
+none_left None d none is = absurd (cc)
+none_left (Some x) d none is = subst (λ z. is_last z ≡ true) (same_Some _ _ is)
+    (elim (is_last x) as (λ b. not b ≡ false → b ≡ true) [ true ↦ λ _. refl | false ↦ λ z. absurd (cc) ] none)
+
+pub one_left : (o : Option Entry) → is_begun o ≡ true → ((d : Entry) → o ≡ Some d → is_last d ≡ true) → ⊥
+one_left None begun last = cc
+one_left (Some d) begun last = let bad : false ≡ true = sym (ap not (last d refl)) ∙ begun in cc
 
 module _ (entries : List Entry) where
   -- the entry at place p stands in a batch, all of whose entries up to it are there
@@ -127,11 +137,6 @@ module _ (entries : List Entry) where
       let part : IsPartOf n k.0 d.0 = part_of b n w k.0 d.0 (omega arith) (ap (slice_get entries) (sym at) ∙ d.1) in
       let same = part.part_is in let size = part.batch_is in
       ap is_begun d.1 ∙ ap not (not_last d.0 (omega arith))
-    where
-      away : (b p : ℕ) → b ≤ p → (k : ℕ) × (p ≡ b + k)
-      away zero p h = (p, omega arith)
-      away (suc b) zero h = absurd (omega arith)
-      away (suc b) (suc p) h = let q = away b p (omega arith) in (q.0, let e = q.1 in omega arith)
 
   -- ---- a batch that isn't whole
 

@@ -1,5 +1,5 @@
 -- Lists that are filtered, told for each shard, or joined; and what calls that fit ask for.
-use Rattle.std.proofs.Common.{◌≡◌, ℕ, zero, suc, ◌+◌, ◌<◌, ◌≤◌, Bool, true, false, cond, eqb, ltb, List, [], ◌∷◌, ◌++◌, length, map, Some, refl, sym, ap, subst, ◌∙◌, ⊎_elim, arith}
+use Rattle.std.proofs.Common.{◌≡◌, ℕ, zero, suc, ◌+◌, ◌<◌, ◌≤◌, Bool, true, false, cond, eqb, ltb, List, [], ◌∷◌, ◌++◌, length, map, Some, refl, sym, ap, subst, ◌∙◌, ⊎_elim, arith, ◌⊎◌, inl, inr}
 use Rattle.std.specs.Prelude.{slice_get, flat_map}
 use Rattle.std.specs.List.{AllByRecursion, filter, count_by}
 use Rattle.std.proofs.lemmas.Bool.Decides.{nat_tests}
@@ -46,11 +46,6 @@ was_there p (x ∷ xs) j e has = by (p x) refl j has (λ j h. was_there p xs j e
   by true hit (suc j) has later = let q = later j has in (q.0, suc q.1, q.2)
   by false miss j has later = let q = later j has in (q.0, suc q.1, q.2)
 
-pub map_there : {X Y : Type 0} (f : X → Y) (xs : List X) (i : ℕ) (x : X) → slice_get xs i ≡ Some x → slice_get (map f xs) i ≡ Some (f x)
-map_there f [] i x get = absurd (cc)
-map_there f (y ∷ ys) zero x get = ap (λ z. Some (f z)) (same_Some _ _ get)
-map_there f (y ∷ ys) (suc i) x get = map_there f ys i x get
-
 pub flat_joined : {X : Type 0} (f : X → List Entry) (xs : List X) → flat_map f xs ≡ blocks_joined (map f xs)
 flat_joined f [] = refl
 flat_joined f (x ∷ xs) = flat_map-cons f x xs ∙ ap (λ z. f x ++ z) (flat_joined f xs)
@@ -59,9 +54,16 @@ pub count_joined : (test : Entry → Bool) (ts : List (List Entry)) → count_by
 count_joined test [] = refl
 count_joined test (t ∷ ts) = omega (arith, count-append test t (blocks_joined ts), count_joined test ts)
 
-get_behind : {X : Type 0} (xs ys : List X) (i : ℕ) → slice_get (xs ++ ys) (length xs + i) ≡ slice_get ys i
+pub get_behind : {X : Type 0} (xs ys : List X) (i : ℕ) → slice_get (xs ++ ys) (length xs + i) ≡ slice_get ys i
 get_behind [] ys i = ap (slice_get ys) (omega arith)
 get_behind (x ∷ xs) ys i = let e : length (x ∷ xs) + i ≡ suc (length xs + i) = omega arith in ap (slice_get (x ∷ (xs ++ ys))) e ∙ get_behind xs ys i
+
+-- the first entry, or one behind it
+pub head_or : (x : Entry) (xs : List Entry) (e : Entry) → Stands (x ∷ xs) e → (x ≡ e) ⊎ Stands xs e
+head_or x xs e h = by h.0 h.1 where
+  by : (i : ℕ) → slice_get (x ∷ xs) i ≡ Some e → (x ≡ e) ⊎ Stands xs e
+  by zero get = inl (same_Some _ _ get)
+  by (suc i) get = inr (i, get)
 
 -- an entry of some lists
 pub record StandsIn (ts : List (List Entry)) (e : Entry) : Type 0 where
@@ -94,7 +96,7 @@ all_under n (e ∷ es) all =
     let one_is : ◌≡◌ {A = ℕ} (cond (ltb e.seq n) 1 0) 1 = ap (λ b. cond {A = ℕ} b 1 0) hit in
     omega (arith, count-cons (λ (g : Entry). ltb g.seq n) e es, all_under n es (λ f h. all f (suc h.0, h.1)))
 
-ones : (f : ℕ → ℕ) (n : ℕ) → ((k : ℕ) → k < n → f k ≡ 1) → sum_below f n ≡ n
+pub ones : (f : ℕ → ℕ) (n : ℕ) → ((k : ℕ) → k < n → f k ≡ 1) → sum_below f n ≡ n
 ones f zero one = refl
 ones f (suc n) one = omega (arith, ones f n (λ k h. one k (omega arith)), one n (omega arith))
 

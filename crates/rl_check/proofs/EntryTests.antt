@@ -1,5 +1,5 @@
 -- What the tests of an entry tell, by what the code has found.
-use Rattle.std.proofs.Common.{◌≡◌, ◌≢◌, ℕ, ◌+◌, ◌<◌, Bool, true, false, cond, List, [], ◌∷◌, length, take, get_or, Option, Some, None, IsTrue, refl, sym, ap, subst, ◌∙◌, ⊎_elim, arith}
+use Rattle.std.proofs.Common.{◌≡◌, ◌≢◌, ℕ, ◌+◌, ◌<◌, Bool, true, false, cond, List, [], ◌∷◌, length, take, get_or, Option, Some, None, IsTrue, refl, sym, ap, subst, ◌∙◌, ⊎_elim, arith, suc, add-one}
 use Rattle.std.specs.Prelude.{slice_get, ◌↔◌}
 use Rattle.std.specs.List.{count_by}
 use Rattle.std.specs.Int.{from_bool}
@@ -14,18 +14,19 @@ use Rattle.rl_model.proofs.Counts.{count-append, count-cons}
 use Rattle.rl_journal.specs.Legal.{updates}
 use Rattle.rl_check.specs.Entries.{before, updates_before, StandsBefore, MayFollow, IsOfShard, EntryIsInOrder, IsInBatch, IsAtPlace, HasReply}
 use Rattle.rl_check.specs.OneThread.{BatchesFit, Tells, IsToldTo}
-use Rattle.rl_check.specs.Finding.{IsGood, AreGood}
-use Rattle.rl_check.proofs.Places.{below_next, take_more}
+use Rattle.rl_check.specs.Finding.{AreGood}
+use Rattle.rl_check.proofs.Places.{below_next, take_next}
 
 -- a test doesn't both hold and fail
 pub false_true : {B : Type 0} (b : Bool) → b ≡ false → b ≡ true → B
 false_true b f t = let bad : false ≡ true = sym f ∙ t in cc
 
 -- one update more, or none
-pub counted_more : (entries : List Entry) (p : ℕ) (d : Entry) → p < length entries → updates_before entries (p + 1) ≡ updates_before entries p + cond (updates (get_or entries p d)) 1 0
-counted_more entries p d low =
-    ap (count_by updates) (take_more entries p (get_or entries p d) (slice_get-get_or entries p d low))
-    ∙ count-append updates (take p entries) (get_or entries p d ∷ []) ∙ ap (λ n. updates_before entries p + n) (count-cons updates (get_or entries p d) [] ∙ omega arith)
+pub up_next : (entries : List Entry) (p : ℕ) (e : Entry) → slice_get entries p ≡ Some e →
+    updates_before entries (suc p) ≡ updates_before entries p + cond (updates e) 1 0
+up_next entries p e get =
+    ap (count_by updates) (take_next entries p e get) ∙ count-append updates (take p entries) (e ∷ [])
+    ∙ ap (λ n. updates_before entries p + n) (count-cons updates e [] ∙ omega arith)
 
 module _ (entries : List Entry) (p : ℕ) (d : Entry) (low : p < length entries) where
   abbrev e : Entry
@@ -40,9 +41,15 @@ module _ (entries : List Entry) (p : ℕ) (d : Entry) (low : p < length entries)
   pub of_shard : (geom : Geom) (shard : ℕ) → shard_of geom e.call ≡ shard → IsOfShard entries p geom shard
   of_shard geom shard is f get = ap (λ (z : Entry). shard_of geom z.call) (sym (same f get)) ∙ is
 
+  pub not_of_shard : (geom : Geom) (shard : ℕ) → shard_of geom e.call ≢ shard → IsOfShard entries p geom shard → ⊥
+  not_of_shard geom shard isnt is = isnt (is e here)
+
   module _ (o : Option Entry) (b : Bool) (is_before : o ≡ before entries p) where
     pub in_order : IsTrue b ↔ ((x : Entry) → o ≡ Some x → StandsBefore x e) → b ≡ true → EntryIsInOrder entries p
     in_order is so x f at get = subst (StandsBefore x) (same f get) (is.0 so x (is_before ∙ at))
+
+    pub not_in_order : IsTrue b ↔ ((x : Entry) → o ≡ Some x → StandsBefore x e) → b ≡ false → EntryIsInOrder entries p → ⊥
+    not_in_order is not_so order = false_true b not_so (is.1 (λ x at. order x e (sym is_before ∙ at) here))
 
     pub in_batch : IsTrue b ↔ MayFollow o e → b ≡ true → IsInBatch entries p
     in_batch is so f get = subst (MayFollow (before entries p)) (same f get) (subst (λ z. MayFollow z e) is_before (is.0 so))
@@ -60,7 +67,8 @@ module _ (entries : List Entry) (p : ℕ) (d : Entry) (low : p < length entries)
   module _ (geom : Geom) (shard : ℕ) (replies : List (Option Reply)) (t : Table) (told : IsToldTo geom entries (length entries) replies t) (good : AreGood geom shard entries p) (fits : IsInBatch entries p) (b : Bool)
       (is : IsTrue b ↔ ((r : Reply) → slice_get replies p ≡ Some (Some r) → e.reply ≡ r)) where
     all_fit : BatchesFit entries (p + 1)
-    all_fit q h f get = ⊎_elim (λ less. (good q less).in_batch f get) (λ at. subst (λ z. IsInBatch entries z) (sym at) fits f get) (below_next q p h)
+    all_fit q h f get = ⊎_elim (λ less. (good q less).1.1.0 f get) (λ at. subst (λ z. IsInBatch entries z) (sym at) fits f get)
+        (below_next q p h)
 
     by_told : (o : Option Reply) → slice_get replies p ≡ Some o → Tells geom entries p o → ((b ≡ true → HasReply entries p geom) × (b ≡ false → HasReply entries p geom → ⊥))
     by_told None at tell = (λ so. tell, λ not_so has. false_true b not_so (is.1 (λ r eq. absurd (let bad : ◌≡◌ {A = Option Reply} None (Some r) = same_Some _ _ (sym at ∙ eq) in cc))))
@@ -78,10 +86,6 @@ module _ (entries : List Entry) (p : ℕ) (d : Entry) (low : p < length entries)
     pub has_no_reply : b ≡ false → HasReply entries p geom → ⊥
     has_no_reply = both.1
 
--- one entry more is good
-pub good_more : (geom : Geom) (shard : ℕ) (entries : List Entry) (p : ℕ) → AreGood geom shard entries p → IsGood geom shard entries p → AreGood geom shard entries (p + 1)
-good_more geom shard entries p good here q h = ⊎_elim (λ less. good q less) (λ at. subst (IsGood geom shard entries) (sym at) here) (below_next q p h)
-
 byte_is : (b : Bool) → from_bool b ≡ cond b 1 0
 byte_is true = refl
 byte_is false = refl
@@ -89,4 +93,11 @@ byte_is false = refl
 pub counted_on : (entries : List Entry) (p : ℕ) (d : Entry) (n x : ℕ) (y : Bool) → p < length entries → n ≡ updates_before entries p → x ≡ from_bool y → y ≡ updates (get_or entries p d) → n + x ≡ updates_before entries (p + 1)
 counted_on entries p d n x y low so_far byte is =
     let one : x ≡ cond (updates (get_or entries p d)) 1 0 = byte ∙ byte_is y ∙ ap (λ b. cond {A = ℕ} b 1 0) is in
-    omega (arith, so_far, one, counted_more entries p d low)
+    omega (
+      arith,
+      so_far,
+      one,
+      ap (updates_before entries) (add-one p),
+      up_next entries p (get_or entries p d)
+          (slice_get-get_or entries p d low),
+    )

@@ -11,9 +11,7 @@ use Rattle.rl_journal.specs.laws.Lists.{all_at}
 use Rattle.rl_journal.specs.Ranks.{Follows, IsInOrder, IsEntryOf, IsRankInOrder}
 use Rattle.rl_ops.specs.Asked.{asked_of}
 use Rattle.rl_report.specs.declared.report.Done.{Done}
-use Rattle.rl_check.specs.declared.illegal.Test.{Test}
-use Rattle.rl_check.specs.declared.illegal.Test.TheVariants as test
-use Rattle.rl_check.specs.Ranks.{is_numbered, IsCalled, IsFresh, EndsWell, RankPasses}
+use Rattle.rl_check.specs.Ranks.{is_numbered, IsCalled, IsFresh, EndsWell, rank_tests}
 use Rattle.rl_check.proofs.EntryFacts.{StandsIn, stands_in, count_joined, as_many}
 
 -- ---- entries of a transcript
@@ -78,16 +76,9 @@ module _ (geom : Geom) (k : ℕ) (calls : List Call) (sizes : List ℕ) (n : ℕ
       let f : Follows d e = follows_by y.t (O.in_order y.s y.t y.list) x.j y.j d e (ap (λ z. slice_get z x.j) (sym list) ∙ x.there) y.there (let low = latest.low in omega arith) in
       record { place = f.place; beyond = f.beyond }
 
-  pub rank_passes : (replay : Bool) → EndsWell replay calls sizes n → (d : Done) → d.done ≡ n → d.given ≡ length calls → (p : ℕ) (t : Test) → RankPasses replay calls sizes own d p t
-  rank_passes replay ends d done given p test.Shard = tt
-  rank_passes replay ends d done given p test.Order = tt
-  rank_passes replay ends d done given p test.Batch = tt
-  rank_passes replay ends d done given p test.At = tt
-  rank_passes replay ends d done given p test.Reply = tt
-  rank_passes replay ends d done given p test.Updates = tt
-  rank_passes replay ends d done given p test.Tally = tt
-  rank_passes replay ends d done given p test.Pairs = tt
-  rank_passes replay ends d done given p test.Events = tt
-  rank_passes replay ends d done given p test.Calls = λ low. called p low
-  rank_passes replay ends d done given p test.Fresh = λ low. fresh p
-  rank_passes replay ends d done given p test.Done = λ end. let all : p ≡ n = end ∙ long in record { done = done ∙ sym all; given = given; ends = subst (EndsWell replay calls sizes) (sym all) ends }
+  pub rank_passes : (replay : Bool) → EndsWell replay calls sizes n → (d : Done) → d.done ≡ n → d.given ≡ length calls →
+      (rank_tests replay calls sizes own d).pass
+  rank_passes replay ends d done given = (
+    (λ i low. (called i low, fresh i)),
+    record { done = done ∙ sym long; given = given; ends = subst (EndsWell replay calls sizes) (sym long) ends },
+  )

@@ -1,5 +1,5 @@
 -- A shard whose entries tell a history passes its tests, where its tallies, pairs and events do.
-use Rattle.std.proofs.Common.{◌≡◌, ℕ, zero, suc, ◌+◌, ◌<◌, ◌≤◌, Bool, true, false, not, cond, List, [], ◌∷◌, length, take, Option, Some, None, refl, sym, ap, subst, ◌∙◌, inl, inr, ⊎_elim, arith}
+use Rattle.std.proofs.Common.{◌≡◌, ℕ, zero, suc, ◌+◌, ◌<◌, ◌≤◌, Bool, true, false, cond, List, [], ◌∷◌, length, Some, refl, sym, ap, subst, ◌∙◌, inl, inr, ⊎_elim, arith}
 use Rattle.std.specs.Prelude.{slice_get}
 use Rattle.std.specs.List.{count_by, AllByRecursion}
 use Rattle.std.specs.FinMap as finite
@@ -8,7 +8,6 @@ use Rattle.std.proofs.lemmas.List.Sums.{length-filter}
 use Rattle.std.proofs.lemmas.Option.{same_Some}
 use Rattle.rl_model.specs.declared.entry.Entry.{Entry}
 use Rattle.rl_model.specs.Call.{shard_of}
-use Rattle.rl_journal.specs.Blocks.{is_last}
 use Rattle.rl_journal.specs.Legal.{updates, is_of}
 use Rattle.rl_journal.specs.History.{Precedes, IsSorted, AreOwn, IsReplayedByOneThread, TellsUpdatesBefore}
 use Rattle.rl_journal.specs.laws.HistoryLaws.{replayed}
@@ -18,21 +17,14 @@ use Rattle.rl_journal.specs.Ranks.{IsInOrder}
 use Rattle.rl_place.specs.Places.{ThePlace}
 use Rattle.rl_report.specs.Reports.{TheShard}
 use Rattle.rl_report.specs.Lawful.{journal_among, transcript_in, transcripts_in, queues_at}
-use Rattle.rl_check.specs.declared.illegal.Test.{Test}
-use Rattle.rl_check.specs.declared.illegal.Test.TheVariants as test
-use Rattle.rl_check.specs.Entries.{before, StandsBefore}
+use Rattle.rl_check.specs.Entries.{before, table_before, StandsBefore}
 use Rattle.rl_check.specs.OneThread.{is_begun}
-use Rattle.rl_check.specs.Shards.{TalliesHold, PairsHold, EventsHold, ShardPasses}
+use Rattle.rl_check.specs.Shards.{TalliesHold, PairsHold, event_tests, shard_tests}
 use Rattle.rl_check.specs.LawfulReplays.{TellsHistory}
+use Rattle.rl_check.proofs.BatchLaws.{none_left}
 use Rattle.rl_check.proofs.Replays.{IsPlaced, replay_placed, placed_fits, placed_answered}
-
--- ---- lists
-
-pub take_whole : {X : Type 0} (xs : List X) (n : ℕ) → n ≡ length xs → take n xs ≡ xs
-take_whole [] zero e = refl
-take_whole [] (suc n) e = absurd (omega arith)
-take_whole (x ∷ xs) zero e = absurd (omega arith)
-take_whole (x ∷ xs) (suc n) e = ap (λ z. x ∷ z) (take_whole xs n (omega arith))
+use Rattle.std.proofs.lemmas.List.{take_all}
+use Rattle.rl_check.proofs.EntryFacts.{one_of_all}
 
 -- transcripts of some entries are their ranks' own
 own_rank : (k : ℕ) (es : List Entry) → AllByRecursion (λ e. e.rank ≡ k) (transcript_in es k)
@@ -47,22 +39,14 @@ pub own_from : (es : List Entry) (r n : ℕ) → ((k : ℕ) → r ≤ k → k < 
 own_from es r zero order = tt
 own_from es r (suc n) order = ((own_rank r es, order r (omega arith) (omega arith)), own_from es (r + 1) n (λ k low high. order k (omega arith) (omega arith)))
 
-next_after : (d : Entry) (es : List Entry) (P : Entry → Type 0) → AllByRecursion P es → (e : Entry) → slice_get es 0 ≡ Some e → P e
-next_after d [] P each e get = absurd (cc)
-next_after d (x ∷ es) P each e get = subst P (same_Some _ _ get) each.0
-
 sorted_next : (es : List Entry) (p : ℕ) (d e : Entry) → IsSorted es → slice_get es p ≡ Some d → slice_get es (suc p) ≡ Some e → Precedes d e
 sorted_next [] p d e sorted gd ge = absurd (cc)
-sorted_next (x ∷ es) zero d e sorted gd ge = subst (λ z. Precedes z e) (same_Some _ _ gd) (next_after x es (Precedes x) sorted.0 e ge)
+sorted_next (x ∷ es) zero d e sorted gd ge = subst (λ z. Precedes z e) (same_Some _ _ gd) (one_of_all (Precedes x) es 0 e sorted.0 ge)
 sorted_next (x ∷ es) (suc p) d e sorted gd ge = sorted_next es p d e sorted.1 gd ge
 
 pub stands_first : (d e : Entry) → Precedes d e → StandsBefore d e
 stands_first d e h =
     ⊎_elim (λ low. inl low) (λ q. inr (q.0, ⊎_elim (λ up. inl (q.1, up)) (λ r. inr (q.1 ∙ sym r.0, r.1)) q.2)) h
-
-none_left : (o : Option Entry) (d : Entry) → is_begun o ≡ false → o ≡ Some d → is_last d ≡ true
-none_left None d none is = absurd (cc)
-none_left (Some x) d none is = subst (λ z. is_last z ≡ true) (same_Some _ _ is) (elim (is_last x) as (λ b. not b ≡ false → b ≡ true) [ true ↦ λ _. refl | false ↦ λ z. absurd (cc) ] none)
 
 -- ---- the tests
 
@@ -90,19 +74,24 @@ module _ (place : ThePlace) (s home : ℕ) (S : TheShard) (L : TellsHistory plac
   in_order zero d e gd ge = absurd (cc)
   in_order (suc p) d e gd ge = stands_first d e (sorted_next es p d e sorted gd ge)
 
-  pub shard_passes : (replay : Bool) → TalliesHold place replay home S → PairsHold place replay S → ((p : ℕ) → EventsHold (queues_at place home) S.events p) → (p : ℕ) (t : Test) → ShardPasses place replay s home S p t
-  shard_passes replay tallies pairs events p test.Shard = λ e get. of_shard p e get
-  shard_passes replay tallies pairs events p test.Order = in_order p
-  shard_passes replay tallies pairs events p test.Batch = (
-    (λ e get. placed_fits place.geom es alone p e get (placed.0 p e get) e get),
-    (λ end d get. none_left (before es (length es)) d placed.1 get),
+  pub shard_passes : (replay : Bool) → TalliesHold place replay home S → PairsHold replay S (table_before place.geom es (length es)) →
+      (event_tests (queues_at place home) S.events).pass → (shard_tests place replay s home S).pass
+  shard_passes mode tallies pairs events = (
+    (λ p low. (
+      of_shard p,
+      (
+        in_order p,
+        (
+          (λ e get. placed_fits place.geom es alone p e get (placed.0 p e get) e get),
+          (told p, λ e get. placed_answered place.geom es alone p e get (placed.0 p e get) e get),
+        ),
+      ),
+    )),
+    (
+      (
+        (λ d get. none_left (before es (length es)) d placed.1 get),
+        L.told ∙ length-filter updates es ∙ ap (count_by updates) (sym (take_all (length es) es (omega arith))),
+      ),
+      ((tallies, pairs), events),
+    ),
   )
-  shard_passes replay tallies pairs events p test.At = λ e get. told p e get
-  shard_passes replay tallies pairs events p test.Reply = λ e get. placed_answered place.geom es alone p e get (placed.0 p e get) e get
-  shard_passes replay tallies pairs events p test.Updates = λ end. L.told ∙ length-filter updates es ∙ ap (count_by updates) (sym (take_whole es p end))
-  shard_passes replay tallies pairs events p test.Tally = λ end. tallies
-  shard_passes replay tallies pairs events p test.Pairs = λ end. pairs
-  shard_passes replay tallies pairs events p test.Events = events p
-  shard_passes replay tallies pairs events p test.Calls = tt
-  shard_passes replay tallies pairs events p test.Fresh = tt
-  shard_passes replay tallies pairs events p test.Done = tt

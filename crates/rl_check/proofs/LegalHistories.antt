@@ -4,7 +4,7 @@ use Rattle.std.specs.Prelude.{slice_get}
 use Rattle.std.specs.List.{filter, count_by, AllByRecursion}
 use Rattle.std.specs.FinMap as finite
 use Rattle.std.proofs.lemmas.Bool.Decides.{nat_tests}
-use Rattle.std.proofs.lemmas.List.{take-append-drop, take_at}
+use Rattle.std.proofs.lemmas.List.{take-append-drop, take_at, take_all}
 use Rattle.std.proofs.lemmas.List.Elements.{filter-append}
 use Rattle.std.proofs.lemmas.List.Sums.{length-filter}
 use Rattle.std.proofs.lemmas.Option.{same_Some, slice_get_within}
@@ -23,18 +23,16 @@ use Rattle.rl_place.specs.Places.{ThePlace}
 use Rattle.rl_report.specs.Naming.{naming_of}
 use Rattle.rl_report.specs.Reports.{TheShard, ShardFits}
 use Rattle.rl_report.specs.Lawful.{journal_among, transcript_in, transcripts_in}
-use Rattle.rl_check.specs.declared.illegal.Test.{Test}
-use Rattle.rl_check.specs.declared.illegal.Test.TheVariants as test
 use Rattle.rl_check.specs.Entries.{updates_before, table_before}
 use Rattle.rl_check.specs.OneThread.{is_begun}
 use Rattle.rl_check.specs.Ranks.{Stands}
-use Rattle.rl_check.specs.Shards.{ShardPasses}
+use Rattle.rl_check.specs.Shards.{shard_tests}
 use Rattle.rl_check.specs.LawfulReplays.{TellsHistory}
 use Rattle.rl_check.proofs.BatchLaws.{is_the_last}
-use Rattle.rl_check.proofs.EntryFacts.{kept_there, was_there}
-use Rattle.rl_check.proofs.LawfulShards.{own_from, take_whole}
+use Rattle.rl_check.proofs.EntryFacts.{kept_there, was_there, one_of_all, head_or}
+use Rattle.rl_check.proofs.LawfulShards.{own_from}
 use Rattle.rl_check.proofs.LawfulRanks.{apart}
-use Rattle.rl_check.proofs.LegalShards.{up_grows, up_one, up_after, at_is, entry_fits, begins_here, first_part, read_alone, sorted}
+use Rattle.rl_check.proofs.LegalShards.{up_grows, up_one, up_after, answered, at_is, entry_fits, begins_here, first_part, read_alone, sorted}
 use Rattle.rl_check.proofs.LegalJournals.{journal_legal}
 
 -- ---- entries of lists
@@ -58,11 +56,7 @@ was p xs e h = let q = was_there p xs h.0 e h.1 in (q.0, (q.1, q.2))
 -- ---- sorted lists with the same entries
 
 each_at : (P : Entry → Type 0) (xs : List Entry) → AllByRecursion P xs → (e : Entry) → Stands xs e → P e
-each_at P [] each e h = absurd (let bad = h.1 in cc)
-each_at P (x ∷ xs) each e h = by h.0 h.1 (λ i g. each_at P xs each.1 e (i, g)) where
-  by : (i : ℕ) → slice_get (x ∷ xs) i ≡ Some e → ((i : ℕ) → slice_get xs i ≡ Some e → P e) → P e
-  by zero get later = subst P (same_Some _ _ get) each.0
-  by (suc i) get later = later i get
+each_at P xs each e h = one_of_all P xs h.0 e each h.1
 
 not_both : (d e : Entry) → Precedes d e → Precedes e d → ⊥
 not_both d e a b =
@@ -82,12 +76,6 @@ not_both d e a b =
     x.2)
     b)
     a
-
-head_or : (x : Entry) (xs : List Entry) (e : Entry) → Stands (x ∷ xs) e → (x ≡ e) ⊎ Stands xs e
-head_or x xs e h = by h.0 h.1 where
-  by : (i : ℕ) → slice_get (x ∷ xs) i ≡ Some e → (x ≡ e) ⊎ Stands xs e
-  by zero get = inl (same_Some _ _ get)
-  by (suc i) get = inr (i, get)
 
 same_sorted : (xs ys : List Entry) → IsSorted xs → IsSorted ys → ((e : Entry) → Stands xs e → Stands ys e) → ((e : Entry) → Stands ys e → Stands xs e) → xs ≡ ys
 same_sorted [] [] sx sy to back = refl
@@ -192,7 +180,8 @@ update_at (e ∷ es) m f get = by (updates e) refl m get (λ k g. update_at es k
       let q = later m get in let h : ◌≡◌ {A = ℕ} (cond (updates e) 1 0) 0 = ap (λ b. cond {A = ℕ} b 1 0) miss in
       let n = q.2 in (suc q.0, q.1, omega (arith, count-cons updates e (take q.0 es)))
 
-module _ (place : ThePlace) (replay : Bool) (s home : ℕ) (S : TheShard) (fit : ShardFits (naming_of place) replay s S) (T : (p : ℕ) (t : Test) → ShardPasses place replay s home S p t) where
+module _ (place : ThePlace) (replay : Bool) (s home : ℕ) (S : TheShard) (fit : ShardFits (naming_of place) replay s S)
+    (T : (shard_tests place replay s home S).pass) where
   abbrev es : List Entry
   es = S.entries
 
@@ -253,7 +242,7 @@ module _ (place : ThePlace) (replay : Bool) (s home : ℕ) (S : TheShard) (fit :
       let none : e.batch ≡ 0 = read_alone place replay s home S fit T p e h.1 miss in
       let table : map_at place.geom journal e.at ≡ table_before place.geom es p = ap (λ z. table_after place.geom finite.empty (take z journal)) at ∙ ap (table_after place.geom finite.empty) (beginning p) in (
         (let low = low_up p in omega arith),
-        (T p test.Reply e h.1).alone none ∙ ap (λ u. (apply place.geom e.call u).1) (sym table),
+        (answered place replay s home S fit T p e h.1).alone none ∙ ap (λ u. (apply place.geom e.call u).1) (sym table),
         subst (legal.Begins journal) (sym at) (next_begins p e h.1 miss),
       )
 
@@ -293,5 +282,5 @@ module _ (place : ThePlace) (replay : Bool) (s home : ℕ) (S : TheShard) (fit :
         record {
           legal = shard_legal;
           in_order = same_sorted es (history journal ts) (sorted place replay s home S fit T) (history_sorted place.geom journal ts shard_legal (own_from es 0 (length place.paths) (λ k low high. order k (omega arith)))) to back;
-          told = T (length es) test.Updates refl ∙ ap (count_by updates) (take_whole es (length es) refl) ∙ sym (length-filter updates es);
+          told = T.1.0.1 ∙ ap (count_by updates) (take_all (length es) es (omega arith)) ∙ sym (length-filter updates es);
         }

@@ -7,11 +7,11 @@ use Rattle.std.proofs.lemmas.Bool.Decides.{nat_tests}
 use Rattle.std.proofs.lemmas.List.{drop-drop, drop_all, take-append-drop, length-map}
 use Rattle.std.proofs.lemmas.List.Elements.{filter-append}
 use Rattle.std.proofs.lemmas.Option.{same_Some, slice_get_within}
-use Rattle.rl_word.specs.laws.Places.{some_at}
+use Rattle.rl_word.specs.laws.Places.{some_at, get_map}
 use Rattle.rl_model.specs.declared.call.Call.{Call}
 use Rattle.rl_model.specs.declared.entry.Entry.{Entry}
 use Rattle.rl_model.specs.Table.{Table, apply}
-use Rattle.rl_journal.specs.Blocks.{apply_block, apply_batch, calls_of, replies_of, half_after, is_last, size_of, IsPart, AreParts, IsBlock}
+use Rattle.rl_journal.specs.Blocks.{apply_block, apply_batch, calls_of, replies_of, half_after, is_last, IsPart, AreParts, IsBlock}
 use Rattle.rl_journal.specs.laws.BlockLaws.{block_done}
 use Rattle.rl_journal.specs.Legal.{updates, table_after, blocks_joined, IsLegalBlock, AreLegalFrom, IsLegalJournal}
 use Rattle.rl_journal.specs.laws.Lists.{filter_all}
@@ -19,16 +19,13 @@ use Rattle.rl_place.specs.Places.{ThePlace}
 use Rattle.rl_report.specs.Naming.{naming_of}
 use Rattle.rl_report.specs.Reports.{TheShard, PartFits, ShardFits}
 use Rattle.rl_report.specs.Lawful.{journal_among}
-use Rattle.rl_check.specs.declared.illegal.Test.{Test}
-use Rattle.rl_check.specs.declared.illegal.Test.TheVariants as test
 use Rattle.rl_check.specs.Entries.{before, updates_before, table_before, GoesOnInBatch, IsFirstOfBlock, MayFollow, IsWholeBatch, EntryIsAnswered}
 use Rattle.rl_check.specs.OneThread.{is_begun}
-use Rattle.rl_check.specs.Shards.{ShardPasses}
+use Rattle.rl_check.specs.Shards.{shard_tests}
 use Rattle.rl_check.proofs.Places.{below_next, take_more, in_stretch, length_stretch}
 use Rattle.rl_check.proofs.BatchLaws.{is_the_last, not_last}
-use Rattle.rl_check.proofs.TableLaws.{after_call, after_batch, read_leaves, batch_long}
-use Rattle.rl_check.proofs.EntryFacts.{map_there}
-use Rattle.rl_check.proofs.LegalShards.{up_one, at_is, entry_fits, begins_here, first_part, up_none}
+use Rattle.rl_check.proofs.TableLaws.{after_call, after_batch, read_leaves, batch_long, sized}
+use Rattle.rl_check.proofs.LegalShards.{up_one, in_batch, answered, at_is, entry_fits, begins_here, first_part, up_none}
 
 -- ---- lists
 
@@ -61,11 +58,8 @@ parts_from rank batch seq at part (d ∷ ds) each =
           record { is_update = q.is_update; rank_is = q.rank_is; batch_is = q.batch_is; seq_is = q.seq_is ∙ omega arith; place = q.place ∙ omega arith; part_is = q.part_is ∙ omega arith }),
     )
 
-sized : (n : ℕ) → 2 ≤ n → size_of n ≡ n
-sized zero h = absurd (omega arith)
-sized (suc n) h = refl
-
-module _ (place : ThePlace) (replay : Bool) (s home : ℕ) (S : TheShard) (fit : ShardFits (naming_of place) replay s S) (T : (p : ℕ) (t : Test) → ShardPasses place replay s home S p t) where
+module _ (place : ThePlace) (replay : Bool) (s home : ℕ) (S : TheShard) (fit : ShardFits (naming_of place) replay s S)
+    (T : (shard_tests place replay s home S).pass) where
   abbrev es : List Entry
   es = S.entries
 
@@ -79,7 +73,7 @@ module _ (place : ThePlace) (replay : Bool) (s home : ℕ) (S : TheShard) (fit :
   part_fits p e get = (entry_fits place replay s home S fit T p e get).part
 
   goes_on_from : (p : ℕ) (d f : Entry) → slice_get es p ≡ Some d → slice_get es (suc p) ≡ Some f → is_last d ≡ false → GoesOnInBatch d f
-  goes_on_from p d f gd gf more = (subst (λ o. MayFollow o f) gd ((T (suc p) test.Batch).0 f gf)).1 more
+  goes_on_from p d f gd gf more = (subst (λ o. MayFollow o f) gd (in_batch place replay s home S fit T (suc p) f gf)).1 more
 
   -- ---- a batch that begins
 
@@ -117,7 +111,8 @@ module _ (place : ThePlace) (replay : Bool) (s home : ℕ) (S : TheShard) (fit :
         let next : suc (i + k) < length es =
         ⊎_elim
         (λ less. less)
-        (λ end. absurd (let last : is_last d.0 ≡ true = (T (length es) test.Batch).1 refl d.0 (ap (before es) (sym end) ∙ d.1.there) in let bad : true ≡ false = sym last ∙ more in cc))
+        (λ end. absurd (let last : is_last d.0 ≡ true = T.1.0.0 d.0 (ap (before es) (sym end) ∙ d.1.there) in
+        let bad : true ≡ false = sym last ∙ more in cc))
         (below_next (suc (i + k)) (length es) (omega arith)) in
         let f = some_at es (suc (i + k)) next in
         let g : GoesOnInBatch d.0 f.0 = goes_on_from (i + k) d.0 f.0 d.1.there f.1 more in
@@ -192,12 +187,12 @@ module _ (place : ThePlace) (replay : Bool) (s home : ℕ) (S : TheShard) (fit :
         let within : k < length b = let h = slice_get_within (replies_of b) k x gx in omega (arith, length-map b (λ (z : Entry). z.reply)) in
         let d = some_at b k within in
         let q = link_in k d.0 d.1 in
-        let a : EntryIsAnswered es (i + k) place.geom d.0 = T (i + k) test.Reply d.0 q.1.there in
+        let a : EntryIsAnswered es (i + k) place.geom d.0 = answered place replay s home S fit T (i + k) d.0 q.1.there in
         let got = a.in_batch i (let z = q.1.part_is in omega arith) (let low = q.0 in let y = q.1.part_is in let z = q.1.batch_is in omega arith) (subst (IsWholeBatch es i) (sym q.1.batch_is) whole) in
         let here : slice_get (apply_batch place.geom (calls_of b) (table_before place.geom es i)).1 k ≡ Some d.0.reply =
         ap (slice_get (apply_batch place.geom (calls_of b) (table_before place.geom es i)).1) (sym q.1.part_is)
         ∙ subst (λ m. slice_get (apply_batch place.geom (calls_of (take m (drop i es))) (table_before place.geom es i)).1 d.0.part ≡ Some d.0.reply) q.1.batch_is got in
-        here ∙ sym (map_there (λ (z : Entry). z.reply) b k d.0 d.1) ∙ gx)
+        here ∙ sym (get_map (λ (z : Entry). z.reply) b k d.0 d.1) ∙ gx)
 
     next_none : is_begun (before es (i + e.batch)) ≡ false
     next_none =
@@ -265,7 +260,8 @@ module _ (place : ThePlace) (replay : Bool) (s home : ℕ) (S : TheShard) (fit :
           batch = 0;
           seq = e.seq;
           is = alone_is hit;
-          answered = ap (λ z. z ∷ []) ((T i test.Reply e get).alone none ∙ ap (λ u. (apply place.geom e.call u).1) table_here);
+          answered = ap (λ z. z ∷ []) ((answered place replay s home S fit T i e get).alone none
+              ∙ ap (λ u. (apply place.geom e.call u).1) table_here);
         }
 
     one_more : IsSplit (suc i) (apply place.geom e.call t).0 → IsSplit i t

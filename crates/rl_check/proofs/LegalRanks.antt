@@ -5,17 +5,14 @@ use Rattle.std.specs.List.{count_by, filter}
 use Rattle.std.proofs.lemmas.Bool.Decides.{nat_tests}
 use Rattle.std.proofs.lemmas.List.Sums.{count_by-le-length}
 use Rattle.std.proofs.lemmas.Option.{same_Some}
-use Rattle.rl_model.specs.Table.{sum_below}
 use Rattle.rl_model.proofs.Counts.{count-cons, sum_of_counts}
 use Rattle.rl_model.specs.declared.call.Call.{Call}
 use Rattle.rl_model.specs.declared.entry.Entry.{Entry}
 use Rattle.rl_ops.specs.Asked.{asked_of}
 use Rattle.rl_report.specs.declared.report.Done.{Done}
-use Rattle.rl_check.specs.declared.illegal.Test.{Test}
-use Rattle.rl_check.specs.declared.illegal.Test.TheVariants as test
-use Rattle.rl_check.specs.Ranks.{Stands, is_numbered, IsCalled, IsLatest, IsFreshAfter, IsDone, RankPasses}
+use Rattle.rl_check.specs.Ranks.{Stands, is_numbered, IsCalled, IsLatest, IsFreshAfter, IsDone, rank_tests}
 use Rattle.rl_check.proofs.SlotLaws.{one_of_one}
-use Rattle.rl_check.proofs.EntryFacts.{was_there}
+use Rattle.rl_check.proofs.EntryFacts.{was_there, ones, head_or}
 
 -- ---- counts
 
@@ -30,20 +27,13 @@ all_hit p (x ∷ xs) all (suc i) e get = all_hit p xs (rest (p x) refl) i e get 
   rest true h = let z : ◌≡◌ {A = ℕ} (cond (p x) 1 0) 1 = ap (λ b. cond {A = ℕ} b 1 0) h in omega (arith, count-cons p x xs)
   rest false h = absurd (let z : ◌≡◌ {A = ℕ} (cond (p x) 1 0) 0 = ap (λ b. cond {A = ℕ} b 1 0) h in omega (arith, count-cons p x xs, count_by-le-length p xs))
 
-ones : (f : ℕ → ℕ) (n : ℕ) → ((k : ℕ) → k < n → f k ≡ 1) → sum_below f n ≡ n
-ones f zero one = refl
-ones f (suc n) one = omega (arith, ones f n (λ k h. one k (omega arith)), one n (omega arith))
-
 -- ---- the latest entry on a shard
 
 latest_of : (xs : List Entry) (s i : ℕ) → ((d : Entry) × IsLatest xs s i d) ⊎ ((f : Entry) → Stands xs f → f.shard ≡ s → f.seq < i → ⊥)
 latest_of [] s i = inr (λ f h on low. let bad = h.1 in cc)
 latest_of (y ∷ ys) s i = by (latest_of ys s i) (y.shard == s) (nat_lt y.seq i) refl refl where
   behind : (f : Entry) (P : Type 0) → Stands (y ∷ ys) f → (y ≡ f → P) → (Stands ys f → P) → P
-  behind f P h here on = go h.0 h.1 where
-    go : (j : ℕ) → slice_get (y ∷ ys) j ≡ Some f → P
-    go zero get = here (same_Some _ _ get)
-    go (suc j) get = on (j, get)
+  behind f P h here on = ⊎_elim here on (head_or y ys f h)
 
   no_more : ((d : Entry) × IsLatest ys s i d) ⊎ ((f : Entry) → Stands ys f → f.shard ≡ s → f.seq < i → ⊥) → ((y.shard ≡ s) → (y.seq < i) → ⊥) → ((d : Entry) × IsLatest (y ∷ ys) s i d) ⊎ ((f : Entry) → Stands (y ∷ ys) f → f.shard ≡ s → f.seq < i → ⊥)
   no_more r none =
@@ -101,12 +91,13 @@ latest_of (y ∷ ys) s i = by (latest_of ys s i) (y.shard == s) (nat_lt y.seq i)
 
 -- ---- the tests
 
-module _ (replay : Bool) (calls : List Call) (sizes : List ℕ) (own : List Entry) (d : Done) (T : (p : ℕ) (t : Test) → RankPasses replay calls sizes own d p t) where
+module _ (replay : Bool) (calls : List Call) (sizes : List ℕ) (own : List Entry) (d : Done)
+    (T : (rank_tests replay calls sizes own d).pass) where
   pub done_is : IsDone replay calls sizes (length own) d
-  done_is = T (length own) test.Done refl
+  done_is = T.1
 
   called : (i : ℕ) → i < length own → IsCalled (asked_of calls sizes) own i
-  called i low = T i test.Calls low
+  called i low = (T.0 i low).0
 
   pub once : (i : ℕ) → i < length own → count_by (is_numbered i) own ≡ 1
   once i low = (called i low).once
@@ -136,7 +127,7 @@ module _ (replay : Bool) (calls : List Call) (sizes : List ℕ) (own : List Entr
     by (inr none) later = absurd (none d hd on low)
     by (inl q) later =
         let x : Entry = q.0 in
-        let f : IsFreshAfter x e = T e.seq test.Fresh (low_number e he) x e he refl q.1 in
+        let f : IsFreshAfter x e = (T.0 e.seq (low_number e he)).1 x e he refl q.1 in
         let high : d.seq ≤ x.seq = q.1.greatest d hd on low in
         let less : x.seq < e.seq = q.1.low in
         go x (nat_lt d.seq x.seq) refl f high less q.1.stands q.1.on_shard

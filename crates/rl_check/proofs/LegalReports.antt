@@ -1,12 +1,12 @@
 -- A report that passes all tests is lawful: that of a run, and that of a replay.
-use Rattle.std.proofs.Common.{◌≡◌, ℕ, suc, ◌+◌, ◌<◌, ◌≤◌, ◌==◌, Bool, true, false, List, [], ◌∷◌, length, map, get_or, Some, None, refl, sym, ap, subst, ◌∙◌, ⊎_elim, arith}
+use Rattle.std.proofs.Common.{◌≡◌, ℕ, suc, ◌+◌, ◌<◌, ◌≤◌, ◌==◌, Bool, true, false, List, [], ◌∷◌, length, map, get_or, Some, None, sym, ap, subst, ◌∙◌, ⊎_elim, arith}
 use Rattle.std.specs.Prelude.{slice_get, All}
 use Rattle.std.specs.Option.{is_some}
 use Rattle.std.specs.FinMap as finite
 use Rattle.std.proofs.lemmas.Bool.Decides.{nat_tests}
-use Rattle.std.proofs.lemmas.List.{length-map}
+use Rattle.std.proofs.lemmas.List.{length-map, take_all}
 use Rattle.std.proofs.lemmas.Option.{slice_get_within, get_or_from_slice_get}
-use Rattle.rl_word.specs.laws.Places.{get_map_back, some_at}
+use Rattle.rl_word.specs.laws.Places.{get_map_back, some_at, get_map}
 use Rattle.rl_model.specs.declared.call.Call.{Call}
 use Rattle.rl_model.specs.declared.entry.Entry.{Entry}
 use Rattle.rl_step.specs.declared.events.Event.{Event}
@@ -25,20 +25,16 @@ use Rattle.rl_report.specs.Naming.{naming_of}
 use Rattle.rl_report.specs.Reports.{TheShard, TheReport, ShardFits, ReportFits}
 use Rattle.rl_report.specs.Lawful.{journal_among, transcript_in, queues_at, IsLawfulShard, IsLawful}
 use Rattle.rl_step.specs.Traces.{events_of}
-use Rattle.rl_check.specs.declared.illegal.Group.TheVariants as group
-use Rattle.rl_check.specs.declared.illegal.Test.{Test}
-use Rattle.rl_check.specs.declared.illegal.Test.TheVariants as test
 use Rattle.rl_check.specs.Entries.{updates_before, StandsBefore}
-use Rattle.rl_check.specs.Shards.{KeepsRules, EventsHold, ShardPasses}
+use Rattle.rl_check.specs.Shards.{KeepsRules, event_tests, shard_tests}
 use Rattle.rl_check.specs.LawfulReplays.{TellsHistory, IsReplayedShard, IsLawfulReplay, done_by}
-use Rattle.rl_check.specs.Ranks.{entries_of_rank, IsDone, RankPasses, Stands}
+use Rattle.rl_check.specs.Ranks.{entries_of_rank, IsDone, Stands, rank_tests}
 use Rattle.rl_check.specs.Legal.{IsLegalReport}
 use Rattle.rl_check.proofs.ReportFacts.{shard_fits}
-use Rattle.rl_check.proofs.EntryFacts.{was_there, map_there, flat_joined, count_joined, stands_out}
+use Rattle.rl_check.proofs.EntryFacts.{was_there, flat_joined, count_joined, stands_out}
 use Rattle.rl_check.proofs.LawfulRanks.{apart}
-use Rattle.rl_check.proofs.LegalShards.{up_grows, up_after, at_is, entry_fits, stands, not_before_itself}
+use Rattle.rl_check.proofs.LegalShards.{up_grows, up_after, at_is, entry_fits, of_shard, stands, not_before_itself}
 use Rattle.rl_check.proofs.LegalHistories.{tells_history}
-use Rattle.rl_check.proofs.LawfulShards.{take_whole}
 use Rattle.rl_check.proofs.LegalJournals.{same_lists}
 use Rattle.rl_check.proofs.LegalRanks.{done_is, once, low_number, asked_is, one_number, fresh_far, next_behind}
 
@@ -46,13 +42,14 @@ same_done : (d : Done) (n m : ℕ) → d.done ≡ n → d.given ≡ m → d ≡ 
 same_done d n m a b = ap (λ z. record { done = z; given = d.given }) a ∙ ap (λ z. record { done = n; given = z }) b
 
 -- the rules hold of all events where they hold so far as each
-rules_of : (queues : List QueueOf) (events : List (ℕ × Event)) → ((p : ℕ) → EventsHold queues events p) → KeepsRules queues (events_of events)
+rules_of : (queues : List QueueOf) (events : List (ℕ × Event)) → (event_tests queues events).pass → KeepsRules queues (events_of events)
 rules_of queues [] hold =
     record {
       exclusive = is_exclusive [] (record { one = λ i j p q. absurd (cc); none = λ i j p q. absurd (cc) });
       budgets = λ q budget queue has b. is_within [] q budget tt;
     }
-rules_of queues (e ∷ events) hold = subst (λ z. KeepsRules queues (events_of z)) (take_whole (e ∷ events) (length events + 1) (omega arith)) (hold (length events) (omega arith))
+rules_of queues (e ∷ events) hold = subst (λ z. KeepsRules queues (events_of z)) (take_all (length events + 1) (e ∷ events) (omega arith))
+    (hold (length events) (omega arith))
 
 -- ---- what is told
 
@@ -71,27 +68,28 @@ module _ (place : ThePlace) (ops : Ops) (report : TheReport) (proper : IsProper 
   abbrev own : ℕ → List Entry
   own k = blocks_joined (map (told_by k) report.shards)
 
-  rank_tests : (k : ℕ) (d : Done) → slice_get report.done k ≡ Some d → (p : ℕ) (t : Test) → RankPasses replay (calls_by k) (sizes_by k) (own k) d p t
-  rank_tests k d gd p t =
-      subst (λ z. RankPasses replay (calls_by k) (sizes_by k) z d p t) (flat_joined (told_by k) report.shards)
-      (subst (λ b. RankPasses b (calls_by k) (sizes_by k) (entries_of_rank report k) d p t) mode (legal (group.Rank k) p t d gd))
+  by_rank : (k : ℕ) (d : Done) → slice_get report.done k ≡ Some d → (rank_tests replay (calls_by k) (sizes_by k) (own k) d).pass
+  by_rank k d gd =
+      subst (λ z. (rank_tests replay (calls_by k) (sizes_by k) z d).pass) (flat_joined (told_by k) report.shards)
+      (subst (λ b. (rank_tests b (calls_by k) (sizes_by k) (entries_of_rank report k) d).pass) mode
+      (legal.1 k (slice_get_within report.done k d gd) d gd))
 
   module _ (s home : ℕ) (S : TheShard) (gh : slice_get place.homes s ≡ Some home) (gS : slice_get report.shards s ≡ Some S) where
     fit : ShardFits (naming_of place) replay s S
     fit = subst (λ b. ShardFits (naming_of place) b s S) mode (shard_fits (naming_of place) (is_some report.steps) report.shards fits.shards s S gS)
 
-    tests : (p : ℕ) (t : Test) → ShardPasses place replay s home S p t
-    tests p t = subst (λ b. ShardPasses place b s home S p t) mode (legal (group.Shard s) p t home S gh gS)
+    pub tests : (shard_tests place replay s home S).pass
+    tests = subst (λ b. (shard_tests place b s home S).pass) mode (legal.0 s (slice_get_within report.shards s S gS) home gh S gS)
 
     module _ (k : ℕ) (d : Done) (gd : slice_get report.done k ≡ Some d) where
       abbrev t : List Entry
       t = transcript_in S.entries k
 
-      abbrev R : (p : ℕ) (t : Test) → RankPasses replay (calls_by k) (sizes_by k) (own k) d p t
-      R = rank_tests k d gd
+      abbrev R : (rank_tests replay (calls_by k) (sizes_by k) (own k) d).pass
+      R = by_rank k d gd
 
       in_own : (i : ℕ) (e : Entry) → slice_get t i ≡ Some e → Stands (own k) e
-      in_own i e get = stands_out (map (told_by k) report.shards) s t i e (map_there (told_by k) report.shards s S gS) get
+      in_own i e get = stands_out (map (told_by k) report.shards) s t i e (get_map (told_by k) report.shards s S gS) get
 
       mine : (i : ℕ) (e : Entry) → slice_get t i ≡ Some e → e.rank ≡ k
       mine i e get = let hit : is_of k e ≡ true = (was_there (is_of k) S.entries i e get).0 in grind (arith, nat_tests)
@@ -107,7 +105,7 @@ module _ (place : ThePlace) (ops : Ops) (report : TheReport) (proper : IsProper 
             low = low_number replay (calls_by k) (sizes_by k) (own k) d R e (in_own i e get);
             own = record { shard_is = f.shard_is; rank_is = mine i e get; small = let h = f.low_number in omega arith };
             asked_is = asked_is replay (calls_by k) (sizes_by k) (own k) d R e (in_own i e get);
-            place = tests q.1 test.Shard e q.2;
+            place = of_shard place replay s home S fit tests q.1 e q.2;
           }
 
       -- of two entries that follow one another in the rank's list the later one has the greater number
@@ -159,7 +157,8 @@ module _ (place : ThePlace) (ops : Ops) (report : TheReport) (proper : IsProper 
   rank_lawful k low =
       let d = done_at k low in
       record {
-        once = λ i less. sym (count_joined (λ e. e.seq == i) (map (told_by k) report.shards)) ∙ once replay (calls_by k) (sizes_by k) (own k) d.0 (rank_tests k d.0 d.1) i less;
+        once = λ i less. sym (count_joined (λ e. e.seq == i) (map (told_by k) report.shards))
+            ∙ once replay (calls_by k) (sizes_by k) (own k) d.0 (by_rank k d.0 d.1) i less;
         each = λ s t get.
             let q = get_map_back (told_by k) report.shards s t get in
             let h = home_at s q.0 q.1 in
@@ -173,7 +172,7 @@ module _ (place : ThePlace) (ops : Ops) (report : TheReport) (proper : IsProper 
 
   -- what is told of it
   pub done_told : (k : ℕ) (d : Done) → slice_get report.done k ≡ Some d → IsDone replay (calls_by k) (sizes_by k) (length (own k)) d
-  done_told k d gd = done_is replay (calls_by k) (sizes_by k) (own k) d (rank_tests k d gd)
+  done_told k d gd = done_is replay (calls_by k) (sizes_by k) (own k) d (by_rank k d gd)
 
   -- and of a shard
   pub shard_tells : (s home : ℕ) (S : TheShard) → slice_get place.homes s ≡ Some home → slice_get report.shards s ≡ Some S → TellsHistory place S
@@ -197,19 +196,20 @@ module _ (place : ThePlace) (ops : Ops) (report : TheReport) (proper : IsProper 
       let c = some_at ops.by_rank k low in
       let same : get_or ops.by_rank k [] ≡ c.0 = get_or_from_slice_get ops.by_rank k c.0 [] c.1 in
       let is = done_told place ops report proper calls fits false is_run legal k d gd in
-      map_there (λ (z : List Call). record { done = length z; given = length z }) ops.by_rank k c.0 c.1
+      get_map (λ (z : List Call). record { done = length z; given = length z }) ops.by_rank k c.0 c.1
       ∙ ap (λ z. Some z) (sym (same_done d (length c.0) (length c.0) (is.done ∙ is.ends ∙ ap length same) (is.given ∙ ap length same))))
 
   run_shard : (s home : ℕ) (S : TheShard) → slice_get place.homes s ≡ Some home → slice_get report.shards s ≡ Some S → IsLawfulShard place home S
   run_shard s home S gh gS =
       let t = shard_tells place ops report proper calls fits false is_run legal s home S gh gS in
-      let T : (p : ℕ) (t : Test) → ShardPasses place false s home S p t = λ p u. subst (λ b. ShardPasses place b s home S p u) is_run (legal (group.Shard s) p u home S gh gS) in
+      let T = tests place ops report proper calls fits false is_run legal s home S gh gS in
       record {
         legal = t.legal;
         in_order = t.in_order;
         told = t.told;
-        table = T (length S.entries) test.Pairs refl ∙ ap (λ z. finite.entries (table_after place.geom finite.empty (journal_among z))) (take_whole S.entries (length S.entries) refl);
-        tallied = T (length S.entries) test.Tally refl;
+        table = T.1.1.0.1 ∙ ap (λ z. finite.entries (table_after place.geom finite.empty (journal_among z)))
+            (take_all (length S.entries) S.entries (omega arith));
+        tallied = T.1.1.0.0;
       }
 
   pub is_lawful : IsLawful place ops report
@@ -232,11 +232,11 @@ module _ (place : ThePlace) (ops : Ops) (report : TheReport) (proper : IsProper 
     (of_replay : is_some report.steps ≡ true) (legal : IsLegalReport place ops report) where
   replay_shard : (s home : ℕ) (S : TheShard) → slice_get place.homes s ≡ Some home → slice_get report.shards s ≡ Some S → IsReplayedShard place home S
   replay_shard s home S gh gS =
-      let T : (p : ℕ) (t : Test) → ShardPasses place true s home S p t = λ p u. subst (λ b. ShardPasses place b s home S p u) of_replay (legal (group.Shard s) p u home S gh gS) in
+      let T = tests place ops report proper calls fits true of_replay legal s home S gh gS in
       record {
         history_told = shard_tells place ops report proper calls fits true of_replay legal s home S gh gS;
-        tallied = T (length S.entries) test.Tally refl;
-        rules = rules_of (queues_at place home) S.events (λ p. T p test.Events);
+        tallied = T.1.1.0.0;
+        rules = rules_of (queues_at place home) S.events T.1.1.1;
       }
 
   abbrev entries_of : ℕ → List Entry

@@ -2,36 +2,25 @@
 use Rattle.std.proofs.Common.{◌≡◌, ℕ, zero, suc, ◌+◌, ◌<◌, ◌≤◌, Bool, true, false, not, cond, List, [], ◌∷◌, take, drop, Option, Some, None, refl, sym, ap, subst, ◌∙◌, inl, inr, ⊎_elim, arith}
 use Rattle.std.specs.Prelude.{slice_get}
 use Rattle.std.specs.List.{count_by, AllByRecursion}
-use Rattle.std.proofs.lemmas.Option.{same_Some, slice_get_within}
+use Rattle.std.proofs.lemmas.Option.{slice_get_within}
 use Rattle.std.proofs.Math.Seq.{take-add}
 use Rattle.rl_word.specs.laws.Places.{some_at}
-use Rattle.rl_model.proofs.Counts.{count-cons, count-append}
+use Rattle.rl_model.proofs.Counts.{count-append}
 use Rattle.rl_model.specs.declared.entry.Entry.{Entry}
+use Rattle.rl_model.specs.Call.{shard_of}
 use Rattle.rl_journal.specs.Blocks.{is_last}
 use Rattle.rl_journal.specs.Legal.{updates}
 use Rattle.rl_journal.specs.History.{Precedes, IsBeforeByRank, IsSorted}
 use Rattle.rl_place.specs.Places.{ThePlace}
 use Rattle.rl_report.specs.Naming.{naming_of}
 use Rattle.rl_report.specs.Reports.{TheShard, EntryFits, PartFits, ShardFits}
-use Rattle.rl_check.specs.declared.illegal.Test.{Test}
-use Rattle.rl_check.specs.declared.illegal.Test.TheVariants as test
-use Rattle.rl_check.specs.Entries.{before, updates_before, StandsBefore, IsFirstOfBlock, MayFollow}
+use Rattle.rl_check.specs.Entries.{before, updates_before, StandsBefore, IsFirstOfBlock, MayFollow, EntryIsAnswered}
 use Rattle.rl_check.specs.OneThread.{is_begun}
-use Rattle.rl_check.specs.Shards.{ShardPasses}
+use Rattle.rl_check.specs.Shards.{entry_tests, shard_tests}
 use Rattle.rl_check.proofs.EntryFacts.{one_of_all}
+use Rattle.rl_check.proofs.EntryTests.{up_next}
 
 -- ---- how many updates there are
-
-up_next : (xs : List Entry) (p : ℕ) (x : Entry) → slice_get xs p ≡ Some x → count_by updates (take (suc p) xs) ≡ count_by updates (take p xs) + cond (updates x) 1 0
-up_next [] p x get = absurd (cc)
-up_next (y ∷ ys) zero x get =
-    let same : cond (updates y) 1 0 ≡ cond {A = ℕ} (updates x) 1 0 = ap (λ (z : Entry). cond {A = ℕ} (updates z) 1 0) (same_Some _ _ get) in
-    let none : count_by updates (take 0 ys) ≡ 0 = nothing ys in
-    omega (arith, count-cons updates y (take 0 ys)) where
-      nothing : (zs : List Entry) → count_by updates (take 0 zs) ≡ 0
-      nothing [] = refl
-      nothing (z ∷ zs) = refl
-up_next (y ∷ ys) (suc p) x get = omega (arith, count-cons updates y (take (suc p) ys), count-cons updates y (take p ys), up_next ys p x get)
 
 module _ (es : List Entry) where
   pub up_grows : (i n : ℕ) → updates_before es i ≤ updates_before es (i + n)
@@ -99,23 +88,37 @@ sorted_by (x ∷ xs) h = (
   sorted_by xs (λ i n d e gd ge. let at : suc (suc i + n) ≡ suc (suc (i + n)) = omega arith in h (suc i) n d e gd (ap (slice_get (x ∷ xs)) at ∙ ge)),
 )
 
-module _ (place : ThePlace) (replay : Bool) (s home : ℕ) (S : TheShard) (fit : ShardFits (naming_of place) replay s S) (T : (p : ℕ) (t : Test) → ShardPasses place replay s home S p t) where
+module _ (place : ThePlace) (replay : Bool) (s home : ℕ) (S : TheShard) (fit : ShardFits (naming_of place) replay s S)
+    (T : (shard_tests place replay s home S).pass) where
   abbrev es : List Entry
   es = S.entries
 
+  at_entry : (p : ℕ) (e : Entry) → slice_get es p ≡ Some e → (entry_tests place.geom s es p).pass
+  at_entry p e get = T.0 p (slice_get_within es p e get)
+
+  pub of_shard : (p : ℕ) (e : Entry) → slice_get es p ≡ Some e → shard_of place.geom e.call ≡ s
+  of_shard p e get = (at_entry p e get).0 e get
+
+  pub in_batch : (p : ℕ) (e : Entry) → slice_get es p ≡ Some e → MayFollow (before es p) e
+  in_batch p e get = (at_entry p e get).1.1.0 e get
+
+  pub answered : (p : ℕ) (e : Entry) → slice_get es p ≡ Some e → EntryIsAnswered es p place.geom e
+  answered p e get = (at_entry p e get).1.1.1.1 e get
+
   pub at_is : (p : ℕ) (e : Entry) → slice_get es p ≡ Some e → e.at ≡ updates_before es p
-  at_is p e get = T p test.At e get
+  at_is p e get = (at_entry p e get).1.1.1.0 e get
 
   pub entry_fits : (p : ℕ) (e : Entry) → slice_get es p ≡ Some e → EntryFits (naming_of place) s e
   entry_fits p e get = one_of_all (EntryFits (naming_of place) s) es p e fit.entries get
 
   pub stands : (n i : ℕ) (d e : Entry) → slice_get es i ≡ Some d → slice_get es (suc (i + n)) ≡ Some e → StandsBefore d e
-  stands zero i d e gd ge = let at : suc (i + 0) ≡ suc i = omega arith in T (suc i) test.Order d e gd (ap (slice_get es) (sym at) ∙ ge)
+  stands zero i d e gd ge = let at : suc (i + 0) ≡ suc i = omega arith in
+      let there : slice_get es (suc i) ≡ Some e = ap (slice_get es) (sym at) ∙ ge in (at_entry (suc i) e there).1.0 d e gd there
   stands (suc n) i d e gd ge =
       let at : suc (i + suc n) ≡ suc (suc (i + n)) = omega arith in
       let there : slice_get es (suc (suc (i + n))) ≡ Some e = ap (slice_get es) (sym at) ∙ ge in
       let m = some_at es (suc (i + n)) (let h = slice_get_within es (suc (suc (i + n))) e there in omega arith) in
-      stands_on d m.0 e (stands n i d m.0 gd m.1) (T (suc (suc (i + n))) test.Order m.0 e m.1 there)
+      stands_on d m.0 e (stands n i d m.0 gd m.1) ((at_entry (suc (suc (i + n))) e there).1.0 m.0 e m.1 there)
 
   precedes : (i n : ℕ) (d e : Entry) → slice_get es i ≡ Some d → slice_get es (suc (i + n)) ≡ Some e → Precedes d e
   precedes i n d e gd ge =
@@ -141,7 +144,7 @@ module _ (place : ThePlace) (replay : Bool) (s home : ℕ) (S : TheShard) (fit :
   begins_if (Some d) e m none = m.0 (elim (is_last d) as (λ b. not b ≡ false → b ≡ true) [ true ↦ λ _. refl | false ↦ λ z. absurd (cc) ] none)
 
   pub begins_here : (p : ℕ) (e : Entry) → slice_get es p ≡ Some e → is_begun (before es p) ≡ false → IsFirstOfBlock e
-  begins_here p e get none = begins_if (before es p) e ((T p test.Batch).0 e get) none
+  begins_here p e get none = begins_if (before es p) e (in_batch p e get) none
 
   read_begins : (o : Option Entry) (e : Entry) → MayFollow o e → updates e ≡ false → e.batch ≡ 0
   read_begins None e m miss = ⊎_elim (λ z. z) (λ q. absurd (let bad : true ≡ false = sym q.0 ∙ miss in cc)) m
@@ -152,7 +155,7 @@ module _ (place : ThePlace) (replay : Bool) (s home : ℕ) (S : TheShard) (fit :
       ] refl
 
   pub read_alone : (p : ℕ) (e : Entry) → slice_get es p ≡ Some e → updates e ≡ false → e.batch ≡ 0
-  read_alone p e get miss = read_begins (before es p) e ((T p test.Batch).0 e get) miss
+  read_alone p e get miss = read_begins (before es p) e (in_batch p e get) miss
 
   pub first_part : (e : Entry) → IsFirstOfBlock e → PartFits e.batch e.part → e.part ≡ 0
   first_part e b f = ⊎_elim (λ z. ⊎_elim (λ q. q.1) (λ q. let two = q.0 in absurd (omega arith)) f) (λ q. q.1) b

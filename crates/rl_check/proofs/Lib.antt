@@ -1,4 +1,5 @@
 pub mod Places
+pub mod TestLaws
 pub mod BatchLaws
 pub mod WholeLaws
 pub mod OnlyLaws
@@ -11,7 +12,6 @@ pub mod PairLaws
 pub mod SlotLaws
 pub mod RankLaws
 pub mod RankFirst
-pub mod ReportFirst
 pub mod ThreadLaws
 pub mod FindingLaws
 pub mod Taking

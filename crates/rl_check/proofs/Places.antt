@@ -10,8 +10,14 @@ below_next zero (suc p) h = inl (omega arith)
 below_next (suc j) zero h = absurd (omega arith)
 below_next (suc j) (suc p) h = ⊎_elim (λ l. inl (omega arith)) (λ e. inr (ap suc e)) (below_next j p (omega arith))
 
+-- so far beyond a number
+pub away : (b p : ℕ) → b ≤ p → (k : ℕ) × (p ≡ b + k)
+away zero p h = (p, omega arith)
+away (suc b) zero h = absurd (omega arith)
+away (suc b) (suc p) h = let q = away b p (omega arith) in (q.0, let e = q.1 in omega arith)
+
 -- the first elements and one more
-take_next : {X : Type 0} (xs : List X) (p : ℕ) (x : X) → slice_get xs p ≡ Some x → take (suc p) xs ≡ take p xs ++ x ∷ []
+pub take_next : {X : Type 0} (xs : List X) (p : ℕ) (x : X) → slice_get xs p ≡ Some x → take (suc p) xs ≡ take p xs ++ x ∷ []
 take_next [] p x get = absurd (cc)
 take_next (y ∷ xs) zero x get = ap (λ z. z ∷ []) (same_Some _ _ get)
 take_next (y ∷ xs) (suc p) x get = ap (λ zs. y ∷ zs) (take_next xs p x get)

@@ -1,7 +1,7 @@
 -- From what is found among a rank's entries to its first fault.
-use Rattle.std.proofs.Common.{◌≡◌, ℕ, zero, suc, ◌+◌, ◌<◌, ◌≤◌, Bool, true, false, cond, List, [], ◌∷◌, length, get_or, Option, Some, None, refl, sym, ap, subst, ◌∙◌, ⊎_elim, arith, length-append}
+use Rattle.std.proofs.Common.{◌≡◌, ℕ, zero, suc, ◌+◌, ◌<◌, ◌≤◌, Bool, true, false, cond, List, [], ◌∷◌, length, get_or, Option, Some, None, refl, sym, ap, subst, ◌∙◌, inr, ⊎_elim, arith, length-append}
 use Rattle.std.specs.Prelude.{slice_get, ◌↔◌, IsTrue}
-use Rattle.rl_check.proofs.WatchLaws.{none_is, some_is}
+use Rattle.rl_check.proofs.WatchLaws.{none_is}
 use Rattle.std.specs.List.{AllByRecursion, filter, flat_map}
 use Rattle.std.specs.Option.{is_some}
 use Rattle.std.proofs.lemmas.List.{length-map}
@@ -25,11 +25,11 @@ use Rattle.rl_report.specs.Reports.{TheShard, TheReport, EntryFits, ShardsFit}
 use Rattle.rl_report.specs.Lawful.{transcript_in}
 use Rattle.rl_check.specs.declared.illegal.Test.{Test}
 use Rattle.rl_check.specs.declared.illegal.Test.TheVariants as test
-use Rattle.rl_check.specs.Faults.{number_of, is_of_events, IsEarlier}
-use Rattle.rl_check.specs.Finding.{IsFirstAt}
-use Rattle.rl_check.specs.Legal.{PassesBy}
-use Rattle.rl_check.specs.Ranks.{Stands, IsCalled, IsFresh, IsDone, RankPasses, entries_of_rank}
-use Rattle.rl_check.specs.Slots.{AreCalled, FoundByNumber}
+use Rattle.rl_check.specs.Ranks.{Stands, IsDone, entries_of_rank, number_tests, rank_tests}
+use Rattle.rl_check.specs.Slots.{AreCalled}
+use Rattle.rl_check.specs.Tests.{Tests, IsFirstOf, one, at_place, where_there}
+use Rattle.rl_check.proofs.EntryTests.{false_true}
+use Rattle.rl_check.proofs.TestLaws.{found_there, stops_first}
 
 -- ---- the calls
 
@@ -85,93 +85,22 @@ shard_low naming replay k from (S ∷ shards) fits j e get =
 pub shards_there : (naming : TheNaming) (report : TheReport) (replay : Bool) → ShardsFit naming replay 0 report.shards → (k : ℕ) (e : Entry) → Stands (entries_of_rank report k) e → e.shard < length report.shards
 shards_there naming report replay fits k e stands = let low = shard_low naming replay k 0 report.shards fits stands.0 e stands.1 in omega arith
 
--- ---- the first fault
-
-module _ (replay : Bool) (calls : List Call) (sizes : List ℕ) (own : List Entry) (d : Done) where
-  abbrev P : ℕ → Test → Type 0
-  P = RankPasses replay calls sizes own d
-
-  abbrev n : ℕ
-  n = length own
-
-  passes : (q : ℕ) (u : Test) → (number_of u ≡ 9 → q < n → IsCalled (asked_of calls sizes) own q) → (number_of u ≡ 10 → q < n → IsFresh own q) → (number_of u ≡ 11 → q ≡ n → IsDone replay calls sizes q d) → P q u
-  passes q test.Shard a b c = tt
-  passes q test.Order a b c = tt
-  passes q test.Batch a b c = tt
-  passes q test.At a b c = tt
-  passes q test.Reply a b c = tt
-  passes q test.Updates a b c = tt
-  passes q test.Tally a b c = tt
-  passes q test.Pairs a b c = tt
-  passes q test.Events a b c = tt
-  passes q test.Calls a b c = a refl
-  passes q test.Fresh a b c = b refl
-  passes q test.Done a b c = c refl
-
-  -- what comes before a test that isn't of events
-  sooner : {B : Type 0} (q : ℕ) (u : Test) (p : ℕ) (t : Test) → is_of_events t ≡ false → IsEarlier q u p t → (q < p → B) → (q ≡ p → number_of u < number_of t → B) → B
-  sooner q u p t plain earlier a b =
-      ⊎_elim (λ x. absurd (let bad : true ≡ false = sym x.1 ∙ plain in cc)) (λ x. ⊎_elim a (λ y. b y.0 y.1) x.1) earlier
-
-  pub number_first : (f : ℕ × Test) → FoundByNumber (asked_of calls sizes) own (Some f) → IsFirstAt P (Some f)
-  number_first (i, test.Calls) f = (
-    (λ x. f.2 (x f.0)),
-    (λ q u earlier. sooner q u i test.Calls refl earlier
-        (λ less. passes q u (λ _ _. (f.1 q less).0) (λ _ _. (f.1 q less).1) (λ _ end. absurd (let h = f.0 in omega arith)))
-        (λ same low. passes q u (λ e. absurd (omega arith)) (λ e. absurd (omega arith)) (λ e. absurd (omega arith)))),
-  )
-  number_first (i, test.Fresh) f = (
-    (λ x. f.3 (x f.0)),
-    (λ q u earlier. sooner q u i test.Fresh refl earlier
-        (λ less. passes q u (λ _ _. (f.1 q less).0) (λ _ _. (f.1 q less).1) (λ _ end. absurd (let h = f.0 in omega arith)))
-        (λ same low. passes q u (λ _ _. subst (IsCalled (asked_of calls sizes) own) (sym same) f.2) (λ e. absurd (omega arith)) (λ e. absurd (omega arith)))),
-  )
-  number_first (i, test.Shard) f = absurd f
-  number_first (i, test.Order) f = absurd f
-  number_first (i, test.Batch) f = absurd f
-  number_first (i, test.At) f = absurd f
-  number_first (i, test.Reply) f = absurd f
-  number_first (i, test.Updates) f = absurd f
-  number_first (i, test.Tally) f = absurd f
-  number_first (i, test.Pairs) f = absurd f
-  number_first (i, test.Events) f = absurd f
-  number_first (i, test.Done) f = absurd f
-
-  pub done_first : AreCalled (asked_of calls sizes) own n → (IsDone replay calls sizes n d → ⊥) → IsFirstAt P (Some (n, test.Done))
-  done_first called not = (
-    (λ x. not (x refl)),
-    (λ q u earlier. sooner q u n test.Done refl earlier
-        (λ less. passes q u (λ _ low. (called q low).0) (λ _ low. (called q low).1) (λ _ end. absurd (omega arith)))
-        (λ same low. passes q u (λ _ low. (called q low).0) (λ _ low. (called q low).1) (λ e. absurd (omega arith)))),
-  )
-
-  pub all_passed : AreCalled (asked_of calls sizes) own n → IsDone replay calls sizes n d → IsFirstAt P None
-  all_passed called done q u = passes q u (λ _ low. (called q low).0) (λ _ low. (called q low).1) (λ _ end. subst (λ z. IsDone replay calls sizes z d) (sym end) done)
-
 -- ---- a rank of a report
 
-module _ (ops : Ops) (report : TheReport) (k : ℕ) (d : Done) (there : slice_get report.done k ≡ Some d) (b : Bool) (mode : b ≡ is_some report.steps) (calls : List Call) (calls_are : calls ≡ get_or ops.by_rank k []) (sizes : List ℕ) (sizes_are : sizes ≡ get_or ops.sizes k []) (own : List Entry) (own_is : own ≡ entries_of_rank report k) where
-  abbrev Here : Bool → List Call → List ℕ → List Entry → Done → ℕ → Test → Type 0
-  Here b calls sizes own d p t = RankPasses b calls sizes own d p t
+module _ (ops : Ops) (report : TheReport) (k : ℕ) (b : Bool) (mode : b ≡ is_some report.steps) (calls : List Call)
+    (calls_are : calls ≡ get_or ops.by_rank k []) (sizes : List ℕ) (sizes_are : sizes ≡ get_or ops.sizes k []) (own : List Entry)
+    (own_is : own ≡ entries_of_rank report k) where
+  abbrev Here : Done → Tests (ℕ × Test)
+  Here = rank_tests (is_some report.steps) (get_or ops.by_rank k []) (get_or ops.sizes k []) (entries_of_rank report k)
 
-  on_rank : (p : ℕ) (t : Test) → Here b calls sizes own d p t → PassesBy ops report k p t
-  on_rank p t h x gx =
-      subst (λ z. Here z (get_or ops.by_rank k []) (get_or ops.sizes k []) (entries_of_rank report k) x p t) mode
-      (subst (λ z. Here b z (get_or ops.sizes k []) (entries_of_rank report k) x p t) calls_are
-      (subst (λ z. Here b calls z (entries_of_rank report k) x p t) sizes_are
-      (subst (λ z. Here b calls sizes z x p t) own_is
-      (subst (λ z. Here b calls sizes own z p t) (same_Some _ _ (sym there ∙ gx)) h))))
-
-  off_rank : (p : ℕ) (t : Test) → PassesBy ops report k p t → Here b calls sizes own d p t
-  off_rank p t h =
-      subst (λ z. Here b calls sizes z d p t) (sym own_is)
-      (subst (λ z. Here b calls z (entries_of_rank report k) d p t) (sym sizes_are)
-      (subst (λ z. Here b z (get_or ops.sizes k []) (entries_of_rank report k) d p t) (sym calls_are)
-      (subst (λ z. Here z (get_or ops.by_rank k []) (get_or ops.sizes k []) (entries_of_rank report k) d p t) (sym mode) (h d there))))
-
-  pub first_by : (o : Option (ℕ × Test)) → IsFirstAt (Here b calls sizes own d) o → IsFirstAt (PassesBy ops report k) o
-  first_by None h = λ p t. on_rank p t (h p t)
-  first_by (Some f) h = ((λ x. h.0 (off_rank f.0 f.1 x)), (λ p t earlier. on_rank p t (h.1 p t earlier)))
+  pub first_by : (d : Done) → slice_get report.done k ≡ Some d → (o : Option (ℕ × Test)) → IsFirstOf (rank_tests b calls sizes own d) o →
+      IsFirstOf (where_there report.done k Here) o
+  first_by d there o h =
+      found_there report.done k Here d there o
+      (subst (λ z. IsFirstOf (rank_tests z (get_or ops.by_rank k []) (get_or ops.sizes k []) (entries_of_rank report k) d) o) mode
+      (subst (λ z. IsFirstOf (rank_tests b z (get_or ops.sizes k []) (entries_of_rank report k) d) o) calls_are
+      (subst (λ z. IsFirstOf (rank_tests b calls z (entries_of_rank report k) d) o) sizes_are
+      (subst (λ z. IsFirstOf (rank_tests b calls sizes z d) o) own_is h))))
 
 -- ---- there are no more entries than calls
 
@@ -197,28 +126,44 @@ few_own calls sizes own n called =
 pub read_there : {X : Type 0} (xs items : List X) → items ≡ xs → (i : ℕ) (x : X) → i < length xs → x ≡ get_or items i x → slice_get xs i ≡ Some x
 read_there xs items same i x low is = slice_get-get_or xs i x low ∙ ap (λ z. Some (get_or z i x)) (sym same) ∙ ap (λ z. Some z) (sym is)
 
-module _ (ops : Ops) (report : TheReport) (k : ℕ) (calls : List Call) (calls_are : calls ≡ get_or ops.by_rank k []) (sizes : List ℕ) (sizes_are : sizes ≡ get_or ops.sizes k []) (own : List Entry) (own_is : own ≡ entries_of_rank report k) (fault : Option (ℕ × Test)) (found : FoundByNumber (asked_of calls sizes) own fault) where
-  pub rank_some : k < length report.done → is_some fault ≡ true → IsFirstAt (PassesBy ops report k) fault
+module _ (ops : Ops) (report : TheReport) (k : ℕ) (calls : List Call) (calls_are : calls ≡ get_or ops.by_rank k []) (sizes : List ℕ)
+    (sizes_are : sizes ≡ get_or ops.sizes k []) (own : List Entry) (own_is : own ≡ entries_of_rank report k) (fault : Option (ℕ × Test))
+    (found : IsFirstOf (number_tests (asked_of calls sizes) own) fault) where
+  abbrev Tested : Option (ℕ × Test) → Type 0
+  Tested = IsFirstOf (where_there report.done k (rank_tests (is_some report.steps) (get_or ops.by_rank k []) (get_or ops.sizes k [])
+      (entries_of_rank report k)))
+
+  pub rank_some : k < length report.done → is_some fault ≡ true → Tested fault
   rank_some low so =
-      let f = some_is fault so in
       let d : Done = get_or report.done k (record { done = 0; given = 0 }) in
-      subst (IsFirstAt (PassesBy ops report k)) (sym f.1)
-      (first_by ops report k d (slice_get-get_or report.done k (record { done = 0; given = 0 }) low) (is_some report.steps) refl calls calls_are sizes sizes_are own own_is (Some f.0)
-      (number_first (is_some report.steps) calls sizes own d f.0 (subst (FoundByNumber (asked_of calls sizes) own) f.1 found)))
+      let last = at_place (length own) (one test.Done (IsDone (is_some report.steps) calls sizes (length own) d)) in
+      first_by ops report k (is_some report.steps) refl calls calls_are sizes sizes_are own own_is d
+      (slice_get-get_or report.done k (record { done = 0; given = 0 }) low) fault
+      (stops_first (number_tests (asked_of calls sizes) own) last fault found so)
 
   called_all : is_some fault ≡ false → AreCalled (asked_of calls sizes) own (length own)
-  called_all not_so = subst (FoundByNumber (asked_of calls sizes) own) (none_is fault not_so) found
+  called_all not_so = subst (IsFirstOf (number_tests (asked_of calls sizes) own)) (none_is fault not_so) found
 
   pub rank_few : is_some fault ≡ false → length calls ≤ 20000 → length own ≤ 20000
   rank_few not_so few = let h = few_own calls sizes own (length own) (called_all not_so) in omega arith
 
   module _ (not_so : is_some fault ≡ false) (d : Done) (there : slice_get report.done k ≡ Some d) (b : Bool) (mode : b ≡ is_some report.steps) (n : ℕ) (same : n ≡ length own) (truth : Bool) (is : IsTrue truth ↔ IsDone b calls sizes n d) where
-    pub rank_done : truth ≡ true → IsFirstAt (PassesBy ops report k) None
+    pub rank_done : truth ≡ true → Tested None
     rank_done so =
-        first_by ops report k d there b mode calls calls_are sizes sizes_are own own_is None (all_passed b calls sizes own d (called_all not_so) (subst (λ z. IsDone b calls sizes z d) same (is.0 so)))
+        first_by ops report k b mode calls calls_are sizes sizes_are own own_is d there None
+        (called_all not_so, subst (λ z. IsDone b calls sizes z d) same (is.0 so))
 
-    pub rank_not : truth ≡ false → (m : ℕ) → m ≡ length own → IsFirstAt (PassesBy ops report k) (Some (m, test.Done))
+    pub rank_not : truth ≡ false → (m : ℕ) → m ≡ length own → Tested (Some (m, test.Done))
     rank_not isnt m last =
-        subst (λ z. IsFirstAt (PassesBy ops report k) (Some (z, test.Done))) (sym last)
-        (first_by ops report k d there b mode calls calls_are sizes sizes_are own own_is (Some (length own, test.Done))
-        (done_first b calls sizes own d (called_all not_so) (λ done. let bad : false ≡ true = sym isnt ∙ is.1 (subst (λ z. IsDone b calls sizes z d) (sym same) done) in cc)))
+        first_by ops report k b mode calls calls_are sizes sizes_are own own_is d there (Some (m, test.Done))
+        (inr (
+          called_all not_so,
+          (
+            last,
+            (
+              refl,
+              λ done. false_true truth isnt
+                  (is.1 (subst (λ z. IsDone b calls sizes z d) (sym same) done)),
+            ),
+          ),
+        ))

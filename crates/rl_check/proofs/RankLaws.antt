@@ -6,7 +6,7 @@ use Rattle.std.proofs.lemmas.List.{at_drop_more, at_drop_all}
 use Rattle.std.specs.Prelude.{nat_lt}
 use Rattle.rl_word.specs.laws.Places.{get_set_cases}
 use Rattle.rl_report.specs.declared.report.Done.{Done}
-use Rattle.std.proofs.lemmas.Option.{same_Some, slice_get_within, slice_get-get_or}
+use Rattle.std.proofs.lemmas.Option.{same_Some, slice_get-get_or}
 use Rattle.std.proofs.lemmas.Bool.Decides.{nat_tests}
 use Rattle.rl_model.specs.declared.call.Call.{Call}
 use Rattle.rl_model.specs.declared.entry.Entry.{Entry}

@@ -1,10 +1,10 @@
 -- In a replay each entry stands rightly in a block, and has its reply.
-use Rattle.std.proofs.Common.{◌≡◌, ◌⊎◌, ℕ, zero, suc, ◌+◌, ◌<◌, ◌≤◌, true, false, not, List, [], ◌∷◌, ◌++◌, length, take, drop, map, Option, Some, None, refl, sym, ap, subst, ◌∙◌, inl, inr, ⊎_elim, arith, append_assoc, length-append}
+use Rattle.std.proofs.Common.{◌≡◌, ◌⊎◌, ℕ, zero, suc, ◌+◌, ◌<◌, ◌≤◌, true, false, not, List, [], ◌∷◌, ◌++◌, length, take, drop, Option, Some, None, refl, sym, ap, subst, ◌∙◌, inl, inr, ⊎_elim, arith, append_assoc, length-append}
 use Rattle.std.specs.Prelude.{slice_get}
 use Rattle.std.specs.FinMap as finite
 use Rattle.std.proofs.lemmas.List.{take_at}
 use Rattle.std.proofs.lemmas.Option.{same_Some, slice_get_within}
-use Rattle.rl_word.specs.laws.Places.{some_at}
+use Rattle.rl_word.specs.laws.Places.{some_at, get_map}
 use Rattle.rl_model.specs.declared.entry.Entry.{Entry}
 use Rattle.rl_model.specs.declared.call.Call.{Call}
 use Rattle.rl_model.specs.declared.geom.Geom.{Geom}
@@ -18,23 +18,15 @@ use Rattle.rl_report.specs.Lawful.{journal_among}
 use Rattle.rl_check.specs.Entries.{before, table_before, IsFirstOfBlock, MayFollow, IsInBatch, EntryIsAnswered, HasReply}
 use Rattle.rl_check.specs.OneThread.{is_begun}
 use Rattle.rl_check.proofs.BatchLaws.{is_the_last, ends_here}
-use Rattle.rl_check.proofs.TableLaws.{behind, after_call}
+use Rattle.rl_check.proofs.TableLaws.{behind, after_call, sized}
+use Rattle.rl_check.proofs.EntryFacts.{get_behind}
 
 -- ---- lists
-
-get_behind : {X : Type 0} (xs ys : List X) (i : ℕ) → slice_get (xs ++ ys) (length xs + i) ≡ slice_get ys i
-get_behind [] ys i = ap (slice_get ys) (omega arith)
-get_behind (x ∷ xs) ys i = let e : length (x ∷ xs) + i ≡ suc (length xs + i) = omega arith in ap (slice_get (x ∷ (xs ++ ys))) e ∙ get_behind xs ys i
 
 drop_front : {X : Type 0} (xs ys : List X) → drop (length xs) (xs ++ ys) ≡ ys
 drop_front [] [] = refl
 drop_front [] (y ∷ ys) = refl
 drop_front (x ∷ xs) ys = drop_front xs ys
-
-get_map : {X Y : Type 0} (f : X → Y) (xs : List X) (i : ℕ) (x : X) → slice_get xs i ≡ Some x → slice_get (map f xs) i ≡ Some (f x)
-get_map f [] i x get = absurd (cc)
-get_map f (y ∷ ys) zero x get = ap (λ z. Some (f z)) (same_Some _ _ get)
-get_map f (y ∷ ys) (suc i) x get = get_map f ys i x get
 
 module _ (geom : Geom) (es : List Entry) (alone : (p : ℕ) (e : Entry) → slice_get es p ≡ Some e → updates e ≡ false → e.batch ≡ 0) where
   -- no batch is begun before a place, and this is the table there
@@ -102,10 +94,7 @@ module _ (geom : Geom) (es : List Entry) (alone : (p : ℕ) (e : Entry) → slic
             seq_is = let x = part.seq_is in let y = q.seq_is in omega arith;
             part_is = let x = part.part_is in let y = q.part_is in omega arith;
           }),
-        )) where
-          sized : (n : ℕ) → 2 ≤ n → size_of n ≡ n
-          sized zero h = absurd (omega arith)
-          sized (suc n) h = refl
+        ))
 
     inside_answered : EntryIsAnswered es p geom e
     inside_answered =

@@ -1,21 +1,18 @@
 -- What the limits of a report say of a shard's queues and events.
-use Rattle.std.proofs.Common.{◌≡◌, ℕ, zero, suc, ◌+◌, ◌*◌, ◌^◌, ◌<◌, ◌≤◌, Bool, true, false, cond, List, [], ◌∷◌, ◌++◌, length, fold, get_or, Option, Some, None, Result, Ok, Err, IfOk, refl, sym, ap, subst, ◌∙◌, arith, length-append}
+use Rattle.std.proofs.Common.{◌≡◌, ℕ, zero, suc, ◌+◌, ◌<◌, Bool, true, false, List, [], ◌∷◌, length, get_or, Option, Some, sym, ap, subst, ◌∙◌, arith}
 use Rattle.std.specs.Prelude.{slice_get, slice_index}
-use Rattle.std.specs.List.{AllByRecursion, list_any}
 use Rattle.std.specs.Option.{is_some}
-use Rattle.std.proofs.lemmas.List.{length-map}
-use Rattle.std.proofs.lemmas.Option.{same_Some, slice_get-get_or, get_or_from_slice_get}
+use Rattle.std.proofs.lemmas.Option.{same_Some, slice_get-get_or}
 use Rattle.rl_step.specs.declared.events.Event.{Event}
 use Rattle.rl_step.specs.declared.events.Event.TheVariants.{Join, Announce, Pass, Settle, Touch, EnterW, EnterR, LeaveW, LeaveR}
 use Rattle.rl_place.specs.Places.{ThePlace}
-use Rattle.rl_report.specs.Naming as naming
 use Rattle.rl_report.specs.Naming.{TheNaming, naming_of, EventFits}
 use Rattle.rl_report.specs.Reports.{TheShard, TheReport, EachAfter, StepFits, step_of, ShardFits, ShardsFit, ReportFits}
 use Rattle.rl_check.specs.declared.illegal.Test.{Test}
-use Rattle.rl_check.specs.Shards.{ShardPasses}
-use Rattle.rl_check.specs.Legal.{PassesOn}
-use Rattle.rl_check.specs.Finding.{IsFirstAt}
+use Rattle.rl_check.specs.Shards.{shard_tests}
+use Rattle.rl_check.specs.Tests.{IsFirstOf, where_there}
 use Rattle.rl_check.specs.Watching.{IsThere}
+use Rattle.rl_check.proofs.TestLaws.{found_there}
 
 -- ---- events
 
@@ -51,10 +48,6 @@ shard_fits naming replay shards fits s S get = let at : 0 + s ≡ s = omega arit
 
 -- ---- the part of a shard
 
-pub if_ok : {X E : Type 0} (r : Result X E) (P Q : X → Type 0) → ((x : X) → P x → Q x) → IfOk r P → IfOk r Q
-if_ok (Ok x) P Q f h = f x h
-if_ok (Err e) P Q f h = tt
-
 pub part_there : (shards items : List TheShard) → items ≡ shards → (s : ℕ) (part : TheShard) → s < length shards → part ≡ get_or items s part → slice_get shards s ≡ Some part
 part_there shards items same s part low is =
     slice_get-get_or shards s part low ∙ ap (λ (z : List TheShard). Some (get_or z s part)) (sym same) ∙ ap (λ z. Some z) (sym is)
@@ -63,15 +56,10 @@ pub part_fits : (naming : TheNaming) (report : TheReport) → ReportFits naming 
 part_fits naming report fits b mode s part get = subst (λ z. ShardFits naming z s part) (sym mode) (shard_fits naming (is_some report.steps) report.shards fits.shards s part get)
 
 module _ (place : ThePlace) (report : TheReport) (s : ℕ) (part : TheShard) (b : Bool) (mode : b ≡ is_some report.steps) (there : slice_get report.shards s ≡ Some part) (homes : s < length place.homes) where
-  on_shard : (p : ℕ) (t : Test) → ShardPasses place b s (slice_index place.homes s) part p t → PassesOn place report s p t
-  on_shard p t h home S gh gS =
-      subst (λ z. ShardPasses place z s home S p t) mode
-      (subst (λ z. ShardPasses place b s home z p t) (same_Some _ _ (sym there ∙ gS))
-      (subst (λ z. ShardPasses place b s z part p t) (get_or_from_slice_get place.homes s home 0 gh) h))
-
-  off_shard : (p : ℕ) (t : Test) → PassesOn place report s p t → ShardPasses place b s (slice_index place.homes s) part p t
-  off_shard p t h = subst (λ z. ShardPasses place z s (slice_index place.homes s) part p t) (sym mode) (h (slice_index place.homes s) part (slice_get-get_or place.homes s 0 homes) there)
-
-  pub first_on : (o : Option (ℕ × Test)) → IsFirstAt (ShardPasses place b s (slice_index place.homes s) part) o → IsFirstAt (PassesOn place report s) o
-  first_on None h = λ p t. on_shard p t (h p t)
-  first_on (Some f) h = ((λ x. h.0 (off_shard f.0 f.1 x)), (λ p t earlier. on_shard p t (h.1 p t earlier)))
+  pub first_on : (o : Option (ℕ × Test)) → IsFirstOf (shard_tests place b s (slice_index place.homes s) part) o →
+      IsFirstOf (where_there place.homes s (λ home. where_there report.shards s (shard_tests place (is_some report.steps) s home))) o
+  first_on o first =
+      found_there place.homes s (λ home. where_there report.shards s (shard_tests place (is_some report.steps) s home))
+      (slice_index place.homes s) (slice_get-get_or place.homes s 0 homes) o
+      (found_there report.shards s (shard_tests place (is_some report.steps) s (slice_index place.homes s)) part there o
+      (subst (λ z. IsFirstOf (shard_tests place z s (slice_index place.homes s) part) o) mode first))

@@ -14,7 +14,7 @@ use Rattle.rl_model.specs.declared.entry.Reply.{Reply}
 use Rattle.rl_model.specs.declared.geom.Geom.{Geom}
 use Rattle.rl_model.specs.Call.{is_update}
 use Rattle.rl_model.specs.Table.{Table, apply, after_get}
-use Rattle.rl_journal.specs.Blocks.{stops, any_stops, only_first, undone, in_turn, apply_block, apply_batch, calls_of, half_after, is_last}
+use Rattle.rl_journal.specs.Blocks.{stops, any_stops, only_first, undone, in_turn, apply_block, apply_batch, calls_of, half_after, is_last, size_of}
 use Rattle.rl_journal.specs.laws.BlockLaws.{half_append}
 use Rattle.rl_journal.specs.Legal.{updates}
 use Rattle.rl_journal.specs.laws.Lists.{get_cases, get_more_cases, filter_all}
@@ -25,6 +25,11 @@ use Rattle.rl_check.proofs.Places.{take_more, in_stretch, length_stretch}
 use Rattle.rl_check.proofs.BatchLaws.{is_the_last, not_last, IsPartOf, part_of, none_begun, none_begun_alone, in_none, no_end, still_broken}
 
 -- ---- replies of a batch
+
+-- a batch has its size
+pub sized : (n : ℕ) → 2 ≤ n → size_of n ≡ n
+sized zero h = absurd (omega arith)
+sized (suc n) h = refl
 
 module _ (geom : Geom) where
   turn_long : (t : Table) (cs : List Call) → length (in_turn geom t cs).1 ≡ length cs

@@ -1,22 +1,29 @@
 -- What is found side by side is found in order.
-use Rattle.std.proofs.Common.{◌≡◌, ℕ, zero, suc, ◌+◌, ◌<◌, ◌≤◌, List, [], ◌∷◌, length, Option, Some, None, Ok, Err, IfOk, refl, sym, ap, subst, ◌∙◌, ⊎_elim, arith}
-use Rattle.std.specs.Prelude.{slice_get}
+use Rattle.std.proofs.Common.{◌≡◌, ℕ, zero, suc, ◌+◌, ◌<◌, ◌≤◌, Bool, false, List, [], ◌∷◌, length, Option, Some, None, Ok, Err, IfOk, IsTrue, refl, sym, ap, subst, ◌∙◌, arith}
+use Rattle.std.specs.Prelude.{slice_get, ◌↔◌}
 use Rattle.std.specs.List.{AllZip, range_with_len}
-use Rattle.std.proofs.lemmas.Option.{same_Some, slice_get_within}
+use Rattle.std.proofs.lemmas.Option.{same_Some}
 use Rattle.rl_word.specs.laws.Places.{some_at}
-use Rattle.rl_place.specs.Places.{ThePlace}
-use Rattle.rl_ops.specs.declared.ops.Ops.{Ops}
-use Rattle.rl_report.specs.Reports.{TheReport}
-use Rattle.rl_check.specs.declared.illegal.Group.TheVariants as group
 use Rattle.rl_check.specs.declared.illegal.Illegal.{Illegal}
-use Rattle.rl_check.specs.Faults.{IsFirstIn, IsFirst}
-use Rattle.rl_check.specs.Legal.{PassesOn, PassesBy, Passes}
-use Rattle.rl_check.specs.Threads.{Found, NothingBefore, IsFirstOf}
-use Rattle.rl_check.proofs.ReportFirst.{ShardsPass, RanksPass, shard_first, rank_first, no_first}
+use Rattle.rl_check.specs.Tests.{Tests, IsFirstOf, PassBelow, each}
+use Rattle.rl_check.specs.Threads.{Found, something, answer_test, answer_tests}
+use Rattle.rl_check.proofs.EntryTests.{false_true}
 
--- each is as it is by its number
-abbrev pub EachFound : (ℕ → Option Illegal → Type 0) → List Found → Type 0
-EachFound P all = (s : ℕ) (x : Found) → slice_get all s ≡ Some x → IfOk x (P s)
+-- ---- the first answer that is something
+
+module _ (all : List Found) (p : ℕ) (x : Found) where
+  pub nothing_here : slice_get all p ≡ Some x → x ≡ Ok None → (answer_test all p).pass
+  nothing_here at none y get = sym (same_Some _ _ (sym at ∙ get)) ∙ none
+
+  pub something_here : p < length all → PassBelow (answer_test all) p → slice_get all p ≡ Some x → (b : Bool) → IsTrue b ↔ (x ≡ Ok None) →
+      b ≡ false → IsFirstOf (answer_tests all) (something x)
+  something_here low before at b is not = by x at (λ none. false_true b not (is.1 none)) where
+    by : (y : Found) → slice_get all p ≡ Some y → (y ≡ Ok None → ⊥) → IsFirstOf (answer_tests all) (something y)
+    by (Ok None) get some = absurd (some refl)
+    by (Ok (Some f)) get some = (p, low, before, (Ok (Some f), get, (refl, some)))
+    by (Err e) get some = (p, low, before, (Err e, get, (refl, some)))
+
+-- ---- each is as it is by its number
 
 each_from : (P : ℕ → Option Illegal → Type 0) (from n : ℕ) (all : List Found) → AllZip (λ s found. IfOk found (P s)) (range_with_len from n) all → (length all ≡ n) × ((s : ℕ) (x : Found) → slice_get all s ≡ Some x → IfOk x (P (from + s)))
 each_from P from zero [] z = (refl, λ s x get. absurd (cc))
@@ -29,45 +36,27 @@ each_from P from (suc n) (y ∷ all) z =
       at on zero x get = let same : from + 0 ≡ from = omega arith in subst (λ k. IfOk x (P k)) (sym same) (subst (λ w. IfOk w (P from)) (same_Some _ _ get) z.0)
       at on (suc s) x get = let same : from + 1 + s ≡ from + suc s = omega arith in subst (λ k. IfOk x (P k)) same (on s x get)
 
-pub each_found : (P : ℕ → Option Illegal → Type 0) (n : ℕ) (all : List Found) → AllZip (λ s found. IfOk found (P s)) (range_with_len 0 n) all → (length all ≡ n) × EachFound P all
-each_found P n all z = let q = each_from P 0 n all z in (q.0, λ s x get. let same : 0 + s ≡ s = omega arith in subst (λ k. IfOk x (P k)) same (q.1 s x get))
+-- the first answer that is something is the first fault
+module _ (c : ℕ → Tests Illegal) (n : ℕ) (all : List Found) (z : AllZip (λ s found. IfOk found (IsFirstOf (c s))) (range_with_len 0 n)
+    all) where
+  long : length all ≡ n
+  long = (each_from (λ s. IsFirstOf (c s)) 0 n all z).0
 
-module _ (place : ThePlace) (ops : Ops) (report : TheReport) where
-  abbrev pub OnShard : ℕ → Option Illegal → Type 0
-  OnShard s = IsFirstIn (PassesOn place report s) (group.Shard s)
+  found : (s : ℕ) (x y : Found) → slice_get all s ≡ Some x → x ≡ y → IfOk y (IsFirstOf (c s))
+  found s x y get is =
+      let same : 0 + s ≡ s = omega arith in
+      subst (λ k. IfOk y (IsFirstOf (c k))) same (subst (λ (w : Found). IfOk w (IsFirstOf (c (0 + s)))) is
+      ((each_from (λ s. IsFirstOf (c s)) 0 n all z).1 s x get))
 
-  abbrev pub ByRank : ℕ → Option Illegal → Type 0
-  ByRank k = IsFirstIn (PassesBy ops report k) (group.Rank k)
+  passed : (k : ℕ) → k ≤ length all → PassBelow (answer_test all) k → PassBelow c k
+  passed k there before s low = let x = some_at all s (omega arith) in found s x.0 (Ok None) x.1 (before s low x.0 x.1)
 
-  -- what is nothing is passed
-  nothing : (P : ℕ → Option Illegal → Type 0) (all : List Found) → EachFound P all → (s n : ℕ) → s < n → n ≤ length all → NothingBefore all n → P s None
-  nothing P all each s n low there before =
-      let x = some_at all s (omega arith) in
-      subst (λ (w : Found). IfOk w (P s)) (before s x.0 low x.1) (each s x.0 x.1)
-
-  shards_before : (all : List Found) → EachFound OnShard all → (n : ℕ) → n ≤ length all → NothingBefore all n → ShardsPass place ops report n
-  shards_before all each n there before s low = nothing OnShard all each s n low there before
-
-  ranks_before : (all : List Found) → EachFound ByRank all → (n : ℕ) → n ≤ length all → NothingBefore all n → RanksPass place ops report n
-  ranks_before all each n there before k low = nothing ByRank all each k n low there before
-
-  pub shards_found : (n : ℕ) (all : List Found) → AllZip (λ s found. IfOk found (OnShard s)) (range_with_len 0 n) all → (f : Illegal) → IsFirstOf all (Ok (Some f)) → IsFirst (Passes place ops report) (Some f)
-  shards_found n all z f first =
-      let q = each_found OnShard n all z in
-      let low = slice_get_within all first.0 (Ok (Some f)) first.1 in
-      shard_first place ops report first.0 (Some f) (shards_before all q.1 first.0 (omega arith) first.2) (q.1 first.0 (Ok (Some f)) first.1) refl
-
-  pub ranks_found : (n m : ℕ) (shards ranks : List Found) → AllZip (λ s found. IfOk found (OnShard s)) (range_with_len 0 n) shards → length report.shards ≤ n → IsFirstOf shards (Ok None) →
-      AllZip (λ k found. IfOk found (ByRank k)) (range_with_len 0 m) ranks → length report.done ≤ m → (result : Found) → IsFirstOf ranks result → IfOk result (IsFirst (Passes place ops report))
-  ranks_found n m shards ranks y past none z beyond (Ok None) all =
-      let p = each_found OnShard n shards y in
-      let q = each_found ByRank m ranks z in
-      let long = p.0 in let wide = q.0 in
-      no_first place ops report n m past (shards_before shards p.1 n (omega arith) (λ s x low get. none s x get)) beyond (ranks_before ranks q.1 m (omega arith) (λ s x low get. all s x get))
-  ranks_found n m shards ranks y past none z beyond (Ok (Some f)) first =
-      let p = each_found OnShard n shards y in
-      let q = each_found ByRank m ranks z in
-      let long = p.0 in
-      let low = slice_get_within ranks first.0 (Ok (Some f)) first.1 in
-      rank_first place ops report n past (shards_before shards p.1 n (omega arith) (λ s x low get. none s x get)) first.0 (Some f) (ranks_before ranks q.1 first.0 (omega arith) first.2) (q.1 first.0 (Ok (Some f)) first.1) refl
-  ranks_found n m shards ranks y past none z beyond (Err e) first = tt
+  pub answered : (m : ℕ) → m ≡ n → (r : Found) → IsFirstOf (answer_tests all) (something r) → IfOk r (IsFirstOf (each m c))
+  answered m same (Ok None) first = λ i low. passed (length all) (omega arith) first i (let h = long in omega arith)
+  answered m same (Ok (Some f)) first = (
+    first.0,
+    (let h = long in let low = first.1 in omega arith),
+    passed first.0 (let low = first.1 in omega arith) first.2,
+    found first.0 first.3.0 (Ok (Some f)) first.3.1 (sym first.3.2.0),
+  )
+  answered m same (Err e) first = tt

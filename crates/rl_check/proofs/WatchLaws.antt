@@ -21,11 +21,14 @@ use Rattle.rl_word.specs.declared.shapes.Knobs.{Knobs}
 use Rattle.rl_word.specs.Shapes.{TheShape}
 use Rattle.rl_step.specs.LockQueues.{queues_of}
 use Rattle.rl_step.specs.Traces.{events_of}
-use Rattle.rl_check.specs.Shards.{EventsHold}
+use Rattle.rl_check.specs.Shards.{event_tests}
+use Rattle.rl_check.specs.Tests.{IsFirstOf}
+use Rattle.rl_check.specs.Finding.{of_event}
 use Rattle.rl_check.specs.Tallying.{queue_in}
-use Rattle.rl_check.proofs.Places.{take_more}
+use Rattle.rl_check.proofs.Places.{take_more, away}
 use Rattle.rl_check.proofs.TallyLaws.{queue_is}
 use Rattle.rl_check.specs.Watching.{is_the, AreBudgets, IsSeen, told_budget, budget_in}
+use Rattle.rl_model.proofs.Counts.{all_zero}
 
 -- ---- numbers
 
@@ -367,18 +370,13 @@ nothing_seen queues ranks reads budgets room none each are rooms =
       budgets_are = are;
       each = each;
       rooms = ap length rooms ∙ length-replicate (length queues) 0;
-      room_is = λ q B at. ap (λ (z : List ℕ). get_or z q 0) rooms ∙ zeros (length queues) q;
+      room_is = λ q B at. ap (λ (z : List ℕ). get_or z q 0) rooms ∙ all_zero (length queues) q;
       within = λ q B at. tt;
     } where
       off : (n k : ℕ) → get_or (replicate n false) k false ≡ false
       off zero k = refl
       off (suc n) zero = refl
       off (suc n) (suc k) = off n k
-
-      zeros : (n k : ℕ) → ◌≡◌ {A = ℕ} (get_or (replicate n 0) k 0) 0
-      zeros zero k = refl
-      zeros (suc n) zero = refl
-      zeros (suc n) (suc k) = zeros n k
 
 -- the budgets that the code lists
 pub budgets_listed : (name : LockName) (shape : TheShape) (home : ℕ) (knobs : Knobs) (budgets : List (Option ℕ)) → length budgets ≡ length (queues_of name shape home knobs) →
@@ -406,22 +404,19 @@ keeps_front queues p s k =
       budgets = λ q B d at has. is_within p q B (within_front q B 0 p s (within_from (p ++ s) q B (k.budgets q B d at has)));
     }
 
-away : (b p : ℕ) → b ≤ p → (k : ℕ) × (p ≡ b + k)
-away zero p h = (p, omega arith)
-away (suc b) zero h = absurd (omega arith)
-away (suc b) (suc p) h = let q = away b p (omega arith) in (q.0, let e = q.1 in omega arith)
-
 -- the rules hold at each event so far
-pub hold_below : (queues : List QueueOf) (events : List (ℕ × Event)) (n : ℕ) → KeepsRules queues (events_of (take n events)) → (p : ℕ) → p < n → EventsHold queues events p
-hold_below queues events n k p low there =
+pub hold_below : (queues : List QueueOf) (events : List (ℕ × Event)) (n : ℕ) → KeepsRules queues (events_of (take n events)) → (p : ℕ) →
+    p < n → KeepsRules queues (events_of (take (p + 1) events))
+hold_below queues events n k p low =
     let more = away (p + 1) n (omega arith) in
     let split : events_of (take n events) ≡ events_of (take (p + 1) events) ++ events_of (take more.0 (drop (p + 1) events)) =
     ap (λ m. events_of (take m events)) more.1 ∙ ap events_of (take-add (p + 1) more.0 events) ∙ map-append (λ (e : ℕ × Event). e.1) (take (p + 1) events) (take more.0 (drop (p + 1) events)) in
     keeps_front queues (events_of (take (p + 1) events)) (events_of (take more.0 (drop (p + 1) events))) (subst (KeepsRules queues) split k)
 
 -- and all events are there
-pub all_hold : (queues : List QueueOf) (events : List (ℕ × Event)) (n : ℕ) → length events ≤ n → KeepsRules queues (events_of (take n events)) → (p : ℕ) → EventsHold queues events p
-all_hold queues events n past k p there = hold_below queues events n k p (omega arith) there
+pub all_hold : (queues : List QueueOf) (events : List (ℕ × Event)) (n : ℕ) → length events ≤ n →
+    KeepsRules queues (events_of (take n events)) → (event_tests queues events).pass
+all_hold queues events n past k p there = hold_below queues events n k p (omega arith)
 
 -- the trace with one event more
 pub trace_more : (events : List (ℕ × Event)) (place : ℕ) (d : ℕ × Event) → place < length events → events_of (take (place + 1) events) ≡ events_of (take place events) ++ (get_or events place d).1 ∷ []
@@ -430,7 +425,11 @@ trace_more events place d there =
 
 -- with an event the rules are broken, and not before
 pub first_broken : (queues : List QueueOf) (events : List (ℕ × Event)) (place n : ℕ) (d : ℕ × Event) → place < length events → n ≡ place → KeepsRules queues (events_of (take place events)) →
-    (KeepsRules queues (events_of (take place events) ++ (get_or events place d).1 ∷ []) → ⊥) → (EventsHold queues events n → ⊥) × ((p : ℕ) → p < n → EventsHold queues events p)
-first_broken queues events place n d there same kept broken =
-    subst (λ m. (EventsHold queues events m → ⊥) × ((p : ℕ) → p < m → EventsHold queues events p)) (sym same)
-    ((λ hold. broken (subst (KeepsRules queues) (trace_more events place d there) (hold there))), hold_below queues events place kept)
+    (KeepsRules queues (events_of (take place events) ++ (get_or events place d).1 ∷ []) → ⊥) → IsFirstOf (event_tests queues events)
+    (of_event (Some n))
+first_broken queues events place n d there same kept broken = (
+  place,
+  there,
+  hold_below queues events place kept,
+  (same, (refl, λ hold. broken (subst (KeepsRules queues) (trace_more events place d there) hold))),
+)

@@ -1,4 +1,5 @@
 -- to be believed, in reading order
+pub mod Tests
 pub mod Faults
 pub mod Entries
 pub mod Shards

@@ -8,6 +8,7 @@ use Rattle.rl_ops.specs.Asked.{asked_of, BeginsAt}
 use Rattle.rl_report.specs.declared.report.Done.{Done}
 use Rattle.rl_report.specs.Reports.{TheShard, TheReport}
 use Rattle.rl_report.specs.Lawful.{transcript_in}
+use Rattle.rl_check.specs.Tests.{Tests, one, ◌and_then◌, each, at_place}
 use Rattle.rl_check.specs.declared.illegal.Test.{Test}
 use Rattle.rl_check.specs.declared.illegal.Test.TheVariants as test
 
@@ -55,18 +56,11 @@ pub record IsDone (replay : Bool) (calls : List Call) (sizes : List ℕ) (n : �
   pub given : d.given ≡ length calls
   pub ends : EndsWell replay calls sizes n
 
--- the rank passes the test at place p; the last one stands at the place behind its entries
-module _ (replay : Bool) (calls : List Call) (sizes : List ℕ) (own : List Entry) (d : Done) (p : ℕ) where
-  abbrev pub RankPasses : Test → Type 0
-  RankPasses test.Shard = Unit {0}
-  RankPasses test.Order = Unit {0}
-  RankPasses test.Batch = Unit {0}
-  RankPasses test.At = Unit {0}
-  RankPasses test.Reply = Unit {0}
-  RankPasses test.Updates = Unit {0}
-  RankPasses test.Tally = Unit {0}
-  RankPasses test.Pairs = Unit {0}
-  RankPasses test.Events = Unit {0}
-  RankPasses test.Calls = p < length own → IsCalled (asked_of calls sizes) own p
-  RankPasses test.Fresh = p < length own → IsFresh own p
-  RankPasses test.Done = p ≡ length own → IsDone replay calls sizes p d
+-- entry by entry, by number
+abbrev pub number_tests : List Asked → List Entry → Tests (ℕ × Test)
+number_tests asked own = each (length own) (λ i. at_place i (one test.Calls (IsCalled asked own i) and_then one test.Fresh (IsFresh own i)))
+
+-- and behind them
+abbrev pub rank_tests : Bool → List Call → List ℕ → List Entry → Done → Tests (ℕ × Test)
+rank_tests replay calls sizes own d =
+    number_tests (asked_of calls sizes) own and_then at_place (length own) (one test.Done (IsDone replay calls sizes (length own) d))

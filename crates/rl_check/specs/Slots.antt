@@ -1,5 +1,5 @@
 -- How far the tests of a rank have come.
-use Rattle.std.specs.Prelude.{◌≡◌, ℕ, zero, suc, ◌<◌, List, count_by, drop, length, slice_get, Option, Some, None}
+use Rattle.std.specs.Prelude.{◌≡◌, ℕ, zero, suc, ◌<◌, List, count_by, drop, slice_get, Option, Some, None}
 use Rattle.rl_model.specs.declared.call.Call.{Call}
 use Rattle.rl_model.specs.declared.entry.Entry.{Entry}
 use Rattle.rl_model.specs.Asked.{Asked, batch_number}
@@ -8,8 +8,6 @@ use Rattle.rl_check.specs.declared.ranks.Part.{Part}
 use Rattle.rl_check.specs.Ranks.{Stands, is_numbered, IsCalled, IsFresh, IsLatest}
 use Rattle.rl_check.specs.declared.slots.Slot.{Slot}
 use Rattle.rl_check.specs.declared.slots.Slot.TheVariants.{Empty, One, More}
-use Rattle.rl_check.specs.declared.illegal.Test.{Test}
-use Rattle.rl_check.specs.declared.illegal.Test.TheVariants as test
 
 -- what a slot tells of the entries with its number
 abbrev pub SlotTells : List Entry → ℕ → Slot → Type 0
@@ -43,14 +41,6 @@ begun_by p (suc n) = record { batch = batch_number (suc n); part = 0 }
 abbrev pub GoesOnWith : List Call → List ℕ → ℕ → ℕ → ℕ → Type 0
 GoesOnWith calls sizes i batch part = drop i (asked_of calls sizes) ≡ asked_after batch part (drop i calls) (drop i sizes)
 
-module _ (calls : List Asked) (own : List Entry) where
-  -- the first n entries by number pass the tests
-  abbrev pub AreCalled : ℕ → Type 0
-  AreCalled n = (i : ℕ) → i < n → IsCalled calls own i × IsFresh own i
-
-  -- what is found among a rank's entries by number: nothing, or the first fault
-  abbrev pub FoundByNumber : Option (ℕ × Test) → Type 0
-  FoundByNumber None = AreCalled (length own)
-  FoundByNumber (Some (i, test.Calls)) = (i < length own) × AreCalled i × (IsCalled calls own i → ⊥)
-  FoundByNumber (Some (i, test.Fresh)) = (i < length own) × AreCalled i × IsCalled calls own i × (IsFresh own i → ⊥)
-  FoundByNumber (Some (i, _)) = ⊥
+-- the first n entries by number pass the tests
+abbrev pub AreCalled : List Asked → List Entry → ℕ → Type 0
+AreCalled calls own n = (i : ℕ) → i < n → IsCalled calls own i × IsFresh own i

@@ -1,17 +1,21 @@
--- The first of what was found, in order.
-use Rattle.std.specs.Prelude.{◌≡◌, ℕ, ◌<◌, List, slice_get, Option, Some, None, Result, Ok, Err}
+-- What is found side by side: a list of answers, of which the first counts that isn't nothing.
+use Rattle.std.specs.Prelude.{◌≡◌, ℕ, List, length, Option, Some, None, Result, Ok, Err}
 use Rattle.std.specs.declared.alloc.AllocError.{AllocError}
 use Rattle.rl_check.specs.declared.illegal.Illegal.{Illegal}
+use Rattle.rl_check.specs.Tests.{Tests, one, each, where_there}
 
 abbrev pub Found : Type 0
 Found = Result (Option Illegal) AllocError
 
--- those before this place are nothing
-abbrev pub NothingBefore : List Found → ℕ → Type 0
-NothingBefore all n = (s : ℕ) (x : Found) → s < n → slice_get all s ≡ Some x → x ≡ Ok None
+-- what was found, if it isn't nothing
+abbrev pub something : Found → Option Found
+something (Ok None) = None
+something (Ok (Some f)) = Some (Ok (Some f))
+something (Err e) = Some (Err e)
 
--- nothing where all are nothing, else a fault with nothing before it
-abbrev pub IsFirstOf : List Found → Found → Type 0
-IsFirstOf all (Ok None) = (s : ℕ) (x : Found) → slice_get all s ≡ Some x → x ≡ Ok None
-IsFirstOf all (Ok (Some f)) = (s : ℕ) × (slice_get all s ≡ Some (Ok (Some f))) × NothingBefore all s
-IsFirstOf all (Err e) = Unit {0}
+-- each answer is nothing
+abbrev pub answer_test : List Found → ℕ → Tests Found
+answer_test all i = where_there all i (λ x. one x (x ≡ Ok None))
+
+abbrev pub answer_tests : List Found → Tests Found
+answer_tests all = each (length all) (answer_test all)

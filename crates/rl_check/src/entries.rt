@@ -4,7 +4,9 @@ ghost use Rattle.std.specs.Option.{option_copied};
 ghost use Rattle.rl_model.specs.Geom.{GeomFits};
 ghost use Rattle.rl_model.specs.declared.entry.Reply.{Reply};
 ghost use Rattle.rl_check.specs.Entries.{before, updates_before, StandsBefore};
-ghost use Rattle.rl_check.specs.Finding.{AreGood, FoundAt, FoundAmong};
+ghost use Rattle.rl_check.specs.Finding.{AreGood, FoundAmong};
+ghost use Rattle.rl_check.specs.Shards.{entry_tests};
+ghost use Rattle.rl_check.specs.Tests.{IsFirstOf};
 ghost use Rattle.rl_check.specs.OneThread.{is_begun, IsToldTo};
 
 use crate::blocks::{is_begun, may_follow, stands_before};
@@ -58,7 +60,7 @@ fn fault_at(
     requires told { IsToldTo geom entries.now (length entries.now) told.now.replies.items told.now.table.table }
     requires good { AreGood geom shard entries.now place }
     requires counted { updates ≡ updates_before entries.now place }
-    ensures { FoundAt geom shard entries.now place result }
+    ensures { IsFirstOf (entry_tests geom shard entries.now place) result }
 {
     let entry = &entries[place];
     let last = before(entries, place);

@@ -2,7 +2,9 @@
 ghost use Rattle.std.specs.Prelude.{◌≡◌, ◌<◌, ◌^◌, [], ℕ, length, get_or, slice_get, slice_set, Option, Some, true, false, IfOk};
 ghost use Rattle.std.specs.Bool.{OnTrue, OnFalse};
 ghost use Rattle.rl_step.specs.declared.events.Event.{Event};
-ghost use Rattle.rl_check.specs.Finding.{FoundOfEvents};
+ghost use Rattle.rl_check.specs.Finding.{of_event};
+ghost use Rattle.rl_check.specs.Shards.{event_tests};
+ghost use Rattle.rl_check.specs.Tests.{IsFirstOf};
 ghost use Rattle.rl_check.specs.QueuesOf.{queue_of, queues_all};
 ghost use Rattle.rl_check.specs.Watching.{IsThere, Sees, StepsOn, budget_in};
 
@@ -220,7 +222,7 @@ pub fn first_break(
 ) -> Result<Option<u32>, OutOfMemory>
     requires each { count ≡ length (queues_all queues.now) }
     requires there { (i : ℕ) (e : ℕ × Event) → slice_get events.now i ≡ Some e → IsThere ranks e.1 }
-    ensures { IfOk result (FoundOfEvents (queues_all queues.now) events.now) }
+    ensures { IfOk result (λ found. IsFirstOf (event_tests (queues_all queues.now) events.now) (of_event found)) }
 {
     let mut watch = Watch::new(alloc, queues, ranks, count)?;
     for place in 0..events.len() {

@@ -8,7 +8,7 @@
 //!
 //! What the tests stand on is public too, for who says why one fails: [`one_thread`], [`Queues`], [`is_begun`].
 //!
-//! Promise: nothing is told exactly where no test fails, and else the first fault (`specs/Faults.antt`). What each test asks
+//! Promise: nothing is told exactly where no test fails, and else the first fault (`specs/Tests.antt`). What each test asks
 //! is said in `specs/Entries.antt`, `Shards.antt` and `Ranks.antt`. A report of a run passes all tests exactly where it is
 //! lawful, and so does one of a replay ([`report_laws`]). Only want of memory is free.
 //! Not said here: how the report came about. A report of another program is tested like one of this one.

@@ -1,12 +1,10 @@
 //! The tests of a rank.
 ghost use Rattle.std.specs.Prelude.{◌≡◌, ◌↔◌, ◌<◌, ◌≤◌, length, get_or, [], IsTrue, Some, IfOk, IfSome};
 ghost use Rattle.rl_ops.specs.Asked.{asked_of};
-ghost use Rattle.rl_check.specs.Faults.{IsFirstIn};
-ghost use Rattle.rl_check.specs.Legal.{PassesBy, AreOfSomePlace};
-ghost use Rattle.rl_check.specs.Ranks.{Stands, IsFreshAfter, IsDone};
-ghost use Rattle.rl_check.specs.Slots.{FoundByNumber, begun_by};
-ghost use Rattle.rl_check.specs.Finding.{IsFirstAt};
-ghost use Rattle.rl_check.specs.declared.illegal.Group.TheVariants as group;
+ghost use Rattle.rl_check.specs.Legal.{AreOfSomePlace, tests_by, tests_of};
+ghost use Rattle.rl_check.specs.Ranks.{Stands, IsFreshAfter, IsDone, number_tests};
+ghost use Rattle.rl_check.specs.Slots.{begun_by};
+ghost use Rattle.rl_check.specs.Tests.{IsFirstOf};
 ghost use Rattle.rl_check.specs.declared.slots.Slot.TheVariants.{One};
 
 use crate::illegal::{Group, Illegal, Test};
@@ -81,7 +79,7 @@ fn first_fault(
     requires sized { length sizes.now ≡ length calls.now }
     requires few { length calls.now ≤ 20000 }
     requires there { (e : _) → Stands own.now e → e.shard < shards }
-    ensures { IfOk result (λ found. FoundByNumber (asked_of calls.now sizes.now) own.now found) }
+    ensures { IfOk result (λ found. IsFirstOf (number_tests (asked_of calls.now sizes.now) own.now) found) }
 {
     let slots = slots_of(alloc, own)?;
     let mut lasts: Vec<Option<Entry>> = vec![in alloc; None; shards]?;
@@ -148,7 +146,7 @@ fn fault_of(
 ) -> Result<Option<(u32, Test)>, OutOfMemory>
     requires fit { AreOfSomePlace ops.now report.now }
     requires there { rank < length report.now.done }
-    ensures { IfOk result (λ found. IsFirstAt (PassesBy ops.now report.now rank) found) }
+    ensures { IfOk result (λ found. IsFirstOf (tests_of ops.now report.now rank) found) }
 {
     let calls = calls_of(ops, rank);
     let sizes = sizes_of(ops, rank);
@@ -180,7 +178,7 @@ pub fn check_rank(
 ) -> Result<Option<Illegal>, OutOfMemory>
     requires fit { AreOfSomePlace ops.now report.now }
     requires there { rank < length report.now.done }
-    ensures { IfOk result (λ found. IsFirstIn (PassesBy ops.now report.now rank) (group.Rank rank) found) }
+    ensures { IfOk result (λ found. IsFirstOf (tests_by ops.now report.now rank) found) }
 {
     match fault_of(alloc, ops, report, rank)? {
         Some(fault) => Ok(Some(Illegal {

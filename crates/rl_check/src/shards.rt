@@ -6,13 +6,12 @@ ghost use Rattle.rl_step.specs.LockQueues.{spares_gets};
 ghost use Rattle.rl_place.specs.Places.{IsProper};
 ghost use Rattle.rl_report.specs.Naming.{naming_of};
 ghost use Rattle.rl_report.specs.Reports.{ReportFits, ShardFits};
-ghost use Rattle.rl_check.specs.Faults.{IsFirstIn};
-ghost use Rattle.rl_check.specs.Finding.{IsFirstAt, FoundOfRun, FoundOfReplay, FoundBehind};
-ghost use Rattle.rl_check.specs.Legal.{PassesOn};
+ghost use Rattle.rl_check.specs.Finding.{replay_tests, run_tests};
+ghost use Rattle.rl_check.specs.Legal.{tests_on};
 ghost use Rattle.rl_check.specs.QueuesOf.{queues_all};
-ghost use Rattle.rl_check.specs.Shards.{ShardPasses};
+ghost use Rattle.rl_check.specs.Shards.{part_tests, shard_tests};
+ghost use Rattle.rl_check.specs.Tests.{IsFirstOf};
 ghost use Rattle.rl_check.specs.Watching.{IsThere};
-ghost use Rattle.rl_check.specs.declared.illegal.Group.TheVariants as group;
 
 use crate::due_replies::one_thread;
 use crate::entries::{ends_in_batch, first_fault};
@@ -48,7 +47,7 @@ fn fault_of_run(
 ) -> Result<Option<Test>, OutOfMemory>
     requires proper { IsProperShape queues.now.shape.now }
     requires each { length part.now.queues ≡ length (queues_all queues.now) }
-    ensures { IfOk result (FoundOfRun (queues_all queues.now) (spares_gets queues.now.name) part.now table.now.table) }
+    ensures { IfOk result (IsFirstOf (run_tests (queues_all queues.now) (spares_gets queues.now.name) part.now table.now.table)) }
 {
     if !queues.are_tallied(part.entries.as_slice(), part.queues.as_slice()) {
         return Ok(Some(Test::Tally));
@@ -71,7 +70,7 @@ fn fault_of_replay(
     requires few { length part.now.queues < 2 ^ 32 }
     requires few_entries { length part.now.entries < 2 ^ 32 }
     requires there { (i : ℕ) (e : ℕ × Event) → slice_get part.now.events i ≡ Some e → IsThere ranks e.1 }
-    ensures { IfOk result (FoundOfReplay (queues_all queues.now) part.now) }
+    ensures { IfOk result (IsFirstOf (replay_tests (queues_all queues.now) part.now)) }
 {
     let count = part.queues.len();
     let counted = tallies(alloc, count as u32, part.events.as_slice())?;
@@ -96,7 +95,7 @@ fn fault_behind(
     requires proper { IsProper place.now }
     requires there { shard < place.now.geom.shards }
     requires fits { ShardFits (naming_of place.now) replay shard part.now }
-    ensures { IfOk result (FoundBehind place.now replay (slice_index place.now.homes shard) part.now table.now.table) }
+    ensures { IfOk result (IsFirstOf (part_tests place.now replay shard (slice_index place.now.homes shard) part.now table.now.table)) }
 {
     let shape = place.shape(alloc)?;
     let queues = Queues::of(place, &shape, shard);
@@ -120,7 +119,7 @@ fn fault_of(
     requires proper { IsProper place.now }
     requires there { shard < place.now.geom.shards }
     requires fits { ShardFits (naming_of place.now) replay shard part.now }
-    ensures { IfOk result (IsFirstAt (ShardPasses place.now replay shard (slice_index place.now.homes shard) part.now)) }
+    ensures { IfOk result (IsFirstOf (shard_tests place.now replay shard (slice_index place.now.homes shard) part.now)) }
 {
     let entries = part.entries.as_slice();
     let told = one_thread(alloc, place.geom, entries)?;
@@ -153,7 +152,7 @@ pub fn check_shard(
     requires proper { IsProper place.now }
     requires fits { ReportFits (naming_of place.now) report.now }
     requires there { shard < place.now.geom.shards }
-    ensures { IfOk result (λ found. IsFirstIn (PassesOn place.now report.now shard) (group.Shard shard) found) }
+    ensures { IfOk result (λ found. IsFirstOf (tests_on place.now report.now shard) found) }
 {
     let part = &report.shards[shard as usize];
     match fault_of(alloc, place, report.steps.is_some(), shard, part)? {

@@ -5,10 +5,9 @@ ghost use Rattle.rl_place.specs.Places.{IsProper};
 ghost use Rattle.rl_ops.specs.Ops.{OpsFit};
 ghost use Rattle.rl_report.specs.Naming.{naming_of};
 ghost use Rattle.rl_report.specs.Reports.{ReportFits};
-ghost use Rattle.rl_check.specs.Faults.{IsFirst, IsFirstIn};
-ghost use Rattle.rl_check.specs.Legal.{Passes, PassesOn, PassesBy, AreOfSomePlace};
-ghost use Rattle.rl_check.specs.Threads.{IsFirstOf};
-ghost use Rattle.rl_check.specs.declared.illegal.Group.TheVariants as group;
+ghost use Rattle.rl_check.specs.Legal.{AreOfSomePlace, report_tests, tests_by, tests_on};
+ghost use Rattle.rl_check.specs.Tests.{IsFirstOf};
+ghost use Rattle.rl_check.specs.Threads.{answer_tests, something};
 
 use crate::illegal::Illegal;
 use crate::ranks::check_rank;
@@ -32,7 +31,7 @@ fn is_nothing(found: &Found) -> bool
 
 // The first that isn't nothing, a fault or want of memory; nothing where all are.
 fn first(all: &[Found]) -> Found
-    ensures { IsFirstOf all.now result }
+    ensures { IsFirstOf (answer_tests all.now) (something result) }
 {
     for place in 0..all.len() {
         if !is_nothing(&all[place]) {
@@ -51,14 +50,14 @@ fn of_shards(
 ) -> Result<Vec<Found>, OutOfMemory>
     requires proper { IsProper place.now }
     requires fits { ReportFits (naming_of place.now) report.now }
-    ensures { IfOk result (λ all. AllZip (λ s found. IfOk found (IsFirstIn (PassesOn place.now report.now s) (group.Shard s))) (range_with_len 0 place.now.geom.shards) all.items) }
+    ensures { IfOk result (λ all. AllZip (λ s found. IfOk found (IsFirstOf (tests_on place.now report.now s))) (range_with_len 0 place.now.geom.shards) all.items) }
 {
     (0..place.geom.shards)
         .into_par_iter()
         .map(
             |shard: u32| -> Found
                 requires { IsProper place.now × ReportFits (naming_of place.now) report.now × (shard < place.now.geom.shards) }
-                ensures { IfOk result (IsFirstIn (PassesOn place.entry.now report.entry.now shard) (group.Shard shard)) }
+                ensures { IfOk result (IsFirstOf (tests_on place.entry.now report.entry.now shard)) }
             { check_shard(alloc, place, report, shard) },
         )
         .collect(rt, alloc)
@@ -74,14 +73,14 @@ fn of_ranks(
 ) -> Result<Vec<Found>, OutOfMemory>
     requires fit { AreOfSomePlace ops.now report.now }
     requires there { ranks ≤ length report.now.done }
-    ensures { IfOk result (λ all. AllZip (λ k found. IfOk found (IsFirstIn (PassesBy ops.now report.now k) (group.Rank k))) (range_with_len 0 ranks) all.items) }
+    ensures { IfOk result (λ all. AllZip (λ k found. IfOk found (IsFirstOf (tests_by ops.now report.now k))) (range_with_len 0 ranks) all.items) }
 {
     (0..ranks)
         .into_par_iter()
         .map(
             |rank: u32| -> Found
                 requires { AreOfSomePlace ops.now report.now × (rank < length report.now.done) }
-                ensures { IfOk result (IsFirstIn (PassesBy ops.entry.now report.entry.now rank) (group.Rank rank)) }
+                ensures { IfOk result (IsFirstOf (tests_by ops.entry.now report.entry.now rank)) }
             { check_rank(alloc, ops, report, rank) },
         )
         .collect(rt, alloc)
@@ -102,7 +101,7 @@ pub fn check_all(
     requires proper { IsProper place.now }
     requires calls { OpsFit (length place.now.paths) place.now.geom.shards ops.now }
     requires fits { ReportFits (naming_of place.now) report.now }
-    ensures { IfOk result (λ found. IsFirst (Passes place.now ops.now report.now) found) }
+    ensures { IfOk result (λ found. IsFirstOf (report_tests place.now ops.now report.now) found) }
 {
     let shards = of_shards(rt, alloc, place, report)?;
     if let Some(fault) = first(shards.as_slice())? {

@@ -4,8 +4,8 @@ ghost use Rattle.rl_place.specs.Places.{IsProper};
 ghost use Rattle.rl_ops.specs.Ops.{OpsFit};
 ghost use Rattle.rl_report.specs.Naming.{naming_of};
 ghost use Rattle.rl_report.specs.Reports.{ReportFits};
-ghost use Rattle.rl_check.specs.Faults.{IsFirst};
-ghost use Rattle.rl_check.specs.Legal.{Passes};
+ghost use Rattle.rl_check.specs.Legal.{report_tests};
+ghost use Rattle.rl_check.specs.Tests.{IsFirstOf};
 
 use crate::illegal::Illegal;
 use crate::ranks::check_rank;
@@ -31,7 +31,7 @@ pub fn check_one(
     requires proper { IsProper place.now }
     requires calls { OpsFit (length place.now.paths) place.now.geom.shards ops.now }
     requires fits { ReportFits (naming_of place.now) report.now }
-    ensures { IfOk result (λ found. IsFirst (Passes place.now ops.now report.now) found) }
+    ensures { IfOk result (λ found. IsFirstOf (report_tests place.now ops.now report.now) found) }
 {
     for shard in 0..place.geom.shards {
         let on_shard = check_shard(alloc, place, report, shard)?;

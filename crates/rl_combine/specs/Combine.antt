@@ -146,7 +146,8 @@ with_decision S x owner d = record x { entry = posted_entry S x owner d.1; write
 
 -- an update goes on to the journal, any other call to its answer
 abbrev pub decided_on : WaySite → TheCombineSide → ℕ → Worked TheCombineSide
-decided_on S x owner = combine_to_stage (with_decision S x owner (decision S.site.geom x.posted (value_or_zero x.seen.pairs))) (if is_update x.posted then Journal owner 0 else Answer owner 0)
+decided_on S x owner = combine_to_stage (with_decision S x owner (decision S.site.geom x.posted (value_or_zero x.seen.pairs)))
+    (if is_update x.posted then Journal owner 0 else Answer owner 0)
 
 -- the next word of the volume is read, or the call is decided
 abbrev pub combine_read_next : WaySite → TheCombineSide → ℕ → Option ℕ → Worked TheCombineSide
@@ -180,11 +181,13 @@ combine_stage_after S rank x got (Sweep owner) = if got == 1 then combine_to_sta
 combine_stage_after S rank x got (Copy owner made) =
     if made + 1 == 5 then combine_read_on S (with_posted S (with_copied x got)) owner else combine_to_stage (with_copied x got) (Copy owner (made + 1))
 combine_stage_after S rank x got (Read owner word) = combine_read_on S (combine_with_word x word got) owner
-combine_stage_after S rank x got (Journal owner made) = if made + 1 == 6 then combine_to_stage x (Volume owner 0) else combine_to_stage x (Journal owner (made + 1))
+combine_stage_after S rank x got (Journal owner made) = if made + 1 == 6 then combine_to_stage x (Volume owner 0) else combine_to_stage x
+    (Journal owner (made + 1))
 combine_stage_after S rank x got (Volume owner made) = combine_written_on x owner made (slice_get x.writes made)
 combine_stage_after S rank x got (Answer owner made) = if made + 1 == 3 then combine_to_stage x (Mark owner) else combine_to_stage x (Answer owner (made + 1))
 combine_stage_after S rank x got (Mark owner) = sweep_on S x (owner + 1)
-combine_stage_after S rank x got (Collect made) = if made + 1 == 3 then combine_to_stage (with_copied x got) Lower else combine_to_stage (with_copied x got) (Collect (made + 1))
+combine_stage_after S rank x got (Collect made) = if made + 1 == 3 then combine_to_stage (with_copied x got) Lower else combine_to_stage
+    (with_copied x got) (Collect (made + 1))
 combine_stage_after S rank x got Lower = turned (with_own S rank x) Over
 
 -- what an atom that gave got leaves of rank's side
@@ -231,7 +234,8 @@ early_read S p rank x = if p.flag == 2 then answered_entry S.site.shard rank x.s
 -- hold where the rank's flag is 2.
 abbrev pub early : WaySite → List ℕ → ℕ → TheCombineSide → List Entry
 early S words rank x =
-    if combine_is_open x.stage then (if is_update x.call then filter (is_call rank x.seq) (journal_by S.site words) else early_read S (post_of S words rank) rank x) else []
+    if combine_is_open x.stage then (if is_update x.call then filter (is_call rank x.seq) (journal_by S.site words) else early_read S
+    (post_of S words rank) rank x) else []
 
 -- the rank's transcript: what it keeps, and then these
 abbrev pub transcript : WaySite → List ℕ → ℕ → TheCombineSide → List Entry

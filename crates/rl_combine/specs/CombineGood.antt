@@ -144,7 +144,17 @@ abbrev pub reading : TheCombineSide → BlockStage → ℕ → List Entry → Th
 reading x stage at entries t =
     record {
       standing = Writer;
-      work = record { stage = stage; calls = x.posted ∷ []; seq = x.posted_number; seen = x.seen; replies = []; at = at; entries = entries; writes = []; transcript = t };
+      work = record {
+        stage = stage;
+        calls = x.posted ∷ [];
+        seq = x.posted_number;
+        seen = x.seen;
+        replies = [];
+        at = at;
+        entries = entries;
+        writes = [];
+        transcript = t;
+      };
     }
 
 -- and after that
@@ -167,7 +177,17 @@ deciding x stage seen t =
 
 -- the entry of a call in hand, which is decided
 abbrev pub HasEntry : WaySite → Call → ℕ → Entry → ℕ → Type 0
-HasEntry S call number entry owner = entry ≡ record { shard = S.site.shard; rank = owner; seq = number; call = call; at = entry.at; reply = entry.reply; batch = 0; part = 0 }
+HasEntry S call number entry owner = entry ≡ record {
+  shard = S.site.shard;
+  rank = owner;
+  seq = number;
+  call = call;
+  at = entry.at;
+  reply =
+      entry.reply;
+  batch = 0;
+  part = 0;
+}
 
 -- the rank reads a word for the call in hand
 pub record IsReading (seats : List Seat) (x : TheCombineSide) (owner word : ℕ) : Type 0 where
@@ -226,7 +246,8 @@ SweepAt S words seats rank x (Copy owner made) = IsSweeping S words rank x.count
 SweepAt S words seats rank x (Read owner word) = IsSweeping S words rank x.count owner × IsReading seats x owner word
 SweepAt S words seats rank x (Journal owner made) = IsSweeping S words rank x.count owner × IsWriting S seats x owner (block.Journal made)
 SweepAt S words seats rank x (Volume owner made) = IsSweeping S words rank x.count owner × IsWriting S seats x owner (block.Volume made)
-SweepAt S words seats rank x (Answer owner made) = IsSweeping S words rank x.count owner × (made < 3) × IsAnswering S words seats x.posted x.posted_number x.entry owner made
+SweepAt S words seats rank x (Answer owner made) = IsSweeping S words rank x.count owner × (made < 3) × IsAnswering S words seats x.posted
+    x.posted_number x.entry owner made
 SweepAt S words seats rank x (Mark owner) = IsSweeping S words rank x.count owner × IsAnswering S words seats x.posted x.posted_number x.entry owner 3
 SweepAt S words seats rank x (Collect made) = Unit {0}
 SweepAt S words seats rank x Lower = Unit {0}

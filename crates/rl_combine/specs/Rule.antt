@@ -16,17 +16,20 @@ IsWay = (S : WaySite) (node : ℕ → ℕ) → WorkLaws (combine_table S node) (
 -- a rank that found the flag 1 in its sweep has stored 2 there before its call is over, and so before it leaves the lock
 abbrev pub SweepsStoreTwo : Type 0
 SweepsStoreTwo =
-    (S : WaySite) (rank : ℕ) (x : TheCombineSide) (owner : ℕ) (more : List ℕ) → x.stage ≡ Sweep owner → combine_is_open (after_all S rank x (1 ∷ more)).stage ≡ false → StoresTwo S owner (atoms_of S rank x (1 ∷ more))
+    (S : WaySite) (rank : ℕ) (x : TheCombineSide) (owner : ℕ) (more : List ℕ) → x.stage ≡ Sweep owner → combine_is_open
+    (after_all S rank x (1 ∷ more)).stage ≡ false → StoresTwo S owner (atoms_of S rank x (1 ∷ more))
 
 -- what a flag says
 abbrev pub FlagsSay : Type 0
 FlagsSay =
-    (S : WaySite) (node : ℕ → ℕ) (words : List ℕ) (sides : List RankSide) (rank : ℕ) (x : RankSide) → IsSide (combine_table S node) (CombineGood S) words sides rank x → FlagSays S words sides rank x.work
+    (S : WaySite) (node : ℕ → ℕ) (words : List ℕ) (sides : List RankSide) (rank : ℕ) (x : RankSide) → IsSide (combine_table S node)
+    (CombineGood S) words sides rank x → FlagSays S words sides rank x.work
 
 -- and who stores to it
 abbrev pub FlagsMove : Type 0
 FlagsMove =
-    (S : WaySite) (node : ℕ → ℕ) (words : List ℕ) (sides : List RankSide) (rank : ℕ) (x : RankSide) (at : Atom) → Works (combine_table S node) (CombineGood S) words sides rank x at → (k : ℕ) →
+    (S : WaySite) (node : ℕ → ℕ) (words : List ℕ) (sides : List RankSide) (rank : ℕ) (x : RankSide) (at : Atom) → Works
+    (combine_table S node) (CombineGood S) words sides rank x at → (k : ℕ) →
     FlagMoves S words at rank x k
 
 -- The nine words of a rank's post live on its owner's node, which the work counts from its own first word: so who waits for its answer

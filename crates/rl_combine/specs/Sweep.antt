@@ -53,10 +53,12 @@ pub record FlagSays (S : WaySite) (words : List ℕ) (sides : List RankSide) (k 
   -- as long as one is the flag is 1 and the call is done, and its one entry is the one that the writer has
   pub late : (l : IsLate sides k x) → ((post_of S words k).flag ≡ 1) × (early S words k x ≡ l.side.work.entry ∷ [])
   -- where it is 2 the call is done, and its one entry is the one that the post's answer gives
-  pub done : (post_of S words k).flag ≡ 2 → (combine_is_open x.stage ≡ true) × (early S words k x ≡ answered_entry S.site.shard k x.seq x.call (post_of S words k).answer ∷ [])
+  pub done : (post_of S words k).flag ≡ 2 → (combine_is_open x.stage ≡ true) ×
+      (early S words k x ≡ answered_entry S.site.shard k x.seq x.call (post_of S words k).answer ∷ [])
   -- Of an update that is the entry in the journal. A get or hold leaves none there, and `early` takes its entry from the answer: so of
   -- that it says too that the reply is the one on the table of the journal up to the answer's place.
-  pub due : (post_of S words k).flag ≡ 2 → IsLegalRead S.site.geom (journal_by S.site words) (answered_entry S.site.shard k x.seq x.call (post_of S words k).answer)
+  pub due : (post_of S words k).flag ≡ 2 → IsLegalRead S.site.geom (journal_by S.site words)
+      (answered_entry S.site.shard k x.seq x.call (post_of S words k).answer)
 
 -- the atom may write this word
 abbrev pub MayWrite : ℕ → Atom → Type 0

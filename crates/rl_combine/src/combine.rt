@@ -183,6 +183,7 @@ impl CombineWork {
     fn read_on(&self, side: &mut CombineSide, owner: u32)
         ensures { side.new ≡ (model.combine_read_on self.now.here side.old owner).work }
     {
+        side.seen.walk_on(side.posted);
         match next_read(self.geom, side.posted, &side.seen) {
             Some(word) => side.stage = CombineStage::Read { owner, word },
             None => side.decide(self.geom, self.shard, owner),

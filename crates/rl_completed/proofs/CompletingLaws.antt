@@ -29,7 +29,8 @@ use Rattle.rl_locks.specs.Urgencies.{Urgent}
 use Rattle.rl_inputs.specs.declared.complaint.Which.TheVariants as which
 use Rattle.rl_inputs.specs.Reading.{refused_in, scheduled}
 use Rattle.rl_finish.specs.WayOn.{HasSteps, AreWhole}
-use Rattle.rl_completed.specs.Completing.{is_stop, MakesSteps, machine_after, GoNext, Completes, IsComplete, IsTooLong}
+use Rattle.rl_locks.specs.Runs.{machine_after}
+use Rattle.rl_completed.specs.Completing.{is_stop, MakesSteps, GoNext, Completes, IsComplete, IsTooLong}
 
 pub steps_are : (turns : List Turn) → steps_in turns ≡ sum_by steps_of turns
 steps_are [] = refl

@@ -11,6 +11,7 @@ use Rattle.rl_place.specs.Shapes.{shape_of, knobs_of}
 use Rattle.rl_ops.specs.declared.ops.Ops.{Ops}
 use Rattle.rl_ops.specs.declared.schedule.Turn.{Turn}
 use Rattle.rl_core.specs.ShardTables.{ShardTable}
+use Rattle.rl_core.specs.Moments.{CoreSays}
 use Rattle.rl_step.specs.Answers.{steps_made}
 use Rattle.rl_core.specs.Asks.{block_shard}
 use Rattle.rl_machine.specs.Running.{ShardRun, Running, TheShard, TheMachine, shard_run, running, shard_cores, cores_of}
@@ -21,7 +22,8 @@ use Rattle.rl_machine.specs.Start.{site_of, first_shards, start_of}
 use Rattle.rl_finish.specs.WayOn.{IsWayOn}
 use Rattle.rl_locks.specs.Kinds.{Defined}
 use Rattle.rl_locks.specs.Urgencies.{Urgent, GoesAsDefined}
-use Rattle.rl_completed.specs.Completing.{machine_after, urgencies_from, GoNext}
+use Rattle.rl_locks.specs.Runs.{machine_after}
+use Rattle.rl_completed.specs.Completing.{urgencies_from, GoNext}
 
 -- ---- a run leaves the tables of the shards
 
@@ -69,9 +71,9 @@ module _ {V : Type 0} where
       run_tables (stepped m k) ks ∙ set_tables (block_opened m k).shards (place_of (block_opened m k) k) (atom_on k (steps_made (block_opened m k).steps)) (made_table k (steps_made (block_opened m k).steps)) ∙ open_tables m k (opens m k)
 
 -- the tables of a machine are those of its cores
-core_tables : {C V : Type 0} (table : C → ShardTable V) (shards : List (TheShard C V)) → tables_of (map (shard_run table) shards) ≡ map table (shard_cores shards)
-core_tables table [] = refl
-core_tables table (S ∷ shards) = ap (λ ts. table S.core ∷ ts) (core_tables table shards)
+core_tables : {C V : Type 0} (says : C → CoreSays V) (shards : List (TheShard C V)) → tables_of (map (shard_run says) shards) ≡ map (λ core. (says core).table) (shard_cores shards)
+core_tables says [] = refl
+core_tables says (S ∷ shards) = ap (λ ts. (says S.core).table ∷ ts) (core_tables says shards)
 
 -- ---- two lists that say the same of a rank
 
@@ -117,7 +119,11 @@ module _ {C D V : Type 0} (urgent : C → List ℕ → V → Option ℕ) (others
 
 -- ---- the cores of a kind
 
-module _ {C V : Type 0} (table : C → ShardTable V) (by_core : C → List ℕ → V → Option ℕ) (defined : Defined V) (urgent : Urgent V) (defines : GoesAsDefined table by_core defined urgent) (place : ThePlace) (ops : Ops) where
+module _ {C V : Type 0} (says : C → CoreSays V) (by_core : C → List ℕ → V → Option ℕ) (defined : Defined V) (urgent : Urgent V)
+    (defines : GoesAsDefined says by_core defined urgent) (place : ThePlace) (ops : Ops) where
+  abbrev table : C → ShardTable V
+  table core = (says core).table
+
   abbrev urgency : (List ℕ → V → Option ℕ) → List ℕ → V → Option ℕ
   urgency u = u
 
@@ -136,10 +142,10 @@ module _ {C V : Type 0} (table : C → ShardTable V) (by_core : C → List ℕ �
       record { other = a.other; has = a.has; alike = a.alike }
 
   -- of a machine that has taken the given turns
-  pub goes_next : (given : List Turn) (m : TheMachine C V) → running table m ≡ machine_after defined place ops given → (ranks : List ℕ) → IsWayOn by_core (cores_of m) (running table m) ranks → GoNext defined urgent place ops given ranks
+  pub goes_next : (given : List Turn) (m : TheMachine C V) → running says m ≡ machine_after defined place ops given → (ranks : List ℕ) → IsWayOn by_core (cores_of m) (running says m) ranks → GoNext defined urgent place ops given ranks
   goes_next given m run ranks way =
       let shape = shape_of place in
       let start = start_of defined shape (knobs_of place.lock) place.geom place.homes ops in
-      let tables : map table (cores_of m) ≡ tables_of start.shards = sym (core_tables table m.shards) ∙ ap (λ z. tables_of z.shards) run ∙ run_tables start (ranks_of_turns given) in
+      let tables : map table (cores_of m) ≡ tables_of start.shards = sym (core_tables says m.shards) ∙ ap (λ z. tables_of z.shards) run ∙ run_tables start (ranks_of_turns given) in
       subst (λ z. IsWayOn urgency (urgencies_from defined urgent place ops 0 place.homes) z ranks) run
-      (way_alike by_core urgency (cores_of m) (urgencies_from defined urgent place ops 0 place.homes) (cores_alike shape.nodes 0 place.homes (cores_of m) tables) (running table m) ranks way)
+      (way_alike by_core urgency (cores_of m) (urgencies_from defined urgent place ops 0 place.homes) (cores_alike shape.nodes 0 place.homes (cores_of m) tables) (running says m) ranks way)

@@ -10,15 +10,17 @@ use Rattle.rl_ops.specs.declared.schedule.Turn.{Turn}
 use Rattle.rl_ops.specs.declared.schedule.Turn.TheVariants as turn
 use Rattle.rl_ops.specs.declared.schedule.Schedule.{Schedule}
 use Rattle.rl_ops.specs.declared.schedule.TheConstants.{MOST_STEPS}
+use Rattle.rl_ops.specs.Ops.{OpsFit}
 use Rattle.rl_ops.specs.Schedule.{ScheduleFits, schedule_spelling}
 use Rattle.rl_machine.specs.Running.{Running}
 use Rattle.rl_machine.specs.Run.{run_of, ranks_of_turns, steps_in}
 use Rattle.rl_machine.specs.MachineEnding.{AllDone}
-use Rattle.rl_machine.specs.Start.{site_of, start_of}
+use Rattle.rl_machine.specs.Start.{site_of}
 use Rattle.rl_finish.specs.WayOn.{IsWayOn, AreWhole}
-use Rattle.rl_locks.specs.Kinds.{Defined}
-use Rattle.rl_locks.specs.Urgencies.{Urgent}
-use Rattle.rl_inputs.specs.Reading.{scheduled}
+use Rattle.rl_locks.specs.Kinds.{Defined, lock_kind_of}
+use Rattle.rl_locks.specs.Runs.{machine_after}
+use Rattle.rl_locks.specs.Urgencies.{Urgent, urgency_of}
+use Rattle.rl_inputs.specs.Reading.{SuitsLock, scheduled}
 use Rattle.rl_completed.specs.declared.uncompleted.Reason.{Reason}
 use Rattle.rl_completed.specs.declared.uncompleted.Reason.TheVariants.{Stopped, Steps, Bytes}
 use Rattle.rl_completed.specs.declared.uncompleted.Uncompleted.{Uncompleted}
@@ -38,9 +40,10 @@ abbrev pub MakesSteps : Turn → Type 0
 MakesSteps (turn.Steps rank count) = Unit {0}
 MakesSteps (turn.Stop rank) = ⊥
 
--- the machine after these turns, for a rank's machine as it is defined
-abbrev pub machine_after : {V : Type 0} → Defined V → ThePlace → Ops → List Turn → Running V
-machine_after defined place ops turns = run_of (start_of defined (shape_of place) (knobs_of place.lock) place.geom place.homes ops) (ranks_of_turns turns)
+-- the calls and the schedule are of the placement's ranks and suit its lock, and nobody is stopped
+abbrev pub MayGoOn : ThePlace → Ops → Schedule → Type 0
+MayGoOn place ops given =
+    OpsFit (length place.paths) place.geom.shards ops × SuitsLock place ops × ScheduleFits (length place.paths) given × AllByRecursion MakesSteps given.turns
 
 module _ {V : Type 0} (defined : Defined V) (urgent : Urgent V) (place : ThePlace) (ops : Ops) where
   -- how urgently a rank goes on at each shard from one on, where these are their homes
@@ -101,6 +104,13 @@ module _ {V : Type 0} (defined : Defined V) (urgent : Urgent V) (place : ThePlac
   abbrev pub IsWhyNot : Schedule → Uncompleted → Type 0
   IsWhyNot given (Refused reason) = IsReason given reason
   IsWhyNot given Memory = Unit {0}
+
+-- under the lock of the placement, by its kind and by how urgently that lets its ranks go on
+abbrev pub IsCompleteUnder : ThePlace → Ops → Schedule → List ℕ → Type 0
+IsCompleteUnder place = IsComplete (lock_kind_of place.lock).defined (urgency_of place.lock) place
+
+abbrev pub IsWhyNotUnder : ThePlace → Ops → Schedule → Uncompleted → Type 0
+IsWhyNotUnder place = IsWhyNot (lock_kind_of place.lock).defined (urgency_of place.lock) place
 
 -- a text isn't given because it is too long for a schedule file, or for want of memory
 abbrev pub IsLong : List ℕ → Uncompleted → Type 0

@@ -9,9 +9,8 @@ ghost use Rattle.rl_ops.specs.Ops.{OpsFit};
 ghost use Rattle.rl_ops.specs.Schedule.{ScheduleFits, schedule_spelling, steps_of};
 ghost use Rattle.rl_ops.specs.ScheduleReading.{IsReadAsSchedule};
 ghost use Rattle.rl_inputs.specs.Reading.{SuitsLock};
-ghost use Rattle.rl_locks.specs.Kinds.{lock_kind_of};
-ghost use Rattle.rl_locks.specs.Urgencies.{Urgent, GoesAsDefined, urgency_of};
-ghost use Rattle.rl_completed.specs.Completing.{MakesSteps, ComeBehind, IsComplete, IsWhyNot, IsLong};
+ghost use Rattle.rl_locks.specs.Urgencies.{EachUrgency};
+ghost use Rattle.rl_completed.specs.Completing.{MakesSteps, MayGoOn, ComeBehind, IsCompleteUnder, IsWhyNotUnder, IsLong};
 
 use crate::stops::first_stop;
 use crate::uncompleted::{Reason, Uncompleted};
@@ -48,7 +47,7 @@ fn way_on_with<C: Resting + ShardGuiding>(
     requires suits { SuitsLock place.now ops }
     requires schedule { ScheduleFits (length place.now.paths) schedule.now }
     requires unstopped { AllByRecursion MakesSteps schedule.now.turns }
-    ensures { (urgent : Urgent C.View) → GoesAsDefined C.shard_table C.urgent C.defined urgent → ComeBehind C.defined urgent place.now ops schedule.now result }
+    ensures { EachUrgency C.says C.urgent C.defined (λ urgent. ComeBehind C.defined urgent place.now ops schedule.now) result }
 {
     let shape = place.shape(alloc)?;
     let knobs = place.knobs();
@@ -75,7 +74,7 @@ struct WayTask<'a> {
 impl CoreTask for WayTask<'_> {
     type Out = Result<Turns, Uncompleted>;
 
-    ghost takes = { λ r place. OpsFit (length place.paths) place.geom.shards r.ops × SuitsLock place r.ops × ScheduleFits (length place.paths) r.schedule.now × AllByRecursion MakesSteps r.schedule.now.turns };
+    ghost takes = { λ r place. MayGoOn place r.ops r.schedule.now };
 
     ghost gives = { λ r place kind urgent result. ComeBehind kind.defined urgent place r.ops r.schedule.now result };
 
@@ -127,8 +126,8 @@ pub fn completed(
     requires calls { OpsFit (length place.now.paths) place.now.geom.shards ops }
     requires suits { SuitsLock place.now ops }
     requires schedule { ScheduleFits (length place.now.paths) schedule }
-    ensures complete { IfOk result (λ text. IsComplete (lock_kind_of place.now.lock).defined (urgency_of place.now.lock) place.now ops schedule text.items) }
-    ensures why_not { IfErr result (IsWhyNot (lock_kind_of place.now.lock).defined (urgency_of place.now.lock) place.now ops schedule) }
+    ensures complete { IfOk result (λ text. IsCompleteUnder place.now ops schedule text.items) }
+    ensures why_not { IfErr result (IsWhyNotUnder place.now ops schedule) }
 {
     if let Some(line) = first_stop(schedule.turns.as_slice()) {
         return Err(Uncompleted::Refused(Reason::Stopped { line }));

@@ -7,6 +7,7 @@ pub mod Standings
 pub mod EventRanks
 pub mod Domains
 pub mod ShardTables
+pub mod Moments
 pub mod Idle
 pub mod Rounds
 pub mod Touches

@@ -1,13 +1,13 @@
 -- A rank's machine on one shard as plain functions, with what machines, shards, seats and callers read of it: the wall between a lock
 -- with its work and all that stands above.
-use Rattle.std.specs.Prelude.{ℕ, ◌+◌, Bool, List, [], ◌∷◌, ◌++◌, replicate, take, drop, Option}
+use Rattle.std.specs.Prelude.{◌≡◌, ℕ, ◌+◌, Bool, false, List, [], ◌∷◌, ◌++◌, replicate, take, drop, slice_get, Option, Some}
 use Rattle.rl_word.specs.declared.acts.Act.{Act}
 use Rattle.rl_word.specs.declared.acts.Atom.{Atom}
 use Rattle.rl_model.specs.declared.call.Call.{Call}
 use Rattle.rl_model.specs.declared.entry.Entry.{Entry}
 use Rattle.rl_model.specs.declared.geom.Geom.{Geom}
 use Rattle.rl_step.specs.declared.events.Standing.{Standing}
-use Rattle.rl_step.specs.Core.{CoreTable}
+use Rattle.rl_step.specs.Core.{CoreTable, Turned}
 use Rattle.rl_step.specs.Do.{TheWindow, do_words, do_got}
 use Rattle.rl_step.specs.Lock.{Deed}
 use Rattle.rl_step.specs.Transitions.{Transition}
@@ -68,6 +68,14 @@ module _ {V : Type 0} (T : ShardTable V) where
   abbrev pub transition_by : TheWindow → V → Atom → Transition
   transition_by h v at =
       record { before = words_behind h.words; after = words_behind (do_words at h.words); events = (T.core.after v (do_got at h.words h.cards)).events }
+
+  -- what an atom of a rank with this view leaves, by the words and cards that it finds
+  abbrev pub turned_by : TheWindow → V → Atom → Turned V
+  turned_by h v at = T.core.after v (do_got at h.words h.cards)
+
+  -- no block of any rank is open
+  abbrev pub AllShut : List V → Type 0
+  AllShut vs = (r : ℕ) (v : V) → slice_get vs r ≡ Some v → (T.own v).is_open ≡ false
 
   -- the shard's journal, as its words say
   abbrev pub journal_at : List ℕ → List Entry

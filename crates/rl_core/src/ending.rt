@@ -15,5 +15,5 @@ pub trait ShardEnding: ShardCore {
     ghost most: { Self → ℕ };
 
     /// The laws of a core without a dead end.
-    ghost ends: { EndsOf Self Self.View Self.shard_table Self.good left most };
+    ghost ends: { EndsOf Self.says left most };
 }

@@ -19,5 +19,5 @@ pub trait ShardGuiding: ShardEnding {
         ensures { result ≡ urgent self.now words.now.words view.now };
 
     /// The laws of a core that says who goes on.
-    ghost guides: { GuidesOf Self Self.View Self.shard_table Self.good Self.left urgent };
+    ghost guides: { GuidesOf Self.says Self.left urgent };
 }

@@ -23,9 +23,9 @@ fn journal_end(geom: Geom, rooms: &[u32]) -> u32
 
 /// The number of the first word behind a shard's journal.
 pub fn lock_base<C: ShardCore>(core: &C) -> u32
-    requires fits { GeomFits (C.shard_table core.now).site.geom }
-    requires few { sum (C.shard_table core.now).site.rooms ≤ 20000 }
-    ensures { result ≡ lock_base (C.shard_table core.now).site }
+    requires fits { GeomFits (C.says core.now).table.site.geom }
+    requires few { sum (C.says core.now).table.site.rooms ≤ 20000 }
+    ensures { result ≡ lock_base (C.says core.now).table.site }
 {
     journal_end(core.geom(), core.rooms())
 }
@@ -33,10 +33,10 @@ pub fn lock_base<C: ShardCore>(core: &C) -> u32
 /// The words of a shard: word 0 is 1, the volume is that of the empty table, and all else is 0. Refused only for want of
 /// memory.
 pub fn first_words<C: ShardCore>(alloc: Global, core: &C) -> Result<Vec<u64>, OutOfMemory>
-    requires fits { GeomFits (C.shard_table core.now).site.geom }
-    requires rooms { sum (C.shard_table core.now).site.rooms ≤ 20000 }
-    requires few { lock_base (C.shard_table core.now).site + (C.shard_table core.now).behind < 2 ^ 32 }
-    ensures { IfOk result (λ words. words.items ≡ opening_words (C.shard_table core.now).site ++ replicate (C.shard_table core.now).behind 0) }
+    requires fits { GeomFits (C.says core.now).table.site.geom }
+    requires rooms { sum (C.says core.now).table.site.rooms ≤ 20000 }
+    requires few { lock_base (C.says core.now).table.site + (C.says core.now).table.behind < 2 ^ 32 }
+    ensures { IfOk result (λ words. words.items ≡ opening_words (C.says core.now).table.site ++ replicate (C.says core.now).table.behind 0) }
 {
     let geom = core.geom();
     let base = lock_base(core);
@@ -55,10 +55,10 @@ pub fn first_views<C: ShardCore>(
     core: &C,
     rooms: &[u32],
 ) -> Result<Vec<C::View>, OutOfMemory>
-    requires fits { GeomFits (C.shard_table core.now).site.geom }
-    requires ranks { length rooms.now ≡ length (C.layout core.now).node_of }
+    requires fits { GeomFits (C.says core.now).table.site.geom }
+    requires ranks { length rooms.now ≡ length (C.says core.now).layout.node_of }
     requires few { length rooms.now < 2 ^ 32 }
-    ensures { IfOk result (λ views. views.items ≡ first_views (C.shard_table core.now) 0 rooms.now) }
+    ensures { IfOk result (λ views. views.items ≡ first_views (C.says core.now).table 0 rooms.now) }
 {
     let mut views = Vec::with_capacity(alloc, rooms.len())?;
     for rank in 0..rooms.len() as u32 {

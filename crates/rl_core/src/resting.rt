@@ -23,12 +23,12 @@ pub trait Resting: ShardCore {
     /// gives it is stepped in full, always.
     fn waits(&self, view: &Self::View, words: &Words) -> Option<Stepped>
         requires { (s : MayBe (Self.rule self.now) view.now) × (s.held ≡ words.now) }
-        ensures { IfSome result (SeenWaiting (Self.shard_table self.now) words.now view.now) };
+        ensures { IfSome result (SeenWaiting (Self.says self.now).table words.now view.now) };
 
     /// The round of two loads in which a rank with this view goes on these words, if it is seen to be in one. `None` says nothing of it.
     fn round(&self, view: &Self::View, words: &Words) -> Option<Round<Self::Sight>>
         requires { (s : MayBe (Self.rule self.now) view.now) × (s.held ≡ words.now) }
-        ensures { IfSome result (λ round. (k : ℕ) → IsRound (Self.shard_table self.now) with_sight (length words.now.words) k view.now round) };
+        ensures { IfSome result (λ round. (k : ℕ) → IsRound (Self.says self.now).table with_sight (length words.now.words) k view.now round) };
 
     /// Exchanges the part of a view that the loads of a round change.
     fn set_sight(view: &mut Self::View, sight: Self::Sight)

@@ -82,7 +82,8 @@ counter_turn C Inside got = to Inside
 counter_turn C Depart got = to Nothing
 counter_turn C (Put i) got = if nat_lt (i + 1) (length C.arrive) then to (Put (i + 1)) else to (Count 0)
 counter_turn C (Count i) got = to (Compare i got)
-counter_turn C (Compare i a) got = if got == a - 2 ^ 32 then (if nat_lt (i + 1) (length C.arrive) then to (Count (i + 1)) else to Nothing) else record { doing = Count i; waits = true }
+counter_turn C (Compare i a) got = if got == a - 2 ^ 32 then (if nat_lt (i + 1) (length C.arrive) then to (Count (i + 1)) else to Nothing)
+    else record { doing = Count i; waits = true }
 counter_turn C (TakeOut i) got = to (TakeOff i got)
 counter_turn C (TakeOff i x) got = if nat_lt (i + 1) (length C.arrive) then to (TakeOut (i + 1)) else to Nothing
 

@@ -93,7 +93,8 @@ pub record CounterGood (T a d inside refused taken : ℕ) (m : Mark) : Type 0 wh
 -- counter g in the words ws, with the ranks of its group, which are mine, doing ps
 abbrev pub GroupGood : TheCounters → (ℕ → Bool) → ℕ → List ℕ → List Doing → Mark → Type 0
 GroupGood C mine g ws ps m =
-    CounterGood C.readers (slice_index ws (arrive_word C g)) (slice_index ws (depart_word C g)) (group_sum mine inside_of ps) (group_sum mine refused_of ps) (group_sum mine taken_of ps) m
+    CounterGood C.readers (slice_index ws (arrive_word C g)) (slice_index ws (depart_word C g)) (group_sum mine inside_of ps)
+    (group_sum mine refused_of ps) (group_sum mine taken_of ps) m
 
 -- all n counters, where `mine g` are the ranks of group g, and M g the mark on its counter
 abbrev pub AllGood : TheCounters → ℕ → (ℕ → ℕ → Bool) → List ℕ → List Doing → (ℕ → Mark) → Type 0

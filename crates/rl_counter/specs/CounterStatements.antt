@@ -57,36 +57,45 @@ module _ (C : TheCounters) (n : ℕ) (mine : ℕ → ℕ → Bool) where
   abbrev pub IsNeverTooSmall : Type 0
   IsNeverTooSmall =
       (ws : List ℕ) (ps : List Doing) (m : Mark) (g : ℕ) → AreSound C n ws ps → GroupGood C (mine g) g ws ps m →
-      (mark_adds m + (group_sum (mine g) inside_of ps + (group_sum (mine g) refused_of ps + (slice_index ws (depart_word C g) + group_sum (mine g) taken_of ps))) ≤ slice_index ws (arrive_word C g)) × (slice_index ws (arrive_word C g) < 2 ^ 34)
+      (mark_adds m + (group_sum (mine g) inside_of ps + (group_sum (mine g) refused_of ps +
+      (slice_index ws (depart_word C g) + group_sum (mine g) taken_of ps))) ≤ slice_index ws (arrive_word C g)) ×
+      (slice_index ws (arrive_word C g) < 2 ^ 34)
 
   -- a writer that has compared knows that nobody is in, until it takes the mark off
   abbrev pub HasNobodyInside : Type 0
-  HasNobodyInside = (ws : List ℕ) (ps : List Doing) (m : Mark) (g r : ℕ) (p : Doing) → IsCleared m → GroupGood C (mine g) g ws ps m → slice_get ps r ≡ Some p → mine g r ≡ true → inside_of p ≡ 0
+  HasNobodyInside = (ws : List ℕ) (ps : List Doing) (m : Mark) (g r : ℕ) (p : Doing) → IsCleared m → GroupGood C
+      (mine g) g ws ps m → slice_get ps r ≡ Some p → mine g r ≡ true → inside_of p ≡ 0
 
   -- where arrive is below the bound, as a reader finds it that comes in, no mark is up
   abbrev pub LetsInUnmarked : Type 0
-  LetsInUnmarked = (ws : List ℕ) (ps : List Doing) (m : Mark) (g : ℕ) → AreSound C n ws ps → GroupGood C (mine g) g ws ps m → slice_index ws (arrive_word C g) < C.readers → m ≡ NoMark
+  LetsInUnmarked = (ws : List ℕ) (ps : List Doing) (m : Mark) (g : ℕ) → AreSound C n ws ps → GroupGood C (mine g) g ws ps m → slice_index ws
+      (arrive_word C g) < C.readers → m ≡ NoMark
 
   -- each act of a reader keeps all counters good, whatever the marks are and whatever it finds in the root's tail
   abbrev pub ReadersKeep : Type 0
   ReadersKeep =
-      (ws : List ℕ) (ps : List Doing) (M : ℕ → Mark) (r c : ℕ) (p : Doing) (a : Act) → AreSound C n ws ps → c < n → IsOfGroup mine r c → slice_get ps r ≡ Some p → IsReader p → counter_act C c p ≡ Some a →
+      (ws : List ℕ) (ps : List Doing) (M : ℕ → Mark) (r c : ℕ) (p : Doing)
+      (a : Act) → AreSound C n ws ps → c < n → IsOfGroup mine r c → slice_get ps r ≡ Some p → IsReader p → counter_act C c p ≡ Some a →
       AllGood C n mine ws ps M → AllGood C n mine (words_after ws a) (slice_set ps r (next_of C ws p a)) M
 
   -- so does each act of a rank at the marks, where none else is there: it changes the mark of the counter at which it is alone
   abbrev pub WritersKeep : Type 0
   WritersKeep =
-      (ws : List ℕ) (ps : List Doing) (inside : Bool) (r c : ℕ) (p : Doing) (a : Act) → AreSound C n ws ps → IsMark p → counter_at c p < n → slice_get ps r ≡ Some p → counter_act C c p ≡ Some a →
-      AllGood C n mine ws ps (mark_by inside p) → AllGood C n mine (words_after ws a) (slice_set ps r (next_of C ws p a)) (mark_by (ends_clear p) (next_of C ws p a))
+      (ws : List ℕ) (ps : List Doing) (inside : Bool) (r c : ℕ) (p : Doing)
+      (a : Act) → AreSound C n ws ps → IsMark p → counter_at c p < n → slice_get ps r ≡ Some p → counter_act C c p ≡ Some a →
+      AllGood C n mine ws ps (mark_by inside p) → AllGood C n mine (words_after ws a) (slice_set ps r (next_of C ws p a))
+      (mark_by (ends_clear p) (next_of C ws p a))
 
   -- a task that is begun keeps them so
   abbrev pub TasksKeep : Type 0
-  TasksKeep = (ws : List ℕ) (ps : List Doing) (M : ℕ → Mark) (r : ℕ) (t : Task) (p : Doing) → slice_get ps r ≡ Some p → MayBegin t p → AllGood C n mine ws ps M → AllGood C n mine ws (slice_set ps r (begun t)) M
+  TasksKeep = (ws : List ℕ) (ps : List Doing) (M : ℕ → Mark) (r : ℕ) (t : Task)
+      (p : Doing) → slice_get ps r ≡ Some p → MayBegin t p → AllGood C n mine ws ps M → AllGood C n mine ws (slice_set ps r (begun t)) M
 
   -- and a write to another word, by a rank whose share stays
   abbrev pub OthersKeep : Type 0
   OthersKeep =
-      (ws : List ℕ) (ps : List Doing) (M : ℕ → Mark) (w x r : ℕ) (p q : Doing) → ((g : ℕ) → g < n → (w ≢ arrive_word C g) × (w ≢ depart_word C g)) → slice_get ps r ≡ Some p → ShareSame p q →
+      (ws : List ℕ) (ps : List Doing) (M : ℕ → Mark) (w x r : ℕ) (p q : Doing) →
+      ((g : ℕ) → g < n → (w ≢ arrive_word C g) × (w ≢ depart_word C g)) → slice_get ps r ≡ Some p → ShareSame p q →
       AllGood C n mine ws ps M → AllGood C n mine (slice_set ws w x) (slice_set ps r q) M
 
 -- A writer begins at the marks as they are: down, or clear.
@@ -96,11 +105,13 @@ BeginsAtMarks = (inside : Bool) (g : ℕ) → (mark_by false Nothing g ≡ mark_
 module _ (C : TheCounters) where
   -- a reader comes in by the one act that adds it to the arrive word of its group, where it found fewer than the bound
   abbrev pub ComesInByArriving : Type 0
-  ComesInByArriving = (g : ℕ) (p : Doing) (a : Act) (got : ℕ) → counter_act C g p ≡ Some a → (counter_turn C p got).doing ≡ Inside → (a ≡ CardAdd (arrive_word C g) 1) × (got < C.readers)
+  ComesInByArriving = (g : ℕ) (p : Doing) (a : Act) (got : ℕ) → counter_act C g p ≡ Some a → (counter_turn C p got).doing ≡ Inside →
+      (a ≡ CardAdd (arrive_word C g) 1) × (got < C.readers)
 
   -- a rank waits on after a load alone, and stands at a load again
   abbrev pub WaitsOnLoads : Type 0
-  WaitsOnLoads = (g : ℕ) (p : Doing) (a : Act) (got : ℕ) → counter_act C g p ≡ Some a → (counter_turn C p got).waits ≡ true → IsLoad a × PlansLoad (counter_act C g (counter_turn C p got).doing)
+  WaitsOnLoads = (g : ℕ) (p : Doing) (a : Act) (got : ℕ) → counter_act C g p ≡ Some a →
+      (counter_turn C p got).waits ≡ true → IsLoad a × PlansLoad (counter_act C g (counter_turn C p got).doing)
 
   -- it compares nothing, and its acts tell what they find
   abbrev pub TellsWhatItFinds : Type 0

@@ -15,7 +15,7 @@ use Rattle.rl_drawing.specs.declared.stage.Halt.{Halt}
 use Rattle.rl_drawing.specs.declared.stage.Halt.TheVariants.{Never, Memory}
 use Rattle.rl_drawing.specs.declared.courses.Each.TheVariants as each
 use Rattle.rl_drawing.specs.Drawing.{steps_each, stops_each, laps, drawn_turns, AreEach, IsFirst, IsUntil, IsBefore, AreInTurn}
-use Rattle.rl_drawing.specs.Leads.{IsOf, IsNone, Leads, Draws, DrawsTurn}
+use Rattle.rl_drawing.specs.Leads.{IsOf, IsNone, Leads, Adds, AddsTurn}
 
 pub steps_append : (ts us : List Turn) → steps_in (ts ++ us) ≡ steps_in ts + steps_in us
 steps_append [] us = omega arith
@@ -73,18 +73,18 @@ never_on a b x y m n l same none all w =
     omega (arith, of_all, of_now, more, same)
 
 -- what came of the rest is what comes of the whole
-pub draws_on : {X Y : Type 0} (a b : List Turn → Type 0) (x y z : List Turn) (m n : ℕ) (done : X) (e : Result Y Halt) → Leads a b x y → n + steps_in y ≡ m + steps_in x → Draws b n y z e → Draws a m x z e
+pub draws_on : {X Y : Type 0} (a b : List Turn → Type 0) (x y z : List Turn) (m n : ℕ) (done : X) (e : Result Y Halt) → Leads a b x y → n + steps_in y ≡ m + steps_in x → Adds b n y z e → Adds a m x z e
 draws_on a b x y z m n done (Ok u) l same d = leads_on a b IsNone x y z l d
 draws_on a b x y z m n done (Err Never) l same d = never_on a b x y m n l same d
 draws_on a b x y z m n done (Err Memory) l same d = tt
 
 -- and why nothing came of it
-pub fails_on : (X Y : Type 0) (a b : List Turn → Type 0) (x y z u : List Turn) (m n : ℕ) (e : Halt) → Leads a b x y → n + steps_in y ≡ m + steps_in x → Draws {X = X} b n y z (Err e) → Draws {X = Y} a m x u (Err e)
+pub fails_on : (X Y : Type 0) (a b : List Turn → Type 0) (x y z u : List Turn) (m n : ℕ) (e : Halt) → Leads a b x y → n + steps_in y ≡ m + steps_in x → Adds {X = X} b n y z (Err e) → Adds {X = Y} a m x u (Err e)
 fails_on X Y a b x y z u m n Never l same d = never_on a b x y m n l same d
 fails_on X Y a b x y z u m n Memory l same d = tt
 
 -- the same said otherwise
-pub draws_of : {X : Type 0} (a c : List Turn → Type 0) (x z : List Turn) (m : ℕ) (e : Result X Halt) → Draws a m x z e → ((all : List Turn) → c all → a all) → ((all : List Turn) → a all → c all) → Draws c m x z e
+pub draws_of : {X : Type 0} (a c : List Turn → Type 0) (x z : List Turn) (m : ℕ) (e : Result X Halt) → Adds a m x z e → ((all : List Turn) → c all → a all) → ((all : List Turn) → a all → c all) → Adds c m x z e
 draws_of a c x z m (Ok u) d from to = leads_of a IsNone c x z d from to
 draws_of a c x z m (Err Never) d from to = λ all w. d all (from all w)
 draws_of a c x z m (Err Memory) d from to = tt
@@ -115,7 +115,7 @@ module _ {V : Type 0} (Is : Running V → ℕ → Turn → Type 0) where
 
   -- or it isn't
   pub each_fails : (X Y : Type 0) (a : List Turn → Type 0) (m : Running V) (k : ℕ) (ks js : List ℕ) (x y z u : List Turn) (most left : ℕ) (e : Halt) → ks ≡ k ∷ js → Leads a (AreEach Is m ks) x y → left + steps_in y ≡ most + steps_in x →
-      DrawsTurn {X = X} (Is m k) left y z (Err e) → Draws {X = Y} a most x u (Err e)
+      AddsTurn {X = X} (Is m k) left y z (Err e) → Adds {X = Y} a most x u (Err e)
   each_fails X Y a m k ks js x y z u most left Never next l same none = never_on a (AreEach Is m ks) x y most left l same (λ all w. each_never m k js left none all (subst (λ i. AreEach Is m i all) next w))
   each_fails X Y a m k ks js x y z u most left Memory next l same none = tt
 
@@ -159,7 +159,7 @@ laps_on place a m ks n left x y z next l lap =
 
 -- no lap more
 pub laps_fail : {V : Type 0} (X Y : Type 0) (place : ThePlace) (a : List Turn → Type 0) (m : Running V) (ks : List ℕ) (n rest most left : ℕ) (x y z u : List Turn) (e : Halt) → n ≡ suc rest → Leads a (λ ts. ts ≡ laps n ks) x y → left + steps_in y ≡ most + steps_in x →
-    Draws {X = X} (AreEach (IsOf place (each.Steps 1)) m ks) left y z (Err e) → Draws {X = Y} a most x u (Err e)
+    Adds {X = X} (AreEach (IsOf place (each.Steps 1)) m ks) left y z (Err e) → Adds {X = Y} a most x u (Err e)
 laps_fail X Y place a m ks n rest most left x y z u Never next l same none =
     never_on a (λ ts. ts ≡ laps n ks) x y most left l same
     (λ all w.
@@ -201,7 +201,7 @@ drawn_on a state n left limit drawn after ks x y z t next many draws l are is =
     (leads_list (turn.Steps (slice_index ks (draw (length ks) state).0) 1 ∷ []) (drawn_turns (draw (length ks) state).1 left ks) y z (are ∙ ap (λ u. y ++ u ∷ []) here)))
 
 pub drawn_fail : (X Y : Type 0) (a : List Turn → Type 0) (state n rest limit drawn after : ℕ) (ks : List ℕ) (x y z u : List Turn) (most left : ℕ) (e : Halt) → n ≡ suc rest → limit ≡ length ks → (drawn, after) ≡ draw limit state →
-    Leads a (λ ts. ts ≡ drawn_turns state n ks) x y → left + steps_in y ≡ most + steps_in x → DrawsTurn {X = X} (λ t. t ≡ turn.Steps (slice_index ks drawn) 1) left y z (Err e) → Draws {X = Y} a most x u (Err e)
+    Leads a (λ ts. ts ≡ drawn_turns state n ks) x y → left + steps_in y ≡ most + steps_in x → AddsTurn {X = X} (λ t. t ≡ turn.Steps (slice_index ks drawn) 1) left y z (Err e) → Adds {X = Y} a most x u (Err e)
 drawn_fail X Y a state n rest limit drawn after ks x y z u most left Never next many draws l same none =
     let few : left < 1 = none (turn.Steps (slice_index ks drawn) 1) refl in
     never_on a (λ ts. ts ≡ drawn_turns state n ks) x y most left l same
@@ -232,7 +232,7 @@ module _ {V : Type 0} (shown : Running V → ℕ → Bool) where
   in_turn_never m k js n few (t ∷ more) w = let one : steps_of t ≡ 1 = ap steps_of w.0 in omega (arith, few, one)
 
   pub in_turn_fails : (X Y : Type 0) (a : List Turn → Type 0) (m : Running V) (ws js : List ℕ) (k : ℕ) (x y z u : List Turn) (most left : ℕ) (e : Halt) → ws ≡ k ∷ js → Leads a (AreInTurn shown m ws) x y → left + steps_in y ≡ most + steps_in x →
-      DrawsTurn {X = X} (λ t. t ≡ turn.Steps k 1) left y z (Err e) → Draws {X = Y} a most x u (Err e)
+      AddsTurn {X = X} (λ t. t ≡ turn.Steps k 1) left y z (Err e) → Adds {X = Y} a most x u (Err e)
   in_turn_fails X Y a m ws js k x y z u most left Never next l same none =
       never_on a (AreInTurn shown m ws) x y most left l same (λ all w. in_turn_never m k js left (none (turn.Steps k 1) refl) all (subst (λ q. AreInTurn shown m q all) next w))
   in_turn_fails X Y a m ws js k x y z u most left Memory next l same none = tt

@@ -19,8 +19,9 @@ use Rattle.rl_sketch.specs.declared.sketch.SketchLine.{SketchLine}
 use Rattle.rl_sketch.specs.declared.sketch.SketchLine.TheVariants as line
 use Rattle.rl_sketch.specs.Sketch.{named_ranks, stopped_after, stopped_by, LineFits, LinesFit}
 use Rattle.rl_shown.proofs.ListingLaws.{steps_are}
-use Rattle.rl_drawing.specs.Drawing.{machine_of, AreOfCourse, AreToTheEnd, AreOfLine, AreOfLines, IsNever}
-use Rattle.rl_drawing.specs.Leads.{OnStage, IsNone, Leads, is_to_the_end}
+use Rattle.rl_locks.specs.Runs.{start_with}
+use Rattle.rl_drawing.specs.Drawing.{AreOfCourse, AreToTheEnd, AreOfLine, AreOfLines, IsNever}
+use Rattle.rl_drawing.specs.Leads.{HasCome, IsNone, Leads, is_to_the_end}
 use Rattle.rl_drawing.proofs.Leading.{leads_whole}
 use Rattle.rl_drawing.proofs.Stopping.{lines_stay, lines_more}
 
@@ -69,11 +70,11 @@ next_fits n stopped lines i next low is fit = subst (LinesFit n stopped) (left_m
 
 module _ {V : Type 0} (defined : Defined V) (place : ThePlace) (ops : Ops) (lines : List SketchLine) (i : ℕ) (next : SketchLine) (low : i < length lines) (is : next ≡ get_or lines i next) where
   -- the turns of the next line are added
-  pub line_added : (m : Running V) (stopped : List ℕ) (x z : List Turn) (left : ℕ) → OnStage defined place ops m x left → AreOfLines place (length place.paths) (machine_of defined place ops) [] (take i lines) x →
-      stopped ≡ stopped_by (length place.paths) [] (take i lines) → Leads (AreOfLine place (length place.paths) m stopped next) IsNone x z → AreOfLines place (length place.paths) (machine_of defined place ops) [] (take (i + 1) lines) z
+  pub line_added : (m : Running V) (stopped : List ℕ) (x z : List Turn) (left : ℕ) → HasCome defined place ops m x left → AreOfLines place (length place.paths) (start_with defined place ops) [] (take i lines) x →
+      stopped ≡ stopped_by (length place.paths) [] (take i lines) → Leads (AreOfLine place (length place.paths) m stopped next) IsNone x z → AreOfLines place (length place.paths) (start_with defined place ops) [] (take (i + 1) lines) z
   line_added m stopped x z left on before are l =
       let n = length place.paths in
-      let first = machine_of defined place ops in
+      let first = start_with defined place ops in
       let whole = leads_whole (AreOfLine place n m stopped next) x z l in
       let there : AreOfLine place n (run_of first (ranks_of_turns x)) (stopped_by n [] (take i lines)) next l.turns =
       subst (λ s. AreOfLine place n (run_of first (ranks_of_turns x)) s next l.turns) are (subst (λ r. AreOfLine place n r stopped next l.turns) on.machine whole) in
@@ -85,12 +86,12 @@ module _ {V : Type 0} (defined : Defined V) (place : ThePlace) (ops : Ops) (line
       after ∙ ap (λ s. stopped_after n s next) are ∙ sym (stopped_more n [] (take i lines) next) ∙ ap (stopped_by n []) (sym (taken_more lines i next low is))
 
   -- or it never comes to its end
-  pub never_is : (m : Running V) (stopped : List ℕ) (x : List Turn) (left number : ℕ) → OnStage defined place ops m x left → AreOfLines place (length place.paths) (machine_of defined place ops) [] (take i lines) x →
+  pub never_is : (m : Running V) (stopped : List ℕ) (x : List Turn) (left number : ℕ) → HasCome defined place ops m x left → AreOfLines place (length place.paths) (start_with defined place ops) [] (take i lines) x →
       stopped ≡ stopped_by (length place.paths) [] (take i lines) → number ≡ i + 2 → ((all : List Turn) → AreOfLine place (length place.paths) m stopped next all → left < steps_in all) →
-      IsNever place (length place.paths) (machine_of defined place ops) lines number
+      IsNever place (length place.paths) (start_with defined place ops) lines number
   never_is m stopped x left number on before are counted none =
       let n = length place.paths in
-      let first = machine_of defined place ops in
+      let first = start_with defined place ops in
       let all : left + steps_in x ≡ 2000000 = on.left_is in
       let long : length (take i lines) ≡ i = length-take-le i lines (omega (arith, low)) in
       record {

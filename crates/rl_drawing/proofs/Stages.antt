@@ -13,8 +13,8 @@ use Rattle.rl_machine.specs.Run.{stepped, run_of, turn_ranks, ranks_of_turns, st
 use Rattle.rl_machine.specs.laws.ReplayLaws.{stepped_one, run_append}
 use Rattle.rl_locks.specs.Kinds.{Defined}
 use Rattle.rl_shown.proofs.FrontLaws.{ranks_append, ranks_long}
-use Rattle.rl_drawing.specs.Drawing.{machine_of}
-use Rattle.rl_drawing.specs.Leads.{OnStage}
+use Rattle.rl_locks.specs.Runs.{start_with}
+use Rattle.rl_drawing.specs.Leads.{HasCome}
 use Rattle.rl_drawing.proofs.Leading.{steps_append}
 
 run_counts : {V : Type 0} (m : Running V) (ks : List ℕ) → (steps_made (run_of m ks).steps ≡ steps_made m.steps + length ks) × ((run_of m ks).calls ≡ m.calls)
@@ -30,36 +30,36 @@ all_append P (x ∷ xs) ys a b = (a.0, all_append P xs ys a.1 b)
 
 module _ {V : Type 0} (defined : Defined V) (place : ThePlace) (ops : Ops) where
   -- so many steps were made as the turns have
-  pub steps_at : (m : Running V) (x : List Turn) (left : ℕ) → OnStage defined place ops m x left → steps_made m.steps ≡ steps_in x
+  pub steps_at : (m : Running V) (x : List Turn) (left : ℕ) → HasCome defined place ops m x left → steps_made m.steps ≡ steps_in x
   steps_at m x left on =
-      let are : steps_made m.steps ≡ steps_made (run_of (machine_of defined place ops) (ranks_of_turns x)).steps = ap (λ (n : Running V). steps_made n.steps) on.machine in
-      let made : steps_made (run_of (machine_of defined place ops) (ranks_of_turns x)).steps ≡ 0 + length (ranks_of_turns x) = (run_counts (machine_of defined place ops) (ranks_of_turns x)).0 in
+      let are : steps_made m.steps ≡ steps_made (run_of (start_with defined place ops) (ranks_of_turns x)).steps = ap (λ (n : Running V). steps_made n.steps) on.machine in
+      let made : steps_made (run_of (start_with defined place ops) (ranks_of_turns x)).steps ≡ 0 + length (ranks_of_turns x) = (run_counts (start_with defined place ops) (ranks_of_turns x)).0 in
       let long = ranks_long x in
       omega (arith, are, made, long)
 
   -- and the ranks are the placement's
-  pub ranks_at : (m : Running V) (x : List Turn) (left : ℕ) → OpsFit (length place.paths) place.geom.shards ops → OnStage defined place ops m x left → length m.calls ≡ length place.paths
+  pub ranks_at : (m : Running V) (x : List Turn) (left : ℕ) → OpsFit (length place.paths) place.geom.shards ops → HasCome defined place ops m x left → length m.calls ≡ length place.paths
   ranks_at m x left fit on =
-      ap (λ (n : Running V). length n.calls) on.machine ∙ ap length (run_counts (machine_of defined place ops) (ranks_of_turns x)).1 ∙ fit.ranks_there
+      ap (λ (n : Running V). length n.calls) on.machine ∙ ap length (run_counts (start_with defined place ops) (ranks_of_turns x)).1 ∙ fit.ranks_there
 
-  pub there_at : (m : Running V) (x : List Turn) (left k : ℕ) → OpsFit (length place.paths) place.geom.shards ops → OnStage defined place ops m x left → k < length place.paths → k < length m.calls
+  pub there_at : (m : Running V) (x : List Turn) (left k : ℕ) → OpsFit (length place.paths) place.geom.shards ops → HasCome defined place ops m x left → k < length place.paths → k < length m.calls
   there_at m x left k fit on there = subst (λ n. k < n) (sym (ranks_at m x left fit on)) there
 
   -- the machine goes on by the steps of the turns that were added
-  pub moved : (m now : Running V) (x y ts : List Turn) (left rest : ℕ) → OnStage defined place ops m x left → OnStage defined place ops now y rest → y ≡ x ++ ts → now ≡ run_of m (ranks_of_turns ts)
+  pub moved : (m now : Running V) (x y ts : List Turn) (left rest : ℕ) → HasCome defined place ops m x left → HasCome defined place ops now y rest → y ≡ x ++ ts → now ≡ run_of m (ranks_of_turns ts)
   moved m now x y ts left rest old new are =
-      let first = machine_of defined place ops in
+      let first = start_with defined place ops in
       new.machine ∙ ap (λ z. run_of first (ranks_of_turns z)) are ∙ ap (run_of first) (ranks_append x ts) ∙ run_append first (ranks_of_turns x) (ranks_of_turns ts)
       ∙ ap (λ n. run_of n (ranks_of_turns ts)) (sym old.machine)
 
-  pub moved_by : (m now : Running V) (x y : List Turn) (t : Turn) (left rest : ℕ) → OnStage defined place ops m x left → OnStage defined place ops now y rest → y ≡ x ++ t ∷ [] → now ≡ run_of m (turn_ranks t)
+  pub moved_by : (m now : Running V) (x y : List Turn) (t : Turn) (left rest : ℕ) → HasCome defined place ops m x left → HasCome defined place ops now y rest → y ≡ x ++ t ∷ [] → now ≡ run_of m (turn_ranks t)
   moved_by m now x y t left rest old new are = moved m now x y (t ∷ []) left rest old new are ∙ ap (run_of m) (append-nil (turn_ranks t))
 
   -- a turn is added
-  pub stage_on : (m now : Running V) (x y : List Turn) (t : Turn) (left rest : ℕ) → OnStage defined place ops m x left → now ≡ run_of m (turn_ranks t) → y ≡ x ++ t ∷ [] → rest + steps_of t ≡ left → TurnFits (length place.paths) t →
-      OnStage defined place ops now y rest
+  pub stage_on : (m now : Running V) (x y : List Turn) (t : Turn) (left rest : ℕ) → HasCome defined place ops m x left → now ≡ run_of m (turn_ranks t) → y ≡ x ++ t ∷ [] → rest + steps_of t ≡ left → TurnFits (length place.paths) t →
+      HasCome defined place ops now y rest
   stage_on m now x y t left rest old run are fewer fits =
-      let first = machine_of defined place ops in
+      let first = start_with defined place ops in
       let long : steps_in y ≡ steps_in x + (steps_of t + 0) = ap steps_in are ∙ steps_append x (t ∷ []) in
       let left_is = old.left_is in
       record {
@@ -70,19 +70,19 @@ module _ {V : Type 0} (defined : Defined V) (place : ThePlace) (ops : Ops) where
       }
 
   -- the machine is made anew from its turns
-  pub stage_anew : (m now : Running V) (x y : List Turn) (t : Turn) (left rest : ℕ) → OnStage defined place ops m x left → now ≡ run_of (machine_of defined place ops) (ranks_of_turns y) → y ≡ x ++ t ∷ [] → rest + steps_of t ≡ left → TurnFits (length place.paths) t →
-      OnStage defined place ops now y rest
+  pub stage_anew : (m now : Running V) (x y : List Turn) (t : Turn) (left rest : ℕ) → HasCome defined place ops m x left → now ≡ run_of (start_with defined place ops) (ranks_of_turns y) → y ≡ x ++ t ∷ [] → rest + steps_of t ≡ left → TurnFits (length place.paths) t →
+      HasCome defined place ops now y rest
   stage_anew m now x y t left rest old run are fewer fits =
-      let first = machine_of defined place ops in
+      let first = start_with defined place ops in
       stage_on m now x y t left rest old
       (run ∙ ap (λ z. run_of first (ranks_of_turns z)) are ∙ ap (run_of first) (ranks_append x (t ∷ [])) ∙ ap (λ ks. run_of first (ranks_of_turns x ++ ks)) (append-nil (turn_ranks t))
       ∙ run_append first (ranks_of_turns x) (turn_ranks t) ∙ ap (λ n. run_of n (turn_ranks t)) (sym old.machine))
       are fewer fits
 
   -- so many steps are left as there were, but for those of the turns that were added
-  pub same_left : (m now : Running V) (x y : List Turn) (left rest : ℕ) → OnStage defined place ops m x left → OnStage defined place ops now y rest → rest + steps_in y ≡ left + steps_in x
+  pub same_left : (m now : Running V) (x y : List Turn) (left rest : ℕ) → HasCome defined place ops m x left → HasCome defined place ops now y rest → rest + steps_in y ≡ left + steps_in x
   same_left m now x y left rest old new = new.left_is ∙ sym old.left_is
 
   -- no turn yet
-  pub stage_first : (m : Running V) → m ≡ machine_of defined place ops → OnStage defined place ops m [] 2000000
+  pub stage_first : (m : Running V) → m ≡ start_with defined place ops → HasCome defined place ops m [] 2000000
   stage_first m is = record { machine = is; fit = tt; left_is = omega arith }

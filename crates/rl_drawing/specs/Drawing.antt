@@ -2,17 +2,18 @@
 use Rattle.std.specs.Prelude.{◌≡◌, ℕ, zero, suc, ◌+◌, ◌≤◌, ◌<◌, List, [], ◌∷◌, ◌++◌, length, map, filter, replicate, slice_index, Bool, true, false, not, if◌then◌else◌}
 use Rattle.rl_chance.specs.Draws.{first_state, draw}
 use Rattle.rl_place.specs.Places.{ThePlace}
-use Rattle.rl_place.specs.Shapes.{shape_of, knobs_of}
 use Rattle.rl_ops.specs.declared.ops.Ops.{Ops}
 use Rattle.rl_ops.specs.declared.schedule.Turn.{Turn}
 use Rattle.rl_ops.specs.declared.schedule.Turn.TheVariants as turn
 use Rattle.rl_ops.specs.declared.schedule.Schedule.{Schedule}
 use Rattle.rl_ops.specs.declared.schedule.TheConstants.{MOST_STEPS}
+use Rattle.rl_ops.specs.Ops.{OpsFit}
 use Rattle.rl_ops.specs.Schedule.{ScheduleFits}
+use Rattle.rl_inputs.specs.Reading.{SuitsLock}
 use Rattle.rl_machine.specs.Running.{Running}
 use Rattle.rl_machine.specs.Run.{stepped, run_of, turn_ranks, ranks_of_turns, steps_in}
-use Rattle.rl_machine.specs.Start.{start_of}
 use Rattle.rl_locks.specs.Kinds.{Defined}
+use Rattle.rl_locks.specs.Runs.{start_with}
 use Rattle.rl_sketch.specs.declared.sketch.Ranks.TheVariants.{All}
 use Rattle.rl_sketch.specs.declared.sketch.Sight.TheVariants.{Done}
 use Rattle.rl_sketch.specs.declared.sketch.Course.{Course}
@@ -22,7 +23,7 @@ use Rattle.rl_sketch.specs.declared.sketch.SketchLine.TheVariants as line
 use Rattle.rl_sketch.specs.declared.sketch.Sketch.{Sketch}
 use Rattle.rl_drawing.specs.declared.outcome.Drawn.{Drawn}
 use Rattle.rl_drawing.specs.declared.outcome.Drawn.TheVariants.{Whole, Never}
-use Rattle.rl_sketch.specs.Sketch.{named_ranks, stopped_after, stopped_by}
+use Rattle.rl_sketch.specs.Sketch.{named_ranks, stopped_after, stopped_by, SketchFits}
 use Rattle.rl_drawing.specs.Sights.{shows, is_over, ends_calls}
 
 -- ---- turns that no machine is asked for
@@ -118,21 +119,25 @@ module _ {V : Type 0} (place : ThePlace) where
     pub few : steps_in turns ≤ MOST_STEPS
     pub never : (more : List Turn) → AreOfLine ranks (run_of m (ranks_of_turns turns)) (stopped_by ranks [] before) line more → MOST_STEPS < steps_in turns + steps_in more
 
--- the machine of a placement and calls, which has made no step
-abbrev pub machine_of : {V : Type 0} → Defined V → ThePlace → Ops → Running V
-machine_of defined place ops = start_of defined (shape_of place) (knobs_of place.lock) place.geom place.homes ops
-
 -- a schedule is what a sketch draws: exactly its turns, and not too many steps
 pub record IsDrawn {V : Type 0} (defined : Defined V) (place : ThePlace) (ops : Ops) (sketch : Sketch) (schedule : Schedule) : Type 0 where
-  pub turns : AreOfLines place (length place.paths) (machine_of defined place ops) [] sketch.lines schedule.turns
+  pub turns : AreOfLines place (length place.paths) (start_with defined place ops) [] sketch.lines schedule.turns
   pub few : steps_in schedule.turns ≤ MOST_STEPS
 
 -- what comes of a sketch: its schedule, or the first line that never comes to its end
 abbrev pub ComesTo : {V : Type 0} → Defined V → ThePlace → Ops → Sketch → Drawn → Type 0
 ComesTo defined place ops sketch (Whole schedule) = IsDrawn defined place ops sketch schedule
-ComesTo defined place ops sketch (Never number) = IsNever place (length place.paths) (machine_of defined place ops) sketch.lines number
+ComesTo defined place ops sketch (Never number) = IsNever place (length place.paths) (start_with defined place ops) sketch.lines number
 
 -- a schedule that comes of it is one of so many ranks
 abbrev pub FitsWhole : ℕ → Drawn → Type 0
 FitsWhole ranks (Whole schedule) = ScheduleFits ranks schedule
 FitsWhole ranks (Never number) = Unit {0}
+
+-- a sketch of these ranks is drawn over calls of theirs that suit the lock
+abbrev pub SketchSuits : ThePlace → Ops → Sketch → Type 0
+SketchSuits place ops sketch = OpsFit (length place.paths) place.geom.shards ops × SuitsLock place ops × SketchFits (length place.paths) sketch
+
+-- and what comes of it fits them
+abbrev pub ComesFitting : {V : Type 0} → Defined V → ThePlace → Ops → Sketch → Drawn → Type 0
+ComesFitting defined place ops sketch drawn = ComesTo defined place ops sketch drawn × FitsWhole (length place.paths) drawn

@@ -5,10 +5,8 @@ ghost use Rattle.std.specs.List.{AllByRecursion};
 ghost use Rattle.rl_place.specs.Shapes.{shape_of, knobs_of};
 ghost use Rattle.rl_ops.specs.declared.schedule.TheConstants.{MOST_STEPS};
 ghost use Rattle.rl_ops.specs.Schedule.{TurnFits};
-ghost use Rattle.rl_machine.specs.Running.{running};
-ghost use Rattle.rl_machine.specs.Run.{run_of, ranks_of_turns, steps_in};
-ghost use Rattle.rl_drawing.specs.Drawing.{machine_of};
-ghost use Rattle.rl_drawing.specs.Leads.{SceneFits};
+ghost use Rattle.rl_machine.specs.Run.{steps_in};
+ghost use Rattle.rl_drawing.specs.Leads.{SceneFits, IsAfter};
 
 use crate::looking::Scene;
 use rl_core::Resting;
@@ -23,11 +21,11 @@ pub fn machine_after<C: Resting>(
     scene: Scene<'_>,
     turns: &[Turn],
 ) -> Result<Machine<C>, OutOfMemory>
-    requires scene { SceneFits C.batches scene.place.now scene.naming.now scene.ops.now }
+    requires scene { SceneFits C.batches scene }
     requires knobs { C.suits_knobs (shape_of scene.place.now) (knobs_of scene.place.now.lock) }
     requires there { AllByRecursion (TurnFits (length scene.place.now.paths)) turns.now }
     requires few { steps_in turns.now ≤ MOST_STEPS }
-    ensures { IfOk result (λ m. running C.shard_table m ≡ run_of (machine_of C.defined scene.entry.place.now scene.entry.ops.now) (ranks_of_turns turns.now)) }
+    ensures { IfOk result (IsAfter C.says C.defined scene.entry turns.now) }
 {
     let Scene {
         alloc,

@@ -3,10 +3,8 @@
 ghost use Rattle.std.specs.Prelude.{◌≡◌, ◌+◌, ◌-◌, ◌≤◌, ◌<◌, ◌++◌, [], ◌∷◌, ℕ, length, OnOk, Err};
 ghost use Rattle.std.specs.List.{AllByRecursion};
 ghost use Rattle.rl_place.specs.Shapes.{shape_of, knobs_of};
-ghost use Rattle.rl_machine.specs.Running.{running};
-ghost use Rattle.rl_machine.specs.Run.{run_of, turn_ranks};
 ghost use Rattle.rl_drawing.specs.Drawing.{AreEach};
-ghost use Rattle.rl_drawing.specs.Leads.{SceneFits, OnStage, sees, IsOf, Draws, DrawsTurn};
+ghost use Rattle.rl_drawing.specs.Leads.{SceneFits, OnStage, IsOf, Draws, DrawsOne};
 
 use crate::anew::machine_after;
 use crate::looking::{Scene, Sought, make_steps, steps_before};
@@ -34,11 +32,11 @@ fn go_steps<C: Resting>(
     rank: u8,
     count: u32,
 ) -> Result<(), Halt>
-    requires scene { SceneFits C.batches scene.place.now scene.naming.now scene.ops.now }
+    requires scene { SceneFits C.batches scene }
     requires there { rank < length scene.place.now.paths }
-    requires stage { OnStage C.defined scene.place.now scene.ops.now (running C.shard_table stage.old.machine) stage.old.turns stage.old.left }
-    ensures stage { OnOk result (OnStage C.defined scene.entry.place.now scene.entry.ops.now (running C.shard_table stage.new.machine) stage.new.turns stage.new.left) }
-    ensures draws { DrawsTurn (IsOf scene.entry.place.now (Each.Steps count) (running C.shard_table stage.old.machine) rank) stage.old.left stage.old.turns stage.new.turns result }
+    requires stage { OnStage C.says C.defined scene stage.old }
+    ensures stage { OnOk result (OnStage C.says C.defined scene.entry stage.new) }
+    ensures draws { DrawsOne C.says scene.entry (Each.Steps count) rank stage.old stage.new result }
 {
     if stage.left < count {
         return Err(Halt::Never);
@@ -56,11 +54,11 @@ fn go_until<C: Resting>(
     rank: u8,
     sought: Sought<'_>,
 ) -> Result<(), Halt>
-    requires scene { SceneFits C.batches scene.place.now scene.naming.now scene.ops.now }
+    requires scene { SceneFits C.batches scene }
     requires there { rank < length scene.place.now.paths }
-    requires stage { OnStage C.defined scene.place.now scene.ops.now (running C.shard_table stage.old.machine) stage.old.turns stage.old.left }
-    ensures stage { OnOk result (OnStage C.defined scene.entry.place.now scene.entry.ops.now (running C.shard_table stage.new.machine) stage.new.turns stage.new.left) }
-    ensures draws { DrawsTurn (IsOf scene.entry.place.now (Each.Until sought.entry) (running C.shard_table stage.old.machine) rank) stage.old.left stage.old.turns stage.new.turns result }
+    requires stage { OnStage C.says C.defined scene stage.old }
+    ensures stage { OnOk result (OnStage C.says C.defined scene.entry stage.new) }
+    ensures draws { DrawsOne C.says scene.entry (Each.Until sought.entry) rank stage.old stage.new result }
 {
     let most = stage.left;
     let before = steps_before(scene, &mut stage.machine, u32::from(rank), sought, most)?;
@@ -77,12 +75,12 @@ fn go_before<C: Resting>(
     rank: u8,
     sought: Sought<'_>,
 ) -> Result<(), Halt>
-    requires scene { SceneFits C.batches scene.place.now scene.naming.now scene.ops.now }
+    requires scene { SceneFits C.batches scene }
     requires knobs { C.suits_knobs (shape_of scene.place.now) (knobs_of scene.place.now.lock) }
     requires there { rank < length scene.place.now.paths }
-    requires stage { OnStage C.defined scene.place.now scene.ops.now (running C.shard_table stage.old.machine) stage.old.turns stage.old.left }
-    ensures stage { OnOk result (OnStage C.defined scene.entry.place.now scene.entry.ops.now (running C.shard_table stage.new.machine) stage.new.turns stage.new.left) }
-    ensures draws { DrawsTurn (IsOf scene.entry.place.now (Each.Before sought.entry) (running C.shard_table stage.old.machine) rank) stage.old.left stage.old.turns stage.new.turns result }
+    requires stage { OnStage C.says C.defined scene stage.old }
+    ensures stage { OnOk result (OnStage C.says C.defined scene.entry stage.new) }
+    ensures draws { DrawsOne C.says scene.entry (Each.Before sought.entry) rank stage.old stage.new result }
 {
     let most = stage.left + 1;
     let count = steps_before(scene, &mut stage.machine, u32::from(rank), sought, most)?;
@@ -99,12 +97,12 @@ pub fn go_one<C: Resting>(
     rank: u8,
     each: Each<'_>,
 ) -> Result<(), Halt>
-    requires scene { SceneFits C.batches scene.place.now scene.naming.now scene.ops.now }
+    requires scene { SceneFits C.batches scene }
     requires knobs { C.suits_knobs (shape_of scene.place.now) (knobs_of scene.place.now.lock) }
     requires there { rank < length scene.place.now.paths }
-    requires stage { OnStage C.defined scene.place.now scene.ops.now (running C.shard_table stage.old.machine) stage.old.turns stage.old.left }
-    ensures stage { OnOk result (OnStage C.defined scene.entry.place.now scene.entry.ops.now (running C.shard_table stage.new.machine) stage.new.turns stage.new.left) }
-    ensures draws { DrawsTurn (IsOf scene.entry.place.now each.entry (running C.shard_table stage.old.machine) rank) stage.old.left stage.old.turns stage.new.turns result }
+    requires stage { OnStage C.says C.defined scene stage.old }
+    ensures stage { OnOk result (OnStage C.says C.defined scene.entry stage.new) }
+    ensures draws { DrawsOne C.says scene.entry each.entry rank stage.old stage.new result }
 {
     match each {
         Each::Steps(count) => go_steps(scene, stage, rank, count),
@@ -124,12 +122,12 @@ pub fn go_each<C: Resting>(
     ranks: &[u8],
     each: Each<'_>,
 ) -> Result<(), Halt>
-    requires scene { SceneFits C.batches scene.place.now scene.naming.now scene.ops.now }
+    requires scene { SceneFits C.batches scene }
     requires knobs { C.suits_knobs (shape_of scene.place.now) (knobs_of scene.place.now.lock) }
     requires there { AllByRecursion (λ k. k < length scene.place.now.paths) ranks.now }
-    requires stage { OnStage C.defined scene.place.now scene.ops.now (running C.shard_table stage.old.machine) stage.old.turns stage.old.left }
-    ensures stage { OnOk result (OnStage C.defined scene.entry.place.now scene.entry.ops.now (running C.shard_table stage.new.machine) stage.new.turns stage.new.left) }
-    ensures draws { Draws (AreEach (IsOf scene.entry.place.now each.entry) (running C.shard_table stage.old.machine) ranks.now) stage.old.left stage.old.turns stage.new.turns result }
+    requires stage { OnStage C.says C.defined scene stage.old }
+    ensures stage { OnOk result (OnStage C.says C.defined scene.entry stage.new) }
+    ensures draws { Draws C.says (λ m. AreEach (IsOf scene.entry.place.now each.entry) m ranks.now) stage.old stage.new result }
 {
     for rank in ranks {
         go_one(scene, stage, *rank, each)?;

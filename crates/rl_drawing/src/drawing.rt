@@ -8,11 +8,11 @@ ghost use Rattle.rl_place.specs.Places.{IsProper};
 ghost use Rattle.rl_place.specs.Shapes.{shape_of, knobs_of};
 ghost use Rattle.rl_ops.specs.Ops.{OpsFit};
 ghost use Rattle.rl_inputs.specs.Reading.{SuitsLock};
-ghost use Rattle.rl_machine.specs.Running.{running};
 ghost use Rattle.rl_locks.specs.Kinds.{lock_kind_of};
 ghost use Rattle.rl_sketch.specs.Sketch.{named_ranks, RanksFit, LineFits, LinesFit, SketchFits};
-ghost use Rattle.rl_drawing.specs.Drawing.{machine_of, AreOfCourse, AreOfLine, ComesTo, FitsWhole};
-ghost use Rattle.rl_drawing.specs.Leads.{SceneFits, OnStage, Draws, LinesCome, is_done, is_until_done, is_to_the_end};
+ghost use Rattle.rl_locks.specs.Runs.{start_with};
+ghost use Rattle.rl_drawing.specs.Drawing.{AreOfCourse, ComesTo, FitsWhole, SketchSuits, ComesFitting};
+ghost use Rattle.rl_drawing.specs.Leads.{SceneFits, OnStage, Draws, DrawsLine, LinesCome, is_done, is_until_done, is_to_the_end};
 
 use crate::anew::machine_after;
 use crate::courses::{Each, go_each};
@@ -47,14 +47,14 @@ fn draw_course<C: Resting>(
     ranks: Vec<u8>,
     course: &Course,
 ) -> Result<(), Halt>
-    requires scene { SceneFits C.batches scene.place.now scene.naming.now scene.ops.now }
+    requires scene { SceneFits C.batches scene }
     requires knobs { C.suits_knobs (shape_of scene.place.now) (knobs_of scene.place.now.lock) }
     requires some { 0 < length ranks.items }
     requires few { length ranks.items < 256 }
     requires there { AllByRecursion (λ k. k < length scene.place.now.paths) ranks.items }
-    requires stage { OnStage C.defined scene.place.now scene.ops.now (running C.shard_table stage.old.machine) stage.old.turns stage.old.left }
-    ensures stage { OnOk result (OnStage C.defined scene.entry.place.now scene.entry.ops.now (running C.shard_table stage.new.machine) stage.new.turns stage.new.left) }
-    ensures draws { Draws (AreOfCourse scene.entry.place.now (running C.shard_table stage.old.machine) ranks.items course.now) stage.old.left stage.old.turns stage.new.turns result }
+    requires stage { OnStage C.says C.defined scene stage.old }
+    ensures stage { OnOk result (OnStage C.says C.defined scene.entry stage.new) }
+    ensures draws { Draws C.says (λ m. AreOfCourse scene.entry.place.now m ranks.items course.now) stage.old stage.new result }
 {
     match course {
         Course::Steps { count } => go_each(scene, stage, ranks.as_slice(), Each::Steps(*count)),
@@ -124,12 +124,12 @@ fn draw_going<C: Resting>(
     ranks: &Ranks,
     course: &Course,
 ) -> Result<(), Halt>
-    requires scene { SceneFits C.batches scene.place.now scene.naming.now scene.ops.now }
+    requires scene { SceneFits C.batches scene }
     requires knobs { C.suits_knobs (shape_of scene.place.now) (knobs_of scene.place.now.lock) }
     requires fits { RanksFit (length scene.place.now.paths) stopped.now ranks.now }
-    requires stage { OnStage C.defined scene.place.now scene.ops.now (running C.shard_table stage.old.machine) stage.old.turns stage.old.left }
-    ensures stage { OnOk result (OnStage C.defined scene.entry.place.now scene.entry.ops.now (running C.shard_table stage.new.machine) stage.new.turns stage.new.left) }
-    ensures draws { Draws (AreOfLine scene.entry.place.now (length scene.entry.place.now.paths) (running C.shard_table stage.old.machine) stopped.now (SketchLine.Goes ranks.now course.now)) stage.old.left stage.old.turns stage.new.turns result }
+    requires stage { OnStage C.says C.defined scene stage.old }
+    ensures stage { OnOk result (OnStage C.says C.defined scene.entry stage.new) }
+    ensures draws { DrawsLine C.says scene.entry stopped.now (SketchLine.Goes ranks.now course.now) stage.old stage.new result }
 {
     let named = named_ranks(scene, stopped, ranks)?;
     if is_to_the_end(ranks, course) {
@@ -146,12 +146,12 @@ fn draw_line<C: Resting>(
     stopped: &[u8],
     line: &SketchLine,
 ) -> Result<(), Halt>
-    requires scene { SceneFits C.batches scene.place.now scene.naming.now scene.ops.now }
+    requires scene { SceneFits C.batches scene }
     requires knobs { C.suits_knobs (shape_of scene.place.now) (knobs_of scene.place.now.lock) }
     requires fits { LineFits (length scene.place.now.paths) stopped.now line.now }
-    requires stage { OnStage C.defined scene.place.now scene.ops.now (running C.shard_table stage.old.machine) stage.old.turns stage.old.left }
-    ensures stage { OnOk result (OnStage C.defined scene.entry.place.now scene.entry.ops.now (running C.shard_table stage.new.machine) stage.new.turns stage.new.left) }
-    ensures draws { Draws (AreOfLine scene.entry.place.now (length scene.entry.place.now.paths) (running C.shard_table stage.old.machine) stopped.now line.now) stage.old.left stage.old.turns stage.new.turns result }
+    requires stage { OnStage C.says C.defined scene stage.old }
+    ensures stage { OnOk result (OnStage C.says C.defined scene.entry stage.new) }
+    ensures draws { DrawsLine C.says scene.entry stopped.now line.now stage.old stage.new result }
 {
     match line {
         SketchLine::Note(_) => Ok(()),
@@ -169,10 +169,10 @@ fn draw_lines<C: Resting>(
     stage: &mut Stage<C>,
     lines: &[SketchLine],
 ) -> Result<Option<u64>, OutOfMemory>
-    requires scene { SceneFits C.batches scene.place.now scene.naming.now scene.ops.now }
+    requires scene { SceneFits C.batches scene }
     requires knobs { C.suits_knobs (shape_of scene.place.now) (knobs_of scene.place.now.lock) }
     requires fits { LinesFit (length scene.place.now.paths) [] lines.now }
-    requires stage { OnStage C.defined scene.place.now scene.ops.now (running C.shard_table stage.old.machine) stage.old.turns stage.old.left }
+    requires stage { OnStage C.says C.defined scene stage.old }
     requires fresh { stage.old.turns ≡ [] }
     ensures { IfOk result (LinesCome C.defined scene.entry.place.now scene.entry.ops.now lines.now stage.new.turns) }
 {
@@ -237,9 +237,9 @@ struct DrawTask<'a> {
 impl CoreTask for DrawTask<'_> {
     type Out = Result<Drawn, OutOfMemory>;
 
-    ghost takes = { λ r place. OpsFit (length place.paths) place.geom.shards r.ops.now × SuitsLock place r.ops.now × SketchFits (length place.paths) r.sketch.now };
+    ghost takes = { λ r place. SketchSuits place r.ops.now r.sketch.now };
 
-    ghost gives = { λ r place kind urgent result. IfOk result (λ drawn. ComesTo kind.defined place r.ops.now r.sketch.now drawn × FitsWhole (length place.paths) drawn) };
+    ghost gives = { λ r place kind urgent result. IfOk result (ComesFitting kind.defined place r.ops.now r.sketch.now) };
 
     fn over<C: Resting + Promising + ShardGuiding>(
         self,

@@ -8,7 +8,7 @@ ghost use Rattle.rl_machine.specs.Running.{running};
 ghost use Rattle.rl_machine.specs.Run.{stepped};
 ghost use Rattle.rl_drawing.specs.Sights.{is_over};
 ghost use Rattle.rl_drawing.specs.Drawing.{laps, drawn_turns, AreInTurn, AreToTheEnd};
-ghost use Rattle.rl_drawing.specs.Leads.{SceneFits, OnStage, sees, Draws, DrawsTurn};
+ghost use Rattle.rl_drawing.specs.Leads.{SceneFits, OnStage, sees, Draws, DrawsOne};
 
 use crate::courses::{Each, go_each, go_one};
 use crate::looking::{Scene, Sought, is_over, step_looking};
@@ -26,12 +26,12 @@ pub fn go_laps<C: Resting>(
     ranks: &[u8],
     count: u32,
 ) -> Result<(), Halt>
-    requires scene { SceneFits C.batches scene.place.now scene.naming.now scene.ops.now }
+    requires scene { SceneFits C.batches scene }
     requires knobs { C.suits_knobs (shape_of scene.place.now) (knobs_of scene.place.now.lock) }
     requires there { AllByRecursion (λ k. k < length scene.place.now.paths) ranks.now }
-    requires stage { OnStage C.defined scene.place.now scene.ops.now (running C.shard_table stage.old.machine) stage.old.turns stage.old.left }
-    ensures stage { OnOk result (OnStage C.defined scene.entry.place.now scene.entry.ops.now (running C.shard_table stage.new.machine) stage.new.turns stage.new.left) }
-    ensures draws { Draws (λ turns. turns ≡ laps count ranks.now) stage.old.left stage.old.turns stage.new.turns result }
+    requires stage { OnStage C.says C.defined scene stage.old }
+    ensures stage { OnOk result (OnStage C.says C.defined scene.entry stage.new) }
+    ensures draws { Draws C.says (λ m turns. turns ≡ laps count ranks.now) stage.old stage.new result }
 {
     for _ in 0..count {
         go_each(scene, stage, ranks, Each::Steps(1))?;
@@ -47,14 +47,14 @@ pub fn go_at_random<C: Resting>(
     seed: u64,
     count: u32,
 ) -> Result<(), Halt>
-    requires scene { SceneFits C.batches scene.place.now scene.naming.now scene.ops.now }
+    requires scene { SceneFits C.batches scene }
     requires knobs { C.suits_knobs (shape_of scene.place.now) (knobs_of scene.place.now.lock) }
     requires some { 0 < length ranks.now }
     requires few { length ranks.now < 256 }
     requires there { AllByRecursion (λ k. k < length scene.place.now.paths) ranks.now }
-    requires stage { OnStage C.defined scene.place.now scene.ops.now (running C.shard_table stage.old.machine) stage.old.turns stage.old.left }
-    ensures stage { OnOk result (OnStage C.defined scene.entry.place.now scene.entry.ops.now (running C.shard_table stage.new.machine) stage.new.turns stage.new.left) }
-    ensures draws { Draws (λ turns. turns ≡ drawn_turns (first_state seed) count ranks.now) stage.old.left stage.old.turns stage.new.turns result }
+    requires stage { OnStage C.says C.defined scene stage.old }
+    ensures stage { OnOk result (OnStage C.says C.defined scene.entry stage.new) }
+    ensures draws { Draws C.says (λ m turns. turns ≡ drawn_turns (first_state seed) count ranks.now) stage.old stage.new result }
 {
     let mut generator = Generator::new(seed);
     for _ in 0..count {
@@ -71,13 +71,13 @@ fn go_once<C: Resting>(
     rank: u8,
     sought: Sought<'_>,
 ) -> Result<bool, Halt>
-    requires scene { SceneFits C.batches scene.place.now scene.naming.now scene.ops.now }
+    requires scene { SceneFits C.batches scene }
     requires there { rank < length scene.place.now.paths }
-    requires stage { OnStage C.defined scene.place.now scene.ops.now (running C.shard_table stage.old.machine) stage.old.turns stage.old.left }
-    ensures stage { OnOk result (OnStage C.defined scene.entry.place.now scene.entry.ops.now (running C.shard_table stage.new.machine) stage.new.turns stage.new.left) }
-    ensures shown { IfOk result (λ shown. shown ≡ sees scene.entry.place.now sought.entry (running C.shard_table stage.old.machine) rank) }
-    ensures stepped { OnOk result (running C.shard_table stage.new.machine ≡ stepped (running C.shard_table stage.old.machine) rank) }
-    ensures draws { DrawsTurn (λ t. t ≡ Turn.Steps rank 1) stage.old.left stage.old.turns stage.new.turns result }
+    requires stage { OnStage C.says C.defined scene stage.old }
+    ensures stage { OnOk result (OnStage C.says C.defined scene.entry stage.new) }
+    ensures shown { IfOk result (λ shown. shown ≡ sees scene.entry.place.now sought.entry (running C.says stage.old.machine) rank) }
+    ensures stepped { OnOk result (running C.says stage.new.machine ≡ stepped (running C.says stage.old.machine) rank) }
+    ensures draws { DrawsOne C.says scene.entry (Each.Steps 1) rank stage.old stage.new result }
 {
     if stage.left == 0 {
         return Err(Halt::Never);
@@ -105,11 +105,11 @@ pub fn go_in_turn<C: Resting>(
     ranks: Vec<u8>,
     sought: Sought<'_>,
 ) -> Result<(), Halt>
-    requires scene { SceneFits C.batches scene.place.now scene.naming.now scene.ops.now }
+    requires scene { SceneFits C.batches scene }
     requires there { AllByRecursion (λ k. k < length scene.place.now.paths) ranks.items }
-    requires stage { OnStage C.defined scene.place.now scene.ops.now (running C.shard_table stage.old.machine) stage.old.turns stage.old.left }
-    ensures stage { OnOk result (OnStage C.defined scene.entry.place.now scene.entry.ops.now (running C.shard_table stage.new.machine) stage.new.turns stage.new.left) }
-    ensures draws { Draws (AreInTurn (sees scene.entry.place.now sought.entry) (running C.shard_table stage.old.machine) ranks.items) stage.old.left stage.old.turns stage.new.turns result }
+    requires stage { OnStage C.says C.defined scene stage.old }
+    ensures stage { OnOk result (OnStage C.says C.defined scene.entry stage.new) }
+    ensures draws { Draws C.says (λ m. AreInTurn (sees scene.entry.place.now sought.entry) m ranks.items) stage.old stage.new result }
 {
     let mut waiting = ranks;
     let most = stage.left + 1;
@@ -131,7 +131,7 @@ fn not_over<C: Resting>(
     ranks: &[u8],
 ) -> Result<Vec<u8>, OutOfMemory>
     requires { AllByRecursion (λ k. k < length machine.now.calls) ranks.now }
-    ensures { IfOk result (λ list. list.items ≡ filter (λ k. not (is_over (running C.shard_table machine.now) k)) ranks.now) }
+    ensures { IfOk result (λ list. list.items ≡ filter (λ k. not (is_over (running C.says machine.now) k)) ranks.now) }
 {
     let mut list = Vec::new(scene.alloc);
     for rank in ranks {
@@ -148,11 +148,11 @@ pub fn go_to_the_end<C: Resting>(
     stage: &mut Stage<C>,
     ranks: &[u8],
 ) -> Result<(), Halt>
-    requires scene { SceneFits C.batches scene.place.now scene.naming.now scene.ops.now }
+    requires scene { SceneFits C.batches scene }
     requires there { AllByRecursion (λ k. k < length scene.place.now.paths) ranks.now }
-    requires stage { OnStage C.defined scene.place.now scene.ops.now (running C.shard_table stage.old.machine) stage.old.turns stage.old.left }
-    ensures stage { OnOk result (OnStage C.defined scene.entry.place.now scene.entry.ops.now (running C.shard_table stage.new.machine) stage.new.turns stage.new.left) }
-    ensures draws { Draws (AreToTheEnd (running C.shard_table stage.old.machine) ranks.now) stage.old.left stage.old.turns stage.new.turns result }
+    requires stage { OnStage C.says C.defined scene stage.old }
+    ensures stage { OnOk result (OnStage C.says C.defined scene.entry stage.new) }
+    ensures draws { Draws C.says (λ m. AreToTheEnd m ranks.now) stage.old stage.new result }
 {
     let left = not_over(scene, &stage.machine, ranks)?;
     go_in_turn(scene, stage, left, Sought::Over)

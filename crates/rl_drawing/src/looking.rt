@@ -5,8 +5,7 @@ ghost use Rattle.rl_step.specs.Answers.{steps_made};
 ghost use Rattle.rl_machine.specs.Running.{running};
 ghost use Rattle.rl_machine.specs.Run.{stepped, run_of};
 ghost use Rattle.rl_drawing.specs.Sights.{begins_whole, stands_in, shows_words, does_call, is_over};
-ghost use Rattle.rl_drawing.specs.Drawing.{IsFirst};
-ghost use Rattle.rl_drawing.specs.Leads.{SceneFits, sees};
+ghost use Rattle.rl_drawing.specs.Leads.{SceneFits, IsFirstSeen, sees};
 
 use crate::stage::Halt;
 use rl_core::ShardCore;
@@ -66,11 +65,11 @@ fn step_with_words<C: ShardCore>(
     rank: u32,
     words: &[u8],
 ) -> Result<bool, OutOfMemory>
-    requires scene { SceneFits C.batches scene.place.now scene.naming.now scene.ops.now }
+    requires scene { SceneFits C.batches scene }
     requires there { rank < length machine.old.calls }
     requires few { steps_made machine.old.steps < 2 ^ 32 - 1 }
-    ensures shown { IfOk result (λ shown. shown ≡ shows_words scene.entry.place.now words.now (running C.shard_table machine.old) rank) }
-    ensures stepped { IfOk result (λ _. running C.shard_table machine.new ≡ stepped (running C.shard_table machine.old) rank) }
+    ensures shown { IfOk result (λ shown. shown ≡ shows_words scene.entry.place.now words.now (running C.says machine.old) rank) }
+    ensures stepped { IfOk result (λ _. running C.says machine.new ≡ stepped (running C.says machine.old) rank) }
 {
     let mut sought = Vec::from_slice(scene.alloc, b" ")?;
     sought.extend_from_slice(words)?;
@@ -87,8 +86,8 @@ fn step_with_done<C: ShardCore>(
 ) -> Result<bool, OutOfMemory>
     requires there { rank < length machine.old.calls }
     requires few { steps_made machine.old.steps < 2 ^ 32 - 1 }
-    ensures shown { IfOk result (λ shown. shown ≡ does_call (running C.shard_table machine.old) rank) }
-    ensures stepped { IfOk result (λ _. running C.shard_table machine.new ≡ stepped (running C.shard_table machine.old) rank) }
+    ensures shown { IfOk result (λ shown. shown ≡ does_call (running C.says machine.old) rank) }
+    ensures stepped { IfOk result (λ _. running C.says machine.new ≡ stepped (running C.says machine.old) rank) }
 {
     let before = machine.done_of(scene.alloc, rank)?;
     let _ = machine.step(rank)?;
@@ -99,7 +98,7 @@ fn step_with_done<C: ShardCore>(
 /// Whether a rank has no open call, and none left.
 pub fn is_over<C: ShardCore>(machine: &Machine<C>, rank: u32) -> bool
     requires { rank < length machine.now.calls }
-    ensures { result ≡ is_over (running C.shard_table machine.now) rank }
+    ensures { result ≡ is_over (running C.says machine.now) rank }
 {
     !machine.is_open(rank) && machine.opened(rank) >= machine.given(rank)
 }
@@ -111,11 +110,11 @@ pub fn step_looking<C: ShardCore>(
     rank: u32,
     sought: Sought<'_>,
 ) -> Result<bool, OutOfMemory>
-    requires scene { SceneFits C.batches scene.place.now scene.naming.now scene.ops.now }
+    requires scene { SceneFits C.batches scene }
     requires there { rank < length machine.old.calls }
     requires few { steps_made machine.old.steps < 2 ^ 32 - 1 }
-    ensures shown { IfOk result (λ shown. shown ≡ sees scene.entry.place.now sought.entry (running C.shard_table machine.old) rank) }
-    ensures stepped { IfOk result (λ _. running C.shard_table machine.new ≡ stepped (running C.shard_table machine.old) rank) }
+    ensures shown { IfOk result (λ shown. shown ≡ sees scene.entry.place.now sought.entry (running C.says machine.old) rank) }
+    ensures stepped { IfOk result (λ _. running C.says machine.new ≡ stepped (running C.says machine.old) rank) }
 {
     match sought {
         Sought::Shown(Sight::Words(words)) => {
@@ -141,7 +140,7 @@ pub fn make_steps<C: ShardCore>(
 ) -> Result<(), OutOfMemory>
     requires there { rank < length machine.old.calls }
     requires few { steps_made machine.old.steps + count < 2 ^ 32 }
-    ensures run { IfOk result (λ _. running C.shard_table machine.new ≡ run_of (running C.shard_table machine.old) (replicate count rank)) }
+    ensures run { IfOk result (λ _. running C.says machine.new ≡ run_of (running C.says machine.old) (replicate count rank)) }
 {
     for _ in 0..count {
         let _ = machine.step(rank)?;
@@ -157,13 +156,13 @@ pub fn steps_before<C: ShardCore>(
     sought: Sought<'_>,
     most: u32,
 ) -> Result<u32, Halt>
-    requires scene { SceneFits C.batches scene.place.now scene.naming.now scene.ops.now }
+    requires scene { SceneFits C.batches scene }
     requires there { rank < length machine.old.calls }
     requires few { steps_made machine.old.steps + most < 2 ^ 32 }
     ensures few { IfOk result (λ made. made < most) }
-    ensures first { IfOk result (λ made. IsFirst (sees scene.entry.place.now sought.entry) (running C.shard_table machine.old) rank made) }
-    ensures run { IfOk result (λ made. running C.shard_table machine.new ≡ run_of (running C.shard_table machine.old) (replicate (made + 1) rank)) }
-    ensures never { result ≡ Err Halt.Never → (n : ℕ) → IsFirst (sees scene.entry.place.now sought.entry) (running C.shard_table machine.old) rank n → most ≤ n }
+    ensures first { IfOk result (λ made. IsFirstSeen C.says scene.entry sought.entry machine.old rank made) }
+    ensures run { IfOk result (λ made. running C.says machine.new ≡ run_of (running C.says machine.old) (replicate (made + 1) rank)) }
+    ensures never { result ≡ Err Halt.Never → (n : ℕ) → IsFirstSeen C.says scene.entry sought.entry machine.old rank n → most ≤ n }
 {
     for made in 0..most {
         if step_looking(scene, machine, rank, sought)? {

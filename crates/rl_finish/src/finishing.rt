@@ -1,13 +1,13 @@
 //! A machine makes the steps that are left to the end of all its calls.
 
-ghost use Rattle.std.specs.Prelude.{ℕ, ◌≡◌, ◌↔◌, ◌+◌, ◌-◌, ◌<◌, ◌≤◌, ◌^◌, List, true, false, length, IfOk, OnOk, OnErr};
+ghost use Rattle.std.specs.Prelude.{◌≡◌, ◌↔◌, ◌+◌, ◌-◌, ◌<◌, ◌≤◌, ◌^◌, true, false, length, IfOk, OnOk, OnErr};
 ghost use Rattle.std.specs.List.{AllByRecursion};
 ghost use Rattle.rl_step.specs.Answers.{steps_made};
 ghost use Rattle.rl_ops.specs.Schedule.{TurnFits};
-ghost use Rattle.rl_machine.specs.MachineEnding.{AllDone, machine_left};
+ghost use Rattle.rl_machine.specs.MachineEnding.{AllDone};
 ghost use Rattle.rl_machine.specs.Run.{run_of, ranks_of_turns, steps_in};
 ghost use Rattle.rl_machine.specs.Running.{running, cores_of};
-ghost use Rattle.rl_finish.specs.WayOn.{IsWayOn, AreWhole, HaveOneMore};
+ghost use Rattle.rl_finish.specs.WayOn.{IsWayOn, LeadsOn, IsEnough, AreWhole, HaveOneMore};
 
 use rl_core::ShardGuiding;
 use rl_machine::Machine;
@@ -58,16 +58,16 @@ pub fn finish<C: ShardGuiding>(
     requires ranks { length machine.old.calls ≤ 2 ^ 8 }
     ensures cores { cores_of machine.new ≡ cores_of machine.old }
     ensures calls { machine.new.calls ≡ machine.old.calls }
-    ensures run { IfOk result (λ on. running C.shard_table machine.new ≡ run_of (running C.shard_table machine.old) (ranks_of_turns on.turns)) }
-    ensures way { IfOk result (λ on. IsWayOn C.urgent (cores_of machine.old) (running C.shard_table machine.old) (ranks_of_turns on.turns)) }
+    ensures run { IfOk result (λ on. running C.says machine.new ≡ run_of (running C.says machine.old) (ranks_of_turns on.turns)) }
+    ensures way { IfOk result (λ on. IsWayOn C.urgent (cores_of machine.old) (running C.says machine.old) (ranks_of_turns on.turns)) }
     ensures there { IfOk result (λ on. AllByRecursion (TurnFits (length machine.old.calls)) on.turns) }
     ensures whole { IfOk result (λ on. AreWhole on.turns) }
     ensures steps { IfOk result (λ on. steps_made machine.new.steps ≡ steps_made machine.old.steps + steps_in on.turns) }
     ensures few { IfOk result (λ on. steps_in on.turns ≤ most) }
-    ensures ended { IfOk result (λ on. (on.ended ≡ true) ↔ AllDone (running C.shard_table machine.new)) }
+    ensures ended { IfOk result (λ on. (on.ended ≡ true) ↔ AllDone (running C.says machine.new)) }
     ensures all { IfOk result (λ on. on.ended ≡ false → steps_in on.turns ≡ most) }
-    ensures enough { IfOk result (λ on. machine_left C.left C.most (cores_of machine.old) (running C.shard_table machine.old) ≤ most → on.ended ≡ true) }
-    ensures part { OnErr result ((ranks : List ℕ) × IsWayOn C.urgent (cores_of machine.old) (running C.shard_table machine.old) ranks × (running C.shard_table machine.new ≡ run_of (running C.shard_table machine.old) ranks)) }
+    ensures enough { IfOk result (λ on. IsEnough C.left C.most (cores_of machine.old) (running C.says machine.old) most → on.ended ≡ true) }
+    ensures part { OnErr result (LeadsOn C.urgent (cores_of machine.old) (running C.says machine.old) (running C.says machine.new)) }
 {
     let mut turns = Vec::new(alloc);
     for _ in 0..most {

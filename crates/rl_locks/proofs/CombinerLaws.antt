@@ -14,7 +14,7 @@ use Rattle.rl_model.specs.Call.{is_update}
 use Rattle.rl_step.specs.declared.events.Event.{Event}
 use Rattle.rl_step.specs.declared.events.Standing.TheVariants.{Writer}
 use Rattle.rl_step.specs.Core.{Turned}
-use Rattle.rl_step.specs.Do.{TheWindow, do_got}
+use Rattle.rl_step.specs.Do.{do_got}
 use Rattle.rl_step.specs.Lock.{LockTable, LockState, Deed, Rests}
 use Rattle.rl_volume.specs.Seen.{SeenWords, next_word}
 use Rattle.rl_volume.specs.Walk.{most_reads}
@@ -28,6 +28,7 @@ use Rattle.rl_work.specs.Ways.{IsSide}
 use Rattle.rl_work.specs.Work.{TheWork, WorkTurned, stage_atom as block_atom, stage_after as block_after, with_seen, write_atom, left_of, at_rest}
 use Rattle.rl_work.specs.WorkGood.{WorkSide as Seat, FitsAt as BlockFits, IsReading as SeatReading}
 use Rattle.rl_core.specs.ShardTables.{ShardTable}
+use Rattle.rl_core.specs.Moments.{Moment}
 use Rattle.rl_combine.specs.declared.stage.CombineStage.{CombineStage}
 use Rattle.rl_combine.specs.declared.stage.CombineStage.TheVariants.{Sweep, Copy, Read, Journal, Volume, Answer, Mark, Rest, Post, Raise, Look, Count, Collect, Lower}
 use Rattle.rl_combine.specs.Posts.{ThePost, combine_ranks, post_of, post_word, flag_word}
@@ -155,55 +156,55 @@ module _ (V : Type 0) (base : ℕ) (table : LockTable V) (S : WaySite) (node : �
     or_true false = refl
 
   module _ (further : List Event → List Deed → Type 0) (layout : Layout) (laws : BothLaws L good further layout) (home : ℕ)
-      (h : TheWindow) (vs : List (WholeView V TheCombineSide)) (t : List Event) (ds : List Deed) (g : WholeGood L good layout h vs t ds) where
+      (m : Moment (WholeView V TheCombineSide)) (g : WholeGood L good layout m) where
     abbrev T : ShardTable (WholeView V TheCombineSide)
     T = whole_shard L home
 
     -- the ranks' sides, by the lock and by the shard
     abbrev sides : List RankSide
-    sides = map (work_side table) vs
+    sides = map (work_side table) m.views
 
     abbrev shown_sides : List RankSide
-    shown_sides = map (rank_side T) vs
+    shown_sides = map (rank_side T) m.views
 
-    rule : CombineGood S h.words sides
+    rule : CombineGood S m.held.words sides
     rule = g.rule.work_part
 
-    side : (r : ℕ) (x : WholeView V TheCombineSide) → slice_get vs r ≡ Some x → IsSide (combine_table S node) (CombineGood S) h.words sides r (work_side table x)
-    side r x has = side_at V TheCombineSide L good further layout laws home h vs t ds g r x has
+    side : (r : ℕ) (x : WholeView V TheCombineSide) → slice_get m.views r ≡ Some x → IsSide (combine_table S node) (CombineGood S) m.held.words sides r (work_side table x)
+    side r x has = side_at V TheCombineSide L good further layout laws home m g r x has
 
     -- a writer at the lock stands so on the shard
     writes_on : (x : WholeView V TheCombineSide) → stand table x ≡ Writer → T.standing x ≡ Writer
     writes_on x e = ap (λ st. standing_while st (combine_is_open x.work.stage)) e
 
     -- who combines writes
-    combiner_writes : (r : ℕ) (x : WholeView V TheCombineSide) → slice_get vs r ≡ Some x → Combines x.work.stage → stand table x ≡ Writer
+    combiner_writes : (r : ℕ) (x : WholeView V TheCombineSide) → slice_get m.views r ≡ Some x → Combines x.work.stage → stand table x ≡ Writer
     combiner_writes r x has c =
         let s = side r x has in
-        let y = seat_of S node h.words s.laid sides s.is_good r (work_side table x) s.there in
-        (combiner_of S (post_of S h.words r) r (work_side table x) y.0 x.work.stage c (s.is_good.own r (work_side table x) y.0 s.there y.1)).0
+        let y = seat_of S node m.held.words s.laid sides s.is_good r (work_side table x) s.there in
+        (combiner_of S (post_of S m.held.words r) r (work_side table x) y.0 x.work.stage c (s.is_good.own r (work_side table x) y.0 s.there y.1)).0
 
     -- the flags say so of the sides by the shard too: a writer that is late is so on both sides
     late_on : (k : ℕ) (y : TheCombineSide) → IsLate sides k y → IsLate shown_sides k y
     late_on k y l =
-        let x = get_map_back (work_side table) vs l.rank l.side l.there in
+        let x = get_map_back (work_side table) m.views l.rank l.side l.there in
         record {
           rank = l.rank;
           side = rank_side T x.0;
-          there = get_map (rank_side T) vs l.rank x.0 x.1;
+          there = get_map (rank_side T) m.views l.rank x.0 x.1;
           writes = writes_on x.0 (ap (λ (z : RankSide). z.standing) x.2 ∙ l.writes);
           late = subst (λ (z : RankSide). IsLateAt z.work.stage k) (sym x.2) l.late;
           update = l.update;
         }
 
-    late_back : (k : ℕ) (y : TheCombineSide) (l : IsLate shown_sides k y) → (m : IsLate sides k y) × (m.side.work ≡ l.side.work)
+    late_back : (k : ℕ) (y : TheCombineSide) (l : IsLate shown_sides k y) → (late : IsLate sides k y) × (late.side.work ≡ l.side.work)
     late_back k y l =
-        let x = get_map_back (rank_side T) vs l.rank l.side l.there in
+        let x = get_map_back (rank_side T) m.views l.rank l.side l.there in
         let late : IsLateAt x.0.work.stage k = subst (λ (z : RankSide). IsLateAt z.work.stage k) (sym x.2) l.late in (
           record {
             rank = l.rank;
             side = work_side table x.0;
-            there = get_map (work_side table) vs l.rank x.0 x.1;
+            there = get_map (work_side table) m.views l.rank x.0 x.1;
             writes = combiner_writes l.rank x.0 x.1 (late_combines x.0.work.stage k late);
             late = late;
             update = l.update;
@@ -211,17 +212,17 @@ module _ (V : Type 0) (base : ℕ) (table : LockTable V) (S : WaySite) (node : �
           ap (λ (z : RankSide). z.work) x.2,
         )
 
-    says_on : (r : ℕ) (x : WholeView V TheCombineSide) → slice_get vs r ≡ Some x → FlagSays S h.words shown_sides r x.work
+    says_on : (r : ℕ) (x : WholeView V TheCombineSide) → slice_get m.views r ≡ Some x → FlagSays S m.held.words shown_sides r x.work
     says_on r x has =
         let s = side r x has in
-        let f : FlagSays S h.words sides r x.work = flag_says S node h.words s.laid sides s.is_good r (work_side table x) s.there in
+        let f : FlagSays S m.held.words sides r x.work = flag_says S node m.held.words s.laid sides s.is_good r (work_side table x) s.there in
         record {
           few = f.few;
           posted = f.posted;
           not_done = λ one. ⊎_elim (λ none. inl none) (λ late. inr (late_on r x.work late)) (f.not_done one);
           late = λ l.
-              let m = late_back r x.work l in
-              ((f.late m.0).0, (f.late m.0).1 ∙ ap (λ (z : TheCombineSide). z.entry ∷ []) m.1);
+              let late = late_back r x.work l in
+              ((f.late late.0).0, (f.late late.0).1 ∙ ap (λ (z : TheCombineSide). z.entry ∷ []) late.1);
           done = f.done;
           due = f.due;
         }
@@ -236,60 +237,60 @@ module _ (V : Type 0) (base : ℕ) (table : LockTable V) (S : WaySite) (node : �
     lock_writes w (atom.CardStore v value) low behind e = let there : v < table.size = low in let is : base + v ≡ w = e in absurd (omega arith)
     lock_writes w (atom.Leave n) low behind e = e
 
-    moves_on : (r k : ℕ) (x : WholeView V TheCombineSide) (at : Atom) → slice_get vs r ≡ Some x → next_of L x ≡ Some at → FlagMoves S h.words at r (rank_side T x) k
+    moves_on : (r k : ℕ) (x : WholeView V TheCombineSide) (at : Atom) → slice_get m.views r ≡ Some x → next_of L x ≡ Some at → FlagMoves S m.held.words at r (rank_side T x) k
     moves_on r k x at has next =
         ⊎_elim
-        (λ (q : (b : Atom) × (side_atom table x.side ≡ Some b) × (shifted base b ≡ at)). subst (λ a. FlagMoves S h.words a r (rank_side T x) k) q.2 (
-        let low : IsLow table.size q.0 = lock_low V TheCombineSide L good further layout laws home h vs g.rule r x has q.0 q.1 in
+        (λ (q : (b : Atom) × (side_atom table x.side ≡ Some b) × (shifted base b ≡ at)). subst (λ a. FlagMoves S m.held.words a r (rank_side T x) k) q.2 (
+        let low : IsLow table.size q.0 = lock_low V TheCombineSide L good further layout laws home m.held m.views g.rule r x has q.0 q.1 in
         passes (lock_writes (flag_word S k) q.0 low (let e : S.behind ≡ base + table.size = g.rule.behind_is in omega arith))
-        ((same_work L g.rule.base_is g.rule.behind_is q.0 h.words low).behind (post_word S k 0) (omega arith))
+        ((same_work L g.rule.base_is g.rule.behind_is q.0 m.held.words low).behind (post_word S k 0) (omega arith))
         ))
         (λ q.
-        let w = works_at V TheCombineSide L good further layout laws home h vs g.rule r x has at q.1 q.2 in
-        shown_moves (flag_moves S node h.words w.side.laid sides w.side.is_good w.apart r (work_side table x) w.side.there k at w.planned))
+        let w = works_at V TheCombineSide L good further layout laws home m.held m.views g.rule r x has at q.1 q.2 in
+        shown_moves (flag_moves S node m.held.words w.side.laid sides w.side.is_good w.apart r (work_side table x) w.side.there k at w.planned))
         (next_either V TheCombineSide L good further layout laws home x at next)
       where
-        shown_moves : FlagMoves S h.words at r (work_side table x) k → FlagMoves S h.words at r (rank_side T x) k
+        shown_moves : FlagMoves S m.held.words at r (work_side table x) k → FlagMoves S m.held.words at r (rank_side T x) k
         shown_moves (passes apart same) = passes apart same
         shown_moves (raises own is) = raises own is
         shown_moves (lowers own is) = lowers own is
         shown_moves (marks writes stage is) = marks (writes_on x writes) stage is
 
-    once_on : (r : ℕ) (x : WholeView V TheCombineSide) → slice_get vs r ≡ Some x → length (early S h.words r x.work) ≤ 1
+    once_on : (r : ℕ) (x : WholeView V TheCombineSide) → slice_get m.views r ≡ Some x → length (early S m.held.words r x.work) ≤ 1
     once_on r x has =
         let s = side r x has in
-        let y = seat_of S node h.words s.laid sides s.is_good r (work_side table x) s.there in
+        let y = seat_of S node m.held.words s.laid sides s.is_good r (work_side table x) s.there in
         ⊎_elim
-        (λ (n : HasNone S h.words r x.work y.0). let none : length (early S h.words r x.work) ≡ 0 = ap length n.none in omega arith)
-        (λ (o : HasOne S h.words r x.work y.0). let one : length (early S h.words r x.work) ≡ 1 = ap length o.one in omega arith)
-        (shown S h.words sides s.is_good r (work_side table x) y.0 y.1 s.there)
+        (λ (n : HasNone S m.held.words r x.work y.0). let none : length (early S m.held.words r x.work) ≡ 0 = ap length n.none in omega arith)
+        (λ (o : HasOne S m.held.words r x.work y.0). let one : length (early S m.held.words r x.work) ≡ 1 = ap length o.one in omega arith)
+        (shown S m.held.words sides s.is_good r (work_side table x) y.0 y.1 s.there)
 
     -- the next load of who combines is one of its work
-    combines_on : (r w got : ℕ) (x : WholeView V TheCombineSide) → slice_get vs r ≡ Some x → Combines x.work.stage → next_of L x ≡ Some (Load w) → after_of L x got ≡ work_turned L x (combine_stage_after S r x.work got x.work.stage)
+    combines_on : (r w got : ℕ) (x : WholeView V TheCombineSide) → slice_get m.views r ≡ Some x → Combines x.work.stage → next_of L x ≡ Some (Load w) → after_of L x got ≡ work_turned L x (combine_stage_after S r x.work got x.work.stage)
     combines_on r w got x has c next =
         ⊎_elim
-        (λ none. after_none V TheCombineSide L good further layout laws home h vs t ds g r x has none got)
+        (λ none. after_none V TheCombineSide L good further layout laws home m g r x has none got)
         (λ q. let clash = q.1 in absurd (cc))
-        (resting V TheCombineSide L good further layout laws home h vs t ds g r x has (subst Rests (sym (combiner_writes r x has c)) tt))
+        (resting V TheCombineSide L good further layout laws home m g r x has (subst Rests (sym (combiner_writes r x has c)) tt))
 
     -- so is its next store
-    marks_on : (r w v got : ℕ) (x : WholeView V TheCombineSide) → slice_get vs r ≡ Some x → Combines x.work.stage → next_of L x ≡ Some (atom.Store w v) → after_of L x got ≡ work_turned L x (combine_stage_after S r x.work got x.work.stage)
+    marks_on : (r w v got : ℕ) (x : WholeView V TheCombineSide) → slice_get m.views r ≡ Some x → Combines x.work.stage → next_of L x ≡ Some (atom.Store w v) → after_of L x got ≡ work_turned L x (combine_stage_after S r x.work got x.work.stage)
     marks_on r w v got x has c next =
         ⊎_elim
-        (λ none. after_none V TheCombineSide L good further layout laws home h vs t ds g r x has none got)
+        (λ none. after_none V TheCombineSide L good further layout laws home m g r x has none got)
         (λ q. let clash = q.1 in absurd (cc))
-        (resting V TheCombineSide L good further layout laws home h vs t ds g r x has (subst Rests (sym (combiner_writes r x has c)) tt))
+        (resting V TheCombineSide L good further layout laws home m g r x has (subst Rests (sym (combiner_writes r x has c)) tt))
 
-    many : length vs ≡ combine_ranks S
-    many = sym (length-map vs (work_side table)) ∙ rule.ranks
+    many : length m.views ≡ combine_ranks S
+    many = sym (length-map m.views (work_side table)) ∙ rule.ranks
 
-    begins_on : (r got : ℕ) (x : WholeView V TheCombineSide) → slice_get vs r ≡ Some x → x.work.stage ≡ Count → next_of L x ≡ Some (Load count_word) → (after_of L x got).view.work.stage ≡ Sweep 0
+    begins_on : (r got : ℕ) (x : WholeView V TheCombineSide) → slice_get m.views r ≡ Some x → x.work.stage ≡ Count → next_of L x ≡ Some (Load count_word) → (after_of L x got).view.work.stage ≡ Sweep 0
     begins_on r got x has e next =
         ap (λ (z : Turned (WholeView V TheCombineSide)). z.view.work.stage) (combines_on r count_word got x has (subst Combines (sym e) tt) next)
-        ∙ ap (λ st. (combine_stage_after S r x.work got st).work.stage) e ∙ sweeps_on S (record x.work { count = got }) 0 (let low = slice_get_within vs r x has in let n = many in omega arith)
+        ∙ ap (λ st. (combine_stage_after S r x.work got st).work.stage) e ∙ sweeps_on S (record x.work { count = got }) 0 (let low = slice_get_within m.views r x has in let n = many in omega arith)
 
     -- where a visit ends the sweep goes on with the next rank, or is over
-    visited : (r owner got : ℕ) (x : WholeView V TheCombineSide) → slice_get vs r ≡ Some x → EndsVisit T owner got x → (after_of L x got).view.work.stage ≡ (sweep_on S x.work (owner + 1)).work.stage
+    visited : (r owner got : ℕ) (x : WholeView V TheCombineSide) → slice_get m.views r ≡ Some x → EndsVisit T owner got x → (after_of L x got).view.work.stage ≡ (sweep_on S x.work (owner + 1)).work.stage
     visited r owner got x has q =
         ⊎_elim
         (λ (p : (x.work.stage ≡ Sweep owner) × (next_of L x ≡ Some (Load (flag_word S owner))) × (got ≢ 1)).
@@ -300,72 +301,72 @@ module _ (V : Type 0) (base : ℕ) (table : LockTable V) (S : WaySite) (node : �
         ap (λ (z : Turned (WholeView V TheCombineSide)). z.view.work.stage) (marks_on r (flag_word S owner) 2 got x has (subst Combines (sym p.0) tt) p.1) ∙ ap (λ st. (combine_stage_after S r x.work got st).work.stage) p.0)
         q
 
-    goes_on : (r owner got : ℕ) (x : WholeView V TheCombineSide) → slice_get vs r ≡ Some x → EndsVisit T owner got x → owner + 1 < length vs → (after_of L x got).view.work.stage ≡ Sweep (owner + 1)
+    goes_on : (r owner got : ℕ) (x : WholeView V TheCombineSide) → slice_get m.views r ≡ Some x → EndsVisit T owner got x → owner + 1 < length m.views → (after_of L x got).view.work.stage ≡ Sweep (owner + 1)
     goes_on r owner got x has q low = visited r owner got x has q ∙ sweeps_on S x.work (owner + 1) (subst (λ n. owner + 1 < n) many low)
 
-    covers_on : (r owner got : ℕ) (x : WholeView V TheCombineSide) → slice_get vs r ≡ Some x → EndsVisit T owner got x → (after_of L x got).view.work.stage ≡ Collect 0 → owner + 1 ≡ length vs
+    covers_on : (r owner got : ℕ) (x : WholeView V TheCombineSide) → slice_get m.views r ≡ Some x → EndsVisit T owner got x → (after_of L x got).view.work.stage ≡ Collect 0 → owner + 1 ≡ length m.views
     covers_on r owner got x has q over = sweep_over S x.work (owner + 1) (sym (visited r owner got x has q) ∙ over) ∙ sym many
 
-    nothing_on : (r : ℕ) (x : WholeView V TheCombineSide) → slice_get vs r ≡ Some x → (post_of S h.words r).flag ≡ 0 → early S h.words r x.work ≡ []
+    nothing_on : (r : ℕ) (x : WholeView V TheCombineSide) → slice_get m.views r ≡ Some x → (post_of S m.held.words r).flag ≡ 0 → early S m.held.words r x.work ≡ []
     nothing_on r x has zero =
         let s = side r x has in
-        let y = seat_of S node h.words s.laid sides s.is_good r (work_side table x) s.there in
+        let y = seat_of S node m.held.words s.laid sides s.is_good r (work_side table x) s.there in
         ⊎_elim
-        (λ (n : HasNone S h.words r x.work y.0). n.none)
-        (λ (o : HasOne S h.words r x.work y.0).
-        absurd (no_more_entries x.work.kept o.entry (sym (none_early S (post_of S h.words r) r (work_side table x) y.0 x.work.stage (s.is_good.own r (work_side table x) y.0 s.there y.1) zero) ∙ o.has)))
-        (shown S h.words sides s.is_good r (work_side table x) y.0 y.1 s.there)
+        (λ (n : HasNone S m.held.words r x.work y.0). n.none)
+        (λ (o : HasOne S m.held.words r x.work y.0).
+        absurd (no_more_entries x.work.kept o.entry (sym (none_early S (post_of S m.held.words r) r (work_side table x) y.0 x.work.stage (s.is_good.own r (work_side table x) y.0 s.there y.1) zero) ∙ o.has)))
+        (shown S m.held.words sides s.is_good r (work_side table x) y.0 y.1 s.there)
 
     -- the entry of a get or hold that is being answered stands at the count
-    ends_now : (k : ℕ) (call : Call) (number : ℕ) (entry : Entry) → IsToEnd S h.words rule.seats call number entry k → entry.at ≡ slice_index h.words count_word
+    ends_now : (k : ℕ) (call : Call) (number : ℕ) (entry : Entry) → IsToEnd S m.held.words rule.seats call number entry k → entry.at ≡ slice_index m.held.words count_word
     ends_now k call number entry q = by_stage q.side.work.stage refl where
       turn : BlockStage → WorkTurned
-      turn st = block_after S.site.geom S.site.shard k q.side.work (slice_index h.words q.loads) st
+      turn st = block_after S.site.geom S.site.shard k q.side.work (slice_index m.held.words q.loads) st
 
-      by_stage : (st : BlockStage) → q.side.work.stage ≡ st → entry.at ≡ slice_index h.words count_word
+      by_stage : (st : BlockStage) → q.side.work.stage ≡ st → entry.at ≡ slice_index m.held.words count_word
       by_stage block.Rest e = let none : None ≡ Some (Load q.loads) = ap (block_atom S.site.geom q.side.work) (sym e) ∙ q.atom in absurd (cc)
       by_stage block.Begin e =
           let is : Some (Load count_word) ≡ Some (Load q.loads) = ap (block_atom S.site.geom q.side.work) (sym e) ∙ q.atom in
           let word : q.loads ≡ count_word = (cc) in
           let ends : turn block.Begin ≡ at_rest q.last = ap turn (sym e) ∙ q.ends in
-          read_at S.site.geom S.site.shard k (slice_index h.words q.loads) (left_of q.side.work) q.side.work entry [] (ap (λ (z : WorkTurned). z.over) ends) (ap (λ (z : WorkTurned). z.work.entries) ends ∙ q.entries)
-          ∙ ap (slice_index h.words) word
+          read_at S.site.geom S.site.shard k (slice_index m.held.words q.loads) (left_of q.side.work) q.side.work entry [] (ap (λ (z : WorkTurned). z.over) ends) (ap (λ (z : WorkTurned). z.work.entries) ends ∙ q.entries)
+          ∙ ap (slice_index m.held.words) word
       by_stage (block.Read count word) e =
-          let f : SeatReading S.site k rule.work.journal rule.work.before q.side count word = subst (BlockFits S.site (front_of S h.words) rule.work.journal rule.work.before k q.side) e (rule.work.fits k q.side q.seat) in
-          let w : TheWork = with_seen q.side.work (q.side.work.seen.pairs ++ (word, slice_index h.words q.loads) ∷ []) in
+          let f : SeatReading S.site k rule.work.journal rule.work.before q.side count word = subst (BlockFits S.site (front_of S m.held.words) rule.work.journal rule.work.before k q.side) e (rule.work.fits k q.side q.seat) in
+          let w : TheWork = with_seen q.side.work (q.side.work.seen.pairs ++ (word, slice_index m.held.words q.loads) ∷ []) in
           let ends : turn (block.Read count word) ≡ at_rest q.last = ap turn (sym e) ∙ q.ends in
           read_at S.site.geom S.site.shard k count (left_of w) w entry [] (ap (λ (z : WorkTurned). z.over) ends) (ap (λ (z : WorkTurned). z.work.entries) ends ∙ q.entries)
-          ∙ f.found ∙ sym rule.work.count ∙ front_get S h.words count_word (omega arith)
+          ∙ f.found ∙ sym rule.work.count ∙ front_get S m.held.words count_word (omega arith)
       by_stage (block.Journal made) e = let is = ap (block_atom S.site.geom q.side.work) (sym e) ∙ q.atom in absurd (cc)
       by_stage (block.Volume made) e = stores (slice_get q.side.work.writes made) (ap (block_atom S.site.geom q.side.work) (sym e) ∙ q.atom) where
-        stores : (o : Option Write) → Some (write_atom (q.side.work.at + length q.side.work.entries) o) ≡ Some (Load q.loads) → entry.at ≡ slice_index h.words count_word
+        stores : (o : Option Write) → Some (write_atom (q.side.work.at + length q.side.work.entries) o) ≡ Some (Load q.loads) → entry.at ≡ slice_index m.held.words count_word
         stores (Some w) is = absurd (cc)
         stores None is = absurd (cc)
 
-    answers_now : (r k made : ℕ) (x : WholeView V TheCombineSide) → slice_get vs r ≡ Some x → found x.work.stage ≡ Some k → is_update x.work.posted ≡ false → IsAnswering S h.words rule.seats x.work.posted x.work.posted_number x.work.entry k made →
-        x.work.entry.at ≡ slice_index h.words count_word
+    answers_now : (r k made : ℕ) (x : WholeView V TheCombineSide) → slice_get m.views r ≡ Some x → found x.work.stage ≡ Some k → is_update x.work.posted ≡ false → IsAnswering S m.held.words rule.seats x.work.posted x.work.posted_number x.work.entry k made →
+        x.work.entry.at ≡ slice_index m.held.words count_word
     answers_now r k made x has at read a =
         ⊎_elim
         (λ (l : IsLeft rule.seats x.work.entry k).
         let s = side r x has in
-        let one : (post_of S h.words k).flag ≡ 1 = found_flag S node h.words s.laid sides rule r (work_side table x) s.there k at in
-        let u = side_of S node h.words s.laid sides rule k l.side l.seat in
-        let p = posted_at S (post_of S h.words k) k u.0 l.side u.0.work.stage (rule.own k u.0 l.side u.1 l.seat) one in
-        let c : IsCounted (post_of S h.words k) (opened_of u.0.work) l.side = counted_as S (post_of S h.words k) k (opened_of u.0.work) l.side l.leaves p in
+        let one : (post_of S m.held.words k).flag ≡ 1 = found_flag S node m.held.words s.laid sides rule r (work_side table x) s.there k at in
+        let u = side_of S node m.held.words s.laid sides rule k l.side l.seat in
+        let p = posted_at S (post_of S m.held.words k) k u.0 l.side u.0.work.stage (rule.own k u.0 l.side u.1 l.seat) one in
+        let c : IsCounted (post_of S m.held.words k) (opened_of u.0.work) l.side = counted_as S (post_of S m.held.words k) k (opened_of u.0.work) l.side l.leaves p in
         let same : c.entry ∷ [] ≡ x.work.entry ∷ [] = sym c.entries ∙ l.entries in
         let entry : c.entry ≡ x.work.entry = (cc) in
         let calls : x.work.posted ≡ u.0.work.call = sym (ap (λ (e : Entry). e.call) a.entry_is) ∙ ap (λ (e : Entry). e.call) (sym entry) ∙ c.same_call in
         let update : is_update x.work.posted ≡ true = ap is_update calls ∙ c.update in
         absurd (cc))
-        (λ (q : IsToEnd S h.words rule.seats x.work.posted x.work.posted_number x.work.entry k). ends_now k x.work.posted x.work.posted_number x.work.entry q)
+        (λ (q : IsToEnd S m.held.words rule.seats x.work.posted x.work.posted_number x.work.entry k). ends_now k x.work.posted x.work.posted_number x.work.entry q)
         a.end
 
-    now_on : (r owner : ℕ) (x : WholeView V TheCombineSide) → slice_get vs r ≡ Some x → answers x.work.stage ≡ Some owner → is_update x.work.posted ≡ false → x.work.entry.at ≡ slice_index h.words count_word
+    now_on : (r owner : ℕ) (x : WholeView V TheCombineSide) → slice_get m.views r ≡ Some x → answers x.work.stage ≡ Some owner → is_update x.work.posted ≡ false → x.work.entry.at ≡ slice_index m.held.words count_word
     now_on r owner x has e read = by_stage x.work.stage refl e where
-      sweep : (st : CombineStage) → x.work.stage ≡ st → SweepAt S h.words rule.seats r x.work st
-      sweep st is = subst (SweepAt S h.words rule.seats r x.work) is (rule.sweeps r (work_side table x) (side r x has).there)
+      sweep : (st : CombineStage) → x.work.stage ≡ st → SweepAt S m.held.words rule.seats r x.work st
+      sweep st is = subst (SweepAt S m.held.words rule.seats r x.work) is (rule.sweeps r (work_side table x) (side r x has).there)
 
-      by_stage : (st : CombineStage) → x.work.stage ≡ st → answers st ≡ Some owner → x.work.entry.at ≡ slice_index h.words count_word
+      by_stage : (st : CombineStage) → x.work.stage ≡ st → answers st ≡ Some owner → x.work.entry.at ≡ slice_index m.held.words count_word
       by_stage Rest is a = absurd (cc)
       by_stage (Post made) is a = absurd (cc)
       by_stage Raise is a = absurd (cc)
@@ -381,44 +382,44 @@ module _ (V : Type 0) (base : ℕ) (table : LockTable V) (S : WaySite) (node : �
       by_stage (Collect made) is a = absurd (cc)
       by_stage Lower is a = absurd (cc)
 
-    finds_on : (r owner : ℕ) (x : WholeView V TheCombineSide) → slice_get vs r ≡ Some x → x.work.stage ≡ Sweep owner → next_of L x ≡ Some (Load (flag_word S owner)) → found (after_of L x 1).view.work.stage ≡ Some owner
+    finds_on : (r owner : ℕ) (x : WholeView V TheCombineSide) → slice_get m.views r ≡ Some x → x.work.stage ≡ Sweep owner → next_of L x ≡ Some (Load (flag_word S owner)) → found (after_of L x 1).view.work.stage ≡ Some owner
     finds_on r owner x has e next =
         ap (λ (z : Turned (WholeView V TheCombineSide)). found z.view.work.stage) (combines_on r (flag_word S owner) 1 x has (subst Combines (sym e) tt) next) ∙ ap (λ st. found (combine_stage_after S r x.work 1 st).work.stage) e
 
     -- what a rank that reads for a posted call knows
-    reads_for : (r owner word : ℕ) (x : WholeView V TheCombineSide) → ReadsFor T h vs r owner word x → IsReading rule.seats x.work owner word
-    reads_for r owner word x q = (subst (SweepAt S h.words rule.seats r x.work) q.reads (rule.sweeps r (work_side table x) (side r x q.there).there)).1
+    reads_for : (r owner word : ℕ) (x : WholeView V TheCombineSide) → ReadsFor T m.held m.views r owner word x → IsReading rule.seats x.work owner word
+    reads_for r owner word x q = (subst (SweepAt S m.held.words rule.seats r x.work) q.reads (rule.sweeps r (work_side table x) (side r x q.there).there)).1
 
     -- and the seat of that call
     abbrev seat_for : (owner word : ℕ) (x : WholeView V TheCombineSide) → IsReading rule.seats x.work owner word → Seat
     seat_for owner word x f = reading x.work (block.Read x.work.count word) f.at f.entries f.t
 
-    whose_on : (r owner word : ℕ) (x y : WholeView V TheCombineSide) → ReadsFor T h vs r owner word x → slice_get vs owner ≡ Some y → x.work.posted ≡ y.work.call
+    whose_on : (r owner word : ℕ) (x y : WholeView V TheCombineSide) → ReadsFor T m.held m.views r owner word x → slice_get m.views owner ≡ Some y → x.work.posted ≡ y.work.call
     whose_on r owner word x y q has =
         let f = reads_for r owner word x q in
         let seat : Seat = seat_for owner word x f in
-        let own : OwnAt S (post_of S h.words owner) owner (work_side table y) seat y.work.stage = rule.own owner (work_side table y) seat (side owner y has).there f.seat in
-        let same : x.work.posted ∷ [] ≡ y.work.call ∷ [] = (handed_at S (post_of S h.words owner) owner (work_side table y) seat y.work.stage own refl).0 in
+        let own : OwnAt S (post_of S m.held.words owner) owner (work_side table y) seat y.work.stage = rule.own owner (work_side table y) seat (side owner y has).there f.seat in
+        let same : x.work.posted ∷ [] ≡ y.work.call ∷ [] = (handed_at S (post_of S m.held.words owner) owner (work_side table y) seat y.work.stage own refl).0 in
         cc
 
-    fresh_on : (r owner got : ℕ) (x : WholeView V TheCombineSide) → slice_get vs r ≡ Some x → x.work.stage ≡ Copy owner 4 → next_of L x ≡ Some (Load (post_word S owner 5)) → (after_of L x got).view.work.seen.pairs ≡ []
+    fresh_on : (r owner got : ℕ) (x : WholeView V TheCombineSide) → slice_get m.views r ≡ Some x → x.work.stage ≡ Copy owner 4 → next_of L x ≡ Some (Load (post_word S owner 5)) → (after_of L x got).view.work.seen.pairs ≡ []
     fresh_on r owner got x has e next =
         let w : TheCombineSide = with_posted S (with_copied x.work got) in
         ap (λ (z : Turned (WholeView V TheCombineSide)). z.view.work.seen.pairs) (combines_on r (post_word S owner 5) got x has (subst Combines (sym e) tt) next)
         ∙ ap (λ st. (combine_stage_after S r x.work got st).work.seen.pairs) e
         ∙ ap (λ (z : SeenWords). z.pairs) (reads_keep S w owner (next_word S.site.geom w.posted w.seen.pairs))
 
-    more_on : (r owner word got : ℕ) (x : WholeView V TheCombineSide) → ReadsFor T h vs r owner word x → next_of L x ≡ Some (Load (volume_base + word)) → (after_of L x got).view.work.seen.pairs ≡ x.work.seen.pairs ++ (word, got) ∷ []
+    more_on : (r owner word got : ℕ) (x : WholeView V TheCombineSide) → ReadsFor T m.held m.views r owner word x → next_of L x ≡ Some (Load (volume_base + word)) → (after_of L x got).view.work.seen.pairs ≡ x.work.seen.pairs ++ (word, got) ∷ []
     more_on r owner word got x q next =
         let w : TheCombineSide = combine_with_word x.work word got in
         ap (λ (z : Turned (WholeView V TheCombineSide)). z.view.work.seen.pairs) (combines_on r (volume_base + word) got x q.there (subst Combines (sym q.reads) tt) next)
         ∙ ap (λ st. (combine_stage_after S r x.work got st).work.seen.pairs) q.reads
         ∙ ap (λ (z : SeenWords). z.pairs) (reads_keep S w owner (next_word S.site.geom w.posted w.seen.pairs))
 
-    few_on : (r owner word : ℕ) (x : WholeView V TheCombineSide) → ReadsFor T h vs r owner word x → length x.work.seen.pairs < most_reads S.site.geom x.work.posted
+    few_on : (r owner word : ℕ) (x : WholeView V TheCombineSide) → ReadsFor T m.held m.views r owner word x → length x.work.seen.pairs < most_reads S.site.geom x.work.posted
     few_on r owner word x q =
         let f = reads_for r owner word x q in
-        few_loads S.site (front_of S h.words) rule.seats rule.work owner (seat_for owner word x f) f.seat x.work.posted x.work.count word refl refl
+        few_loads S.site (front_of S m.held.words) rule.seats rule.work owner (seat_for owner word x f) f.seat x.work.posted x.work.count word refl refl
 
     -- the lock's words and the post words lie behind the volume
     loads_of_lock : (b : Atom) (word : ℕ) → word < volume_words S.site.geom → shifted base b ≡ Load (volume_base + word) → ⊥
@@ -458,19 +459,19 @@ module _ (V : Type 0) (base : ℕ) (table : LockTable V) (S : WaySite) (node : �
     reads_there rank w word (Collect made) e low is = let same : post_word S rank (6 + made) ≡ volume_base + word = (cc) in absurd (posts_behind (9 * rank + (6 + made)) word low same)
     reads_there rank w word Lower e low is = absurd (cc)
 
-    loads_so : (r word : ℕ) (x : WholeView V TheCombineSide) → slice_get vs r ≡ Some x → next_of L x ≡ Some (Load (volume_base + word)) → word < volume_words S.site.geom → (owner : ℕ) × ReadsFor T h vs r owner word x
+    loads_so : (r word : ℕ) (x : WholeView V TheCombineSide) → slice_get m.views r ≡ Some x → next_of L x ≡ Some (Load (volume_base + word)) → word < volume_words S.site.geom → (owner : ℕ) × ReadsFor T m.held m.views r owner word x
     loads_so r word x has next low =
         ⊎_elim
         (λ q. absurd (loads_of_lock q.0 word low q.2))
         (λ q. let p = reads_there x.rank x.work word x.work.stage refl low q.2 in (p.0, record { there = has; reads = p.1 }))
         (next_either V TheCombineSide L good further layout laws home x (Load (volume_base + word)) next)
 
-    pub goes_on_found : GoesOnFound T h vs
+    pub goes_on_found : GoesOnFound T m.held m.views
     goes_on_found r owner x at q next =
         ⊎_elim
-        (λ (o : IsOfLock V TheCombineSide L good further layout laws home h vs t ds g r x q.there at). inr (ap (λ (z : TheCombineSide). found z.stage) o.same ∙ q.found_it, ap (λ (z : TheCombineSide). z.kept) o.same))
-        (λ (o : IsOfWork V TheCombineSide L good further layout laws home h vs t ds g r x q.there at).
-        let k : ℕ = do_got at h.words h.cards in
+        (λ (o : IsOfLock V TheCombineSide L good further layout laws home m g r x q.there at). inr (ap (λ (z : TheCombineSide). found z.stage) o.same ∙ q.found_it, ap (λ (z : TheCombineSide). z.kept) o.same))
+        (λ (o : IsOfWork V TheCombineSide L good further layout laws home m g r x q.there at).
+        let k : ℕ = do_got at m.held.words m.held.cards in
         ⊎_elim
         (λ (e : x.work.stage ≡ Mark owner). inl (same_Some _ _ (sym o.works.planned ∙ ap (combine_stage_atom S r x.work) e)))
         (λ still. inr (
@@ -478,13 +479,13 @@ module _ (V : Type 0) (base : ℕ) (table : LockTable V) (S : WaySite) (node : �
           ap (λ (z : Turned (WholeView V TheCombineSide)). z.view.work.kept) o.after ∙ found_keeps S r x.work k owner x.work.stage q.found_it,
         ))
         (holds_on S r x.work k owner x.work.stage q.found_it))
-        (each_atom V TheCombineSide L good further layout laws home h vs t ds g r x q.there at next)
+        (each_atom V TheCombineSide L good further layout laws home m g r x q.there at next)
 
     -- how often a rank has left, by the entries that it keeps
-    pub left_at : (r : ℕ) (x : WholeView V TheCombineSide) → slice_get vs r ≡ Some x → leaves r t ≡ count_by (counts L) x.work.kept.items
+    pub left_at : (r : ℕ) (x : WholeView V TheCombineSide) → slice_get m.views r ≡ Some x → leaves r m.trace ≡ count_by (counts L) x.work.kept.items
     left_at r x has = ap (leaves r) (sym g.same) ∙ g.rule.left_as r x has
 
-    pub keeps_combining : KeepsCombining T h vs
+    pub keeps_combining : KeepsCombining T m.held m.views
     keeps_combining =
         record {
           posted = record { says = says_on; moves = moves_on; nothing = nothing_on; once = once_on };
@@ -495,7 +496,7 @@ module _ (V : Type 0) (base : ℕ) (table : LockTable V) (S : WaySite) (node : �
             finds = λ r owner x has e next one. finds_on r owner x has e next;
             writes = λ r owner x q. (
               writes_on x (combiner_writes r x q.there (found_combines x.work.stage owner q.found_it)),
-              found_flag S node h.words (side r x q.there).laid sides rule r (work_side table x) (side r x q.there).there owner q.found_it,
+              found_flag S node m.held.words (side r x q.there).laid sides rule r (work_side table x) (side r x q.there).there owner q.found_it,
             );
             now = now_on;
             holds = λ r owner x at q next. ⊎_elim (λ stores. inl stores) (λ still. inr still.0) (goes_on_found r owner x at q next);

@@ -1,12 +1,12 @@
 -- A block that an atom decides, as the work inside a lock has it: where its entries stand, and what a call alone keeps while it reads.
-use Rattle.std.proofs.Common.{◌≡◌, ℕ, ◌+◌, Bool, true, false, cond, List, [], ◌∷◌, length, Option, Some, None, refl, sym, ap}
+use Rattle.std.proofs.Common.{◌≡◌, ℕ, Bool, true, false, cond, List, [], ◌∷◌, length, Option, Some, None, refl, ap}
 use Rattle.rl_model.specs.declared.call.Call.{Call}
 use Rattle.rl_model.specs.declared.entry.Entry.{Entry}
 use Rattle.rl_model.specs.declared.entry.Reply.{Reply}
 use Rattle.rl_model.specs.declared.geom.Geom.{Geom}
 use Rattle.rl_model.specs.Asked.{asks_update}
 use Rattle.rl_volume.specs.declared.write.Write.{Write}
-use Rattle.rl_volume.specs.Seen.{SeenWords, next_word, value_or_zero}
+use Rattle.rl_volume.specs.Seen.{next_word, value_or_zero}
 use Rattle.rl_volume.specs.Decision.{decision}
 use Rattle.rl_work.specs.declared.stage.Stage.TheVariants.{Read}
 use Rattle.rl_work.specs.Work.{TheWork, WorkTurned, entries_of, batch_in, with_stop, with_call, block_close, stops_block, read_next, read_on}

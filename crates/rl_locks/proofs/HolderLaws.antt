@@ -1,5 +1,5 @@
 -- Under the rule of blocks that are done under their lock, over any lock, what holders have read still stands.
-use Rattle.std.proofs.Common.{◌≡◌, ◌<◌, ℕ, ◌+◌, Bool, true, false, List, [], ◌∷◌, ◌++◌, drop, length, map, slice_get, slice_index, take, Option, Some, None, refl, sym, ap, ◌∙◌, subst, ⊎_elim, arith, length-append}
+use Rattle.std.proofs.Common.{◌≡◌, ◌<◌, ℕ, ◌+◌, Bool, true, false, List, [], ◌∷◌, ◌++◌, drop, length, map, slice_get, take, Option, Some, None, refl, sym, ap, ◌∙◌, subst, ⊎_elim, arith, length-append}
 use Rattle.std.proofs.lemmas.Option.{same_Some}
 use Rattle.rl_word.specs.laws.Places.{get_map}
 use Rattle.rl_word.specs.Acts.{Layout}
@@ -11,11 +11,9 @@ use Rattle.rl_step.specs.declared.events.Event.{Event}
 use Rattle.rl_step.specs.declared.events.Standing.{Standing}
 use Rattle.rl_step.specs.declared.events.Standing.TheVariants.{Out, Asking, Writer, Reader, Leaving}
 use Rattle.rl_step.specs.Core.{Turned}
-use Rattle.rl_step.specs.Do.{TheWindow}
 use Rattle.rl_step.specs.Lock.{LockTable, LockState, Deed, IsHolder, Rests}
 use Rattle.rl_volume.specs.Decision.{words_written}
 use Rattle.rl_volume.specs.Seen.{SeenWords, AgreesWith}
-use Rattle.rl_volume.specs.Walk.{most_reads}
 use Rattle.rl_volume.specs.Words.{volume_words}
 use Rattle.rl_volume.specs.declared.write.Write.{Write}
 use Rattle.std.specs.FinMap as finite
@@ -27,9 +25,10 @@ use Rattle.rl_work.specs.laws.AtomLaws.{few_loads}
 use Rattle.rl_work.specs.Locked.{locked_table, locked_good, locked_turn}
 use Rattle.rl_site.specs.Site.{Site, count_word, volume_base, lock_base, volume_of}
 use Rattle.rl_work.specs.Ways.{IsApart}
-use Rattle.rl_work.specs.Work.{TheWork, WorkTurned, with_seen, work_after, stage_atom, stage_after, write_atom, left_of, read_on}
+use Rattle.rl_work.specs.Work.{TheWork, with_seen, stage_atom, stage_after, write_atom, left_of, read_on}
 use Rattle.rl_work.specs.WorkGood.{WorkSide, WorkGood, FitsAt, IsReading, HasDecided, is_writing}
 use Rattle.rl_core.specs.ShardTables.{ShardTable}
+use Rattle.rl_core.specs.Moments.{Moment}
 use Rattle.rl_rank.specs.declared.whole.WholeView.{WholeView}
 use Rattle.rl_rank.specs.Running.{LockAt, Goods, BothLaws}
 use Rattle.rl_rank.specs.Whole.{shifted, work_side, next_of, after_of, work_turned}
@@ -75,30 +74,30 @@ module _ (V : Type 0) (base : ℕ) (table : LockTable V) (site : Site) (behind :
   good = record { lock = lock_good; work = locked_good site }
 
   module _ (further : List Event → List Deed → Type 0) (layout : Layout) (laws : BothLaws L good further layout) (home : ℕ)
-      (h : TheWindow) (vs : List (WholeView V TheWork)) (t : List Event) (ds : List Deed) (g : WholeGood L good layout h vs t ds) where
+      (m : Moment (WholeView V TheWork)) (g : WholeGood L good layout m) where
     abbrev T : ShardTable (WholeView V TheWork)
     T = whole_shard L home
 
     abbrev sides : List WorkSide
-    sides = map (work_side table) vs
+    sides = map (work_side table) m.views
 
     abbrev front : List ℕ
-    front = take (lock_base site) h.words
+    front = take (lock_base site) m.held.words
 
     rule : WorkGood site front sides
     rule = g.rule.work_part
 
-    there : (r : ℕ) (x : WholeView V TheWork) → slice_get vs r ≡ Some x → slice_get sides r ≡ Some (work_side table x)
-    there r x has = get_map (work_side table) vs r x has
+    there : (r : ℕ) (x : WholeView V TheWork) → slice_get m.views r ≡ Some x → slice_get sides r ≡ Some (work_side table x)
+    there r x has = get_map (work_side table) m.views r x has
 
-    reading : (r count word : ℕ) (x : WholeView V TheWork) → Reads T h vs r count word x → IsReading site r rule.journal rule.before (work_side table x) count word
+    reading : (r count word : ℕ) (x : WholeView V TheWork) → Reads T m.held m.views r count word x → IsReading site r rule.journal rule.before (work_side table x) count word
     reading r count word x q = subst (FitsAt site front rule.journal rule.before r (work_side table x)) q.reads (rule.fits r (work_side table x) (there r x q.there))
 
     alone_there : IsApart L.work sides
-    alone_there = apart V TheWork L good further layout laws home h vs g.rule
+    alone_there = apart V TheWork L good further layout laws home m.held m.views g.rule
 
     -- while it reads nobody makes writes, so the volume is as it was
-    unwritten : (r count word : ℕ) (x : WholeView V TheWork) → Reads T h vs r count word x → volume_of site.geom front ≡ rule.before
+    unwritten : (r count word : ℕ) (x : WholeView V TheWork) → Reads T m.held m.views r count word x → volume_of site.geom front ≡ rule.before
     unwritten r count word x q = rule.still (λ i u get. calm i u get u.work.stage refl) where
       calm : (i : ℕ) (u : WorkSide) → slice_get sides i ≡ Some u → (st : Stage) → u.work.stage ≡ st → is_writing st ≡ false
       calm i u get Rest e = refl
@@ -113,18 +112,18 @@ module _ (V : Type 0) (base : ℕ) (table : LockTable V) (site : Site) (behind :
           absurd (cc)
 
     -- the next load of a holder is one of its work
-    loads_on : (r w got : ℕ) (x : WholeView V TheWork) → slice_get vs r ≡ Some x → IsHolder (stand table x) → next_of L x ≡ Some (Load w) → after_of L x got ≡ work_turned L x (locked_turn (stage_after site.geom site.shard r x.work got x.work.stage))
+    loads_on : (r w got : ℕ) (x : WholeView V TheWork) → slice_get m.views r ≡ Some x → IsHolder (stand table x) → next_of L x ≡ Some (Load w) → after_of L x got ≡ work_turned L x (locked_turn (stage_after site.geom site.shard r x.work got x.work.stage))
     loads_on r w got x has holds next =
         ⊎_elim
-        (λ none. after_none V TheWork L good further layout laws home h vs t ds g r x has none got)
+        (λ none. after_none V TheWork L good further layout laws home m g r x has none got)
         (λ q. let clash = q.1 in absurd (cc))
-        (resting V TheWork L good further layout laws home h vs t ds g r x has (holder_rests (stand table x) holds))
+        (resting V TheWork L good further layout laws home m g r x has (holder_rests (stand table x) holds))
 
     -- what an atom of the work leaves of the work
-    work_is : (r w got : ℕ) (x : WholeView V TheWork) → slice_get vs r ≡ Some x → IsHolder (stand table x) → next_of L x ≡ Some (Load w) → (after_of L x got).view.work ≡ (stage_after site.geom site.shard r x.work got x.work.stage).work
+    work_is : (r w got : ℕ) (x : WholeView V TheWork) → slice_get m.views r ≡ Some x → IsHolder (stand table x) → next_of L x ≡ Some (Load w) → (after_of L x got).view.work ≡ (stage_after site.geom site.shard r x.work got x.work.stage).work
     work_is r w got x has holds next = ap (λ (z : Turned (WholeView V TheWork)). z.view.work) (loads_on r w got x has holds next)
 
-    fresh_on : (r count word got : ℕ) (x : WholeView V TheWork) (call : Call) → slice_get vs r ≡ Some x → IsHolder (T.standing x) → x.work.stage ≡ Begin → x.work.calls ≡ call ∷ [] → next_of L x ≡ Some (Load count_word) → (after_of L x got).view.work.stage ≡ Read count word →
+    fresh_on : (r count word got : ℕ) (x : WholeView V TheWork) (call : Call) → slice_get m.views r ≡ Some x → IsHolder (T.standing x) → x.work.stage ≡ Begin → x.work.calls ≡ call ∷ [] → next_of L x ≡ Some (Load count_word) → (after_of L x got).view.work.stage ≡ Read count word →
         ((after_of L x got).view.work.seen.pairs ≡ []) × ((after_of L x got).view.work.writes ≡ [])
     fresh_on r count word got x call has holds e alone next on =
         let holder : IsHolder (stand table x) = holds_there (stand table x) (L.work.is_open x.work) holds in
@@ -137,7 +136,7 @@ module _ (V : Type 0) (base : ℕ) (table : LockTable V) (site : Site) (behind :
           ap (λ (z : TheWork). z.writes) is ∙ same.1 ∙ f.4,
         )
 
-    one_more_on : (r count word got next : ℕ) (x : WholeView V TheWork) (call : Call) → ReadsAlone T h vs r count word x call → next_of L x ≡ Some (Load (volume_base + word)) → (after_of L x got).view.work.stage ≡ Read count next →
+    one_more_on : (r count word got next : ℕ) (x : WholeView V TheWork) (call : Call) → ReadsAlone T m.held m.views r count word x call → next_of L x ≡ Some (Load (volume_base + word)) → (after_of L x got).view.work.stage ≡ Read count next →
         ((after_of L x got).view.work.seen.pairs ≡ x.work.seen.pairs ++ (word, got) ∷ []) × ((after_of L x got).view.work.writes ≡ x.work.writes)
     one_more_on r count word got next x call q plans on =
         let f = reading r count word x q.is in
@@ -152,7 +151,7 @@ module _ (V : Type 0) (base : ℕ) (table : LockTable V) (site : Site) (behind :
           ap (λ (z : TheWork). z.writes) is ∙ same.1,
         )
       where
-        nothing_decided : (r count word : ℕ) (x : WholeView V TheWork) (q : Reads T h vs r count word x) → (reading r count word x q).partly.first ≡ [] → x.work.replies ≡ []
+        nothing_decided : (r count word : ℕ) (x : WholeView V TheWork) (q : Reads T m.held m.views r count word x) → (reading r count word x q).partly.first ≡ [] → x.work.replies ≡ []
         nothing_decided r count word x q none = (reading r count word x q).partly.replies_are ∙ ap (λ cs. (in_turn site.geom (table_after site.geom finite.empty rule.journal) cs).1) none
 
     -- whoever loads a word of the volume reads it for its block: no word of the lock lies there, and no other stage loads one
@@ -177,14 +176,14 @@ module _ (V : Type 0) (base : ℕ) (table : LockTable V) (site : Site) (behind :
     loads_of_lock (atom.CardStore w v) word low e = absurd (cc)
     loads_of_lock (atom.Leave n) word low e = absurd (cc)
 
-    loads_so : (r word : ℕ) (x : WholeView V TheWork) → slice_get vs r ≡ Some x → next_of L x ≡ Some (Load (volume_base + word)) → word < volume_words site.geom → (count : ℕ) × Reads T h vs r count word x
+    loads_so : (r word : ℕ) (x : WholeView V TheWork) → slice_get m.views r ≡ Some x → next_of L x ≡ Some (Load (volume_base + word)) → word < volume_words site.geom → (count : ℕ) × Reads T m.held m.views r count word x
     loads_so r word x has next low =
         ⊎_elim
         (λ q. absurd (loads_of_lock q.0 word low q.2))
         (λ q. let p = reads_there x.work word x.work.stage refl q.2 in (p.0, record { there = has; reads = p.1 }))
         (next_either V TheWork L good further layout laws home x (Load (volume_base + word)) next)
 
-    pub keeps_reads : KeepsReads T h vs
+    pub keeps_reads : KeepsReads T m.held m.views
     keeps_reads =
         record {
           holds = λ r count word x q. holds_on (stand table x) (L.work.is_open x.work) (reading r count word x q).holds;

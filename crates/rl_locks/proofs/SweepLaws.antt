@@ -5,16 +5,15 @@ use Rattle.rl_word.specs.declared.acts.Atom.{Atom}
 use Rattle.rl_word.specs.declared.acts.Atom.TheVariants.{Store}
 use Rattle.rl_model.specs.declared.call.Call.{Call}
 use Rattle.rl_model.specs.declared.entry.Entry.{Entry}
-use Rattle.rl_step.specs.declared.events.Event.{Event}
 use Rattle.rl_step.specs.Do.{TheWindow, do_got}
-use Rattle.rl_step.specs.Lock.{Deed}
 use Rattle.rl_site.specs.Transcript.{TheTranscript}
 use Rattle.rl_core.specs.ShardTables.{ShardTable}
-use Rattle.rl_core.specs.ShardLaws.{GoodOf}
+use Rattle.rl_core.specs.Moments.{Moment, CoreSays}
+use Rattle.rl_core.specs.ShardLaws.{IsSeated}
 use Rattle.rl_core.specs.Standings.{leaves}
 use Rattle.rl_combine.specs.Combine.{TheCombineSide, found}
 use Rattle.rl_combine.specs.Posts.{flag_word}
-use Rattle.rl_machine.specs.Running.{ShardRun, Running}
+use Rattle.rl_machine.specs.Running.{ShardRun, Running, moment_of}
 use Rattle.rl_machine.specs.ShardSteps.{open_at, open_on, opened_at, opened_on, makes, made_at, atom_on}
 use Rattle.rl_step.specs.Traces.{events_of}
 use Rattle.rl_machine.specs.Run.{changed, changed_if, on_shard, calls_by, place_of, has_open_call, opens, opened_if, block_opened, next_block, atom_made, stepped, run_of, AreThere}
@@ -106,16 +105,16 @@ GoesOnFound T h vs =
     (at ≡ Store (flag_word (posts T) owner) 2)
     ⊎ ((found (T.core.after x (do_got at h.words h.cards)).view.work.stage ≡ Some owner) × ((T.core.after x (do_got at h.words h.cards)).view.work.kept ≡ x.work.kept))
 
-module _ (C V : Type 0) (cores : List C) (table : C → ShardTable (WholeView V TheCombineSide)) (good : GoodOf C (WholeView V TheCombineSide))
-    (found_on : (core : C) (h : TheWindow) (vs : List (WholeView V TheCombineSide)) (t : List Event) (ds : List Deed) → good core h vs t ds → GoesOnFound (table core) h vs)
-    (in_call : (core : C) (x : WholeView V TheCombineSide) (owner : ℕ) → found x.work.stage ≡ Some owner → ((table core).own x).is_open ≡ true)
+module _ (C V : Type 0) (cores : List C) (says : C → CoreSays (WholeView V TheCombineSide))
+    (found_on : (core : C) (m : Moment (WholeView V TheCombineSide)) → (says core).good m → GoesOnFound (says core).table m.held m.views)
+    (in_call : (core : C) (x : WholeView V TheCombineSide) (owner : ℕ) → found x.work.stage ≡ Some owner → ((says core).table.own x).is_open ≡ true)
     (count : C → List Entry → ℕ)
-    (left : (core : C) (h : TheWindow) (vs : List (WholeView V TheCombineSide)) (t : List Event) (ds : List Deed) → good core h vs t ds → (r : ℕ) (x : WholeView V TheCombineSide) → slice_get vs r ≡ Some x → leaves r t ≡ count core x.work.kept.items) where
+    (left : (core : C) (m : Moment (WholeView V TheCombineSide)) (r : ℕ) (x : WholeView V TheCombineSide) → IsSeated (says core) m r x → leaves r m.trace ≡ count core x.work.kept.items) where
   abbrev Machine : Type 0
   Machine = Running (WholeView V TheCombineSide)
 
   abbrev Ruled : Machine → Type 0
-  Ruled m = AreRuled C (WholeView V TheCombineSide) table good cores m
+  Ruled m = AreRuled says cores m
 
   -- rank k has still found the flag of the owner on shard s, and keeps these entries
   record Holding (m : Machine) (T : ShardTable (WholeView V TheCombineSide)) (s k owner : ℕ) (kept : TheTranscript) : Type 0 where
@@ -169,7 +168,7 @@ module _ (C V : Type 0) (cores : List C) (table : C → ShardTable (WholeView V 
         by_next (Some at) e after =
             let S : ShardRun (WholeView V TheCombineSide) = o.shard in
             let q = ruled.shards s S o.has in
-            let law : GoesOnFound S.table S.held S.views = subst (λ z. GoesOnFound z S.held S.views) (sym q.is.table_is) (found_on q.core S.held S.views (events_of S.trace) q.acts q.is.is_good) in
+            let law : GoesOnFound S.table S.held S.views = subst (λ z. GoesOnFound z S.held S.views) (sym q.is.table_is) (found_on q.core (moment_of S q.acts) q.is.is_good) in
             ⊎_elim
             (λ stores. inl (record {
               shard = S;
@@ -247,7 +246,7 @@ module _ (C V : Type 0) (cores : List C) (table : C → ShardTable (WholeView V 
       left_so_far m s k ≡ count core x.work.kept.items
   left_is m ruled s k core S x has_core has view =
       let q = ruled.shards s S has in
-      ap (λ o. leaves k (events_of (on_shard [] (λ z. z.trace) o))) has ∙ left q.core S.held S.views (events_of S.trace) q.acts q.is.is_good k x view
+      ap (λ o. leaves k (events_of (on_shard [] (λ z. z.trace) o))) has ∙ left q.core (moment_of S q.acts) k x (record { is_good = q.is.is_good; has = view })
       ∙ ap (λ c. count c x.work.kept.items) (one_at cores s q.core core q.has_core has_core)
 
   pub stores_first : (m : Machine) → ((ks : List ℕ) → AreThere (length m.calls) ks → Ruled (run_of m ks)) → StoresTwoFirst m

@@ -49,7 +49,7 @@ use Rattle.rl_rank.specs.Whole.{lock_or_work, lock_words, next_of, work_plan}
 use Rattle.rl_rank.specs.WholeGuiding.{card_urgency, free_urgency, whole_urgent}
 use Rattle.rl_rank.specs.WholeShards.{shard_at, whole_shard}
 use Rattle.rl_locks.specs.Kinds.{Defined, Way, locked, optimistic, combining, under, spin, dmcs, cohorts, cohort_lock, alock, mcs, rw, seq, combine}
-use Rattle.rl_locks.specs.Urgencies.{Urgent, urgent_under, GoesAsDefined, cohort_urgent, urgent_on_spin, urgent_on_dmcs, urgent_on_alock, urgent_on_mcs, urgent_on_rw, urgent_on_seq, urgent_on_combine}
+use Rattle.rl_locks.specs.Urgencies.{Urgent, urgent_under, cohort_urgent, urgent_on_spin, urgent_on_dmcs, urgent_on_alock, urgent_on_mcs, urgent_on_rw, urgent_on_seq, urgent_on_combine}
 use Rattle.rl_spin.specs.contracts.spin.SpinAlgo.TheImpl as by_spin
 use Rattle.rl_spin.specs.contracts.guiding.SpinGuiding.TheImpl as spin_guides
 use Rattle.rl_queue.specs.contracts.dmcs.DmcsAlgo.TheImpl as by_dmcs
@@ -91,7 +91,7 @@ module _ {V K : Type 0} (L M : LockAt V K) (home other_home : ℕ) (same : whole
 
   -- a rank's view with this lock's view in it, in no card
   abbrev viewed : WholeView V K → V → WholeView V K
-  viewed x v = record { side = record { view = v; card = Free }; rank = x.rank; work = x.work }
+  viewed x v = record x { side = record { view = v; card = Free } }
 
   load_alike : WholeView V K → (v : V) → LoadAlike L.table M.table v
   load_alike x v w u here there =
@@ -116,7 +116,9 @@ module _ {V K : Type 0} (L M : LockAt V K) (home other_home : ℕ) (same : whole
 
 -- these cores go on as a kind defines it
 abbrev GoAs : {A W V K : Type 0} → Tables A W V K → (A → List ℕ → V → Option ℕ) → Defined (WholeView V K) → Urgent (WholeView V K) → Type 0
-GoAs T urgency defined urgent = GoesAsDefined (shard_at T) (λ (c : Whole _ _ _ _). whole_urgent (lock_at T c) (urgency c.algo)) defined urgent
+GoAs T urgency defined urgent =
+    (core : Whole _ _ _ _) (shape : TheShape) (home : ℕ) (knobs : Knobs) (site : Site) (words : List ℕ) (v : WholeView _ _) → shard_at T core ≡ defined shape home knobs site →
+    whole_urgent (lock_at T core) (urgency core.algo) words v ≡ urgent shape home knobs site words v
 
 -- The cores of a lock and a way of working: where the lock's standings and the work's open blocks are those of the definitions, and ranks that
 -- load alike go on alike at the lock.

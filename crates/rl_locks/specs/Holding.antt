@@ -39,14 +39,18 @@ module _ {V : Type 0} (T : ShardTable (WholeView V TheWork)) (h : TheWindow) (vs
     pub holds : (r count word : ℕ) (x : WholeView V TheWork) → Reads r count word x → IsHolder (T.standing x)
     -- what it has found still stands: the count, and each word that it has loaded, with the writes that it keeps to make later applied
     pub same_count : (r count word : ℕ) (x : WholeView V TheWork) → Reads r count word x → slice_index front_now count_word ≡ count
-    pub same_words : (r count word : ℕ) (x : WholeView V TheWork) → Reads r count word x → AgreesWith (loaded x) (words_written (volume_of T.site.geom front_now) x.work.writes)
+    pub same_words : (r count word : ℕ) (x : WholeView V TheWork) → Reads r count word x →
+        AgreesWith (loaded x) (words_written (volume_of T.site.geom front_now) x.work.writes)
     -- a call alone that has just found the count has loaded nothing, and keeps no write;
-    pub fresh : (r count word got : ℕ) (x : WholeView V TheWork) (call : Call) → slice_get vs r ≡ Some x → IsHolder (T.standing x) → x.work.stage ≡ Begin → x.work.calls ≡ call ∷ [] → T.core.next x ≡ Some (Load count_word) →
+    pub fresh : (r count word got : ℕ) (x : WholeView V TheWork) (call : Call) → slice_get vs r ≡ Some x → IsHolder (T.standing x) →
+        x.work.stage ≡ Begin → x.work.calls ≡ call ∷ [] → T.core.next x ≡ Some (Load count_word) →
         (T.core.after x got).view.work.stage ≡ Read count word → (loaded (T.core.after x got).view ≡ []) × ((T.core.after x got).view.work.writes ≡ [])
     -- with each load it has loaded one word more, and keeps no more writes, as long as it reads on;
-    pub one_more : (r count word got next : ℕ) (x : WholeView V TheWork) (call : Call) → ReadsAlone r count word x call → T.core.next x ≡ Some (Load (volume_base + word)) → (T.core.after x got).view.work.stage ≡ Read count next →
+    pub one_more : (r count word got next : ℕ) (x : WholeView V TheWork) (call : Call) → ReadsAlone r count word x call →
+        T.core.next x ≡ Some (Load (volume_base + word)) → (T.core.after x got).view.work.stage ≡ Read count next →
         (loaded (T.core.after x got).view ≡ loaded x ++ (word, got) ∷ []) × ((T.core.after x got).view.work.writes ≡ x.work.writes)
     -- and before each it has loaded fewer than the call can want: of a get fewer than 3 + 2 * overflow. So it loads no more for it
     pub few : (r count word : ℕ) (x : WholeView V TheWork) (call : Call) → ReadsAlone r count word x call → length (loaded x) < most_reads T.site.geom call
     -- and these are all its loads of the volume: whoever loads a word of it next reads so
-    pub loads : (r word : ℕ) (x : WholeView V TheWork) → slice_get vs r ≡ Some x → T.core.next x ≡ Some (Load (volume_base + word)) → word < volume_words T.site.geom → (count : ℕ) × Reads r count word x
+    pub loads : (r word : ℕ) (x : WholeView V TheWork) → slice_get vs r ≡ Some x → T.core.next x ≡ Some (Load (volume_base + word)) →
+        word < volume_words T.site.geom → (count : ℕ) × Reads r count word x

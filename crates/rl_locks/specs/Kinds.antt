@@ -46,6 +46,9 @@ pub record LockKind : Type 1 where
   pub promised : Promised
   pub ways : OfShard View
 
+abbrev pub kind_by : {V : Type 0} → Defined V → Promised → OfShard V → LockKind
+kind_by {V} defined promised ways = record { View = V; defined = defined; promised = promised; ways = ways }
+
 -- how blocks are done, by the shape, the shard's home, the site, and the number of the first word behind the lock's
 abbrev pub Way : Type 0 → Type 0
 Way K = TheShape → ℕ → Site → ℕ → WorkTable K

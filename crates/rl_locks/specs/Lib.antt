@@ -1,5 +1,7 @@
 -- to be believed
 pub mod Kinds
+pub mod Settings
+pub mod Runs
 pub mod Urgencies
 pub mod Loads
 pub mod Holding

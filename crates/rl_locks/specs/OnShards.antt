@@ -1,10 +1,9 @@
 -- What is said of each shard of a machine and of each state of a shard that threads share, by its table, its words and the views of its
 -- ranks.
 use Rattle.std.specs.Prelude.{◌≡◌, ℕ, List, length, map, slice_get, Some}
-use Rattle.rl_word.specs.Acts.{Layout}
 use Rattle.rl_step.specs.Do.{TheWindow}
 use Rattle.rl_core.specs.ShardTables.{ShardTable}
-use Rattle.rl_core.specs.ShardLaws.{GoodOf}
+use Rattle.rl_core.specs.Moments.{CoreSays}
 use Rattle.rl_machine.specs.Running.{ShardRun, Running}
 use Rattle.rl_machine.specs.Run.{run_of, AreThere}
 use Rattle.rl_shard.specs.declared.shard.Shard.{Shard}
@@ -25,5 +24,5 @@ abbrev pub EachMoment : {V : Type 0} → OfShard V → Running V → Type 0
 EachMoment P m = (ks : List ℕ) → AreThere (length m.calls) ks → EachShard P (run_of m ks)
 
 -- it holds of a shard that threads share in each state of its window that meets its rule
-abbrev pub EachState : {C V : Type 0} → (C → ShardTable V) → GoodOf C V → (C → Layout) → OfShard V → Shard C V → Type 0
-EachState table good layout P shard = (h : TheWindow) (vs : List (CountedView _)) → counting_rule table good layout (counting_at shard) h vs → P (table_at table shard) h (map whole_of vs)
+abbrev pub EachState : {C V : Type 0} → (C → CoreSays V) → OfShard V → Shard C V → Type 0
+EachState says P shard = (h : TheWindow) (vs : List (CountedView _)) → counting_rule says (counting_at shard) h vs → P (table_at says shard) h (map whole_of vs)

@@ -42,7 +42,8 @@ module _ {V : Type 0} (T : ShardTable (WholeView V TheSeqWork)) (h : TheWindow) 
   -- a get alone is at the lock nowhere
   pub record KeepsOutside : Type 0 where
     -- a rank is at work on one exactly where it owes the entries of its block, and the block is a get: so from its opening until its entry joins
-    pub every : (r : ℕ) (x : WholeView V TheSeqWork) → slice_get vs r ≡ Some x → (is_getting x.work.stage ≡ true) ↔ ((key : ℕ) × ((T.own x).owes ≡ true) × ((T.own x).calls ≡ Get key ∷ []))
+    pub every : (r : ℕ) (x : WholeView V TheSeqWork) → slice_get vs r ≡ Some x →
+        (is_getting x.work.stage ≡ true) ↔ ((key : ℕ) × ((T.own x).owes ≡ true) × ((T.own x).calls ≡ Get key ∷ []))
     -- it stands as asking from its opening to its end, so it is no holder; and it is in no card
     pub asks : (r : ℕ) (x : WholeView V TheSeqWork) → Gets r x → T.standing x ≡ Asking
     pub away : (r : ℕ) (x : WholeView V TheSeqWork) → Gets r x → T.card x ≡ None
@@ -51,7 +52,8 @@ module _ {V : Type 0} (T : ShardTable (WholeView V TheSeqWork)) (h : TheWindow) 
     -- and no event comes with it: none of a queue, none of a holder and no touch
     pub quiet : (r : ℕ) (x : WholeView V TheSeqWork) (at : Atom) → GetsBy r x at → (got_by x at).events ≡ []
     -- once it is done its rank stands out
-    pub ends : (r : ℕ) (x : WholeView V TheSeqWork) (at : Atom) → GetsBy r x at → is_getting (got_by x at).view.work.stage ≡ false → T.standing (got_by x at).view ≡ Out
+    pub ends : (r : ℕ) (x : WholeView V TheSeqWork) (at : Atom) → GetsBy r x at → is_getting (got_by x at).view.work.stage ≡ false →
+        T.standing (got_by x at).view ≡ Out
 
   -- how its atoms are answered
   pub record AnswersGets : Type 0 where
@@ -66,19 +68,25 @@ module _ {V : Type 0} (T : ShardTable (WholeView V TheSeqWork)) (h : TheWindow) 
   pub record KeepsTries : Type 0 where
     -- until it has found the count it has loaded nothing
     pub fresh : (r : ℕ) (x : WholeView V TheSeqWork) → Gets r x → found_count x.work.stage ≡ None → loaded_in_try x ≡ []
-    pub one_more : (r : ℕ) (x : WholeView V TheSeqWork) (at : Atom) (found count word : ℕ) → GetsBy r x at → x.work.stage ≡ stage.Read found count word → loaded_in_try (got_by x at).view ≡ loaded_in_try x ++ (word, do_got at h.words h.cards) ∷ []
+    pub one_more : (r : ℕ) (x : WholeView V TheSeqWork) (at : Atom) (found count word : ℕ) → GetsBy r x at →
+        x.work.stage ≡ stage.Read found count word → loaded_in_try (got_by x at).view ≡ loaded_in_try x ++ (word, do_got at h.words h.cards)
+        ∷ []
     pub few : (r : ℕ) (x : WholeView V TheSeqWork) → Gets r x → length (loaded_in_try x) ≤ 3 + 2 * T.site.geom.overflow
     -- the version is no lower than the one that the try has found
-    pub found : (r : ℕ) (x : WholeView V TheSeqWork) (version : ℕ) → Gets r x → found_version x.work.stage ≡ Some version → (version % 2 ≡ 0) × (version ≤ version_now)
+    pub found : (r : ℕ) (x : WholeView V TheSeqWork) (version : ℕ) → Gets r x → found_version x.work.stage ≡ Some version →
+        (version % 2 ≡ 0) × (version ≤ version_now)
     -- while it is still that one, the count and all words loaded are as they were found
-    pub same_words : (r : ℕ) (x : WholeView V TheSeqWork) → Gets r x → found_version x.work.stage ≡ Some version_now → AgreesWith (loaded_in_try x) (volume_of T.site.geom (take (lock_base T.site) h.words))
-    pub same_count : (r : ℕ) (x : WholeView V TheSeqWork) (count : ℕ) → Gets r x → found_version x.work.stage ≡ Some version_now → found_count x.work.stage ≡ Some count → slice_index (take (lock_base T.site) h.words) count_word ≡ count
+    pub same_words : (r : ℕ) (x : WholeView V TheSeqWork) → Gets r x → found_version x.work.stage ≡ Some version_now →
+        AgreesWith (loaded_in_try x) (volume_of T.site.geom (take (lock_base T.site) h.words))
+    pub same_count : (r : ℕ) (x : WholeView V TheSeqWork) (count : ℕ) → Gets r x → found_version x.work.stage ≡ Some version_now →
+        found_count x.work.stage ≡ Some count → slice_index (take (lock_base T.site) h.words) count_word ≡ count
 
   -- the version is odd exactly while a writer is between its two stores to it, and no atom of any rank lowers it
   pub record KeepsVersion : Type 0 where
     pub even : (version_now % 2 ≡ 0) ↔ ((r : ℕ) (x : WholeView V TheSeqWork) → slice_get vs r ≡ Some x → is_between x.work.stage ≡ false)
     pub writes : (r : ℕ) (x : WholeView V TheSeqWork) → slice_get vs r ≡ Some x → is_between x.work.stage ≡ true → T.standing x ≡ Writer
-    pub rises : (r : ℕ) (x : WholeView V TheSeqWork) (at : Atom) → slice_get vs r ≡ Some x → T.core.next x ≡ Some at → version_now ≤ slice_index (do_atom r at h).words T.own_at
+    pub rises : (r : ℕ) (x : WholeView V TheSeqWork) (at : Atom) → slice_get vs r ≡ Some x → T.core.next x ≡ Some at →
+        version_now ≤ slice_index (do_atom r at h).words T.own_at
 
   pub record KeepsGets : Type 0 where
     pub outside : KeepsOutside

@@ -32,5 +32,7 @@ left_so_far m s k = leaves k (events_of (trace_of m s))
 -- left no more often than at the start
 abbrev pub StoresTwoFirst : {V : Type 0} → Running (WholeView V TheCombineSide) → Type 0
 StoresTwoFirst m =
-    (ks : List ℕ) (s k owner : ℕ) (S : ShardRun _) (x : _) → AreThere (length m.calls) ks → slice_get m.shards s ≡ Some S → HasFound S.table S.held S.views k owner x → left_so_far m s k < left_so_far (run_of m ks) s k →
+    (ks : List ℕ) (s k owner : ℕ) (S : ShardRun _) (x : _) → AreThere
+    (length m.calls) ks → slice_get m.shards s ≡ Some S → HasFound S.table S.held S.views k owner x → left_so_far m s k < left_so_far
+    (run_of m ks) s k →
     (made : MakesIn m ks s k (Store (flag_word (posts S.table) owner) 2)) × (left_so_far (run_of m made.before) s k ≡ left_so_far m s k)

@@ -15,13 +15,13 @@ use Rattle.rl_mcs.specs.McsUrgency.{mcs_urgent}
 use Rattle.rl_rw.specs.Rw.{shared_in, rw_table}
 use Rattle.rl_rw.specs.RwUrgency.{rw_urgent}
 use Rattle.rl_site.specs.Site.{Site}
-use Rattle.rl_core.specs.ShardTables.{ShardTable}
+use Rattle.rl_core.specs.Moments.{CoreSays}
 use Rattle.rl_rank.specs.declared.whole.WholeView.{WholeView}
 use Rattle.rl_rank.specs.Running.{lock_with, kinds}
 use Rattle.rl_rank.specs.WholeGuiding.{whole_urgent}
 use Rattle.rl_place.specs.declared.lock.Lock.{Lock}
 use Rattle.rl_place.specs.declared.lock.Lock.TheVariants as lock
-use Rattle.rl_locks.specs.Kinds.{Defined, LockKind, Way, locked, optimistic, combining, cohorts, cohort_lock, spin, dmcs, alock, mcs, rw, seq, combine, lock_kind_of}
+use Rattle.rl_locks.specs.Kinds.{Defined, Way, locked, optimistic, combining, cohorts, cohort_lock, spin, dmcs, alock, mcs, rw, seq, combine, lock_kind_of}
 
 -- How urgently a rank goes on, by the shape, the shard's home, the settings and the site, the shard's words and what the rank knows: the smaller number
 -- first, and none of who waits for others or has no block open.
@@ -29,9 +29,14 @@ abbrev pub Urgent : Type 0 → Type 0
 Urgent V = TheShape → ℕ → Knobs → Site → List ℕ → V → Option ℕ
 
 -- Each of these cores lets its ranks go on as it is defined: as urgently as that says, where its machine is the defined one.
-abbrev pub GoesAsDefined : {C V : Type 0} → (C → ShardTable V) → (C → List ℕ → V → Option ℕ) → Defined V → Urgent V → Type 0
-GoesAsDefined table urgency defined urgent =
-    (core : _) (shape : TheShape) (home : ℕ) (knobs : Knobs) (site : Site) (words : List ℕ) (v : _) → table core ≡ defined shape home knobs site → urgency core words v ≡ urgent shape home knobs site words v
+abbrev pub GoesAsDefined : {C V : Type 0} → (C → CoreSays V) → (C → List ℕ → V → Option ℕ) → Defined V → Urgent V → Type 0
+GoesAsDefined says urgency defined urgent =
+    (core : _) (shape : TheShape) (home : ℕ) (knobs : Knobs) (site : Site) (words : List ℕ) (v : _) → (says core).table ≡ defined shape home knobs site →
+    urgency core words v ≡ urgent shape home knobs site words v
+
+-- what comes of something is so by each definition of urgency by which these cores let their ranks go on
+abbrev pub EachUrgency : {C V Out : Type 0} → (C → CoreSays V) → (C → List ℕ → V → Option ℕ) → Defined V → (Urgent V → Out → Type 0) → Out → Type 0
+EachUrgency says urgency defined gives out = (urgent : Urgent _) → GoesAsDefined says urgency defined urgent → gives urgent out
 
 -- under a lock, by how urgently ranks go on at the lock itself, and the way in which blocks are done
 abbrev pub urgent_under : {V K : Type 0} → (TheShape → ℕ → Knobs → LockTable V) → (TheShape → ℕ → Knobs → List ℕ → V → Option ℕ) → Way K → Urgent (WholeView V K)

@@ -5,8 +5,8 @@ ghost use Rattle.rl_step.specs.LockQueues.{lock_under, does_batches};
 ghost use Rattle.rl_place.specs.LockWords.{name_of};
 ghost use Rattle.rl_place.specs.Places.{ThePlace, IsProper};
 ghost use Rattle.rl_place.specs.Shapes.{shape_of, knobs_of};
-ghost use Rattle.rl_locks.specs.Kinds.{LockKind, lock_kind_of};
-ghost use Rattle.rl_locks.specs.Urgencies.{Urgent, GoesAsDefined, urgency_of};
+ghost use Rattle.rl_locks.specs.Kinds.{LockKind, kind_by, lock_kind_of};
+ghost use Rattle.rl_locks.specs.Urgencies.{Urgent, EachUrgency, urgency_of};
 
 use crate::ways::Promising;
 use crate::{AlockCore, CombineCore, DmcsCore, McsCore, RwCore, SeqCore, SpinCore};
@@ -33,7 +33,7 @@ pub trait CoreTask {
         requires knobs { C.suits_knobs (shape_of place.now) (knobs_of place.now.lock) }
         requires kind { C.name ≡ lock_under (name_of place.now.lock) }
         requires batches { C.batches ≡ does_batches (name_of place.now.lock) }
-        ensures { (urgent : Urgent C.View) → GoesAsDefined C.shard_table C.urgent C.defined urgent → gives self place.now (record { View = C.View; defined = C.defined; promised = C.promised; ways = C.ways }) urgent result };
+        ensures { EachUrgency C.says C.urgent C.defined (gives self place.now (kind_by C.defined C.promised C.ways)) result };
 }
 
 /// Does a task with the core of a placement's lock.

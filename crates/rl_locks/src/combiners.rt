@@ -1,12 +1,8 @@
 //! What holds of flat combining at every moment, on machines and on shards that threads share.
 
-ghost use Rattle.std.specs.Prelude.{ℕ};
-ghost use Rattle.rl_word.specs.Shapes.{TheShape};
-ghost use Rattle.rl_word.specs.declared.shapes.Knobs.{Knobs as TheKnobs};
-ghost use Rattle.rl_site.specs.Site.{Site};
 ghost use Rattle.rl_machine.specs.Running.{running};
 ghost use Rattle.rl_locks.specs.OnShards.{EachShard, EachMoment, EachState};
-ghost use Rattle.rl_locks.specs.Combining.{KeepsCombining, PostsAtHome};
+ghost use Rattle.rl_locks.specs.Combining.{KeepsCombining, PostsAtHomeAsDefined};
 ghost use Rattle.rl_locks.specs.SweepRuns.{StoresTwoFirst};
 
 use crate::ways::Promising;
@@ -23,9 +19,9 @@ use rl_step::Algo;
 /// whichever rank, which loads no more words of the volume for it than the call can want; and a rank that has found a flag 1 in its sweep
 /// is a writer until it has stored 2 there. So in every run the rank makes that store before it leaves (`sweeps`). There is nothing to run.
 pub fn combiners_of_machine<A: Algo>(machine: &Machine<Whole<A, CombineWork>>)
-    ensures now { EachShard KeepsCombining (running ⟦<Whole<A, CombineWork> as ShardCore>⟧.shard_table machine.now) }
-    ensures stays { EachMoment KeepsCombining (running ⟦<Whole<A, CombineWork> as ShardCore>⟧.shard_table machine.now) }
-    ensures sweeps { StoresTwoFirst (running ⟦<Whole<A, CombineWork> as ShardCore>⟧.shard_table machine.now) }
+    ensures now { EachShard KeepsCombining (running ⟦<Whole<A, CombineWork> as ShardCore>⟧.says machine.now) }
+    ensures stays { EachMoment KeepsCombining (running ⟦<Whole<A, CombineWork> as ShardCore>⟧.says machine.now) }
+    ensures sweeps { StoresTwoFirst (running ⟦<Whole<A, CombineWork> as ShardCore>⟧.says machine.now) }
 {
     rules(machine);
 }
@@ -33,7 +29,7 @@ pub fn combiners_of_machine<A: Algo>(machine: &Machine<Whole<A, CombineWork>>)
 /// The same of a shard that threads share, but for runs (`sweeps`), which machines alone have: it holds in each state of the window that
 /// meets its rule, and so between any two table steps. There is nothing to run.
 pub fn combiners_of_shard<A: Algo>(shard: &Shard<Whole<A, CombineWork>>)
-    ensures { let K = ⟦<Whole<A, CombineWork> as ShardCore>⟧ in EachState K.shard_table K.good K.layout KeepsCombining shard.now }
+    ensures { let K = ⟦<Whole<A, CombineWork> as ShardCore>⟧ in EachState K.says KeepsCombining shard.now }
 {
     let _ = shard;
 }
@@ -42,7 +38,7 @@ pub fn combiners_of_shard<A: Algo>(shard: &Shard<Whole<A, CombineWork>>)
 /// sits, so that a rank that waits for its answer loads a word of its own node, and whoever has the lock goes to the others'. A machine's
 /// and a shard's tables are those that are defined so. There is nothing to run.
 pub fn posts_at_home<A: Algo>()
-    ensures { (shape : TheShape) (home : ℕ) (knobs : TheKnobs) (site : Site) → PostsAtHome (⟦<Whole<A, CombineWork> as ShardCore>⟧.defined shape home knobs site) shape.node_of }
+    ensures { PostsAtHomeAsDefined ⟦<Whole<A, CombineWork> as ShardCore>⟧.defined }
 {}
 
 /// A posted call is done once at most, by whichever rank, and who has found one in its sweep is a writer until it has told the answer.

@@ -17,8 +17,8 @@ use rl_work::Work;
 /// compare-and-swap, however blocks are done: by the nodes and the home that the lock has, and so by those by which the shard was made.
 /// There is nothing to run.
 pub fn alock_domains<W: Work>(shard: &Shard<Whole<Alock, W>>)
-    ensures lock { let K = ⟦<Whole<Alock, W> as ShardCore>⟧ in let lock = (core_at shard.now).algo in KeepsApart K.shard_table K.good K.layout lock.node_of.items lock.home shard.now }
-    ensures made { let K = ⟦<Whole<Alock, W> as ShardCore>⟧ in KeepsApartAsDefined K.shard_table K.good K.layout K.defined shard.now }
+    ensures lock { let L = (core_at shard.now).algo in KeepsApart ⟦<Whole<Alock, W> as ShardCore>⟧.says L.node_of.items L.home shard.now }
+    ensures made { let K = ⟦<Whole<Alock, W> as ShardCore>⟧ in KeepsApartAsDefined K.says K.defined shard.now }
 {
     domains(shard);
     two_domains();
@@ -26,28 +26,28 @@ pub fn alock_domains<W: Work>(shard: &Shard<Whole<Alock, W>>)
 
 /// Over the spin lock no seat's next atom is a local compare-and-swap, however blocks are done. There is nothing to run.
 pub fn spin_domains<W: Work>(shard: &Shard<Whole<Spin, W>>)
-    ensures { let K = ⟦<Whole<Spin, W> as ShardCore>⟧ in NeverSwapsLocally K.shard_table K.good K.layout shard.now }
+    ensures { let K = ⟦<Whole<Spin, W> as ShardCore>⟧ in NeverSwapsLocally K.says shard.now }
 {
     domains(shard);
 }
 
 /// Over D-MCS no seat's next atom is a local compare-and-swap, however blocks are done. There is nothing to run.
 pub fn dmcs_domains<W: Work>(shard: &Shard<Whole<Dmcs, W>>)
-    ensures { let K = ⟦<Whole<Dmcs, W> as ShardCore>⟧ in NeverSwapsLocally K.shard_table K.good K.layout shard.now }
+    ensures { let K = ⟦<Whole<Dmcs, W> as ShardCore>⟧ in NeverSwapsLocally K.says shard.now }
 {
     domains(shard);
 }
 
 /// Over RMA-MCS no seat's next atom is a local compare-and-swap, however blocks are done. There is nothing to run.
 pub fn mcs_domains<W: Work>(shard: &Shard<Whole<Mcs, W>>)
-    ensures { let K = ⟦<Whole<Mcs, W> as ShardCore>⟧ in NeverSwapsLocally K.shard_table K.good K.layout shard.now }
+    ensures { let K = ⟦<Whole<Mcs, W> as ShardCore>⟧ in NeverSwapsLocally K.says shard.now }
 {
     domains(shard);
 }
 
 /// Over RMA-RW no seat's next atom is a local compare-and-swap, however blocks are done. There is nothing to run.
 pub fn rw_domains<W: Work>(shard: &Shard<Whole<Rw, W>>)
-    ensures { let K = ⟦<Whole<Rw, W> as ShardCore>⟧ in NeverSwapsLocally K.shard_table K.good K.layout shard.now }
+    ensures { let K = ⟦<Whole<Rw, W> as ShardCore>⟧ in NeverSwapsLocally K.says shard.now }
 {
     domains(shard);
 }

@@ -18,7 +18,7 @@ use rl_work::LockedWork;
 /// Each block under a spin lock: from every state of a machine, whatever schedule led to it, some steps lead to the end of all calls of all ranks.
 /// There is nothing to run.
 pub fn spin_no_dead_end(machine: &Machine<Whole<Spin, LockedWork>>)
-    ensures { CanAlwaysFinish (running ⟦<Whole<Spin, LockedWork> as ShardCore>⟧.shard_table machine.now) }
+    ensures { CanAlwaysFinish (running ⟦<Whole<Spin, LockedWork> as ShardCore>⟧.says machine.now) }
 {
     no_dead_end(machine);
 }
@@ -26,7 +26,7 @@ pub fn spin_no_dead_end(machine: &Machine<Whole<Spin, LockedWork>>)
 /// Each block under D-MCS: from every state of a machine, whatever schedule led to it, some steps lead to the end of all calls of all ranks.
 /// There is nothing to run.
 pub fn dmcs_no_dead_end(machine: &Machine<Whole<Dmcs, LockedWork>>)
-    ensures { CanAlwaysFinish (running ⟦<Whole<Dmcs, LockedWork> as ShardCore>⟧.shard_table machine.now) }
+    ensures { CanAlwaysFinish (running ⟦<Whole<Dmcs, LockedWork> as ShardCore>⟧.says machine.now) }
 {
     no_dead_end(machine);
 }
@@ -34,7 +34,7 @@ pub fn dmcs_no_dead_end(machine: &Machine<Whole<Dmcs, LockedWork>>)
 /// Each block under ALock: from every state of a machine, whatever schedule led to it, some steps lead to the end of all calls of all ranks.
 /// There is nothing to run.
 pub fn alock_no_dead_end(machine: &Machine<Whole<Alock, LockedWork>>)
-    ensures { CanAlwaysFinish (running ⟦<Whole<Alock, LockedWork> as ShardCore>⟧.shard_table machine.now) }
+    ensures { CanAlwaysFinish (running ⟦<Whole<Alock, LockedWork> as ShardCore>⟧.says machine.now) }
 {
     no_dead_end(machine);
 }
@@ -42,7 +42,7 @@ pub fn alock_no_dead_end(machine: &Machine<Whole<Alock, LockedWork>>)
 /// Each block under RMA-MCS: from every state of a machine, whatever schedule led to it, some steps lead to the end of all calls of all ranks.
 /// There is nothing to run.
 pub fn mcs_no_dead_end(machine: &Machine<Whole<Mcs, LockedWork>>)
-    ensures { CanAlwaysFinish (running ⟦<Whole<Mcs, LockedWork> as ShardCore>⟧.shard_table machine.now) }
+    ensures { CanAlwaysFinish (running ⟦<Whole<Mcs, LockedWork> as ShardCore>⟧.says machine.now) }
 {
     no_dead_end(machine);
 }
@@ -50,7 +50,7 @@ pub fn mcs_no_dead_end(machine: &Machine<Whole<Mcs, LockedWork>>)
 /// Each block under RMA-RW: from every state of a machine, whatever schedule led to it, some steps lead to the end of all calls of all ranks.
 /// There is nothing to run.
 pub fn rw_no_dead_end(machine: &Machine<Whole<Rw, LockedWork>>)
-    ensures { CanAlwaysFinish (running ⟦<Whole<Rw, LockedWork> as ShardCore>⟧.shard_table machine.now) }
+    ensures { CanAlwaysFinish (running ⟦<Whole<Rw, LockedWork> as ShardCore>⟧.says machine.now) }
 {
     no_dead_end(machine);
 }
@@ -58,7 +58,7 @@ pub fn rw_no_dead_end(machine: &Machine<Whole<Rw, LockedWork>>)
 /// Optimistic readers, with all other blocks under ALock: from every state of a machine, whatever schedule led to it, some steps lead to the end of all
 /// calls of all ranks. There is nothing to run.
 pub fn seq_no_dead_end(machine: &Machine<Whole<Alock, SeqWork>>)
-    ensures { CanAlwaysFinish (running ⟦<Whole<Alock, SeqWork> as ShardCore>⟧.shard_table machine.now) }
+    ensures { CanAlwaysFinish (running ⟦<Whole<Alock, SeqWork> as ShardCore>⟧.says machine.now) }
 {
     no_dead_end(machine);
 }
@@ -66,7 +66,7 @@ pub fn seq_no_dead_end(machine: &Machine<Whole<Alock, SeqWork>>)
 /// Flat combining under ALock: from every state of a machine, whatever schedule led to it, some steps lead to the end of all calls of all ranks. There is
 /// nothing to run.
 pub fn combine_no_dead_end(machine: &Machine<Whole<Alock, CombineWork>>)
-    ensures { CanAlwaysFinish (running ⟦<Whole<Alock, CombineWork> as ShardCore>⟧.shard_table machine.now) }
+    ensures { CanAlwaysFinish (running ⟦<Whole<Alock, CombineWork> as ShardCore>⟧.says machine.now) }
 {
     no_dead_end(machine);
 }

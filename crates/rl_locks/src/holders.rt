@@ -16,8 +16,8 @@ use rl_work::LockedWork;
 /// readers share: a rank that reads for its block holds the lock, and what it has found still stands; for a call alone it loads few words,
 /// each of them once it has found the count; and nobody loads a word of the volume but so. There is nothing to run.
 pub fn holders_of_machine<A: Algo>(machine: &Machine<Whole<A, LockedWork>>)
-    ensures now { EachShard KeepsReads (running ⟦<Whole<A, LockedWork> as ShardCore>⟧.shard_table machine.now) }
-    ensures stays { EachMoment KeepsReads (running ⟦<Whole<A, LockedWork> as ShardCore>⟧.shard_table machine.now) }
+    ensures now { EachShard KeepsReads (running ⟦<Whole<A, LockedWork> as ShardCore>⟧.says machine.now) }
+    ensures stays { EachMoment KeepsReads (running ⟦<Whole<A, LockedWork> as ShardCore>⟧.says machine.now) }
 {
     rules(machine);
 }
@@ -25,7 +25,7 @@ pub fn holders_of_machine<A: Algo>(machine: &Machine<Whole<A, LockedWork>>)
 /// The same of a shard that threads share: it holds in each state of the window that meets its rule, and so between any two table steps.
 /// There is nothing to run.
 pub fn holders_of_shard<A: Algo>(shard: &Shard<Whole<A, LockedWork>>)
-    ensures { let K = ⟦<Whole<A, LockedWork> as ShardCore>⟧ in EachState K.shard_table K.good K.layout KeepsReads shard.now }
+    ensures { let K = ⟦<Whole<A, LockedWork> as ShardCore>⟧ in EachState K.says KeepsReads shard.now }
 {
     let _ = shard;
 }

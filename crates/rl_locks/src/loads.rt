@@ -11,7 +11,7 @@ use rl_work::LockedWork;
 /// Few loads, where each block is done under its lock: whatever the words hold, a seat loads for a get alone at most 3 + 2 * overflow words
 /// of the volume, for a put one more and for a delete two more, before the call is decided. There is nothing to run.
 pub fn few_loads<A: Algo>(shard: &Shard<Whole<A, LockedWork>>)
-    ensures { LoadsFew ⟦<Whole<A, LockedWork> as ShardCore>⟧.shard_table ⟦<Whole<A, LockedWork> as ShardCore>⟧.good ⟦<Whole<A, LockedWork> as ShardCore>⟧.layout shard.now }
+    ensures { LoadsFew ⟦<Whole<A, LockedWork> as ShardCore>⟧.says shard.now }
 {
     let _ = shard;
 }

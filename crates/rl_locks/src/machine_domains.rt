@@ -18,7 +18,7 @@ use rl_work::Work;
 /// on each shard of a machine and whatever steps of its ranks follow, however blocks are done: by the nodes and the home by which the shard
 /// was made. There is nothing to run.
 pub fn alock_domains_of_machine<W: Work>(machine: &Machine<Whole<Alock, W>>)
-    ensures { let K = ⟦<Whole<Alock, W> as ShardCore>⟧ in EachMoment (ApartAsDefined K.defined) (running K.shard_table machine.now) }
+    ensures { let K = ⟦<Whole<Alock, W> as ShardCore>⟧ in EachMoment (ApartAsDefined K.defined) (running K.says machine.now) }
 {
     soundness(machine);
     two_domains();
@@ -27,7 +27,7 @@ pub fn alock_domains_of_machine<W: Work>(machine: &Machine<Whole<Alock, W>>)
 /// Over the spin lock no rank's next atom is a local compare-and-swap, on each shard of a machine and whatever steps of its ranks follow, however
 /// blocks are done. There is nothing to run.
 pub fn spin_domains_of_machine<W: Work>(machine: &Machine<Whole<Spin, W>>)
-    ensures { EachMoment SwapsNowhere (running ⟦<Whole<Spin, W> as ShardCore>⟧.shard_table machine.now) }
+    ensures { EachMoment SwapsNowhere (running ⟦<Whole<Spin, W> as ShardCore>⟧.says machine.now) }
 {
     soundness(machine);
     rules(machine);
@@ -36,7 +36,7 @@ pub fn spin_domains_of_machine<W: Work>(machine: &Machine<Whole<Spin, W>>)
 /// Over D-MCS no rank's next atom is a local compare-and-swap, on each shard of a machine and whatever steps of its ranks follow, however
 /// blocks are done. There is nothing to run.
 pub fn dmcs_domains_of_machine<W: Work>(machine: &Machine<Whole<Dmcs, W>>)
-    ensures { EachMoment SwapsNowhere (running ⟦<Whole<Dmcs, W> as ShardCore>⟧.shard_table machine.now) }
+    ensures { EachMoment SwapsNowhere (running ⟦<Whole<Dmcs, W> as ShardCore>⟧.says machine.now) }
 {
     soundness(machine);
     rules(machine);
@@ -45,7 +45,7 @@ pub fn dmcs_domains_of_machine<W: Work>(machine: &Machine<Whole<Dmcs, W>>)
 /// Over RMA-MCS no rank's next atom is a local compare-and-swap, on each shard of a machine and whatever steps of its ranks follow, however
 /// blocks are done. There is nothing to run.
 pub fn mcs_domains_of_machine<W: Work>(machine: &Machine<Whole<Mcs, W>>)
-    ensures { EachMoment SwapsNowhere (running ⟦<Whole<Mcs, W> as ShardCore>⟧.shard_table machine.now) }
+    ensures { EachMoment SwapsNowhere (running ⟦<Whole<Mcs, W> as ShardCore>⟧.says machine.now) }
 {
     soundness(machine);
     rules(machine);
@@ -54,7 +54,7 @@ pub fn mcs_domains_of_machine<W: Work>(machine: &Machine<Whole<Mcs, W>>)
 /// Over RMA-RW no rank's next atom is a local compare-and-swap, on each shard of a machine and whatever steps of its ranks follow, however
 /// blocks are done. There is nothing to run.
 pub fn rw_domains_of_machine<W: Work>(machine: &Machine<Whole<Rw, W>>)
-    ensures { EachMoment SwapsNowhere (running ⟦<Whole<Rw, W> as ShardCore>⟧.shard_table machine.now) }
+    ensures { EachMoment SwapsNowhere (running ⟦<Whole<Rw, W> as ShardCore>⟧.says machine.now) }
 {
     soundness(machine);
     rules(machine);

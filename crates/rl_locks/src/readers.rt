@@ -17,8 +17,8 @@ use rl_step::Algo;
 /// that it looks at is odd, and has lost exactly where the second version isn't the first; in each try it loads few words, and none before
 /// it has found the count; and no atom lowers the version. There is nothing to run.
 pub fn readers_of_machine<A: Algo>(machine: &Machine<Whole<A, SeqWork>>)
-    ensures now { EachShard KeepsGets (running ⟦<Whole<A, SeqWork> as ShardCore>⟧.shard_table machine.now) }
-    ensures stays { EachMoment KeepsGets (running ⟦<Whole<A, SeqWork> as ShardCore>⟧.shard_table machine.now) }
+    ensures now { EachShard KeepsGets (running ⟦<Whole<A, SeqWork> as ShardCore>⟧.says machine.now) }
+    ensures stays { EachMoment KeepsGets (running ⟦<Whole<A, SeqWork> as ShardCore>⟧.says machine.now) }
 {
     rules(machine);
 }
@@ -26,7 +26,7 @@ pub fn readers_of_machine<A: Algo>(machine: &Machine<Whole<A, SeqWork>>)
 /// The same of a shard that threads share: it holds in each state of the window that meets its rule, and so between any two table steps.
 /// There is nothing to run.
 pub fn readers_of_shard<A: Algo>(shard: &Shard<Whole<A, SeqWork>>)
-    ensures { let K = ⟦<Whole<A, SeqWork> as ShardCore>⟧ in EachState K.shard_table K.good K.layout KeepsGets shard.now }
+    ensures { let K = ⟦<Whole<A, SeqWork> as ShardCore>⟧ in EachState K.says KeepsGets shard.now }
 {
     let _ = shard;
 }

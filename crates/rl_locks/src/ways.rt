@@ -1,10 +1,9 @@
 //! What a core's way of doing blocks promises beyond every core.
 
 ghost use Rattle.std.specs.Prelude.{List};
-ghost use Rattle.rl_step.specs.declared.events.Event.{Event as TheEvent};
 ghost use Rattle.rl_step.specs.Do.{TheWindow};
-ghost use Rattle.rl_step.specs.Lock.{Deed};
 ghost use Rattle.rl_core.specs.ShardTables.{ShardTable};
+ghost use Rattle.rl_core.specs.Moments.{Moment};
 ghost use Rattle.rl_machine.specs.Running.{running};
 ghost use Rattle.rl_locks.specs.OnShards.{EachShard, EachMoment};
 
@@ -18,14 +17,14 @@ pub trait Promising: ShardCore {
 
     /// It holds in each state that is good for a core of the kind. There is nothing to run.
     fn way_laws()
-        ensures { (c : Self) (h : TheWindow) (vs : List Self.View) (t : List TheEvent) (ds : List Deed) → Self.good c h vs t ds → ways (Self.shard_table c) h vs };
+        ensures { (c : Self) (m : Moment Self.View) → (Self.says c).good m → ways (Self.says c).table m.held m.views };
 }
 
 /// What the cores' way of doing blocks promises holds on every shard of a machine, now and after whatever steps of its ranks. There is nothing to
 /// run.
 pub fn ways_of_machine<C: Promising>(machine: &Machine<C>)
-    ensures now { EachShard C.ways (running C.shard_table machine.now) }
-    ensures stays { EachMoment C.ways (running C.shard_table machine.now) }
+    ensures now { EachShard C.ways (running C.says machine.now) }
+    ensures stays { EachMoment C.ways (running C.says machine.now) }
 {
     rules(machine);
     C::way_laws();

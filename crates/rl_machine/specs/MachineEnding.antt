@@ -2,7 +2,7 @@
 use Rattle.std.specs.Prelude.{◌≡◌, ℕ, ◌+◌, ◌*◌, ◌-◌, ◌<◌, ◌≤◌, List, [], ◌∷◌, length, sum_by}
 use Rattle.rl_model.specs.declared.call.Call.{Call}
 use Rattle.rl_machine.specs.Running.{ShardRun, Running}
-use Rattle.rl_machine.specs.Run.{calls_by, done_of, run_of, AreThere}
+use Rattle.rl_machine.specs.Run.{calls_by, done_of, stepped, run_of, AreThere}
 use Rattle.rl_machine.specs.Causes.{IsFinished}
 use Rattle.rl_core.specs.ShardEnding.{LeftOf}
 
@@ -45,3 +45,11 @@ module _ {C V : Type 0} (left : LeftOf C V) where
   -- a call that isn't opened yet counts more than any opening adds
   abbrev pub machine_left : (C → ℕ) → List C → Running V → ℕ
   machine_left most cores m = (sum_by most cores + 1) * unopened m.calls m.opened + shards_left cores m.shards
+
+  -- as many steps at most as are left to do lead to the end
+  abbrev pub CanFinishSoon : (C → ℕ) → List C → Running V → Type 0
+  CanFinishSoon most cores m = CanFinishIn (machine_left most cores m) m
+
+  -- rank k's step leaves less to do
+  abbrev pub LeavesLess : (C → ℕ) → List C → Running V → ℕ → Type 0
+  LeavesLess most cores m k = machine_left most cores (stepped m k) < machine_left most cores m

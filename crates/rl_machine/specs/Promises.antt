@@ -29,7 +29,7 @@ use Rattle.rl_step.specs.Traces.{events_of}
 use Rattle.rl_machine.specs.EventOrder.{AreOrdered}
 use Rattle.rl_ops.specs.Asked.{BeginsAt}
 use Rattle.rl_core.specs.Asks.{asked_of}
-use Rattle.rl_machine.specs.Run.{calls_by, sizes_by, trace_of, kept_by, done_of, run_of, AreThere, IsAllClosed, IsShut}
+use Rattle.rl_machine.specs.Run.{calls_by, sizes_by, trace_of, kept_by, done_of, run_of, AreThere, EverAfter, IsAllClosed, IsShut}
 
 module _ {V : Type 0} where
   -- the journal of a shard, as its words say, and the history that it and the ranks' transcripts make
@@ -107,6 +107,10 @@ module _ {V : Type 0} where
   -- so on each shard do those of the lock of this name: its members and budgets are the placement's
   abbrev pub EachKeepsQueues : LockName → TheShape → Knobs → List ℕ → Running V → Type 0
   EachKeepsQueues name shape knobs homes m = (s home : ℕ) → slice_get homes s ≡ Some home → KeepsQueues (queues_of name shape home knobs) m s
+
+  -- and so after every run of so many ranks
+  abbrev pub EverKeepsQueues : LockName → TheShape → Knobs → List ℕ → ℕ → Running V → Type 0
+  EverKeepsQueues name shape knobs homes n m = EverAfter n m (EachKeepsQueues name shape knobs homes)
 
   -- whatever steps of its ranks follow
   abbrev pub StaysSound : Running V → Type 0

@@ -23,3 +23,7 @@ with_steps m counts = record { shards = m.shards; geom = m.geom; calls = m.calls
 -- changes nothing else
 abbrev pub RestsWith : {V : Type 0} → Running V → ℕ → Stepped → Type 0
 RestsWith m k answer = (answer_of_step m k ≡ answer) × ((counts : Steps) → stepped (with_steps m counts) k ≡ with_steps m (counted answer counts))
+
+-- it does so if the answer is Busy
+abbrev pub RestsIfBusy : {V : Type 0} → Running V → ℕ → Stepped → Type 0
+RestsIfBusy m k answer = (node holder : ℕ) → answer ≡ Busy node holder → RestsWith m k answer

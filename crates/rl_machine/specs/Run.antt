@@ -39,6 +39,14 @@ module _ {V : Type 0} where
   abbrev pub place_of : Running V → ℕ → ℕ
   place_of m k = place_after m.geom (calls_by m k) (slice_index m.opened k)
 
+  -- the shard where it stands, if it is there
+  abbrev pub stands_on : Running V → ℕ → Option (ShardRun V)
+  stands_on m k = slice_get m.shards (place_of m k)
+
+  -- and the shard's core, of a machine over these cores
+  abbrev pub core_there : {C : Type 0} → List C → Running V → ℕ → Option C
+  core_there cores m k = slice_get cores (place_of m k)
+
   -- rank k has an open call
   abbrev pub has_open_call : Running V → ℕ → Bool
   has_open_call m k = on_shard false (open_on k) (slice_get m.shards (place_of m k))
@@ -129,3 +137,10 @@ IsShut S = (rank : ℕ) → rank < length S.views → open_on rank S ≡ false
 abbrev pub AreThere : ℕ → List ℕ → Type 0
 AreThere n [] = Unit {0}
 AreThere n (k ∷ ks) = (k < n) × AreThere n ks
+
+-- it is so of every run of so many ranks; and of the machine after each
+abbrev pub OfEveryRun : ℕ → (List ℕ → Type 0) → Type 0
+OfEveryRun n P = (ks : List ℕ) → AreThere n ks → P ks
+
+abbrev pub EverAfter : {V : Type 0} → ℕ → Running V → (Running V → Type 0) → Type 0
+EverAfter n m P = OfEveryRun n (λ ks. P (run_of m ks))

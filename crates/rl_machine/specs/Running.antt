@@ -5,7 +5,10 @@ use Rattle.rl_model.specs.declared.geom.Geom.{Geom}
 use Rattle.rl_step.specs.declared.events.Event.{Event}
 use Rattle.rl_step.specs.declared.tallies.Steps.{Steps}
 use Rattle.rl_step.specs.Do.{TheWindow}
+use Rattle.rl_step.specs.Lock.{Deed}
+use Rattle.rl_step.specs.Traces.{events_of}
 use Rattle.rl_core.specs.ShardTables.{ShardTable}
+use Rattle.rl_core.specs.Moments.{Moment, CoreSays}
 
 -- one shard as it runs: its table, which never changes, the words and cards, each rank's view, and the events with the numbers of their
 -- steps
@@ -42,13 +45,13 @@ pub record TheMachine (C V : Type 0) : Type 0 where
   pub opened : List ℕ
   pub steps : Steps
 
--- the shard by its table, for the tables of its kind of cores
-abbrev pub shard_run : {C V : Type 0} → (C → ShardTable V) → TheShard C V → ShardRun V
-shard_run table s = record { table = table s.core; held = s.held; views = s.views; trace = s.trace }
+-- the shard by its table, for what its kind of cores says
+abbrev pub shard_run : {C V : Type 0} → (C → CoreSays V) → TheShard C V → ShardRun V
+shard_run says s = record { table = (says s.core).table; held = s.held; views = s.views; trace = s.trace }
 
 -- the machine by its tables
-abbrev pub running : {C V : Type 0} → (C → ShardTable V) → TheMachine C V → Running V
-running table m = record { shards = map (shard_run table) m.shards; geom = m.geom; calls = m.calls; sizes = m.sizes; opened = m.opened; steps = m.steps }
+abbrev pub running : {C V : Type 0} → (C → CoreSays V) → TheMachine C V → Running V
+running says m = record { shards = map (shard_run says) m.shards; geom = m.geom; calls = m.calls; sizes = m.sizes; opened = m.opened; steps = m.steps }
 
 -- the cores of shards, and of a machine, which never change
 abbrev pub shard_cores : {C V : Type 0} → List (TheShard C V) → List C
@@ -58,6 +61,10 @@ abbrev pub cores_of : {C V : Type 0} → TheMachine C V → List C
 cores_of m = shard_cores m.shards
 
 module _ {V : Type 0} where
+  -- a moment of the shard: its trace without the numbers of steps, and these acts so far
+  abbrev pub moment_of : ShardRun V → List Deed → Moment V
+  moment_of S acts = record { held = S.held; views = S.views; trace = events_of S.trace; acts = acts }
+
   -- the shard once rank k has this view, and the machine then, with these counts
   abbrev pub viewed : ShardRun V → ℕ → V → ShardRun V
   viewed S k y = record { table = S.table; held = S.held; views = slice_set S.views k y; trace = S.trace }

@@ -44,6 +44,10 @@ module _ {V : Type 0} where
   abbrev pub atom_on : ℕ → ℕ → ShardRun V → ShardRun V
   atom_on k step S = made_at S k step (slice_get S.views k)
 
+  -- rank k opens a block, and makes its first atom in the step with this number
+  abbrev pub block_on : ℕ → ℕ → List Call → ℕ → ShardRun V → ShardRun V
+  block_on k step block seq S = atom_on k step (opened_on k block seq S)
+
   -- the answer of an atom that finds these words and cards; Finished where there is none
   abbrev pub answer_to : ShardTable V → TheWindow → V → Option Atom → Stepped
   answer_to T h x None = Finished

@@ -1,4 +1,5 @@
 pub mod RunActs
+pub mod Alike
 pub mod EventOrderLaws
 pub mod MachineLaws
 pub mod TransitionLaws

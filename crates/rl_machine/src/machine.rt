@@ -1,6 +1,6 @@
 //! All shards in plain vectors, stepped one rank at a time.
 
-ghost use Rattle.std.specs.Prelude.{◌≡◌, ◌↔◌, ◌≤◌, ℕ, false, ◌+◌, ◌-◌, ◌<◌, ◌^◌, List, [], length, map, get_or, slice_get, slice_index, Some, IfOk, OnErr};
+ghost use Rattle.std.specs.Prelude.{◌≡◌, ◌↔◌, ◌≤◌, ℕ, false, ◌+◌, ◌-◌, ◌<◌, ◌^◌, [], length, map, get_or, slice_get, slice_index, Some, IfOk, OnErr};
 ghost use Rattle.std.specs.List.{AllByRecursion};
 ghost use Rattle.rl_model.specs.Geom.{GeomFits};
 ghost use Rattle.rl_word.specs.Shapes.{IsProper, layout_of};
@@ -8,16 +8,16 @@ ghost use Rattle.rl_step.specs.Answers.{steps_made};
 ghost use Rattle.rl_ops.specs.Ops.{OpsFit};
 ghost use Rattle.rl_machine.specs.Changes.{OnlyWritersEverChange};
 ghost use Rattle.rl_machine.specs.Causes.{StepCause, StepTells, IsFinished, OnlyCountsBusy};
-ghost use Rattle.rl_machine.specs.Cores.{EachCore};
-ghost use Rattle.rl_machine.specs.Promises.{EachKeepsQueues, IsSound, StaysSound};
+ghost use Rattle.rl_machine.specs.Cores.{EachSits};
+ghost use Rattle.rl_machine.specs.Promises.{EverKeepsQueues, IsSound, StaysSound};
 ghost use Rattle.rl_machine.specs.Records.{journal_at, transcripts_at, owned_by, window_of};
-ghost use Rattle.rl_machine.specs.Run.{done_of, stepped, answer_of_step, has_open_call, trace_of, kept_by, run_of, AreThere};
+ghost use Rattle.rl_machine.specs.Run.{done_of, stepped, answer_of_step, has_open_call, trace_of, kept_by};
 ghost use Rattle.rl_machine.specs.Running.{running, cores_of};
 ghost use Rattle.rl_machine.specs.Start.{start_of};
-ghost use Rattle.rl_machine.specs.Rest.{RestsWith, counted_more, with_steps};
+ghost use Rattle.rl_machine.specs.Rest.{RestsWith, RestsIfBusy, counted_more, with_steps};
 ghost use Rattle.rl_machine.specs.Rested.{Tells};
 ghost use Rattle.rl_machine.specs.Told.{told_by};
-ghost use Rattle.rl_machine.specs.RunTransitions.{EachSays};
+ghost use Rattle.rl_machine.specs.RunTransitions.{EverSays};
 
 use crate::records;
 use crate::rest::count_more;
@@ -62,7 +62,7 @@ impl<C: ShardCore> Model for Machine<C> {
 
     ghost view = { λ m. machine_view m.state };
 
-    ghost invariant = { λ m. IsMachine C C.View C.shard_table C.good (machine_view m.state) };
+    ghost invariant = { λ m. IsMachine C.says (machine_view m.state) };
 }
 
 impl<C: ShardCore> Machine<C> {
@@ -86,10 +86,10 @@ impl<C: ShardCore> Machine<C> {
         requires homes { AllByRecursion (λ home. home < shape.now.nodes) homes.now }
         requires ops { OpsFit (length shape.now.node_of) geom.shards ops }
         requires batches { C.batches ≡ false → (k i : ℕ) → slice_index (get_or ops.sizes k []) i ≤ 1 }
-        ensures made { IfOk result (λ m. running C.shard_table m ≡ start_of C.defined shape.now knobs geom homes.now ops) }
-        ensures layout { IfOk result (λ m. EachCore (λ home core. C.layout core ≡ layout_of shape.now) homes.now (cores_of m)) }
-        ensures says { IfOk result (λ m. (ks : List ℕ) → AreThere (length ops.by_rank) ks → EachSays C.promised shape.now knobs homes.now (running C.shard_table m) ks) }
-        ensures keeps { IfOk result (λ m. (ks : List ℕ) → AreThere (length ops.by_rank) ks → EachKeepsQueues C.name shape.now knobs homes.now (run_of (running C.shard_table m) ks)) }
+        ensures made { IfOk result (λ m. running C.says m ≡ start_of C.defined shape.now knobs geom homes.now ops) }
+        ensures layout { IfOk result (λ m. EachSits C.says (layout_of shape.now) homes.now (cores_of m)) }
+        ensures says { IfOk result (λ m. EverSays C.promised shape.now knobs homes.now (length ops.by_rank) (running C.says m)) }
+        ensures keeps { IfOk result (λ m. EverKeepsQueues C.name shape.now knobs homes.now (length ops.by_rank) (running C.says m)) }
     {
         let shards = first_shards(alloc, shape, knobs, geom, homes, &ops)?;
         let opened = none_opened(alloc, &ops)?;
@@ -120,16 +120,16 @@ impl<C: ShardCore> Machine<C> {
         requires there { rank < length self.old.calls }
         requires few { steps_made self.old.steps < 2 ^ 32 - 1 }
         ensures cores { cores_of self.new ≡ cores_of self.old }
-        ensures stepped { IfOk result (λ _. running C.shard_table self.new ≡ stepped (running C.shard_table self.old) rank) }
+        ensures stepped { IfOk result (λ _. running C.says self.new ≡ stepped (running C.says self.old) rank) }
         ensures counted { IfOk result (λ _. steps_made self.new.steps ≡ steps_made self.old.steps + 1) }
         ensures calls { IfOk result (λ _. self.new.calls ≡ self.old.calls) }
-        ensures answer { IfOk result (λ answer. answer ≡ answer_of_step (running C.shard_table self.old) rank) }
-        ensures cause { IfOk result (StepCause C.cause (cores_of self.old) (running C.shard_table self.old) rank) }
-        ensures tells { IfOk result (StepTells (cores_of self.old) (running C.shard_table self.old) rank) }
-        ensures finished { IfOk result (λ answer. (answer ≡ Stepped.Finished) ↔ IsFinished (running C.shard_table self.old) rank) }
-        ensures held_off { IfOk result (λ answer. (node holder : ℕ) → answer ≡ Stepped.Busy node holder → RestsWith (running C.shard_table self.new) rank answer) }
-        ensures over { IfOk result (λ answer. answer ≡ Stepped.Finished → RestsWith (running C.shard_table self.new) rank answer) }
-        ensures busy { IfOk result (OnlyCountsBusy (running C.shard_table self.old) rank (running C.shard_table self.new)) }
+        ensures answer { IfOk result (λ answer. answer ≡ answer_of_step (running C.says self.old) rank) }
+        ensures cause { IfOk result (StepCause C.says (cores_of self.old) (running C.says self.old) rank) }
+        ensures tells { IfOk result (StepTells (cores_of self.old) (running C.says self.old) rank) }
+        ensures finished { IfOk result (λ answer. (answer ≡ Stepped.Finished) ↔ IsFinished (running C.says self.old) rank) }
+        ensures held_off { IfOk result (RestsIfBusy (running C.says self.new) rank) }
+        ensures over { IfOk result (λ answer. answer ≡ Stepped.Finished → RestsWith (running C.says self.new) rank answer) }
+        ensures busy { IfOk result (OnlyCountsBusy (running C.says self.old) rank (running C.says self.new)) }
         ensures kept { OnErr result (self.new ≡ self.old) }
     {
         let made = step(&mut self.state, rank)?;
@@ -142,9 +142,9 @@ impl<C: ShardCore> Machine<C> {
         requires there { rank < length self.old.calls }
         requires few { steps_made self.old.steps < 2 ^ 32 - 1 }
         ensures cores { cores_of self.new ≡ cores_of self.old }
-        ensures stepped { IfOk result (λ _. running C.shard_table self.new ≡ stepped (running C.shard_table self.old) rank) }
-        ensures answer { IfOk result (λ end. end.told ≡ told_by (answer_of_step (running C.shard_table self.old) rank)) }
-        ensures told { IfOk result (λ end. Tells (running C.shard_table self.new) rank end.place end.told) }
+        ensures stepped { IfOk result (λ _. running C.says self.new ≡ stepped (running C.says self.old) rank) }
+        ensures answer { IfOk result (λ end. end.told ≡ told_by (answer_of_step (running C.says self.old) rank)) }
+        ensures told { IfOk result (λ end. Tells (running C.says self.new) rank end.place end.told) }
         ensures kept { OnErr result (self.new ≡ self.old) }
     {
         let made = step(&mut self.state, rank)?;
@@ -159,7 +159,7 @@ impl<C: ShardCore> Machine<C> {
     pub fn count_more(&mut self, answer: Stepped, count: u32)
         requires few { steps_made self.old.steps + count < 2 ^ 32 }
         ensures cores { cores_of self.new ≡ cores_of self.old }
-        ensures counted { running C.shard_table self.new ≡ with_steps (running C.shard_table self.old) (counted_more answer count self.old.steps) }
+        ensures counted { running C.says self.new ≡ with_steps (running C.says self.old) (counted_more answer count self.old.steps) }
         ensures calls { self.new.calls ≡ self.old.calls }
     {
         count_more(&mut self.state.steps, answer, count);
@@ -168,7 +168,7 @@ impl<C: ShardCore> Machine<C> {
     /// Whether the rank has an open call: it has until the call's last atom was made, a card's Leave among them.
     pub fn is_open(&self, rank: u32) -> bool
         requires { rank < length self.now.calls }
-        ensures { result ≡ has_open_call (running C.shard_table self.now) rank }
+        ensures { result ≡ has_open_call (running C.says self.now) rank }
     {
         self.state.is_open(rank)
     }
@@ -176,7 +176,7 @@ impl<C: ShardCore> Machine<C> {
     /// The events of a shard so far, in the order of the steps, each with the number of its step.
     pub fn events(&self, shard: u32) -> &[(u32, Event)]
         requires { shard < length self.now.shards }
-        ensures { result.now ≡ trace_of (running C.shard_table self.now) shard }
+        ensures { result.now ≡ trace_of (running C.says self.now) shard }
     {
         self.state.shard(shard).events.as_slice()
     }
@@ -184,7 +184,7 @@ impl<C: ShardCore> Machine<C> {
     /// How many updates were done on a shard, as the word that counts them says.
     pub fn updates(&self, shard: u32) -> u32
         requires { shard < length self.now.shards }
-        ensures { result ≡ length (journal_at (running C.shard_table self.now) shard) }
+        ensures { result ≡ length (journal_at (running C.says self.now) shard) }
     {
         records::updates(self.state.shard(shard))
     }
@@ -193,7 +193,7 @@ impl<C: ShardCore> Machine<C> {
     /// memory.
     pub fn journal(&self, alloc: Global, shard: u32) -> Result<Vec<Entry>, OutOfMemory>
         requires { shard < length self.now.shards }
-        ensures { IfOk result (λ entries. entries.items ≡ journal_at (running C.shard_table self.now) shard) }
+        ensures { IfOk result (λ entries. entries.items ≡ journal_at (running C.says self.now) shard) }
     {
         records::journal(alloc, self.state.shard(shard))
     }
@@ -202,7 +202,7 @@ impl<C: ShardCore> Machine<C> {
     pub fn kept(&self, shard: u32, rank: u32) -> &[Entry]
         requires shard { shard < length self.now.shards }
         requires rank { rank < length self.now.calls }
-        ensures { result.now ≡ owned_by (running C.shard_table self.now) shard rank }
+        ensures { result.now ≡ owned_by (running C.says self.now) shard rank }
     {
         let kept = self.state.shard(shard);
         kept.core.entries(kept.flat.view(rank))
@@ -211,7 +211,7 @@ impl<C: ShardCore> Machine<C> {
     /// A copy of every rank's entries on a shard, rank by rank. Refused only for want of memory.
     pub fn transcripts(&self, alloc: Global, shard: u32) -> Result<Vec<Vec<Entry>>, OutOfMemory>
         requires { shard < length self.now.shards }
-        ensures { IfOk result (λ copies. map (λ t. t.items) copies.items ≡ transcripts_at (running C.shard_table self.now) shard) }
+        ensures { IfOk result (λ copies. map (λ t. t.items) copies.items ≡ transcripts_at (running C.says self.now) shard) }
     {
         let kept = self.state.shard(shard);
         let ranks = self.state.ops.by_rank.as_slice().len() as u32;
@@ -231,8 +231,8 @@ impl<C: ShardCore> Machine<C> {
     ) -> Result<Vec<Entry>, OutOfMemory>
         requires shard { shard < length self.now.shards }
         requires rank { rank < length self.now.calls }
-        ensures told { IfOk result (λ told. told.items ≡ get_or (kept_by (running C.shard_table self.now) rank) shard []) }
-        ensures among { IfOk result (λ told. slice_get (transcripts_at (running C.shard_table self.now) shard) rank ≡ Some told.items) }
+        ensures told { IfOk result (λ told. told.items ≡ get_or (kept_by (running C.says self.now) rank) shard []) }
+        ensures among { IfOk result (λ told. slice_get (transcripts_at (running C.says self.now) shard) rank ≡ Some told.items) }
     {
         records::transcript_of(alloc, self.state.shard(shard), rank)
     }
@@ -243,7 +243,7 @@ impl<C: ShardCore> Machine<C> {
     /// (`TellsAll`) what `done` tells. `rank` is less than the number of ranks. Refused only for want of memory.
     pub fn done_of(&self, alloc: Global, rank: u32) -> Result<u32, OutOfMemory>
         requires { rank < length self.now.calls }
-        ensures { IfOk result (λ done. done ≡ done_of (running C.shard_table self.now) rank) }
+        ensures { IfOk result (λ done. done ≡ done_of (running C.says self.now) rank) }
     {
         self.state.done_of(alloc, rank)
     }
@@ -252,7 +252,7 @@ impl<C: ShardCore> Machine<C> {
     #[inline(always)]
     pub fn words(&self, shard: u32) -> &Words
         requires { shard < length self.now.shards }
-        ensures { window_of (running C.shard_table self.now) shard ≡ Some result.now }
+        ensures { window_of (running C.says self.now) shard ≡ Some result.now }
     {
         self.state.shard(shard).flat.words()
     }
@@ -302,7 +302,7 @@ impl<C: TellsAll> Machine<C> {
     pub fn transcript(&self, shard: u32, rank: u32) -> &[Entry]
         requires shard { shard < length self.now.shards }
         requires rank { rank < length self.now.calls }
-        ensures { result.now ≡ get_or (kept_by (running C.shard_table self.now) rank) shard [] }
+        ensures { result.now ≡ get_or (kept_by (running C.says self.now) rank) shard [] }
     {
         let kept = self.state.shard(shard);
         kept.core.entries(kept.flat.view(rank))
@@ -311,7 +311,7 @@ impl<C: TellsAll> Machine<C> {
     /// How many of its calls the rank has done: its entries on all shards.
     pub fn done(&self, rank: u32) -> u32
         requires { rank < length self.now.calls }
-        ensures { result ≡ done_of (running C.shard_table self.now) rank }
+        ensures { result ≡ done_of (running C.says self.now) rank }
     {
         self.state.done(rank)
     }
@@ -323,9 +323,9 @@ impl<C: TellsAll> Machine<C> {
 /// journal and transcripts are legal; and each rank's entries are its first calls, each once, in its order. For every lock. There is
 /// nothing to run.
 pub fn soundness<C: ShardCore>(machine: &Machine<C>)
-    ensures sound { IsSound (running C.shard_table machine.now) }
-    ensures stays { StaysSound (running C.shard_table machine.now) }
-    ensures changes { OnlyWritersEverChange (running C.shard_table machine.now) }
+    ensures sound { IsSound (running C.says machine.now) }
+    ensures stays { StaysSound (running C.says machine.now) }
+    ensures changes { OnlyWritersEverChange (running C.says machine.now) }
 {
     let _ = &machine.state;
 }

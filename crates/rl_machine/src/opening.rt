@@ -30,12 +30,12 @@ pub fn opening<C: ShardCore>(
     nodes: u32,
     rooms: &[u32],
 ) -> Result<ShardState<C>, OutOfMemory>
-    requires fits { GeomFits (C.shard_table core).site.geom }
-    requires rooms { sum (C.shard_table core).site.rooms ≤ 20000 }
-    requires few { lock_base (C.shard_table core).site + (C.shard_table core).behind < 2 ^ 32 }
-    requires ranks { length rooms.now ≡ length (C.layout core).node_of }
+    requires fits { GeomFits (C.says core).table.site.geom }
+    requires rooms { sum (C.says core).table.site.rooms ≤ 20000 }
+    requires few { lock_base (C.says core).table.site + (C.says core).table.behind < 2 ^ 32 }
+    requires ranks { length rooms.now ≡ length (C.says core).layout.node_of }
     requires few_ranks { length rooms.now < 2 ^ 32 }
-    ensures made { IfOk result (λ s. running_shard C.shard_table s ≡ first_shard (C.shard_table core) nodes rooms.now) }
+    ensures made { IfOk result (λ s. running_shard C.says s ≡ first_shard (C.says core).table nodes rooms.now) }
     ensures core { IfOk result (λ s. s.core ≡ core) }
 {
     let words = Words::holding(alloc, first_words(alloc, &core)?, nodes)?;

@@ -15,18 +15,18 @@ use std::alloc::{AllocError as OutOfMemory, Global};
 
 /// How many updates were done on the shard.
 pub fn updates<C: ShardCore>(shard: &ShardState<C>) -> u32
-    requires { IsGood C.good shard.now }
-    ensures { result ≡ length (shard_journal (running_shard C.shard_table shard.now)) }
+    requires { IsGood C.says shard.now }
+    ensures { result ≡ length (shard_journal (running_shard C.says shard.now)) }
 {
     shard.flat.words().value(COUNT_WORD) as u32
 }
 
 /// One of the six words that the journal has for the update at a place.
 fn journal_word<C: ShardCore>(shard: &ShardState<C>, at: u32, word: u32) -> u64
-    requires good { IsGood C.good shard.now }
-    requires there { at < length (shard_journal (running_shard C.shard_table shard.now)) }
+    requires good { IsGood C.says shard.now }
+    requires there { at < length (shard_journal (running_shard C.says shard.now)) }
     requires word { word < 6 }
-    ensures { result ≡ slice_index shard.now.flat.words.words (journal_base (C.shard_table shard.now.core).site.geom + 6 * at + word) }
+    ensures { result ≡ slice_index shard.now.flat.words.words (journal_base (C.says shard.now.core).table.site.geom + 6 * at + word) }
 {
     let first = journal_base(shard.core.geom()) + ENTRY_WORDS * at;
     shard.flat.words().value(first + word)
@@ -34,9 +34,9 @@ fn journal_word<C: ShardCore>(shard: &ShardState<C>, at: u32, word: u32) -> u64
 
 /// The entry of the update at a place of the journal.
 fn update_at<C: ShardCore>(shard: &ShardState<C>, at: u32) -> Entry
-    requires good { IsGood C.good shard.now }
-    requires there { at < length (shard_journal (running_shard C.shard_table shard.now)) }
-    ensures { slice_get (shard_journal (running_shard C.shard_table shard.now)) at ≡ Some result }
+    requires good { IsGood C.says shard.now }
+    requires there { at < length (shard_journal (running_shard C.says shard.now)) }
+    ensures { slice_get (shard_journal (running_shard C.says shard.now)) at ≡ Some result }
 {
     let spelled = [
         journal_word(shard, at, 0),
@@ -54,8 +54,8 @@ pub fn journal<C: ShardCore>(
     alloc: Global,
     shard: &ShardState<C>,
 ) -> Result<Vec<Entry>, OutOfMemory>
-    requires { IsGood C.good shard.now }
-    ensures { IfOk result (λ entries. entries.items ≡ shard_journal (running_shard C.shard_table shard.now)) }
+    requires { IsGood C.says shard.now }
+    ensures { IfOk result (λ entries. entries.items ≡ shard_journal (running_shard C.says shard.now)) }
 {
     let count = updates(shard);
     let mut entries = Vec::with_capacity(alloc, count as usize)?;
@@ -72,10 +72,10 @@ fn transcript_by<C: ShardCore>(
     journal: &[Entry],
     rank: u32,
 ) -> Result<Vec<Entry>, OutOfMemory>
-    requires good { IsGood C.good shard.now }
-    requires journal { journal.now ≡ shard_journal (running_shard C.shard_table shard.now) }
+    requires good { IsGood C.says shard.now }
+    requires journal { journal.now ≡ shard_journal (running_shard C.says shard.now) }
     requires there { rank < length shard.now.flat.views.items }
-    ensures { IfOk result (λ told. told.items ≡ kept_on rank (running_shard C.shard_table shard.now)) }
+    ensures { IfOk result (λ told. told.items ≡ kept_on rank (running_shard C.says shard.now)) }
 {
     let view = shard.flat.view(rank);
     let words = shard.flat.words();
@@ -88,9 +88,9 @@ pub fn transcript_of<C: ShardCore>(
     shard: &ShardState<C>,
     rank: u32,
 ) -> Result<Vec<Entry>, OutOfMemory>
-    requires good { IsGood C.good shard.now }
+    requires good { IsGood C.says shard.now }
     requires there { rank < length shard.now.flat.views.items }
-    ensures { IfOk result (λ told. told.items ≡ kept_on rank (running_shard C.shard_table shard.now)) }
+    ensures { IfOk result (λ told. told.items ≡ kept_on rank (running_shard C.says shard.now)) }
 {
     let journal = journal(alloc, shard)?;
     transcript_by(alloc, shard, journal.as_slice(), rank)
@@ -102,9 +102,9 @@ pub fn transcripts<C: ShardCore>(
     shard: &ShardState<C>,
     ranks: u32,
 ) -> Result<Vec<Vec<Entry>>, OutOfMemory>
-    requires good { IsGood C.good shard.now }
+    requires good { IsGood C.says shard.now }
     requires all { length shard.now.flat.views.items ≡ ranks }
-    ensures { IfOk result (λ transcripts. map (λ t. t.items) transcripts.items ≡ transcripts_on (running_shard C.shard_table shard.now)) }
+    ensures { IfOk result (λ transcripts. map (λ t. t.items) transcripts.items ≡ transcripts_on (running_shard C.says shard.now)) }
 {
     let journal = journal(alloc, shard)?;
     let mut transcripts = Vec::new(alloc);

@@ -1,11 +1,9 @@
 //! One shard in plain vectors, and what a step does on it.
 
-ghost use Rattle.std.specs.Prelude.{◌≡◌, ◌+◌, ◌<◌, ◌≤◌, ◌++◌, List, length, slice_set, vec_len, vec_capacity, false, IfOk, OnErr};
-ghost use Rattle.rl_step.specs.declared.events.Event.{Event as TheEvent};
-ghost use Rattle.rl_step.specs.Lock.{Deed};
+ghost use Rattle.std.specs.Prelude.{◌≡◌, ◌+◌, ◌<◌, ◌≤◌, ◌++◌, length, vec_len, vec_capacity, false, IfOk, OnErr};
 ghost use Rattle.rl_core.specs.ShardLaws.{MayOpen};
-ghost use Rattle.rl_machine.specs.ShardSteps.{numbered, opened_on, atom_on, answer_on};
-ghost use Rattle.rl_machine.specs.State.{shard_view, running_shard, IsGood, IsGoodFlat, OfView};
+ghost use Rattle.rl_machine.specs.ShardSteps.{numbered, opened_on, atom_on, block_on, answer_on};
+ghost use Rattle.rl_machine.specs.State.{shard_view, running_shard, IsGood, IsGoodFlat, StaysGood, OfView, ViewBecomes};
 
 use arrayvec::ArrayVec;
 use rl_core::ShardCore;
@@ -29,15 +27,15 @@ pub struct ShardState<C: ShardCore> {
 
 /// Opens a block of the rank, where none is open.
 fn open_in<C: ShardCore>(core: &C, flat: &mut Flat<C>, rank: u32, calls: &[Call], seq: u32)
-    requires good { IsGoodFlat C.good core.now flat.old }
+    requires good { IsGoodFlat C.says core.now flat.old }
     requires few { length calls.now ≤ 8 }
     requires there { rank < length flat.old.views.items }
-    requires closed { OfView flat.old.views.items rank (λ x. ((C.shard_table core.now).own x).is_open ≡ false) }
-    requires fits { OfView flat.old.views.items rank (λ x. MayOpen (C.shard_table core.now) rank x calls.now seq) }
-    ensures keeps { (t : List TheEvent) (ds : List Deed) → C.good core.now flat.old.words flat.old.views.items t ds → C.good core.now flat.new.words flat.new.views.items t ds }
+    requires closed { OfView flat.old.views.items rank (λ x. ((C.says core.now).table.own x).is_open ≡ false) }
+    requires fits { OfView flat.old.views.items rank (λ x. MayOpen (C.says core.now).table rank x calls.now seq) }
+    ensures keeps { StaysGood (C.says core.now) flat.old flat.new }
     ensures words { flat.new.words ≡ flat.old.words }
     ensures there { rank < length flat.new.views.items }
-    ensures views { OfView flat.old.views.items rank (λ x. flat.new.views.items ≡ slice_set flat.old.views.items rank ((C.shard_table core.now).opened calls.now seq x)) }
+    ensures views { ViewBecomes flat.old flat.new rank ((C.says core.now).table.opened calls.now seq) }
 {
     core.open_block(flat.view_mut(rank), calls, seq);
 }
@@ -45,11 +43,11 @@ fn open_in<C: ShardCore>(core: &C, flat: &mut Flat<C>, rank: u32, calls: &[Call]
 /// The same, on a shard.
 pub fn open_on<C: ShardCore>(shard: &mut ShardState<C>, rank: u32, calls: &[Call], seq: u32)
     requires there { rank < length shard.old.flat.views.items }
-    requires good { IsGood C.good shard.old }
+    requires good { IsGood C.says shard.old }
     requires few { length calls.now ≤ 8 }
-    requires closed { OfView shard.old.flat.views.items rank (λ x. ((C.shard_table shard.old.core).own x).is_open ≡ false) }
-    requires fits { OfView shard.old.flat.views.items rank (λ x. MayOpen (C.shard_table shard.old.core) rank x calls.now seq) }
-    ensures opened { running_shard C.shard_table shard.new ≡ opened_on rank calls.now seq (running_shard C.shard_table shard.old) }
+    requires closed { OfView shard.old.flat.views.items rank (λ x. ((C.says shard.old.core).table.own x).is_open ≡ false) }
+    requires fits { OfView shard.old.flat.views.items rank (λ x. MayOpen (C.says shard.old.core).table rank x calls.now seq) }
+    ensures opened { running_shard C.says shard.new ≡ opened_on rank calls.now seq (running_shard C.says shard.old) }
     ensures core { shard.new.core ≡ shard.old.core }
 {
     open_in(&shard.core, &mut shard.flat, rank, calls, seq);
@@ -69,10 +67,10 @@ fn note(events: &mut Vec<(u32, Event)>, step: u32, noted: &[Event])
 #[inline(always)]
 fn atom_on<C: ShardCore>(shard: &mut ShardState<C>, rank: u32, step: u32) -> Stepped
     requires there { rank < length shard.old.flat.views.items }
-    requires good { IsGood C.good shard.old }
+    requires good { IsGood C.says shard.old }
     requires room { vec_len shard.old.events + 8 ≤ vec_capacity shard.old.events }
-    ensures made { running_shard C.shard_table shard.new ≡ atom_on rank step (running_shard C.shard_table shard.old) }
-    ensures answer { result ≡ answer_on rank (running_shard C.shard_table shard.old) }
+    ensures made { running_shard C.says shard.new ≡ atom_on rank step (running_shard C.says shard.old) }
+    ensures answer { result ≡ answer_on rank (running_shard C.says shard.old) }
     ensures core { shard.new.core ≡ shard.old.core }
 {
     let mut events = ArrayVec::new();
@@ -89,9 +87,9 @@ pub fn atom_at<C: ShardCore>(
     step: u32,
 ) -> Result<Stepped, OutOfMemory>
     requires there { rank < length shard.old.flat.views.items }
-    requires good { IsGood C.good shard.old }
-    ensures made { IfOk result (λ _. running_shard C.shard_table shard.new ≡ atom_on rank step (running_shard C.shard_table shard.old)) }
-    ensures answer { IfOk result (λ answer. answer ≡ answer_on rank (running_shard C.shard_table shard.old)) }
+    requires good { IsGood C.says shard.old }
+    ensures made { IfOk result (λ _. running_shard C.says shard.new ≡ atom_on rank step (running_shard C.says shard.old)) }
+    ensures answer { IfOk result (λ answer. answer ≡ answer_on rank (running_shard C.says shard.old)) }
     ensures core { shard.new.core ≡ shard.old.core }
     ensures kept { OnErr result (shard_view shard.new ≡ shard_view shard.old) }
 {
@@ -110,12 +108,12 @@ pub fn block_at<C: ShardCore>(
     seq: u32,
 ) -> Result<Stepped, OutOfMemory>
     requires there { rank < length shard.old.flat.views.items }
-    requires good { IsGood C.good shard.old }
+    requires good { IsGood C.says shard.old }
     requires few { length calls.now ≤ 8 }
-    requires closed { OfView shard.old.flat.views.items rank (λ x. ((C.shard_table shard.old.core).own x).is_open ≡ false) }
-    requires fits { OfView shard.old.flat.views.items rank (λ x. MayOpen (C.shard_table shard.old.core) rank x calls.now seq) }
-    ensures made { IfOk result (λ _. running_shard C.shard_table shard.new ≡ atom_on rank step (opened_on rank calls.now seq (running_shard C.shard_table shard.old))) }
-    ensures answer { IfOk result (λ answer. answer ≡ answer_on rank (opened_on rank calls.now seq (running_shard C.shard_table shard.old))) }
+    requires closed { OfView shard.old.flat.views.items rank (λ x. ((C.says shard.old.core).table.own x).is_open ≡ false) }
+    requires fits { OfView shard.old.flat.views.items rank (λ x. MayOpen (C.says shard.old.core).table rank x calls.now seq) }
+    ensures made { IfOk result (λ _. running_shard C.says shard.new ≡ block_on rank step calls.now seq (running_shard C.says shard.old)) }
+    ensures answer { IfOk result (λ answer. answer ≡ answer_on rank (opened_on rank calls.now seq (running_shard C.says shard.old))) }
     ensures core { shard.new.core ≡ shard.old.core }
     ensures kept { OnErr result (shard_view shard.new ≡ shard_view shard.old) }
 {

@@ -1,16 +1,14 @@
 //! The shards of a machine before its first step.
 
-ghost use Rattle.std.specs.Prelude.{◌≡◌, ◌<◌, ◌≤◌, length, map, replicate, sum, IfOk};
+ghost use Rattle.std.specs.Prelude.{◌≡◌, ◌<◌, ◌≤◌, length, replicate, sum, IfOk};
 ghost use Rattle.std.specs.List.{AllByRecursion};
 ghost use Rattle.rl_model.specs.Geom.{GeomFits};
 ghost use Rattle.rl_word.specs.Shapes.{IsProper, layout_of};
 ghost use Rattle.rl_step.specs.Batches.{HandsOn};
 ghost use Rattle.rl_ops.specs.Ops.{total_calls};
-ghost use Rattle.rl_machine.specs.Cores.{EachCore, EachHandsOn};
-ghost use Rattle.rl_machine.specs.Running.{shard_run, shard_cores};
-ghost use Rattle.rl_machine.specs.Start.{first_shard, start_of};
-ghost use Rattle.rl_core.specs.ShardTables.{site_with};
-ghost use Rattle.rl_machine.specs.State.{shard_view, running_shard};
+ghost use Rattle.rl_machine.specs.Cores.{EachSits, EachHandsOn};
+ghost use Rattle.rl_machine.specs.Start.{first_shard_by, first_shards_of};
+ghost use Rattle.rl_machine.specs.State.{running_shard, running_shards, cores_in};
 
 use crate::opening::opening;
 use crate::shard::ShardState;
@@ -45,9 +43,9 @@ fn first_shard<C: ShardCore>(
     requires ranks { length room.calls.items ≡ length shape.now.node_of }
     requires update_ranks { length room.updates.items ≡ length shape.now.node_of }
     requires few { sum room.updates.items ≤ 20000 }
-    ensures made { IfOk result (λ s. running_shard C.shard_table s ≡ first_shard (C.defined shape.now home knobs (site_with geom shard room.updates.items)) shape.now.nodes room.calls.items) }
-    ensures promised { IfOk result (λ s. HandsOn (C.further s.core) (C.promised shape.now home knobs)) }
-    ensures layout { IfOk result (λ s. C.layout s.core ≡ layout_of shape.now) }
+    ensures made { IfOk result (λ s. running_shard C.says s ≡ first_shard_by C.defined shape.now knobs home geom shard room) }
+    ensures promised { IfOk result (λ s. HandsOn (C.says s.core).further (C.promised shape.now home knobs)) }
+    ensures layout { IfOk result (λ s. (C.says s.core).layout ≡ layout_of shape.now) }
 {
     let Room { calls, updates } = room;
     let site = Site {
@@ -76,9 +74,9 @@ pub fn first_shards<C: ShardCore>(
     requires homes { AllByRecursion (λ home. home < shape.now.nodes) homes.now }
     requires ranks { length ops.now.by_rank ≡ length shape.now.node_of }
     requires few { total_calls ops.now.by_rank ≤ 20000 }
-    ensures made { IfOk result (λ shards. map (shard_run C.shard_table) (map shard_view shards.items) ≡ (start_of C.defined shape.now knobs geom homes.now ops.now).shards) }
-    ensures promised { IfOk result (λ shards. EachHandsOn C.further C.promised shape.now knobs homes.now (shard_cores (map shard_view shards.items))) }
-    ensures layout { IfOk result (λ shards. EachCore (λ home core. C.layout core ≡ layout_of shape.now) homes.now (shard_cores (map shard_view shards.items))) }
+    ensures made { IfOk result (λ s. running_shards C.says s.items ≡ first_shards_of C.defined shape.now knobs geom homes.now ops.now) }
+    ensures promised { IfOk result (λ shards. EachHandsOn C.says C.promised shape.now knobs homes.now (cores_in shards.items)) }
+    ensures layout { IfOk result (λ shards. EachSits C.says (layout_of shape.now) homes.now (cores_in shards.items)) }
 {
     let mut rooms = ops.rooms(alloc, geom)?;
     let mut shards = Vec::new(alloc);

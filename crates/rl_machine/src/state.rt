@@ -4,10 +4,10 @@ ghost use Rattle.std.specs.Prelude.{ℕ, ◌≡◌, ◌+◌, ◌<◌, ◌≤◌,
 ghost use Rattle.rl_model.specs.Geom.{GeomFits};
 ghost use Rattle.rl_step.specs.Answers.{steps_made};
 ghost use Rattle.rl_core.specs.Asks.{place_after, block_from};
-ghost use Rattle.rl_machine.specs.Run.{done_of, place_of, has_open_call, opens, atom_made, atom_answer, stepped, answer_of_step};
-ghost use Rattle.rl_machine.specs.Running.{running, cores_of};
+ghost use Rattle.rl_machine.specs.Run.{done_of, place_of, stands_on, core_there, has_open_call, opens, atom_made, atom_answer, stepped, answer_of_step};
+ghost use Rattle.rl_machine.specs.Running.{cores_of};
 ghost use Rattle.rl_machine.specs.MachineGood.{IsMachine};
-ghost use Rattle.rl_machine.specs.State.{running_shard, machine_view, IsGood};
+ghost use Rattle.rl_machine.specs.State.{running_shard, machine_view, IsGood, running_machine};
 
 use crate::records::transcript_of;
 use crate::shard::{ShardState, atom_at, block_at};
@@ -105,8 +105,8 @@ impl<C: ShardCore> MachineState<C> {
     #[inline(always)]
     pub fn place(&self, rank: u32) -> u32
         requires there { rank < length self.now.ops.by_rank }
-        requires good { IsMachine C C.View C.shard_table C.good (machine_view self.now) }
-        ensures place { result ≡ place_of (running C.shard_table (machine_view self.now)) rank }
+        requires good { IsMachine C.says (machine_view self.now) }
+        ensures place { result ≡ place_of (running_machine C.says self.now) rank }
         ensures there { result < length self.now.shards.items }
     {
         let at = rank as usize;
@@ -117,12 +117,12 @@ impl<C: ShardCore> MachineState<C> {
     #[inline(always)]
     pub fn shard(&self, shard: u32) -> &ShardState<C>
         requires there { shard < length self.now.shards.items }
-        requires good { IsMachine C C.View C.shard_table C.good (machine_view self.now) }
-        ensures has { slice_get (running C.shard_table (machine_view self.now)).shards shard ≡ Some (running_shard C.shard_table result.now) }
+        requires good { IsMachine C.says (machine_view self.now) }
+        ensures has { slice_get (running_machine C.says self.now).shards shard ≡ Some (running_shard C.says result.now) }
         ensures core { slice_get (cores_of (machine_view self.now)) shard ≡ Some result.now.core }
         ensures ranks { length result.now.flat.views.items ≡ length self.now.ops.by_rank }
         ensures few { length result.now.flat.views.items < 2 ^ 32 }
-        ensures good { IsGood C.good result.now }
+        ensures good { IsGood C.says result.now }
     {
         &self.shards[shard as usize]
     }
@@ -131,11 +131,11 @@ impl<C: ShardCore> MachineState<C> {
     #[inline(always)]
     pub fn shard_of_rank(&self, rank: u32) -> &ShardState<C>
         requires there { rank < length self.now.ops.by_rank }
-        requires good { IsMachine C C.View C.shard_table C.good (machine_view self.now) }
-        ensures has { slice_get (running C.shard_table (machine_view self.now)).shards (place_of (running C.shard_table (machine_view self.now)) rank) ≡ Some (running_shard C.shard_table result.now) }
-        ensures core { slice_get (cores_of (machine_view self.now)) (place_of (running C.shard_table (machine_view self.now)) rank) ≡ Some result.now.core }
+        requires good { IsMachine C.says (machine_view self.now) }
+        ensures has { stands_on (running_machine C.says self.now) rank ≡ Some (running_shard C.says result.now) }
+        ensures core { core_there (cores_of (machine_view self.now)) (running_machine C.says self.now) rank ≡ Some result.now.core }
         ensures ranks { length result.now.flat.views.items ≡ length self.now.ops.by_rank }
-        ensures good { IsGood C.good result.now }
+        ensures good { IsGood C.says result.now }
     {
         self.shard(self.place(rank))
     }
@@ -157,10 +157,10 @@ impl<C: ShardCore> MachineState<C> {
     #[inline(always)]
     fn open_place(&self, rank: u32) -> Option<u32>
         requires there { rank < length self.now.ops.by_rank }
-        requires good { IsMachine C C.View C.shard_table C.good (machine_view self.now) }
-        ensures stands { IfSome result (λ place. place ≡ place_of (running C.shard_table (machine_view self.now)) rank) }
+        requires good { IsMachine C.says (machine_view self.now) }
+        ensures stands { IfSome result (λ place. place ≡ place_of (running_machine C.says self.now) rank) }
         ensures there { IfSome result (λ place. place < length self.now.shards.items) }
-        ensures open { IfSome result (λ _. opens (running C.shard_table (machine_view self.now)) rank ≡ false) }
+        ensures open { IfSome result (λ _. opens (running_machine C.says self.now) rank ≡ false) }
     {
         let place = self.seen_place(rank)?;
         let shard = self.shard(place);
@@ -175,8 +175,8 @@ impl<C: ShardCore> MachineState<C> {
     #[inline(always)]
     pub fn is_open(&self, rank: u32) -> bool
         requires there { rank < length self.now.ops.by_rank }
-        requires good { IsMachine C C.View C.shard_table C.good (machine_view self.now) }
-        ensures { result ≡ has_open_call (running C.shard_table (machine_view self.now)) rank }
+        requires good { IsMachine C.says (machine_view self.now) }
+        ensures { result ≡ has_open_call (running_machine C.says self.now) rank }
     {
         let shard = self.shard_of_rank(rank);
         shard.core.is_open(shard.flat.view(rank))
@@ -186,7 +186,7 @@ impl<C: ShardCore> MachineState<C> {
     #[inline(always)]
     fn has_left(&self, rank: u32) -> bool
         requires there { rank < length self.now.ops.by_rank }
-        requires good { IsMachine C C.View C.shard_table C.good (machine_view self.now) }
+        requires good { IsMachine C.says (machine_view self.now) }
         ensures { result ≡ nat_lt (slice_index self.now.opened.items rank) (length (get_or self.now.ops.by_rank rank [])) }
     {
         let at = rank as usize;
@@ -197,8 +197,8 @@ impl<C: ShardCore> MachineState<C> {
     #[inline(always)]
     pub fn opens(&self, rank: u32) -> bool
         requires there { rank < length self.now.ops.by_rank }
-        requires good { IsMachine C C.View C.shard_table C.good (machine_view self.now) }
-        ensures { result ≡ opens (running C.shard_table (machine_view self.now)) rank }
+        requires good { IsMachine C.says (machine_view self.now) }
+        ensures { result ≡ opens (running_machine C.says self.now) rank }
     {
         !self.is_open(rank) && self.has_left(rank)
     }
@@ -206,8 +206,8 @@ impl<C: ShardCore> MachineState<C> {
     /// How many entries the rank has on all shards, by its views and by the words.
     pub fn done_of(&self, alloc: Global, rank: u32) -> Result<u32, OutOfMemory>
         requires there { rank < length self.now.ops.by_rank }
-        requires good { IsMachine C C.View C.shard_table C.good (machine_view self.now) }
-        ensures { IfOk result (λ done. done ≡ done_of (running C.shard_table (machine_view self.now)) rank) }
+        requires good { IsMachine C.says (machine_view self.now) }
+        ensures { IfOk result (λ done. done ≡ done_of (running_machine C.says self.now) rank) }
     {
         let mut done = 0;
         for shard in &self.shards {
@@ -222,8 +222,8 @@ impl<C: TellsAll> MachineState<C> {
     /// How many entries the rank has on all shards.
     pub fn done(&self, rank: u32) -> u32
         requires there { rank < length self.now.ops.by_rank }
-        requires good { IsMachine C C.View C.shard_table C.good (machine_view self.now) }
-        ensures { result ≡ done_of (running C.shard_table (machine_view self.now)) rank }
+        requires good { IsMachine C.says (machine_view self.now) }
+        ensures { result ≡ done_of (running_machine C.says self.now) rank }
     {
         let mut done = 0;
         for shard in &self.shards {
@@ -241,13 +241,13 @@ fn step_at<C: ShardCore>(
     place: u32,
 ) -> Result<FullStep, OutOfMemory>
     requires there { rank < length state.old.ops.by_rank }
-    requires good { IsMachine C C.View C.shard_table C.good (machine_view state.old) }
+    requires good { IsMachine C.says (machine_view state.old) }
     requires few { steps_made state.old.steps < 2 ^ 32 - 1 }
-    requires stands { place ≡ place_of (running C.shard_table (machine_view state.old)) rank }
+    requires stands { place ≡ place_of (running_machine C.says state.old) rank }
     requires place { place < length state.old.shards.items }
-    ensures made { IfOk result (λ _. running C.shard_table (machine_view state.new) ≡ atom_made (running C.shard_table (machine_view state.old)) rank) }
-    ensures answer { IfOk result (λ made. made.answer ≡ atom_answer (running C.shard_table (machine_view state.old)) rank) }
-    ensures place { IfOk result (λ made. made.place ≡ place_of (running C.shard_table (machine_view state.new)) rank) }
+    ensures made { IfOk result (λ _. running_machine C.says state.new ≡ atom_made (running_machine C.says state.old) rank) }
+    ensures answer { IfOk result (λ made. made.answer ≡ atom_answer (running_machine C.says state.old) rank) }
+    ensures place { IfOk result (λ made. made.place ≡ place_of (running_machine C.says state.new) rank) }
     ensures cores { cores_of (machine_view state.new) ≡ cores_of (machine_view state.old) }
     ensures kept { OnErr result (machine_view state.new ≡ machine_view state.old) }
 {
@@ -265,11 +265,11 @@ pub fn step_there<C: ShardCore>(
     rank: u32,
 ) -> Result<FullStep, OutOfMemory>
     requires there { rank < length state.old.ops.by_rank }
-    requires good { IsMachine C C.View C.shard_table C.good (machine_view state.old) }
+    requires good { IsMachine C.says (machine_view state.old) }
     requires few { steps_made state.old.steps < 2 ^ 32 - 1 }
-    ensures made { IfOk result (λ _. running C.shard_table (machine_view state.new) ≡ atom_made (running C.shard_table (machine_view state.old)) rank) }
-    ensures answer { IfOk result (λ made. made.answer ≡ atom_answer (running C.shard_table (machine_view state.old)) rank) }
-    ensures place { IfOk result (λ made. made.place ≡ place_of (running C.shard_table (machine_view state.new)) rank) }
+    ensures made { IfOk result (λ _. running_machine C.says state.new ≡ atom_made (running_machine C.says state.old) rank) }
+    ensures answer { IfOk result (λ made. made.answer ≡ atom_answer (running_machine C.says state.old) rank) }
+    ensures place { IfOk result (λ made. made.place ≡ place_of (running_machine C.says state.new) rank) }
     ensures cores { cores_of (machine_view state.new) ≡ cores_of (machine_view state.old) }
     ensures kept { OnErr result (machine_view state.new ≡ machine_view state.old) }
 {
@@ -284,12 +284,12 @@ pub fn step_block<C: ShardCore>(
     rank: u32,
 ) -> Result<FullStep, OutOfMemory>
     requires there { rank < length state.old.ops.by_rank }
-    requires good { IsMachine C C.View C.shard_table C.good (machine_view state.old) }
+    requires good { IsMachine C.says (machine_view state.old) }
     requires few { steps_made state.old.steps < 2 ^ 32 - 1 }
-    requires opens { opens (running C.shard_table (machine_view state.old)) rank ≡ true }
-    ensures made { IfOk result (λ _. running C.shard_table (machine_view state.new) ≡ stepped (running C.shard_table (machine_view state.old)) rank) }
-    ensures answer { IfOk result (λ made. made.answer ≡ answer_of_step (running C.shard_table (machine_view state.old)) rank) }
-    ensures place { IfOk result (λ made. made.place ≡ place_of (running C.shard_table (machine_view state.new)) rank) }
+    requires opens { opens (running_machine C.says state.old) rank ≡ true }
+    ensures made { IfOk result (λ _. running_machine C.says state.new ≡ stepped (running_machine C.says state.old) rank) }
+    ensures answer { IfOk result (λ made. made.answer ≡ answer_of_step (running_machine C.says state.old) rank) }
+    ensures place { IfOk result (λ made. made.place ≡ place_of (running_machine C.says state.new) rank) }
     ensures cores { cores_of (machine_view state.new) ≡ cores_of (machine_view state.old) }
     ensures kept { OnErr result (machine_view state.new ≡ machine_view state.old) }
 {
@@ -311,11 +311,11 @@ pub fn step_block<C: ShardCore>(
 #[inline(always)]
 pub fn step<C: ShardCore>(state: &mut MachineState<C>, rank: u32) -> Result<FullStep, OutOfMemory>
     requires there { rank < length state.old.ops.by_rank }
-    requires good { IsMachine C C.View C.shard_table C.good (machine_view state.old) }
+    requires good { IsMachine C.says (machine_view state.old) }
     requires few { steps_made state.old.steps < 2 ^ 32 - 1 }
-    ensures made { IfOk result (λ _. running C.shard_table (machine_view state.new) ≡ stepped (running C.shard_table (machine_view state.old)) rank) }
-    ensures answer { IfOk result (λ made. made.answer ≡ answer_of_step (running C.shard_table (machine_view state.old)) rank) }
-    ensures place { IfOk result (λ made. made.place ≡ place_of (running C.shard_table (machine_view state.new)) rank) }
+    ensures made { IfOk result (λ _. running_machine C.says state.new ≡ stepped (running_machine C.says state.old) rank) }
+    ensures answer { IfOk result (λ made. made.answer ≡ answer_of_step (running_machine C.says state.old) rank) }
+    ensures place { IfOk result (λ made. made.place ≡ place_of (running_machine C.says state.new) rank) }
     ensures cores { cores_of (machine_view state.new) ≡ cores_of (machine_view state.old) }
     ensures kept { OnErr result (machine_view state.new ≡ machine_view state.old) }
 {

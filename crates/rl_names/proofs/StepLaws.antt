@@ -20,7 +20,8 @@ module _ {V : Type 0} (place : ThePlace) (naming : TheNaming) (m n last : Runnin
   o = block_opened m k
 
   -- the events that were found behind those before the step, on the rank's shard
-  pub new_is : (before after news : List (ℕ × Event)) → n ≡ o → last ≡ stepped m k → s ≡ place_of n k → t ≡ place_of last k → before ≡ trace_of n s → after ≡ trace_of last t → news ≡ drop (length before) after → news ≡ new_events m k
+  pub new_is : (before after news : List (ℕ × Event)) → n ≡ o → last ≡ stepped m k → s ≡ place_of n k → t ≡ place_of last k → before ≡ trace_of n s →
+      after ≡ trace_of last t → news ≡ drop (length before) after → news ≡ new_events m k
   new_is before after news opened made at_s at_t was is found =
       let old : before ≡ trace_of o (place_of o k) = was ∙ ap (trace_of n) at_s ∙ ap (λ z. trace_of z (place_of z k)) opened in
       let now : after ≡ trace_of (stepped m k) (place_of o k) = is ∙ ap (trace_of last) at_t ∙ ap (λ z. trace_of z (place_of z k)) made in

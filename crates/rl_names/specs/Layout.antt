@@ -1,5 +1,5 @@
 -- Where each word of a shard lies, by its name: word 0, the count, the volume, the journal; then the lock's words, and behind them those of a way of working.
-use Rattle.std.specs.Prelude.{◌≡◌, ℕ, ◌+◌, ◌-◌, ◌*◌, ◌<◌, ◌≤◌, length}
+use Rattle.std.specs.Prelude.{◌≡◌, ℕ, ◌+◌, ◌-◌, ◌*◌, ◌≤◌, length}
 use Rattle.rl_word.specs.declared.locks.LockName.{LockName}
 use Rattle.rl_word.specs.declared.locks.LockName.TheVariants as lock
 use Rattle.rl_volume.specs.Words.{state_word, key_word, value_word, link_word, cell_key_word, cell_value_word}
@@ -66,6 +66,11 @@ word_named map (word.Arrive group) = behind_ranks map + 2 * group
 word_named map (word.Depart group) = behind_ranks map + 2 * group + 1
 word_named map word.Version = behind_ranks map
 word_named map (word.Post rank i) = behind_ranks map + 9 * rank + i
+
+-- in each map of so many elements, whose ranks' words stand behind those of a tree, this is the name of the lock's word n
+abbrev pub NamesTreeWord : ℕ → ℕ → WordName → Type 0
+NamesTreeWord elements n name =
+    (map : WordMap) → map.elements ≡ elements → 1 ≤ elements → before_ranks map.lock elements ≡ of_elements elements → word_named map name ≡ map.lock_at + n
 
 -- The word is one of the shard's, as far as that is to be told: a spin lock has one word, optimistic readers have one behind the ranks', and
 -- a tree has its root.

@@ -58,16 +58,24 @@ word_words naming map w = name_words naming (name_of map w)
 abbrev pub found_words : ℕ → List (List ℕ)
 found_words found = codes "=" ∷ decimal found ∷ []
 
+-- a store, as this act, and what it writes
+abbrev pub store_words : List ℕ → TheNaming → WordMap → ℕ → ℕ → List (List ℕ)
+store_words act naming map w v = act ∷ (word_words naming map w ++ codes ":=" ∷ decimal v ∷ [])
+
+-- a compare-and-swap: its guess, what it writes where that is met, and what it found
+abbrev pub swap_words : TheNaming → WordMap → ℕ → ℕ → ℕ → ℕ → List (List ℕ)
+swap_words naming map w old new found =
+    codes "local-cas" ∷ (word_words naming map w ++ (decimal old ∷ codes "to" ∷ decimal new ∷ found_words found))
+
 -- An atom, and what it found: a load tells what it found, a store what it writes, a compare-and-swap its guess, what it writes where that is met, and
 -- what it found. What a take found its answer tells.
 abbrev pub atom_words : TheNaming → WordMap → Atom → ℕ → List (List ℕ)
 atom_words naming map (atom.Load w) found = codes "load" ∷ (word_words naming map w ++ found_words found)
-atom_words naming map (atom.Store w v) found = codes "store" ∷ (word_words naming map w ++ codes ":=" ∷ decimal v ∷ [])
-atom_words naming map (atom.LocalCas w old new) found =
-    codes "local-cas" ∷ (word_words naming map w ++ (decimal old ∷ codes "to" ∷ decimal new ∷ found_words found))
+atom_words naming map (atom.Store w v) found = store_words (codes "store") naming map w v
+atom_words naming map (atom.LocalCas w old new) found = swap_words naming map w old new found
 atom_words naming map (atom.Take n) found = codes "take" ∷ codes "card" ∷ decimal n ∷ []
 atom_words naming map (atom.CardLoad w) found = codes "card-load" ∷ (word_words naming map w ++ found_words found)
-atom_words naming map (atom.CardStore w v) found = codes "card-store" ∷ (word_words naming map w ++ codes ":=" ∷ decimal v ∷ [])
+atom_words naming map (atom.CardStore w v) found = store_words (codes "card-store") naming map w v
 atom_words naming map (atom.Leave n) found = codes "leave" ∷ codes "card" ∷ decimal n ∷ []
 
 -- the answer of a step: what was guessed where a compare was lost, or a get that reads without the lock, and which rank is in a card

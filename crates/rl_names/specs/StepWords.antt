@@ -3,6 +3,7 @@ use Rattle.std.specs.Prelude.{ℕ, List, [], ◌∷◌, ◌++◌, drop, filter, 
 use Rattle.rl_step.specs.declared.events.Event.{Event}
 use Rattle.rl_place.specs.Places.{ThePlace}
 use Rattle.rl_report.specs.Naming.{TheNaming}
+use Rattle.rl_report.specs.Printing.{spaced}
 use Rattle.rl_report.specs.Spelling.{event_words, is_printed}
 use Rattle.rl_machine.specs.declared.machine.next_atoms.NextAtom.{NextAtom}
 use Rattle.rl_machine.specs.NextAtoms.{next_by, behind_journal}
@@ -28,6 +29,10 @@ module _ {V : Type 0} where
   made_words place naming m shard None = []
   made_words place naming m shard (Some next) = shard_words (length m.shards) shard ++ atom_words naming (map_of place naming (behind_journal m shard)) next.atom next.found
 
+  -- rank k's next atom, where it stands
+  abbrev pub next_words : ThePlace → TheNaming → Running V → ℕ → List (List ℕ)
+  next_words place naming m k = made_words place naming m (place_of m k) (next_by m k)
+
   -- the events that a step of rank k adds to the shard where it stands
   abbrev pub new_events : Running V → ℕ → List (ℕ × Event)
   new_events m k = drop (length (trace_of (block_opened m k) (place_of (block_opened m k) k))) (trace_of (stepped m k) (place_of (block_opened m k) k))
@@ -35,5 +40,8 @@ module _ {V : Type 0} where
   -- a step of rank k in the state m: its atom is made once its next block is opened, where one is opened
   abbrev pub step_words : ThePlace → TheNaming → Running V → ℕ → List (List ℕ)
   step_words place naming m k =
-      made_words place naming (block_opened m k) (place_of (block_opened m k) k) (next_by (block_opened m k) k)
-      ++ (answer_words (answer_of_step m k) ++ events_words naming (new_events m k))
+      next_words place naming (block_opened m k) k ++ (answer_words (answer_of_step m k) ++ events_words naming (new_events m k))
+
+  -- and each of them after a space
+  abbrev pub spaced_step : ThePlace → TheNaming → Running V → ℕ → List ℕ
+  spaced_step place naming m k = spaced (step_words place naming m k)

@@ -4,7 +4,7 @@ ghost use Rattle.std.specs.Prelude.{◌≡◌, ◌++◌, ◌∷◌, [], codes, d
 ghost use Rattle.rl_model.specs.Geom.{GeomFits};
 ghost use Rattle.rl_report.specs.Naming.{queue_word};
 ghost use Rattle.rl_report.specs.Printing.{spaced};
-ghost use Rattle.rl_names.specs.Spelling.{post_part, name_words, word_words, found_words, atom_words, answer_words};
+ghost use Rattle.rl_names.specs.Spelling.{post_part, name_words, word_words, found_words, store_words, swap_words, atom_words, answer_words};
 
 use crate::word_map::WordMap;
 use crate::word_name::WordName;
@@ -152,7 +152,7 @@ fn put_store(
     value: u64,
 ) -> Result<(), OutOfMemory>
     requires { GeomFits map.now.geom }
-    ensures { OnOk result (out.new.items ≡ out.old.items ++ spaced (act.now ∷ (word_words naming.now map.now word ++ codes ":=" ∷ decimal value ∷ []))) }
+    ensures { OnOk result (out.new.items ≡ out.old.items ++ spaced (store_words act.now naming.now map.now word value)) }
 {
     put_act(out, naming, map, act, word)?;
     put_word(out, b":=")?;
@@ -170,7 +170,7 @@ fn put_swap(
     found: u64,
 ) -> Result<(), OutOfMemory>
     requires { GeomFits map.now.geom }
-    ensures { OnOk result (out.new.items ≡ out.old.items ++ spaced (codes "local-cas" ∷ (word_words naming.now map.now word ++ (decimal old ∷ codes "to" ∷ decimal new ∷ found_words found)))) }
+    ensures { OnOk result (out.new.items ≡ out.old.items ++ spaced (swap_words naming.now map.now word old new found)) }
 {
     put_act(out, naming, map, b"local-cas", word)?;
     put_value(out, old)?;

@@ -1,13 +1,12 @@
 //! One step of a machine, and the words that tell of it.
 
-ghost use Rattle.std.specs.Prelude.{ℕ, ◌≡◌, ◌+◌, ◌-◌, ◌<◌, ◌^◌, ◌++◌, drop, length, IfOk, OnOk};
+ghost use Rattle.std.specs.Prelude.{◌≡◌, ◌+◌, ◌-◌, ◌<◌, ◌^◌, ◌++◌, drop, length, IfOk, OnOk};
 ghost use Rattle.rl_model.specs.Geom.{GeomFits};
 ghost use Rattle.rl_step.specs.Answers.{steps_made};
 ghost use Rattle.rl_report.specs.Printing.{spaced};
 ghost use Rattle.rl_machine.specs.Running.{running};
-ghost use Rattle.rl_machine.specs.Run.{place_of, stepped, answer_of_step};
-ghost use Rattle.rl_machine.specs.NextAtoms.{next_by};
-ghost use Rattle.rl_names.specs.StepWords.{shard_words, told_words, events_words, made_words, step_words};
+ghost use Rattle.rl_machine.specs.Run.{stepped, answer_of_step};
+ghost use Rattle.rl_names.specs.StepWords.{shard_words, told_words, events_words, next_words, spaced_step};
 
 use crate::printing::{put_answer, put_atom};
 use crate::word_map::WordMap;
@@ -70,7 +69,7 @@ fn put_made<C: ShardCore>(
 ) -> Result<(), OutOfMemory>
     requires there { rank < length machine.now.calls }
     requires fits { GeomFits place.now.geom }
-    ensures { let m = running C.shard_table machine.now in OnOk result (out.new.items ≡ out.old.items ++ spaced (made_words place.now naming.now m (place_of m rank) (next_by m rank))) }
+    ensures { OnOk result (out.new.items ≡ out.old.items ++ spaced (next_words place.now naming.now (running C.says machine.now) rank)) }
 {
     let Some(next) = machine.next_atom(rank) else {
         return Ok(());
@@ -94,9 +93,9 @@ pub fn put_step<C: ShardCore>(
     requires there { rank < length machine.old.calls }
     requires few { steps_made machine.old.steps < 2 ^ 32 - 1 }
     requires fits { GeomFits place.now.geom }
-    ensures text { IfOk result (λ _. out.new.items ≡ out.old.items ++ spaced (step_words place.now naming.now (running C.shard_table machine.old) rank)) }
-    ensures answer { IfOk result (λ answer. answer ≡ answer_of_step (running C.shard_table machine.old) rank) }
-    ensures stepped { IfOk result (λ _. running C.shard_table machine.new ≡ stepped (running C.shard_table machine.old) rank) }
+    ensures text { IfOk result (λ _. out.new.items ≡ out.old.items ++ spaced_step place.now naming.now (running C.says machine.old) rank) }
+    ensures answer { IfOk result (λ answer. answer ≡ answer_of_step (running C.says machine.old) rank) }
+    ensures stepped { IfOk result (λ _. running C.says machine.new ≡ stepped (running C.says machine.old) rank) }
     ensures counted { IfOk result (λ _. steps_made machine.new.steps ≡ steps_made machine.old.steps + 1) }
     ensures calls { IfOk result (λ _. machine.new.calls ≡ machine.old.calls) }
 {

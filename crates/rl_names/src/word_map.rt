@@ -1,9 +1,9 @@
 //! Where the parts of a shard's words begin, and the name of each word.
 
-ghost use Rattle.std.specs.Prelude.{◌≡◌, ◌+◌, ◌*◌, ◌≤◌};
+ghost use Rattle.std.specs.Prelude.{◌≡◌, ◌+◌, ◌*◌};
 ghost use Rattle.rl_model.specs.Geom.{GeomFits};
 ghost use Rattle.rl_names.specs.declared.word_map.WordMap.{WordMap as TheMap};
-ghost use Rattle.rl_names.specs.Layout.{map_of, of_elements, before_ranks, ranks_at, behind_ranks, word_named, HasWord, IsWordOf};
+ghost use Rattle.rl_names.specs.Layout.{map_of, of_elements, before_ranks, ranks_at, behind_ranks, word_named, NamesTreeWord, HasWord, IsWordOf};
 ghost use Rattle.rl_names.specs.Names as names;
 
 use crate::word_name::WordName;
@@ -136,7 +136,7 @@ fn of_elements(elements: u32) -> u64
 /// The words of a tree.
 fn tree_name(elements: u32, n: u32) -> WordName
     ensures name { result ≡ names.tree_name elements n }
-    ensures back { (map : TheMap) → map.elements ≡ elements → 1 ≤ elements → before_ranks map.lock elements ≡ of_elements elements → word_named map result ≡ map.lock_at + n }
+    ensures back { NamesTreeWord elements n result }
 {
     let ranks_at = of_elements(elements);
     if n < elements {

@@ -101,8 +101,14 @@ one_more out a b piece now next so_far put e = put ∙ ap (λ (t : List ℕ). t 
 pub two_more : (out a b p q now mid next : List ℕ) → now ≡ out ++ a → mid ≡ now ++ p → next ≡ mid ++ q → b ≡ a ++ (p ++ q) → next ≡ out ++ b
 two_more out a b p q now mid next so_far first second e = one_more out a b (p ++ q) now next so_far (second ∙ ap (λ (t : List ℕ). t ++ q) first ∙ append_assoc now p q) e
 
--- all sections, one after the other
-pub printed : (place : ThePlace) (nodes : List Path) (first levels lock geom ranks homes last : List ℕ) → nodes ≡ node_paths place.paths
-    → first ≡ codes "rmalock-place 1\n" → levels ≡ first ++ line_text (setting_words (codes "levels") place.levels) → lock ≡ levels ++ text_of (lock_lines place.lock) → geom ≡ lock ++ text_of (geom_lines place.geom)
-    → ranks ≡ geom ++ text_of (rank_lines 0 place.paths) → homes ≡ ranks ++ text_of (home_lines nodes 0 place.homes) → last ≡ homes ++ codes "end\n" → last ≡ place_spelling place
-printed place nodes first levels lock geom ranks homes last same a b c d e f g = rw (g, f, e, d, c, b, a, same) (sym (in_sections place))
+-- what stood before all pieces stands before the whole
+pulled : (start a b c d e f g : List ℕ) → ((((((start ++ a) ++ b) ++ c) ++ d) ++ e) ++ f) ++ g ≡ start ++ ((((((a ++ b) ++ c) ++ d) ++ e) ++ f) ++ g)
+pulled start a b c d e f g = simp append_assoc
+
+-- all sections, one after the other, behind what was there before
+pub printed : (place : ThePlace) (start first levels lock geom ranks homes last : List ℕ)
+    → first ≡ start ++ codes "rmalock-place 1\n" → levels ≡ first ++ line_text (setting_words (codes "levels") place.levels) → lock ≡ levels ++ text_of (lock_lines place.lock) → geom ≡ lock ++ text_of (geom_lines place.geom)
+    → ranks ≡ geom ++ text_of (rank_lines 0 place.paths) → homes ≡ ranks ++ text_of (home_lines (node_paths place.paths) 0 place.homes) → last ≡ homes ++ codes "end\n" → last ≡ start ++ place_spelling place
+printed place start first levels lock geom ranks homes last a b c d e f g =
+    rw (g, f, e, d, c, b, a) (pulled start (codes "rmalock-place 1\n") (line_text (setting_words (codes "levels") place.levels)) (text_of (lock_lines place.lock)) (text_of (geom_lines place.geom)) (text_of (rank_lines 0 place.paths)) (text_of (home_lines (node_paths place.paths) 0 place.homes)) (codes "end\n")
+    ∙ ap (λ (t : List ℕ). start ++ t) (sym (in_sections place)))

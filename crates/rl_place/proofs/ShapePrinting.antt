@@ -39,33 +39,38 @@ zip-none (x ∷ xs) (y ∷ ys) (inr e) = absurd (omega (arith, e))
 
 -- ---- the sections
 
--- the first line, the sizes and three sections, written one after the other, and the last line
-sections : (o1 o2 o3 o4 o5 o6 : List ℕ) (sizes : List (List ℕ)) (nodes elements shards : List (List (List ℕ))) → o1 ≡ codes "rmalock-shape 1\n" → o2 ≡ o1 ++ line_text sizes
+-- what stood before all pieces stands before the whole
+pulled : (start a b c d e f : List ℕ) → (((((start ++ a) ++ b) ++ c) ++ d) ++ e) ++ f ≡ start ++ (((((a ++ b) ++ c) ++ d) ++ e) ++ f)
+pulled start a b c d e f = simp append_assoc
+
+-- the first line, the sizes and three sections, written one after the other behind what was there before, and the last line
+sections : (start o1 o2 o3 o4 o5 o6 : List ℕ) (sizes : List (List ℕ)) (nodes elements shards : List (List (List ℕ))) → o1 ≡ start ++ codes "rmalock-shape 1\n" → o2 ≡ o1 ++ line_text sizes
     → o3 ≡ o2 ++ text_of nodes → o4 ≡ o3 ++ text_of elements → o5 ≡ o4 ++ text_of shards → o6 ≡ o5 ++ codes "end\n"
-    → o6 ≡ text_of ((codes "rmalock-shape" ∷ codes "1" ∷ []) ∷ sizes ∷ (nodes ++ (elements ++ (shards ++ (codes "end" ∷ []) ∷ []))))
-sections o1 o2 o3 o4 o5 o6 sizes nodes elements shards e1 e2 e3 e4 e5 e6 =
+    → o6 ≡ start ++ text_of ((codes "rmalock-shape" ∷ codes "1" ∷ []) ∷ sizes ∷ (nodes ++ (elements ++ (shards ++ (codes "end" ∷ []) ∷ []))))
+sections start o1 o2 o3 o4 o5 o6 sizes nodes elements shards e1 e2 e3 e4 e5 e6 =
     let last : List (List (List ℕ)) = (codes "end" ∷ []) ∷ [] in
     let apart : text_of (nodes ++ (elements ++ (shards ++ last))) ≡ text_of nodes ++ (text_of elements ++ (text_of shards ++ codes "end\n")) =
     flat_map-append line_text nodes (elements ++ (shards ++ last))
     ∙ ap (λ (t : List ℕ). text_of nodes ++ t) (flat_map-append line_text elements (shards ++ last)
     ∙ ap (λ (t : List ℕ). text_of elements ++ t) (flat_map-append line_text shards last)) in
     rw (e6, e5, e4, e3, e2, e1)
-    (append_assoc (((codes "rmalock-shape 1\n" ++ line_text sizes) ++ text_of nodes) ++ text_of elements) (text_of shards) (codes "end\n")
+    (pulled start (codes "rmalock-shape 1\n") (line_text sizes) (text_of nodes) (text_of elements) (text_of shards) (codes "end\n")
+    ∙ ap (λ (t : List ℕ). start ++ t) (append_assoc (((codes "rmalock-shape 1\n" ++ line_text sizes) ++ text_of nodes) ++ text_of elements) (text_of shards) (codes "end\n")
     ∙ append_assoc ((codes "rmalock-shape 1\n" ++ line_text sizes) ++ text_of nodes) (text_of elements) (text_of shards ++ codes "end\n")
     ∙ append_assoc (codes "rmalock-shape 1\n" ++ line_text sizes) (text_of nodes) (text_of elements ++ (text_of shards ++ codes "end\n"))
     ∙ append_assoc (codes "rmalock-shape 1\n") (line_text sizes) (text_of nodes ++ (text_of elements ++ (text_of shards ++ codes "end\n")))
-    ∙ ap (λ (t : List ℕ). codes "rmalock-shape 1\n" ++ (line_text sizes ++ t)) (sym apart))
+    ∙ ap (λ (t : List ℕ). codes "rmalock-shape 1\n" ++ (line_text sizes ++ t)) (sym apart)))
 
--- the pieces of a shape's text, one after the other
-pub shape-printed : (place : ThePlace) (shape : TheShape) (nodes names : List Path) (elements : List Element) (homes o1 o2 o3 o4 o5 o6 : List ℕ)
-    → nodes ≡ node_paths place.paths → names ≡ element_paths place.paths → shape ≡ shape_of place → elements ≡ shape.elements → homes ≡ place.homes
-    → o1 ≡ codes "rmalock-shape 1\n" → o2 ≡ o1 ++ line_text (size_words (length shape.node_of) shape.nodes (length shape.elements)) → o3 ≡ o2 ++ text_of (node_lines nodes)
-    → o4 ≡ o3 ++ text_of (element_lines names elements) → o5 ≡ o4 ++ text_of (shard_lines homes) → o6 ≡ o5 ++ codes "end\n" → o6 ≡ shape_spelling place
-shape-printed place shape nodes names elements homes o1 o2 o3 o4 o5 o6 n m s x h e1 e2 e3 e4 e5 e6 =
+-- the pieces of a shape's text, one after the other, behind what was there before
+pub shape-printed : (place : ThePlace) (shape : TheShape) (paths : List Path) (elements : List Element) (homes start o1 o2 o3 o4 o5 o6 : List ℕ)
+    → shape ≡ shape_of place → paths ≡ place.paths → elements ≡ shape.elements → homes ≡ place.homes
+    → o1 ≡ start ++ codes "rmalock-shape 1\n" → o2 ≡ o1 ++ line_text (size_words (length shape.node_of) shape.nodes (length shape.elements)) → o3 ≡ o2 ++ text_of (node_lines (node_paths paths))
+    → o4 ≡ o3 ++ text_of (element_lines (element_paths place.paths) elements) → o5 ≡ o4 ++ text_of (shard_lines homes) → o6 ≡ o5 ++ codes "end\n" → o6 ≡ start ++ shape_spelling place
+shape-printed place shape paths elements homes start o1 o2 o3 o4 o5 o6 s p x h e1 e2 e3 e4 e5 e6 =
     let elements-are : elements ≡ (shape_of place).elements = x ∙ ap (λ (t : TheShape). t.elements) s in
     let sizes = size_words (length (shape_of place).node_of) (shape_of place).nodes (length (shape_of place).elements) in
-    sections o1 o2 o3 o4 o5 o6 sizes (node_lines (node_paths place.paths)) (element_lines (element_paths place.paths) (shape_of place).elements) (shard_lines place.homes) e1
+    sections start o1 o2 o3 o4 o5 o6 sizes (node_lines (node_paths place.paths)) (element_lines (element_paths place.paths) (shape_of place).elements) (shard_lines place.homes) e1
     (e2 ∙ ap (λ (t : TheShape). o1 ++ line_text (size_words (length t.node_of) t.nodes (length t.elements))) s)
-    (e3 ∙ ap (λ (ps : List Path). o2 ++ text_of (node_lines ps)) n)
-    (e4 ∙ ap (λ (ps : List Path). o3 ++ text_of (element_lines ps elements)) m ∙ ap (λ (es : List Element). o3 ++ text_of (element_lines (element_paths place.paths) es)) elements-are)
+    (e3 ∙ ap (λ (ps : List Path). o2 ++ text_of (node_lines (node_paths ps))) p)
+    (e4 ∙ ap (λ (es : List Element). o3 ++ text_of (element_lines (element_paths place.paths) es)) elements-are)
     (e5 ∙ ap (λ (hs : List ℕ). o4 ++ text_of (shard_lines hs)) h) e6

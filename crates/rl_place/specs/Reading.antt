@@ -197,6 +197,14 @@ closing_at left = do
   name_there ← fixed_at line.0 1 (codes "end") Word
   end_at line.0 line.1.rows
 
+-- the lines of the ranks and of the homes, and the last line: the path of each rank, and the node of each shard
+unfoldable pub sites_at : ℕ → ℕ → Left → Result (List Path × List ℕ) Refusal
+sites_at levels shards left = do
+  paths ← ranks_next levels left
+  homes ← homes_next levels (node_paths paths.0) shards paths.1
+  closing ← closing_at homes.1
+  Ok (paths.0, homes.0)
+
 -- the placement that a text spells, or the text's first fault
 unfoldable pub place_at : List ℕ → Result ThePlace Refusal
 place_at text = do

@@ -2,6 +2,7 @@
 ghost use Rattle.std.specs.Prelude.{◌≡◌, ◌∷◌, [], codes, get_or, IfOk};
 ghost use Rattle.rl_text.specs.Printing.{Puts};
 ghost use Rattle.rl_text.specs.Spelling.{line_text, text_of};
+ghost use Rattle.rl_place.specs.Numbering.{node_paths};
 ghost use Rattle.rl_place.specs.Paths.{root_path};
 ghost use Rattle.rl_place.specs.Spelling.{setting_words, budget_words, settings_lines, lock_lines, geom_lines, rank_words, rank_lines, home_words, home_lines, place_spelling};
 
@@ -143,17 +144,39 @@ fn put_homes(out: &mut Vec<u8>, nodes: &[Path], homes: &[u32]) -> Result<(), Out
     Ok(())
 }
 
+/// The home lines of all shards, where the ranks sit at these paths.
+fn put_homes_under(
+    alloc: Global,
+    out: &mut Vec<u8>,
+    paths: &[Path],
+    homes: &[u32],
+) -> Result<(), OutOfMemory>
+    ensures { Puts result out.old out.new (text_of (home_lines (node_paths paths.now) 0 homes.now)) }
+{
+    let nodes = nodes_of(alloc, paths)?;
+    put_homes(out, nodes.as_slice(), homes)
+}
+
+/// All lines of a placement.
+fn put_place(alloc: Global, out: &mut Vec<u8>, place: &Place) -> Result<(), OutOfMemory>
+    ensures { Puts result out.old out.new (place_spelling place.now) }
+{
+    let paths = place.paths.as_slice();
+    out.extend_from_slice(b"rmalock-place 1\n")?;
+    put_setting(out, b"levels", place.levels)?;
+    put_lock(out, &place.lock)?;
+    put_geom(out, place.geom)?;
+    put_ranks(out, paths)?;
+    put_homes_under(alloc, out, paths, place.homes.as_slice())?;
+    out.extend_from_slice(b"end\n")?;
+    Ok(())
+}
+
 /// The one spelling of a placement. Reading it gives the placement again, where it is proper.
 pub fn place_text(alloc: Global, place: &Place) -> Result<Vec<u8>, OutOfMemory>
     ensures { IfOk result (λ text. text.items ≡ place_spelling place.now) }
 {
-    let nodes = nodes_of(alloc, place.paths.as_slice())?;
-    let mut out = Vec::from_slice(alloc, b"rmalock-place 1\n")?;
-    put_setting(&mut out, b"levels", place.levels)?;
-    put_lock(&mut out, &place.lock)?;
-    put_geom(&mut out, place.geom)?;
-    put_ranks(&mut out, place.paths.as_slice())?;
-    put_homes(&mut out, nodes.as_slice(), place.homes.as_slice())?;
-    out.extend_from_slice(b"end\n")?;
+    let mut out = Vec::new(alloc);
+    put_place(alloc, &mut out, place)?;
     Ok(out)
 }

@@ -3,7 +3,7 @@ ghost use Rattle.std.specs.Prelude.{◌≡◌, ◌≤◌, ◌<◌, length, map, 
 ghost use Rattle.std.specs.List.{AllByRecursion};
 ghost use Rattle.rl_word.specs.Shapes.{IsProper as IsProperShape};
 ghost use Rattle.rl_place.specs.Places.{IsProper};
-ghost use Rattle.rl_place.specs.Shapes.{first_node_in, level_budget, budget_of, element_of, shape_of};
+ghost use Rattle.rl_place.specs.Shapes.{number_in, first_node_in, level_budget, budget_of, element_of, shape_of};
 
 use crate::lock::Lock;
 use crate::names::{elements_of, nodes_of, number_in, numbers_of};
@@ -92,6 +92,28 @@ fn elements_by_number(
     Ok(elements)
 }
 
+/// The shape of nodes and elements by number, with a lock and the path of each rank.
+fn shape_under(
+    alloc: Global,
+    lock: &Lock,
+    paths: &[Path],
+    nodes: &IndexSet<Path>,
+    names: &IndexSet<Path>,
+) -> Result<Shape, OutOfMemory>
+    requires { AllByRecursion (λ name. name.len ≤ 3) names.now.keys × (length nodes.now.keys < 4294967296) × (length names.now.keys < 4294967296) }
+    ensures { IfOk result (λ shape. shape ≡ record { node_of = map (number_in nodes.now.keys) paths.now; nodes = length nodes.now.keys; leaf_of = map (number_in names.now.keys) nodes.now.keys; elements = map (element_of lock.now nodes.now.keys names.now.keys) names.now.keys }) }
+{
+    let node_of = numbers_of(alloc, nodes, paths)?;
+    let leaf_of = numbers_of(alloc, names, nodes.as_slice())?;
+    let elements = elements_by_number(alloc, lock, nodes.as_slice(), names)?;
+    Ok(Shape {
+        node_of,
+        nodes: nodes.len() as u32,
+        leaf_of,
+        elements,
+    })
+}
+
 /// The shape of a placement.
 fn shape_in(alloc: Global, place: &Place) -> Result<Shape, OutOfMemory>
     requires { IsProper place.now }
@@ -100,15 +122,7 @@ fn shape_in(alloc: Global, place: &Place) -> Result<Shape, OutOfMemory>
     let paths = place.paths.as_slice();
     let nodes = nodes_of(alloc, paths)?;
     let names = elements_of(alloc, paths)?;
-    let node_of = numbers_of(alloc, &nodes, paths)?;
-    let leaf_of = numbers_of(alloc, &names, nodes.as_slice())?;
-    let elements = elements_by_number(alloc, &place.lock, nodes.as_slice(), &names)?;
-    Ok(Shape {
-        node_of,
-        nodes: nodes.len() as u32,
-        leaf_of,
-        elements,
-    })
+    shape_under(alloc, &place.lock, paths, &nodes, &names)
 }
 
 impl Place {

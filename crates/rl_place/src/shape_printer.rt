@@ -3,7 +3,9 @@ ghost use Rattle.std.specs.Prelude.{◌≡◌, ◌∷◌, [], length, decimal, I
 ghost use Rattle.std.specs.List.{join_with_byte};
 ghost use Rattle.rl_text.specs.Printing.{Puts};
 ghost use Rattle.rl_text.specs.Spelling.{line_text, text_of};
+ghost use Rattle.rl_place.specs.Numbering.{node_paths, element_paths};
 ghost use Rattle.rl_place.specs.Places.{IsProper};
+ghost use Rattle.rl_place.specs.Shapes.{shape_of};
 ghost use Rattle.rl_place.specs.ShapeText.{number_or_none, element_name, size_words, node_words, named_words, tree_words, element_words, shard_words, node_lines, element_lines, shard_lines, shape_spelling};
 
 use crate::names::nodes_of;
@@ -141,6 +143,47 @@ fn put_shards(out: &mut Vec<u8>, homes: &[u32]) -> Result<(), OutOfMemory>
     Ok(())
 }
 
+/// The lines of the nodes on which ranks sit, where these are the ranks' paths.
+fn put_nodes_under(alloc: Global, out: &mut Vec<u8>, paths: &[Path]) -> Result<(), OutOfMemory>
+    ensures { Puts result out.old out.new (text_of (node_lines (node_paths paths.now))) }
+{
+    let nodes = nodes_of(alloc, paths)?;
+    put_nodes(out, nodes.as_slice())
+}
+
+/// The lines of the elements, each with its name in the placement.
+fn put_elements_under(
+    alloc: Global,
+    out: &mut Vec<u8>,
+    place: &Place,
+    elements: &[Element],
+) -> Result<(), OutOfMemory>
+    requires { IsProper place.now }
+    ensures { Puts result out.old out.new (text_of (element_lines (element_paths place.now.paths) elements.now)) }
+{
+    let names = place.names(alloc)?;
+    put_elements(out, names.as_slice(), elements)
+}
+
+/// All lines of a placement's shape.
+fn put_shape(
+    alloc: Global,
+    out: &mut Vec<u8>,
+    place: &Place,
+    shape: &Shape,
+) -> Result<(), OutOfMemory>
+    requires { IsProper place.now × (shape.now ≡ shape_of place.now) }
+    ensures { Puts result out.old out.new (shape_spelling place.now) }
+{
+    out.extend_from_slice(b"rmalock-shape 1\n")?;
+    put_sizes(out, shape)?;
+    put_nodes_under(alloc, out, place.paths.as_slice())?;
+    put_elements_under(alloc, out, place, shape.elements.as_slice())?;
+    put_shards(out, place.homes.as_slice())?;
+    out.extend_from_slice(b"end\n")?;
+    Ok(())
+}
+
 /// The text of a placement's shape: how many ranks, nodes and elements there are, a line for each node with its path, a line
 /// for each element with its name, its parent and its budget, and a line for each shard with the node where it lives.
 ///
@@ -150,14 +193,8 @@ pub fn shape_text(alloc: Global, place: &Place) -> Result<Vec<u8>, OutOfMemory>
     requires { IsProper place.now }
     ensures { IfOk result (λ text. text.items ≡ shape_spelling place.now) }
 {
-    let nodes = nodes_of(alloc, place.paths.as_slice())?;
-    let names = place.names(alloc)?;
     let shape = place.shape(alloc)?;
-    let mut out = Vec::from_slice(alloc, b"rmalock-shape 1\n")?;
-    put_sizes(&mut out, &shape)?;
-    put_nodes(&mut out, nodes.as_slice())?;
-    put_elements(&mut out, names.as_slice(), shape.elements.as_slice())?;
-    put_shards(&mut out, place.homes.as_slice())?;
-    out.extend_from_slice(b"end\n")?;
+    let mut out = Vec::new(alloc);
+    put_shape(alloc, &mut out, place, &shape)?;
     Ok(out)
 }

@@ -7,7 +7,7 @@ use Rattle.rl_inputs.specs.declared.complaint.Stop.TheVariants.{Refused}
 use Rattle.rl_program.specs.Command.{Asked, Make, Show, usage_text}
 use Rattle.rl_inputs.specs.Files.{Texts, refused_line}
 use Rattle.rl_inputs.specs.Reading.{WasRead}
-use Rattle.rl_program.specs.Summary.{made_summary}
+use Rattle.rl_making.specs.Summary.{made_summary}
 use Rattle.rl_program.specs.Answer.{shown, TheAnswer, Gives, WasAnswered, answer_to}
 
 -- what is said where the status is 0 goes without saying where nothing is asked of it

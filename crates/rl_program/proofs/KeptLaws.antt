@@ -1,5 +1,5 @@
 -- A sound run of a placement's lock keeps all that is promised of a replay.
-use Rattle.std.proofs.Common.{◌≡◌, ℕ, ◌<◌, List, [], length, get_or, ap, sym, subst, ◌∙◌}
+use Rattle.std.proofs.Common.{◌≡◌, ℕ, ◌<◌, List, [], length, get_or, Result, Ok, Err, IfOk, ap, sym, subst, ◌∙◌}
 use Rattle.std.proofs.lemmas.List.{length-map}
 use Rattle.rl_word.specs.Shapes.{TheShape}
 use Rattle.rl_word.specs.declared.shapes.Knobs.{Knobs}
@@ -29,15 +29,15 @@ use Rattle.rl_machine.specs.Changes.{OnlyWritersChange}
 use Rattle.rl_machine.specs.Promises.{shard_journal, transcripts_on, history_on, IsSound, KeepsQueues, EachKeepsQueues}
 use Rattle.rl_locks.specs.Kinds.{Defined, Promised}
 use Rattle.rl_locks.specs.OnShards.{OfShard, EachShard}
-use Rattle.rl_program.specs.Replay.{start_with, run_with}
+use Rattle.rl_locks.specs.Runs.{start_with, machine_after}
 use Rattle.rl_program.specs.Headline.{IsKept}
-use Rattle.rl_program.proofs.RunLaws.{table_in, IsAlike, run_alike}
+use Rattle.rl_machine.specs.laws.Alike.{table_in, IsAlike, run_alike}
 
 -- What a machine is made from, by the parts of a placement and a schedule.
 module _ {V : Type 0} (defined : Defined V) (place : ThePlace) (ops : Ops) (schedule : Schedule) (shape : TheShape) (knobs : Knobs) (geom : Geom) (homes : List ℕ) (turns : List Turn)
     (shape_is : shape ≡ shape_of place) (knobs_is : knobs ≡ knobs_of place.lock) (geom_is : geom ≡ place.geom) (homes_are : homes ≡ place.homes) (turns_are : turns ≡ schedule.turns) where
   -- the run is that of the placement and the schedule
-  pub run_is : run_of (start_of defined shape knobs geom homes ops) (ranks_of_turns turns) ≡ run_with defined place ops schedule
+  pub run_is : run_of (start_of defined shape knobs geom homes ops) (ranks_of_turns turns) ≡ machine_after defined place ops schedule.turns
   run_is =
       let at : TheShape → Knobs → Geom → List ℕ → List Turn → Running V = λ s k g hs ts. run_of (start_of defined s k g hs ops) (ranks_of_turns ts) in
       ap (λ s. at s knobs geom homes turns) shape_is ∙ ap (λ k. at (shape_of place) k geom homes turns) knobs_is ∙ ap (λ g. at (shape_of place) (knobs_of place.lock) g homes turns) geom_is
@@ -55,7 +55,7 @@ module _ {V : Type 0} (defined : Defined V) (place : ThePlace) (ops : Ops) (sche
 
 -- A run of a machine that was made from the parts of a placement and a schedule.
 pub ran : {V : Type 0} (defined : Defined V) (place : ThePlace) (ops : Ops) (schedule : Schedule) (inside : ThePlace) (shape : TheShape) (knobs : Knobs) (homes : List ℕ) (turns : List Turn) (end : Running V) →
-    inside ≡ place → shape ≡ shape_of place → knobs ≡ knobs_of place.lock → homes ≡ inside.homes → turns ≡ schedule.turns → end ≡ run_of (start_of defined shape knobs inside.geom homes ops) (ranks_of_turns turns) → end ≡ run_with defined place ops schedule
+    inside ≡ place → shape ≡ shape_of place → knobs ≡ knobs_of place.lock → homes ≡ inside.homes → turns ≡ schedule.turns → end ≡ run_of (start_of defined shape knobs inside.geom homes ops) (ranks_of_turns turns) → end ≡ machine_after defined place ops schedule.turns
 ran defined place ops schedule inside shape knobs homes turns end same shape_is knobs_is homes_are turns_are run =
     run ∙ run_is defined place ops schedule shape knobs inside.geom homes turns shape_is knobs_is (ap (λ (p : ThePlace). p.geom) same) (homes_are ∙ ap (λ (p : ThePlace). p.homes) same) turns_are
 
@@ -76,7 +76,7 @@ module _ {V : Type 0} (defined : Defined V) (place : ThePlace) (ops : Ops) (sche
   first = start_with defined place ops
 
   abbrev last : Running V
-  last = run_with defined place ops schedule
+  last = machine_after defined place ops schedule.turns
 
   abbrev table_of : ℕ → Site → ShardTable V
   table_of home = defined (shape_of place) home (knobs_of place.lock)
@@ -113,3 +113,8 @@ module _ {V : Type 0} (defined : Defined V) (place : ThePlace) (ops : Ops) (sche
         sorted = λ s S has. (sound.shards s S has).sorted;
         calls = in_order;
       }
+
+-- what holds whatever came of a call holds where it went well
+pub where_ok : {X E : Type 0} {P : Type 0} (result : Result X E) → P → IfOk result (λ _. P)
+where_ok (Ok x) p = p
+where_ok (Err e) p = tt

@@ -1,4 +1,3 @@
-mod RunLaws
 mod KeptLaws
 mod CohortLaws
 mod MachineOf
@@ -9,12 +8,4 @@ mod HeadlineLaws
 mod ReplayLemmas
 mod RunningLemmas
 mod AnswerLemmas
-mod DrawLaws
-mod DealtLaws
-mod MadePlaceLaws
-mod LapLaws
-mod CountLaws
-mod ReportLaws
-mod SummaryLaws
-mod MakeLaws
 mod CheckLaws

@@ -28,7 +28,7 @@ use Rattle.rl_machine.specs.laws.ReplayLaws.{stepped_one}
 use Rattle.rl_program.specs.Replay.{AreCohortsOf, IsMachineOf}
 use Rattle.rl_program.proofs.CohortLaws.{cohorts_by}
 use Rattle.rl_program.proofs.KeptLaws.{each_shard}
-use Rattle.rl_program.proofs.RunLaws.{table_in, IsAlike, run_alike, steps_are}
+use Rattle.rl_machine.specs.laws.Alike.{table_in, IsAlike, run_alike, steps_are}
 
 -- a run makes as many steps as it has
 run_counts : {V : Type 0} (m : Running V) (ks : List ℕ) → steps_made (run_of m ks).steps ≡ steps_made m.steps + length ks

@@ -41,7 +41,8 @@ use Rattle.rl_run.specs.laws.ToldLaws.{all_by_place}
 use Rattle.rl_run.specs.laws.RowLaws.{same_maps}
 use Rattle.rl_run.specs.laws.EndLaws.{own_all}
 use Rattle.rl_run.specs.laws.EntriesFit.{HasTranscripts, HasDone, some_calls, same_journal, same_transcripts, rank_of_it, few_here, few_updates, entry_fits}
-use Rattle.rl_program.specs.Replay.{queue_count, part_of_replay, dones_from, report_in, NumbersFit, IsMachineOf}
+use Rattle.rl_reporting.specs.Reported.{queue_count, part_of_replay, dones_from, report_in, NumbersFit}
+use Rattle.rl_program.specs.Replay.{IsMachineOf}
 use Rattle.rl_program.proofs.ReplayEvents.{untouched, BeginsFrom, rules_still, tallies_still, tallies_long, events_fit}
 
 -- ---- what a machine tells

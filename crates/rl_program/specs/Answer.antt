@@ -15,7 +15,7 @@ use Rattle.rl_program.specs.declared.complaint.Quit.{Quit}
 use Rattle.rl_program.specs.declared.complaint.Quit.TheVariants as quit
 use Rattle.rl_program.specs.Command.{Asked, Replay, Make, Show, form_of, usage_text}
 use Rattle.rl_inputs.specs.Reading.{◌>>=◌, placed, called, scheduled, Fits, Ends}
-use Rattle.rl_program.specs.Summary.{made_summary}
+use Rattle.rl_making.specs.Summary.{made_summary}
 
 -- a status, and the bytes that belong to it
 pub record TheAnswer : Type 0 where

@@ -18,8 +18,9 @@ use Rattle.rl_inputs.specs.Reading.{placed, called, Fits}
 use Rattle.rl_check.specs.declared.illegal.Group.{Group}
 use Rattle.rl_check.specs.declared.illegal.Group.TheVariants as group
 use Rattle.rl_check.specs.declared.illegal.Illegal.{Illegal}
-use Rattle.rl_check.specs.Faults.{IsFirst, test_word}
-use Rattle.rl_check.specs.Legal.{Passes}
+use Rattle.rl_check.specs.Faults.{test_word}
+use Rattle.rl_check.specs.Legal.{report_tests}
+use Rattle.rl_check.specs.Tests.{IsFirstOf}
 use Rattle.rl_program.specs.declared.command.CheckFiles.{CheckFiles}
 use Rattle.rl_program.specs.declared.checking.Files.{Files}
 use Rattle.rl_program.specs.declared.checking.Files.TheVariants.{Spelled, Refused as Unread}
@@ -90,7 +91,7 @@ AnswersCheck names texts answer =
     MatchResult (placed texts.place)
     (λ place. MatchResult (called place texts.calls)
     (λ ops. MatchResult (reported place texts.report)
-    (λ report. (found : Option Illegal) × IsFirst (Passes place ops report) found × (answer ≡ verdict found))
+    (λ report. (found : Option Illegal) × IsFirstOf (report_tests place ops report) found × (answer ≡ verdict found))
     (λ trouble. answer ≡ refusal names.report trouble))
     (λ complaint. answer ≡ refusal names.calls complaint.trouble))
     (λ complaint. answer ≡ refusal names.place complaint.trouble)

@@ -26,7 +26,8 @@ use Rattle.rl_machine.specs.Promises.{shard_journal, transcripts_on, history_on,
 use Rattle.rl_machine.specs.Changes.{OnlyWritersChange}
 use Rattle.rl_locks.specs.Kinds.{Defined, Promised, lock_kind_of}
 use Rattle.rl_locks.specs.OnShards.{OfShard}
-use Rattle.rl_program.specs.Replay.{start_with, run_with, report_of_replay}
+use Rattle.rl_locks.specs.Runs.{start_with, machine_after}
+use Rattle.rl_program.specs.Replay.{report_of_replay}
 
 -- of each shard of a machine
 abbrev pub OnShards : {V : Type 0} → Running V → (ShardRun V → Type 0) → Type 0
@@ -34,7 +35,7 @@ OnShards m P = (s : ℕ) (S : ShardRun _) → slice_get m.shards s ≡ Some S �
 
 module _ {V : Type 0} (defined : Defined V) (promised : Promised) (way : OfShard V) (place : ThePlace) (ops : Ops) (schedule : Schedule) where
   abbrev m : Running V
-  m = run_with defined place ops schedule
+  m = machine_after defined place ops schedule.turns
 
   -- What is promised of the run of a schedule over a placement and calls, for the kind of lock that is defined so, and promises this
   -- beyond every lock, and this of its way of doing blocks. Here m is the machine at the end of the run; since all of it holds of every

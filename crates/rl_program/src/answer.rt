@@ -6,11 +6,11 @@ ghost use Rattle.rl_program.specs.Answer.{MayRead, NamesNoFile, TheAnswer, Rises
 
 use crate::command::{Form, form_of_words};
 use crate::complaint::Quit;
-use crate::making::made_summary;
 use crate::replaying::replayed;
 use crate::showing::shown;
 use rl_inputs::{Files, Stop, Trouble, refusal_line};
 use rl_io::Source;
+use rl_making::made_summary;
 use std::alloc::{AllocError, Global};
 use std::marker::Model;
 

@@ -2,8 +2,8 @@
 //!
 //! - [`rmalock`] is the top call, and the one for users: a replay, a run by threads, a check, a made run or a shape, over any source of
 //!   files and any sink.
-//! - [`offline`] does the same without threads, so it never waits; `run` is no form to it. [`generate`] makes the placement and the calls of
-//!   `make` from a number. Both are parts of the top call, public so that the program's tests can try them one by one.
+//! - [`offline`] does the same without threads, so it never waits; `run` is no form to it. It is a part of the top call, public so that the
+//!   program's tests can try it by itself.
 //!
 //! Promise: status and bytes belong to the words and to the bytes of the named files, and each fault has its cause (`specs/Answer.antt`,
 //! `RunAnswer.antt` and `CheckAnswer.antt`). What is true of a replay and of a run whose report is written says `specs/Headline.antt` and
@@ -15,19 +15,12 @@ mod answer;
 mod checking;
 mod command;
 mod complaint;
-mod counts;
-mod generating;
-mod laps;
-mod making;
 mod program;
 mod replaying;
-mod reporting;
 mod running;
 mod showing;
-mod summary;
 mod threadless;
 
-pub use generating::generate;
 pub use program::rmalock;
 pub use replaying::replay_report;
 pub use threadless::offline;

@@ -10,12 +10,13 @@ ghost use Rattle.rl_check.specs.LawfulReplays.{IsLawfulReplay};
 ghost use Rattle.rl_check.specs.Legal.{IsLegalReport};
 ghost use Rattle.rl_inputs.specs.Files.{named};
 ghost use Rattle.rl_program.specs.Command.{Replay};
-ghost use Rattle.rl_program.specs.Replay.{run_with, report_in, queue_count, report_of_replay};
+ghost use Rattle.rl_locks.specs.Runs.{machine_after};
+ghost use Rattle.rl_reporting.specs.Reported.{report_in, queue_count};
+ghost use Rattle.rl_program.specs.Replay.{report_of_replay};
 ghost use Rattle.rl_program.specs.Headline.{IsKept, KeepsPromises};
 ghost use Rattle.rl_inputs.specs.Reading.{RisesWithFault, SuitsLock};
 ghost use Rattle.rl_program.specs.Answer.{MayRead, WasReplayed};
 
-use crate::reporting::report_of_machine;
 use rl_check::report_laws;
 use rl_core::{Resting, ShardGuiding};
 use rl_inputs::{Files, Stop, read_called, read_placed, read_scheduled};
@@ -25,6 +26,7 @@ use rl_ops::{Ops, Schedule};
 use rl_place::Place;
 use rl_replay::replay;
 use rl_report::{Report, report_text};
+use rl_reporting::report_of_machine;
 use std::alloc::{AllocError as OutOfMemory, Global};
 
 /// The report of a replay with this core, which is that of the placement's lock.
@@ -41,7 +43,7 @@ fn report_with<C: Resting + Promising>(
     requires calls { OpsFit (length place.now.paths) place.now.geom.shards ops }
     requires suits { SuitsLock place.now ops }
     requires schedule { ScheduleFits (length place.now.paths) schedule.now }
-    ensures report { IfOk result (λ report. report ≡ report_in (queue_count place.now) (run_with C.defined place.now ops schedule.now)) }
+    ensures report { IfOk result (λ report. report ≡ report_in (queue_count place.now) (machine_after C.defined place.now ops schedule.now.turns)) }
     ensures kept { IfOk result (λ _. IsKept C.defined C.promised C.ways place.now ops schedule.now) }
     ensures lawful { IfOk result (λ report. IsLawfulReplay place.now ops report) }
 {
@@ -68,7 +70,7 @@ impl CoreTask for ReplayTask<'_> {
     ghost takes = { λ r place. OpsFit (length place.paths) place.geom.shards r.ops × SuitsLock place r.ops × ScheduleFits (length place.paths) r.schedule.now };
 
     ghost gives = { λ r place kind urgent result.
-        IfOk result (λ report. report ≡ report_in (queue_count place) (run_with kind.defined place r.ops r.schedule.now))
+        IfOk result (λ report. report ≡ report_in (queue_count place) (machine_after kind.defined place r.ops r.schedule.now.turns))
         × IfOk result (λ _. IsKept kind.defined kind.promised kind.ways place r.ops r.schedule.now)
         × IfOk result (λ report. IsLawfulReplay place r.ops report) };
 

@@ -42,4 +42,6 @@ module _ (n : TheNames) (In : ℕ → Type 0) where
   -- and the queue is good after it, with the events of the act at the end of the trace
   abbrev pub ActGoes : List ℕ → List ℕ → (ℕ → Phase) → List Event → ℕ → ℕ → Phase → Act → Type 0
   ActGoes l ws ph' t e m p a =
-      QueueGoes n In m p (turn_at n m p (told a (slice_index ws (word_of a)))).phase l (slice_set ws (word_of a) (written a (slice_index ws (word_of a)))) ph' (t ++ (turn_at n m p (told a (slice_index ws (word_of a)))).events) e
+      QueueGoes n In m p (turn_at n m p (told a (slice_index ws (word_of a)))).phase l
+      (slice_set ws (word_of a) (written a (slice_index ws (word_of a)))) ph'
+      (t ++ (turn_at n m p (told a (slice_index ws (word_of a)))).events) e

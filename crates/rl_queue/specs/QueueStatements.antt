@@ -61,28 +61,33 @@ module _ (n : TheNames) (In : ℕ → Type 0) where
   -- a head that settles
   abbrev pub SettlesKeep : Type 0
   SettlesKeep =
-      (q : QueueState) (ph' : ℕ → Phase) (m : ℕ) → IsGoodQueue n In q → Moves q.phases ph' m Settle (settled_at n.budget) → IsGoodQueue n In (record q { phases = ph'; trace = q.trace ++ event.Settle n.queue m ∷ [] })
+      (q : QueueState) (ph' : ℕ → Phase) (m : ℕ) → IsGoodQueue n In q → Moves q.phases ph' m Settle (settled_at n.budget) → IsGoodQueue n In
+      (record q { phases = ph'; trace = q.trace ++ event.Settle n.queue m ∷ [] })
 
   -- a member that begins to leave, where an event comes with it
   abbrev pub LeavesKeep : Type 0
   LeavesKeep =
-      (q : QueueState) (ph' : ℕ → Phase) (m left : ℕ) (u : Bool) (ev : Event) → IsGoodQueue n In q → Apart n.queue n.budget ev → Moves q.phases ph' m (Granted left) (Look left u) →
+      (q : QueueState) (ph' : ℕ → Phase) (m left : ℕ) (u : Bool)
+      (ev : Event) → IsGoodQueue n In q → Apart n.queue n.budget ev → Moves q.phases ph' m (Granted left) (Look left u) →
       IsGoodQueue n In (record q { phases = ph'; trace = q.trace ++ ev ∷ []; ended = q.ended + 1 })
 
   -- and where none does
   abbrev pub LeavesKeepQuietly : Type 0
   LeavesKeepQuietly =
-      (q : QueueState) (ph' : ℕ → Phase) (m left : ℕ) (u : Bool) → IsGoodQueue n In q → Moves q.phases ph' m (Granted left) (Look left u) → IsGoodQueue n In (record q { phases = ph'; ended = q.ended + 1 })
+      (q : QueueState) (ph' : ℕ → Phase) (m left : ℕ) (u : Bool) → IsGoodQueue n In q → Moves q.phases ph' m (Granted left)
+      (Look left u) → IsGoodQueue n In (record q { phases = ph'; ended = q.ended + 1 })
 
   -- and one that goes on once what is above was given up
   abbrev pub ResumesKeep : Type 0
   ResumesKeep =
-      (q : QueueState) (ph' : ℕ → Phase) (m : ℕ) (s : Option ℕ) → IsGoodQueue n In q → Moves q.phases ph' m (Above s) (resume_at (Above s)) → IsGoodQueue n In (record q { phases = ph' })
+      (q : QueueState) (ph' : ℕ → Phase) (m : ℕ) (s : Option ℕ) → IsGoodQueue n In q → Moves q.phases ph' m (Above s)
+      (resume_at (Above s)) → IsGoodQueue n In (record q { phases = ph' })
 
   -- at most one member is first
   abbrev pub HasOneFirst : Type 0
   HasOneFirst =
-      (q : QueueState) (i j : ℕ) → IsGoodQueue n In q → IsFirst (q.phases i) (slice_index q.words (status_word n i)) → IsFirst (q.phases j) (slice_index q.words (status_word n j)) → i ≡ j
+      (q : QueueState) (i j : ℕ) → IsGoodQueue n In q → IsFirst (q.phases i) (slice_index q.words (status_word n i)) → IsFirst (q.phases j)
+      (slice_index q.words (status_word n j)) → i ≡ j
 
   -- it serves first who came first
   abbrev pub ServesInOrder : Type 0
@@ -102,7 +107,8 @@ module _ (n : TheNames) (In : ℕ → Type 0) where
   -- a member meets the condition of queue_plan
   abbrev pub PlansFit : Type 0
   PlansFit =
-      (q : QueueState) (m : ℕ) (p : Phase) → IsGoodQueue n In q → q.phases m ≡ p → In m → length n.status ≡ length n.next → ((x : ℕ) → In x → x < length n.next) → PlanFits n m p
+      (q : QueueState) (m : ℕ) (p : Phase) → IsGoodQueue n In q → q.phases m ≡ p → In m → length n.status ≡ length n.next →
+      ((x : ℕ) → In x → x < length n.next) → PlanFits n m p
 
   -- and what its act finds that of queue_learn
   abbrev pub LearnsFit : Type 0
@@ -113,7 +119,8 @@ module _ (n : TheNames) (In : ℕ → Type 0) where
   -- a member that is alone finds what it compares with
   abbrev pub FindsAlone : Type 0
   FindsAlone =
-      (q : QueueState) (m : ℕ) (p : Phase) (a : Act) → IsGoodQueue n In q → IsAlone In m → q.phases m ≡ p → plan_at n m p ≡ Some a → FindsOld a (slice_index q.words (word_of a))
+      (q : QueueState) (m : ℕ) (p : Phase) (a : Act) → IsGoodQueue n In q → IsAlone In m → q.phases m ≡ p → plan_at n m p ≡ Some a →
+      FindsOld a (slice_index q.words (word_of a))
 
   -- and waits for nobody
   abbrev pub MovesOnAlone : Type 0
@@ -128,16 +135,29 @@ module _ (n : TheNames) (In : ℕ → Type 0) where
   -- an act spends a pass of its head where it passes, and none else
   abbrev pub SpendsPasses : Type 0
   SpendsPasses =
-      (q : QueueState) (ph' : ℕ → Phase) (k : List ℕ) (m b : ℕ) (p : Phase) (a : Act) → IsNaming n In (length q.words) → IsGoodQueue n In q → q.phases m ≡ p → plan_at n m p ≡ Some a → n.budget ≡ Some b →
+      (q : QueueState) (ph' : ℕ → Phase) (k : List ℕ) (m b : ℕ) (p : Phase) (a : Act) → IsNaming n In
+      (length q.words) → IsGoodQueue n In q → q.phases m ≡ p → plan_at n m p ≡ Some a → n.budget ≡ Some b →
       ActMoves n In q.words q.phases ph' m p a → LineStep m p (turn_at n m p (told a (slice_index q.words (word_of a)))).phase q.line k →
-      Spends (passed n.queue (turn_at n m p (told a (slice_index q.words (word_of a)))).events) (head_in (lane_of n q.words q.phases) q.line) (head_in (lane_of n (slice_set q.words (word_of a) (written a (slice_index q.words (word_of a)))) ph') k)
+      Spends (passed n.queue (turn_at n m p (told a (slice_index q.words (word_of a)))).events)
+      (head_in (lane_of n q.words q.phases) q.line) (head_in
+      (lane_of n (slice_set q.words (word_of a) (written a (slice_index q.words (word_of a)))) ph') k)
 
   -- no act serves where nobody was served
   abbrev pub ServedCameSo : Type 0
   ServedCameSo =
-      (q : QueueState) (ph' : ℕ → Phase) (k : List ℕ) (t' : List Event) (e' m : ℕ) (p : Phase) (a : Act) → IsNaming n In (length q.words) → IsGoodQueue n In q → plan_at n m p ≡ Some a →
-      (mv : Moves q.phases ph' m p (turn_at n m p (told a (slice_index q.words (word_of a)))).phase) → LineStep m p (turn_at n m p (told a (slice_index q.words (word_of a)))).phase q.line k →
-      IsGoodQueue n In (record q { words = slice_set q.words (word_of a) (written a (slice_index q.words (word_of a))); phases = ph'; line = k; trace = t'; ended = e' }) → (i : ℕ) → served (ph' i) (slice_index (slice_set q.words (word_of a) (written a (slice_index q.words (word_of a)))) (status_word n i)) ≡ true →
+      (q : QueueState) (ph' : ℕ → Phase) (k : List ℕ) (t' : List Event) (e' m : ℕ) (p : Phase) (a : Act) → IsNaming n In
+      (length q.words) → IsGoodQueue n In q → plan_at n m p ≡ Some a →
+      (mv : Moves q.phases ph' m p (turn_at n m p (told a (slice_index q.words (word_of a)))).phase) → LineStep m p
+      (turn_at n m p (told a (slice_index q.words (word_of a)))).phase q.line k →
+      IsGoodQueue n In (record q {
+        words = slice_set q.words (word_of a) (written a (slice_index q.words (word_of a)));
+        phases = ph';
+        line =
+            k;
+        trace = t';
+        ended = e';
+      }) → (i : ℕ) → served (ph' i)
+      (slice_index (slice_set q.words (word_of a) (written a (slice_index q.words (word_of a)))) (status_word n i)) ≡ true →
       (h : ℕ) × (In h × (served (q.phases h) (slice_index q.words (status_word n h)) ≡ true))
 
   -- who must settle is the only one that may be served
@@ -156,4 +176,5 @@ abbrev pub LeavesOthersGood : (n o : TheNames) (In On : ℕ → Type 0) → Type
 LeavesOthersGood n o In On =
     AreApart n o In On → (ws : List ℕ) (ph qh : ℕ → Phase) (l k : List ℕ) (t : List Event) (e f m : ℕ) (p : Phase) (a : Act) →
     QueueGood n In ws ph l t e → QueueGood o On ws qh k t f → ph m ≡ p → plan_at n m p ≡ Some a →
-    QueueGood o On (slice_set ws (word_of a) (written a (slice_index ws (word_of a)))) qh k (t ++ (turn_at n m p (told a (slice_index ws (word_of a)))).events) f
+    QueueGood o On (slice_set ws (word_of a) (written a (slice_index ws (word_of a)))) qh k
+    (t ++ (turn_at n m p (told a (slice_index ws (word_of a)))).events) f

@@ -10,7 +10,7 @@ use Rattle.rl_rank.specs.Running.{LockAt}
 
 -- the view with another view of the lock, and all else as it was
 abbrev pub with_lock : {V K : Type 0} → WholeView V K → V → WholeView V K
-with_lock x v = record { side = record { view = v; card = x.side.card }; rank = x.rank; work = x.work }
+with_lock x v = record x { side = record { view = v; card = x.side.card } }
 
 -- a rank with this view of the lock, in no card, may be there, on these words
 pub record IsAtLoad {V K : Type 0} (rule : TheWindow → List (WholeView V K) → Type 0) (h : TheWindow) (v : V) : Type 0 where

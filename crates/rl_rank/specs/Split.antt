@@ -139,10 +139,10 @@ departure rank st = []
 
 -- what an effect leaves of the side of rank, which has this lock view and this planned act. The work's atoms are none of the lock's: what
 -- they leave of its side is for the whole machine to say (`work_turned`)
-abbrev pub turned_by : {V : Type 0} → LockTable V → ℕ → V → Option Act → Effect → SideTurned V
-turned_by T rank v p Work = record { side = record { view = v; card = Free }; events = []; deeds = []; stepped = Moved }
-turned_by T rank v p (Stay c answer) = record { side = record { view = v; card = c }; events = []; deeds = []; stepped = answer }
-turned_by T rank v p (Learn c got lost) =
+abbrev pub turned_side : {V : Type 0} → LockTable V → ℕ → V → Option Act → Effect → SideTurned V
+turned_side T rank v p Work = record { side = record { view = v; card = Free }; events = []; deeds = []; stepped = Moved }
+turned_side T rank v p (Stay c answer) = record { side = record { view = v; card = c }; events = []; deeds = []; stepped = answer }
+turned_side T rank v p (Learn c got lost) =
     record {
       side = record { view = (T.learn v got).view; card = c };
       events = (T.learn v got).events;
@@ -152,7 +152,7 @@ turned_by T rank v p (Learn c got lost) =
 
 -- what an atom that gave got leaves, for a planned act and a card state
 abbrev pub card_after : {V : Type 0} → LockTable V → ℕ → V → Option Act → CardState → ℕ → SideTurned V
-card_after T rank v p c got = turned_by T rank v p (effect_at (plan_home T p) p c got)
+card_after T rank v p c got = turned_side T rank v p (effect_at (plan_home T p) p c got)
 
 -- what an atom that gave got leaves of a rank's side
 abbrev pub side_after : {V : Type 0} → LockTable V → ℕ → Side V → ℕ → SideTurned V

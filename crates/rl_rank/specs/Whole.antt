@@ -23,14 +23,14 @@ use Rattle.rl_step.specs.Do.{TheWindow}
 use Rattle.rl_step.specs.Core.{CoreTable, Turned}
 use Rattle.rl_step.specs.declared.cores.Plan.{Plan}
 use Rattle.rl_rank.specs.declared.card_state.CardState.{CardState}
-use Rattle.rl_rank.specs.declared.card_state.CardState.TheVariants.{Free}
+use Rattle.rl_rank.specs.declared.card_state.CardState.TheVariants.{Free, InCard, Loaded}
 use Rattle.rl_rank.specs.declared.effect.Effect.{Effect}
 use Rattle.rl_rank.specs.declared.effect.Effect.TheVariants as effect
 use Rattle.rl_rank.specs.declared.whole.Whole.{Whole}
 use Rattle.rl_rank.specs.declared.whole.WholeView.{WholeView}
 use Rattle.rl_rank.specs.declared.side.Side.{Side}
 use Rattle.rl_rank.specs.Running.{LockAt, Tables, Goods, Rules, lock_at, good_at}
-use Rattle.rl_rank.specs.Split.{SplitState, LockGood, Past, SideTurned, departure, side_atom, side_after, home_of, word_home, card_word, asked_act, turned_by, effect_at, plan_home}
+use Rattle.rl_rank.specs.Split.{SplitState, LockGood, Past, SideTurned, departure, side_atom, side_after, home_of, word_home, card_word, asked_act, turned_side, effect_at, plan_home}
 
 -- the lock's side of a rank's view
 abbrev pub side_of : {V K : Type 0} → WholeView V K → Side V
@@ -57,6 +57,17 @@ planned_in T x =
     let act = asked_act (T.plan x.side.view) x.side.card in
     record { act = act; home = word_home T (card_word act x.side.card) }
 
+-- the plan that a rank keeps which planned this, by its new card state: this one where its Take succeeded, and else what it kept
+abbrev pub plan_kept : CardState → Plan → Plan → Plan
+plan_kept InCard plan kept = plan
+plan_kept c plan kept = kept
+
+-- what is kept is the plan of a rank in a card that hasn't learnt its act yet
+abbrev pub IsKept : CardState → Plan → Plan → Type 0
+IsKept InCard plan kept = kept ≡ plan
+IsKept (Loaded g) plan kept = kept ≡ plan
+IsKept c plan kept = Unit {0}
+
 -- the work's atom, of a rank for which the lock plans nothing
 abbrev pub work_plan : Standing → Option Atom → Option Atom
 work_plan standing.Asking next = None
@@ -78,9 +89,13 @@ is_at_work standing.Out Free = false
 is_at_work st c = true
 
 -- the view, the events and the answer, by what is left of the lock's side
-abbrev pub whole_turned : {V K : Type 0} → ℕ → WholeView V K → SideTurned V → Turned (WholeView V K)
-whole_turned base x left_of =
-    record { view = record x { side = left_of.side }; events = left_of.events; stepped = shifted_answer base left_of.stepped }
+abbrev pub whole_turned : {V K : Type 0} → LockAt V K → WholeView V K → SideTurned V → Turned (WholeView V K)
+whole_turned L x left_of =
+    record {
+      view = record x { side = left_of.side; kept = plan_kept left_of.side.card (planned_in L.table x) x.kept };
+      events = left_of.events;
+      stepped = shifted_answer L.base left_of.stepped;
+    }
 
 -- a holder whose block is over leaves the lock
 abbrev pub left_by : {V : Type 0} → LockTable V → V → Standing → V
@@ -110,7 +125,7 @@ work_events rank touch st follow = touch_by rank touch ++ departure_by rank st f
 abbrev pub work_turned : {V K : Type 0} → LockAt V K → WholeView V K → Worked K → Turned (WholeView V K)
 work_turned L x t =
     record {
-      view = record { side = record { view = followed L.table x.side.view t.follow; card = Free }; rank = x.rank; work = t.work };
+      view = record x { side = record { view = followed L.table x.side.view t.follow; card = Free }; work = t.work };
       events = work_events x.rank (L.work.touch x.work) (L.table.standing x.side.view) t.follow;
       stepped = t.stepped;
     }
@@ -118,8 +133,8 @@ work_turned L x t =
 -- what an effect leaves of a whole view; t is what the atom would leave of the work
 abbrev pub effect_turned : {V K : Type 0} → LockAt V K → WholeView V K → Worked K → Effect → Turned (WholeView V K)
 effect_turned L x t effect.Work = work_turned L x t
-effect_turned L x t (effect.Stay c answer) = whole_turned L.base x (turned_by L.table x.rank x.side.view (L.table.plan x.side.view) (effect.Stay c answer))
-effect_turned L x t (effect.Learn c told lost) = whole_turned L.base x (turned_by L.table x.rank x.side.view (L.table.plan x.side.view) (effect.Learn c told lost))
+effect_turned L x t (effect.Stay c answer) = whole_turned L x (turned_side L.table x.rank x.side.view (L.table.plan x.side.view) (effect.Stay c answer))
+effect_turned L x t (effect.Learn c told lost) = whole_turned L x (turned_side L.table x.rank x.side.view (L.table.plan x.side.view) (effect.Learn c told lost))
 
 -- what an atom that gave got leaves of a rank's view
 abbrev pub after_of : {V K : Type 0} → LockAt V K → WholeView V K → ℕ → Turned (WholeView V K)
@@ -182,6 +197,8 @@ pub record Good {V K : Type 0} (L : LockAt V K) (good : Goods V K) (layout : Lay
   pub asked_as : (r : ℕ) (x : WholeView V K) → slice_get vs r ≡ Some x → slice_get modes r ≡ Some (L.work.mode x.work)
   -- a rank has left as a writer as often as the entries of its blocks say that are over
   pub left_as : (r : ℕ) (x : WholeView V K) → slice_get vs r ≡ Some x → leaves r past.trace ≡ count_by (counts L) (L.work.ended x.work)
+  -- a rank that took a card keeps the plan for which it did
+  pub keeps : (r : ℕ) (x : WholeView V K) → slice_get vs r ≡ Some x → IsKept x.side.card (planned_in L.table x) x.kept
   pub own : (r : ℕ) (x : WholeView V K) → slice_get vs r ≡ Some x → x.rank ≡ r
   pub base_is : L.base ≡ lock_base L.work.site
   pub behind_is : L.work.behind ≡ L.base + L.table.size

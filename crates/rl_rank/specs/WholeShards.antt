@@ -6,16 +6,17 @@ use Rattle.rl_step.specs.declared.events.Event.{Event}
 use Rattle.rl_step.specs.declared.events.Standing.{Standing}
 use Rattle.rl_step.specs.declared.events.Standing.TheVariants.{Out, Asking}
 use Rattle.rl_step.specs.Lock.{LockTable, Deed, AllNamed}
-use Rattle.rl_step.specs.Do.{TheWindow}
 use Rattle.rl_step.specs.Exclusion.{ExclusiveFrom, writers_of, readers_of, nobody}
 use Rattle.rl_core.specs.EventRanks.{AreByRanks}
 use Rattle.rl_core.specs.ShardTables.{ShardTable}
+use Rattle.rl_core.specs.Moments.{Moment, CoreSays}
 use Rattle.rl_rank.specs.declared.card_state.CardState.TheVariants.{Free}
 use Rattle.rl_rank.specs.declared.whole.Whole.{Whole}
 use Rattle.rl_rank.specs.declared.whole.WholeView.{WholeView}
 use Rattle.rl_rank.specs.Running.{LockAt, Tables, Goods, lock_at}
 use Rattle.rl_rank.specs.Opening.{first_view, opened_in}
 use Rattle.rl_rank.specs.Split.{card_of}
+use Rattle.rl_rank.specs.Causes.{Cause}
 use Rattle.rl_rank.specs.Holders.{Match}
 use Rattle.rl_rank.specs.Whole.{Good, counts, own_desk, told_desk, whole_table, made_deeds}
 
@@ -64,12 +65,17 @@ IsDoneInCard L x = stand L.table x ≡ Out → (x.side.card ≡ Free) ⊎ (L.wor
 
 -- the rule holds, by this very trace and by these acts; the ranks that the trace tells of as writers and readers stand so; the trace is
 -- exclusive; its events name what the lock has, and ranks that there are; and who is only in a card yet is done
-pub record WholeGood {V K : Type 0} (L : LockAt V K) (good : Goods V K) (layout : Layout) (h : TheWindow) (vs : List (WholeView V K)) (t : List Event) (ds : List Deed) : Type 0 where
-  pub rule : Good L good layout h vs
-  pub same : rule.past.trace ≡ t
-  pub made : rule.past.deeds ≡ ds
-  pub match : Match (writers_of nobody t) (readers_of nobody t) (map (stand L.table) vs)
-  pub exclusive : ExclusiveFrom nobody nobody t
-  pub named : AllNamed L.table.queues L.table.cohort t
-  pub by_ranks : AreByRanks (length vs) t
-  pub done : (r : ℕ) (x : WholeView V K) → slice_get vs r ≡ Some x → IsDoneInCard L x
+pub record WholeGood {V K : Type 0} (L : LockAt V K) (good : Goods V K) (layout : Layout) (m : Moment (WholeView V K)) : Type 0 where
+  pub rule : Good L good layout m.held m.views
+  pub same : rule.past.trace ≡ m.trace
+  pub made : rule.past.deeds ≡ m.acts
+  pub match : Match (writers_of nobody m.trace) (readers_of nobody m.trace) (map (stand L.table) m.views)
+  pub exclusive : ExclusiveFrom nobody nobody m.trace
+  pub named : AllNamed L.table.queues L.table.cohort m.trace
+  pub by_ranks : AreByRanks (length m.views) m.trace
+  pub done : (r : ℕ) (x : WholeView V K) → slice_get m.views r ≡ Some x → IsDoneInCard L x
+
+-- what is said of the machine over the lock and the work of L, whose lock says so much further
+abbrev pub whole_says : {V K : Type 0} → LockAt V K → Goods V K → (List Event → List Deed → Type 0) → Layout → ℕ → CoreSays (WholeView V K)
+whole_says L good further layout home =
+    record { table = whole_shard L home; good = WholeGood L good layout; cause = Cause L; further = further; layout = layout }

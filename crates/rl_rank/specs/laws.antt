@@ -2,6 +2,7 @@ pub mod ShiftLaws
 pub mod SplitActs
 pub mod SplitLaws
 pub mod HomeLaws
+pub mod KeptLaws
 pub mod LearnLaws
 pub mod Bridge
 pub mod WholeOwes

@@ -1,7 +1,7 @@
 //! A rank's whole machine on one shard, over any lock and any way of working.
 //!
 //! - A rank's *view* ([`WholeView`]) is what it knows between two of its atoms: its lock view, its *card state* ([`CardState`]), which is
-//!   its place in an act that is made through a card, and its side of the work.
+//!   its place in an act that is made through a card, the plan that it keeps there, and its side of the work.
 //! - The *whole machine* ([`Whole`]) gives a view's next atom and what it makes of what the atom gave: it splits the lock's acts into
 //!   atoms, makes the atoms of the work where the lock plans none, asks for the lock where the work says so, and leaves it where a
 //!   block is over. A *block* is a call alone or the calls of a batch; it is open until its last atom was made.

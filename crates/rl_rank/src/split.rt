@@ -2,7 +2,7 @@
 
 ghost use Rattle.std.specs.Prelude.{◌≡◌, ◌+◌, ◌<◌, ◌^◌, true};
 ghost use Rattle.rl_word.specs.Acts.{word_of, written as written_by, told as told_by, by_card as is_by_card};
-ghost use Rattle.rl_rank.specs.Split.{first_at, atom_at, plan_word, card_word as card_word_at, skips as skips_at, effect_at, answer_of, guess_of, HolderFits};
+ghost use Rattle.rl_rank.specs.Split.{first_at, atom_at, card_word as card_word_at, skips as skips_at, effect_at, answer_of, guess_of, HolderFits};
 
 use crate::card_state::CardState;
 use crate::effect::Effect;
@@ -21,14 +21,6 @@ pub fn word(act: Act) -> u32
         | Act::CardSwap { word, .. }
         | Act::CardAdd { word, .. } => word,
     }
-}
-
-/// The word of a planned act.
-#[inline(always)]
-pub fn word_planned(plan: Option<Act>) -> Option<u32>
-    ensures { result ≡ plan_word plan }
-{
-    Some(word(plan?))
 }
 
 /// The word whose home is asked for, by the planned act and the card state: none where the act isn't made through a card.

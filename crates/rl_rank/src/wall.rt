@@ -4,11 +4,10 @@ ghost use Rattle.std.specs.Prelude.{◌≡◌, refl, ◌+◌};
 ghost use Rattle.std.proofs.Common.{ap, ◌∙◌};
 ghost use Rattle.rl_journal.specs.Blocks.{is_tenure};
 ghost use Rattle.rl_site.specs.Site.{lock_base};
-ghost use Rattle.rl_rank.specs.Causes.{Cause};
 ghost use Rattle.rl_rank.specs.Running.{lock_at, tables, goods, good_at, lock_with, kinds};
 ghost use Rattle.rl_rank.specs.laws.DeskLaws.{keeps_all};
 ghost use Rattle.rl_rank.specs.SeenLoads.{with_lock};
-ghost use Rattle.rl_rank.specs.WholeShards.{standing_while, whole_shard, WholeGood};
+ghost use Rattle.rl_rank.specs.WholeShards.{standing_while, whole_shard, whole_says};
 ghost use Rattle.rl_rank.specs.laws.WholeWall.{whole_shard_laws, laid_with};
 
 use crate::idle::waits;
@@ -35,15 +34,7 @@ fn standing_out(busy: bool) -> Standing
 }
 
 impl<A: Algo, W: Work> ShardCore for Whole<A, W> {
-    ghost shard_table = { λ c. whole_shard (lock_at (tables A.table W.table) c) c.home };
-
-    ghost good = { λ c. WholeGood (lock_at (tables A.table W.table) c) (good_at (goods A.good W.good) c) (A.layout c.algo) };
-
-    ghost cause = { λ c. Cause (lock_at (tables A.table W.table) c) };
-
-    ghost further = { λ c. A.further c.algo };
-
-    ghost layout = { λ c. A.layout c.algo };
+    ghost says = { λ c. whole_says (lock_at (tables A.table W.table) c) (good_at (goods A.good W.good) c) (A.further c.algo) (A.layout c.algo) c.home };
 
     ghost defined = { λ shape home knobs site. whole_shard (lock_with (kinds A.defined W.defined shape home knobs) site) home };
 
@@ -145,7 +136,7 @@ impl<A: Algo, W: Work> ShardCore for Whole<A, W> {
 
     ghost same_table = { λ c. refl };
 
-    ghost ruled = { λ c h vs t ds g. g.rule };
+    ghost ruled = { λ c m g. g.rule };
 
     ghost shard_laws = { λ c. whole_shard_laws _ _ (lock_at (tables A.table W.table) c) (good_at (goods A.good W.good) c) (A.further c.algo) (A.layout c.algo) (record { lock = A.laws c.algo; work = W.laws c.work }) c.home };
 

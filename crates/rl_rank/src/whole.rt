@@ -9,16 +9,16 @@ ghost use Rattle.rl_work.specs.Ways.{AsksOut};
 ghost use Rattle.rl_rank.specs.Domains.{KeepsToCards, KeepsToLocals};
 ghost use Rattle.rl_rank.specs.Opening.{first_view, opened_in};
 ghost use Rattle.rl_rank.specs.Running.{lock_at, tables, goods, good_at, lock_with, kinds};
-ghost use Rattle.rl_rank.specs.Split.{asked_act, card_of, card_word, word_home};
+ghost use Rattle.rl_rank.specs.Split.{card_of, card_word, word_home};
 ghost use Rattle.rl_site.specs.Site.{site_of};
-ghost use Rattle.rl_rank.specs.Whole.{whole_table, planned_in, next_of, is_at_work, is_open, rule_of, touch_by, departure_by, followed};
+ghost use Rattle.rl_rank.specs.Whole.{whole_table, planned_in, plan_kept, next_of, is_at_work, is_open, rule_of, touch_by, departure_by, followed};
 ghost use Rattle.rl_rank.specs.laws.WholeLaws.{whole_laws};
 
 use crate::card_state::CardState;
 use crate::effect::Effect;
 use crate::shift::{shift, shift_answer};
 use crate::side::Side;
-use crate::split::{answer, card_word, effect, next_atom, word_planned};
+use crate::split::{answer, card_word, effect, next_atom};
 use arrayvec::ArrayVec;
 use rl_model::{Call, Geom};
 use rl_site::{ENTRY_WORDS, Site, journal_base};
@@ -32,6 +32,9 @@ use std::alloc::{AllocError as OutOfMemory, Global};
 pub struct WholeView<V: Copy, K: Drop> {
     /// The lock's side of it.
     pub side: Side<V>,
+    /// The plan for which it took the card that it is in. It is kept so that the lock isn't asked anew for each atom of a card act, and is
+    /// read only where the card state is `InCard` or `Loaded`.
+    pub kept: Plan,
     /// The rank's number.
     pub rank: u32,
     /// Its side of the work of its calls, with its transcript.
@@ -89,6 +92,17 @@ fn at_work(standing: Standing, card: CardState) -> bool
     }
 }
 
+/// Keeps the plan of a rank whose card state becomes this, where its Take succeeded.
+#[inline(always)]
+fn keep(kept: &mut Plan, plan: Plan, card: CardState)
+    ensures { kept.new ≡ plan_kept card plan kept.old }
+{
+    match card {
+        CardState::InCard => *kept = plan,
+        CardState::Free | CardState::Loaded { .. } | CardState::ToLeave { .. } => {}
+    }
+}
+
 impl<A: Algo, W: Work> Whole<A, W> {
     /// The home of a planned act's word, where the card state asks for it, and else 0.
     #[inline(always)]
@@ -99,20 +113,6 @@ impl<A: Algo, W: Work> Whole<A, W> {
         match card_word(plan, card) {
             Some(word) => self.algo.spot(word).home,
             None => 0,
-        }
-    }
-
-    /// The act that a view plans, where the card state asks for it.
-    #[inline(always)]
-    fn asked_act(&self, view: &WholeView<A::View, W::Side>) -> Option<Act>
-        requires { MayBe (rule_of (tables A.table W.table) (goods A.good W.good) A.layout self.now) view.now }
-        ensures { result ≡ asked_act ((A.table self.now.algo).plan view.now.side.view) view.now.side.card }
-    {
-        match view.side.card {
-            CardState::ToLeave { .. } => None,
-            CardState::Free | CardState::InCard | CardState::Loaded { .. } => {
-                self.algo.plan(view.side.view)
-            }
         }
     }
 
@@ -134,15 +134,21 @@ impl<A: Algo, W: Work> Whole<A, W> {
         }
     }
 
-    /// The act that a view plans and the home of its word, each where the card state asks for it.
+    /// The act that a view plans and the home of its word, each where the card state asks for it. In a card it keeps them.
     #[inline(always)]
     fn planned(&self, view: &WholeView<A::View, W::Side>) -> Plan
         requires { MayBe (rule_of (tables A.table W.table) (goods A.good W.good) A.layout self.now) view.now }
         ensures { result ≡ planned_in (lock_at (tables A.table W.table) self.now).table view.now }
     {
-        let act = self.asked_act(view);
-        let home = self.plan_home(act, view.side.card);
-        Plan { act, home }
+        match view.side.card {
+            CardState::Free => {
+                let act = self.algo.plan(view.side.view);
+                let home = self.plan_home(act, CardState::Free);
+                Plan { act, home }
+            }
+            CardState::InCard | CardState::Loaded { .. } => view.kept,
+            CardState::ToLeave { .. } => Plan { act: None, home: 0 },
+        }
     }
 }
 
@@ -189,6 +195,7 @@ impl<A: Algo, W: Work> Core for Whole<A, W> {
                 step.stepped
             }
             Effect::Stay { card, stepped } => {
+                keep(&mut view.kept, plan, card);
                 view.side.card = card;
                 stepped
             }
@@ -269,6 +276,7 @@ impl<A: Algo, W: Work> Whole<A, W> {
                 view: self.algo.first(rank),
                 card: CardState::Free,
             },
+            kept: Plan { act: None, home: 0 },
             rank,
             work: self.work.first(alloc, rank, room)?,
         })
@@ -310,13 +318,7 @@ impl<A: Algo, W: Work> Whole<A, W> {
         match view.side.card {
             CardState::Free => None,
             CardState::ToLeave { node } => Some(node),
-            CardState::InCard | CardState::Loaded { .. } => {
-                let plan = self.algo.plan(view.side.view);
-                match word_planned(plan) {
-                    Some(word) => Some(self.algo.spot(word).home),
-                    None => None,
-                }
-            }
+            CardState::InCard | CardState::Loaded { .. } => Some(view.kept.home),
         }
     }
 }

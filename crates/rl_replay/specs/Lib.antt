@@ -1,3 +1,4 @@
 -- to be believed
 pub mod Rested
+pub mod Made
 pub mod laws

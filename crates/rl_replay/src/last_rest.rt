@@ -29,7 +29,7 @@ pub fn no_rests<C: Resting>(
     machine: &Machine<C>,
 ) -> Result<Vec<LastRest<C::Sight>>, OutOfMemory>
     ensures many { IfOk result (λ rests. length rests.items ≡ length machine.now.calls) }
-    ensures rested { IfOk result (λ rests. AllRested C.with_sight (running C.shard_table machine.now) rests.items) }
+    ensures rested { IfOk result (λ rests. AllRested C.with_sight (running C.says machine.now) rests.items) }
 {
     let ranks = machine.ops().by_rank.as_slice().len();
     Ok(vec![in alloc; LastRest::Unknown; ranks]?)

@@ -25,10 +25,10 @@ fn rest_held_off<C: Resting>(
     count: u32,
 ) -> bool
     requires few { steps_made machine.old.steps + count < 2 ^ 32 }
-    requires rested { RestsAt (running C.shard_table machine.old) _rank shard (Busy node 0) }
+    requires rested { RestsAt (running C.says machine.old) _rank shard (Busy node 0) }
     ensures cores { cores_of machine.new ≡ cores_of machine.old }
-    ensures run { result ≡ true → running C.shard_table machine.new ≡ run_of (running C.shard_table machine.old) (replicate count _rank) }
-    ensures noted { KeepsNotes C.with_sight (running C.shard_table machine.old) (running C.shard_table machine.new) }
+    ensures run { result ≡ true → running C.says machine.new ≡ run_of (running C.says machine.old) (replicate count _rank) }
+    ensures noted { KeepsNotes C.with_sight (running C.says machine.old) (running C.says machine.new) }
     ensures kept { result ≡ false → machine.new ≡ machine.old }
 {
     if machine.words(shard).card(node) == 0 {
@@ -49,10 +49,10 @@ fn rest_waiting<C: Resting>(
     count: u32,
 ) -> bool
     requires few { steps_made machine.old.steps + count < 2 ^ 32 }
-    requires rested { RestsAt (running C.shard_table machine.old) _rank shard (Waiting word value) }
+    requires rested { RestsAt (running C.says machine.old) _rank shard (Waiting word value) }
     ensures cores { cores_of machine.new ≡ cores_of machine.old }
-    ensures run { result ≡ true → running C.shard_table machine.new ≡ run_of (running C.shard_table machine.old) (replicate count _rank) }
-    ensures noted { KeepsNotes C.with_sight (running C.shard_table machine.old) (running C.shard_table machine.new) }
+    ensures run { result ≡ true → running C.says machine.new ≡ run_of (running C.says machine.old) (replicate count _rank) }
+    ensures noted { KeepsNotes C.with_sight (running C.says machine.old) (running C.says machine.new) }
     ensures kept { result ≡ false → machine.new ≡ machine.old }
 {
     if machine.words(shard).value(word) != value {
@@ -72,10 +72,10 @@ fn rest<C: Resting>(
     count: u32,
 ) -> bool
     requires few { steps_made machine.old.steps + count < 2 ^ 32 }
-    requires rested { Rested C.with_sight (running C.shard_table machine.old) rank last.now }
+    requires rested { Rested C.with_sight (running C.says machine.old) rank last.now }
     ensures cores { cores_of machine.new ≡ cores_of machine.old }
-    ensures run { result ≡ true → running C.shard_table machine.new ≡ run_of (running C.shard_table machine.old) (replicate count rank) }
-    ensures noted { KeepsNotes C.with_sight (running C.shard_table machine.old) (running C.shard_table machine.new) }
+    ensures run { result ≡ true → running C.says machine.new ≡ run_of (running C.says machine.old) (replicate count rank) }
+    ensures noted { KeepsNotes C.with_sight (running C.says machine.old) (running C.says machine.new) }
     ensures kept { result ≡ false → machine.new ≡ machine.old }
 {
     match last {
@@ -102,11 +102,11 @@ pub fn take_noted<C: Resting>(
     requires there { rank < length machine.old.calls }
     requires few { steps_made machine.old.steps + count < 2 ^ 32 }
     requires many { length rests.old.items ≡ length machine.old.calls }
-    requires rested { AllRested C.with_sight (running C.shard_table machine.old) rests.old.items }
+    requires rested { AllRested C.with_sight (running C.says machine.old) rests.old.items }
     ensures cores { cores_of machine.new ≡ cores_of machine.old }
-    ensures run { result ≡ true → running C.shard_table machine.new ≡ run_of (running C.shard_table machine.old) (replicate count rank) }
+    ensures run { result ≡ true → running C.says machine.new ≡ run_of (running C.says machine.old) (replicate count rank) }
     ensures many { length rests.new.items ≡ length rests.old.items }
-    ensures rested { AllRested C.with_sight (running C.shard_table machine.new) rests.new.items }
+    ensures rested { AllRested C.with_sight (running C.says machine.new) rests.new.items }
     ensures kept { result ≡ false → machine.new ≡ machine.old }
 {
     let at = rank as usize;
@@ -164,7 +164,7 @@ fn noted<C: Resting>(at: RestAt) -> LastRest<C::Sight>
 #[inline(always)]
 fn seen_waiting<C: Resting>(machine: &Machine<C>, rank: u32) -> LastRest<C::Sight>
     requires { rank < length machine.now.calls }
-    ensures { Rested C.with_sight (running C.shard_table machine.now) rank result }
+    ensures { Rested C.with_sight (running C.says machine.now) rank result }
 {
     if let Some(at) = machine.waits(rank) {
         return noted::<C>(at);
@@ -182,8 +182,8 @@ fn seen_waiting<C: Resting>(machine: &Machine<C>, rank: u32) -> LastRest<C::Sigh
 #[inline(always)]
 fn rest_after<C: Resting>(machine: &Machine<C>, rank: u32, end: StepEnd) -> LastRest<C::Sight>
     requires there { rank < length machine.now.calls }
-    requires told { Tells (running C.shard_table machine.now) rank end.place end.told }
-    ensures { Rested C.with_sight (running C.shard_table machine.now) rank result }
+    requires told { Tells (running C.says machine.now) rank end.place end.told }
+    ensures { Rested C.with_sight (running C.says machine.now) rank result }
 {
     match end.told {
         StepOutcome::GotOn => LastRest::Unknown,
@@ -206,11 +206,11 @@ pub fn look<C: Resting>(
     end: StepEnd,
 )
     requires there { rank < length machine.now.calls }
-    requires told { Tells (running C.shard_table machine.now) rank end.place end.told }
+    requires told { Tells (running C.says machine.now) rank end.place end.told }
     requires many { length rests.old.items ≡ length machine.now.calls }
-    requires rested { AllRested C.with_sight (running C.shard_table machine.now) rests.old.items }
+    requires rested { AllRested C.with_sight (running C.says machine.now) rests.old.items }
     ensures many { length rests.new.items ≡ length rests.old.items }
-    ensures rested { AllRested C.with_sight (running C.shard_table machine.now) rests.new.items }
+    ensures rested { AllRested C.with_sight (running C.says machine.now) rests.new.items }
 {
     rests[rank as usize] = rest_after(machine, rank, end);
 }

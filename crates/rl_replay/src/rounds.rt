@@ -36,8 +36,8 @@ fn shows_round<C: Resting>(
     round: Round<C::Sight>,
     count: u32,
 ) -> bool
-    requires in_round { IsInRound C.with_sight (running C.shard_table machine.now) _rank shard round }
-    ensures { result ≡ true → GoesRound C.with_sight (running C.shard_table machine.now) _rank shard round count }
+    requires in_round { IsInRound C.with_sight (running C.says machine.now) _rank shard round }
+    ensures { result ≡ true → GoesRound C.with_sight (running C.says machine.now) _rank shard round count }
 {
     shows(machine.words(shard), round, count)
 }
@@ -55,10 +55,10 @@ fn count_rounds<C: Resting>(
 )
     requires few { steps_made machine.old.steps + _count < 2 ^ 32 }
     requires within { rounds + rounds ≤ _count }
-    requires shows { GoesRound C.with_sight (running C.shard_table machine.old) _rank _shard round _count }
+    requires shows { GoesRound C.with_sight (running C.says machine.old) _rank _shard round _count }
     ensures cores { cores_of machine.new ≡ cores_of machine.old }
-    ensures run { running C.shard_table machine.new ≡ run_of (running C.shard_table machine.old) (replicate (rounds + rounds) _rank) }
-    ensures counted { running C.shard_table machine.new ≡ with_steps (running C.shard_table machine.old) machine.new.steps }
+    ensures run { running C.says machine.new ≡ run_of (running C.says machine.old) (replicate (rounds + rounds) _rank) }
+    ensures counted { running C.says machine.new ≡ with_steps (running C.says machine.old) machine.new.steps }
 {
     machine.count_more(round.here.answer(), rounds);
     machine.count_more(round.there.answer(), rounds);
@@ -75,10 +75,10 @@ pub fn go_round<C: Resting>(
 ) -> bool
     requires there { rank < length machine.old.calls }
     requires few { steps_made machine.old.steps + count < 2 ^ 32 }
-    requires in_round { Rested C.with_sight (running C.shard_table machine.old) rank last.old }
+    requires in_round { Rested C.with_sight (running C.says machine.old) rank last.old }
     ensures cores { cores_of machine.new ≡ cores_of machine.old }
-    ensures run { result ≡ true → running C.shard_table machine.new ≡ run_of (running C.shard_table machine.old) (replicate count rank) }
-    ensures in_round { Rested C.with_sight (running C.shard_table machine.new) rank last.new }
+    ensures run { result ≡ true → running C.says machine.new ≡ run_of (running C.says machine.old) (replicate count rank) }
+    ensures in_round { Rested C.with_sight (running C.says machine.new) rank last.new }
     ensures kept { result ≡ false → machine.new ≡ machine.old }
 {
     let LastRest::Round { shard, round } = *last else {

@@ -10,10 +10,11 @@ ghost use Rattle.rl_ops.specs.Schedule.{TurnFits, steps_of};
 ghost use Rattle.rl_machine.specs.Changes.{OnlyWritersChange};
 ghost use Rattle.rl_machine.specs.Promises.{IsSound, EachKeepsQueues};
 ghost use Rattle.rl_machine.specs.Run.{run_of, stepped, turn_ranks, ranks_of_turns, steps_in};
-ghost use Rattle.rl_machine.specs.RunTransitions.{EachSays};
+ghost use Rattle.rl_machine.specs.RunTransitions.{RunSays};
 ghost use Rattle.rl_machine.specs.Running.{running, cores_of};
 ghost use Rattle.rl_replay.specs.Rested.{AllRested};
 ghost use Rattle.rl_machine.specs.Start.{start_of};
+ghost use Rattle.rl_replay.specs.Made.{MadeFewer, run_of_turns};
 
 use crate::last_rest::{LastRest, no_rests};
 use crate::noted::{forget, look, take_noted};
@@ -34,11 +35,11 @@ fn step_in_full<C: Resting>(
     requires there { rank < length machine.old.calls }
     requires few { steps_made machine.old.steps < 2 ^ 32 - 1 }
     requires many { length rests.old.items ≡ length machine.old.calls }
-    requires rested { AllRested C.with_sight (running C.shard_table machine.old) rests.old.items }
+    requires rested { AllRested C.with_sight (running C.says machine.old) rests.old.items }
     ensures cores { cores_of machine.new ≡ cores_of machine.old }
-    ensures stepped { IfOk result (λ _. running C.shard_table machine.new ≡ stepped (running C.shard_table machine.old) rank) }
+    ensures stepped { IfOk result (λ _. running C.says machine.new ≡ stepped (running C.says machine.old) rank) }
     ensures many { length rests.new.items ≡ length rests.old.items }
-    ensures rested { IfOk result (λ _. AllRested C.with_sight (running C.shard_table machine.new) rests.new.items) }
+    ensures rested { IfOk result (λ _. AllRested C.with_sight (running C.says machine.new) rests.new.items) }
     ensures kept { OnErr result (machine.new ≡ machine.old) }
 {
     forget(rests, rank);
@@ -67,14 +68,14 @@ pub fn take_steps<C: Resting>(
     requires there { rank < length machine.old.calls }
     requires few { steps_made machine.old.steps + count < 2 ^ 32 }
     requires many { length rests.old.items ≡ length machine.old.calls }
-    requires rested { AllRested C.with_sight (running C.shard_table machine.old) rests.old.items }
+    requires rested { AllRested C.with_sight (running C.says machine.old) rests.old.items }
     ensures cores { cores_of machine.new ≡ cores_of machine.old }
-    ensures run { IfOk result (λ _. running C.shard_table machine.new ≡ run_of (running C.shard_table machine.old) (replicate count rank)) }
+    ensures run { IfOk result (λ _. running C.says machine.new ≡ run_of (running C.says machine.old) (replicate count rank)) }
     ensures steps { IfOk result (λ _. steps_made machine.new.steps ≡ steps_made machine.old.steps + count) }
     ensures calls { IfOk result (λ _. machine.new.calls ≡ machine.old.calls) }
     ensures many { length rests.new.items ≡ length rests.old.items }
-    ensures rested { IfOk result (λ _. AllRested C.with_sight (running C.shard_table machine.new) rests.new.items) }
-    ensures part { OnErr result ((made : ℕ) × (made < count) × (running C.shard_table machine.new ≡ run_of (running C.shard_table machine.old) (replicate made rank))) }
+    ensures rested { IfOk result (λ _. AllRested C.with_sight (running C.says machine.new) rests.new.items) }
+    ensures part { OnErr result (MadeFewer (running C.says machine.old) rank count (running C.says machine.new)) }
 {
     if take_noted(machine, rests, rank, count) {
         return Ok(());
@@ -99,13 +100,13 @@ fn take_turn<C: Resting>(
     requires there { TurnFits (length machine.old.calls) turn }
     requires few { steps_made machine.old.steps + steps_of turn < 2 ^ 32 }
     requires many { length rests.old.items ≡ length machine.old.calls }
-    requires rested { AllRested C.with_sight (running C.shard_table machine.old) rests.old.items }
+    requires rested { AllRested C.with_sight (running C.says machine.old) rests.old.items }
     ensures cores { cores_of machine.new ≡ cores_of machine.old }
-    ensures run { IfOk result (λ _. running C.shard_table machine.new ≡ run_of (running C.shard_table machine.old) (turn_ranks turn)) }
+    ensures run { IfOk result (λ _. running C.says machine.new ≡ run_of (running C.says machine.old) (turn_ranks turn)) }
     ensures steps { IfOk result (λ _. steps_made machine.new.steps ≡ steps_made machine.old.steps + steps_of turn) }
     ensures calls { IfOk result (λ _. machine.new.calls ≡ machine.old.calls) }
     ensures many { length rests.new.items ≡ length rests.old.items }
-    ensures rested { IfOk result (λ _. AllRested C.with_sight (running C.shard_table machine.new) rests.new.items) }
+    ensures rested { IfOk result (λ _. AllRested C.with_sight (running C.says machine.new) rests.new.items) }
 {
     match turn {
         Turn::Steps { rank, count } => take_steps(machine, rests, u32::from(rank), count),
@@ -143,11 +144,11 @@ pub fn replay<C: Resting>(
     requires batches { C.batches ≡ false → (k i : ℕ) → slice_index (get_or ops.sizes k []) i ≤ 1 }
     requires there { AllByRecursion (TurnFits (length shape.now.node_of)) turns.now }
     requires few { steps_in turns.now < 2 ^ 32 }
-    ensures run { IfOk result (λ m. running C.shard_table m ≡ run_of (start_of C.defined shape.now knobs geom homes.now ops) (ranks_of_turns turns.now)) }
-    ensures sound { IfOk result (λ m. IsSound (running C.shard_table m)) }
-    ensures changes { IfOk result (λ m. OnlyWritersChange (running C.shard_table m)) }
-    ensures queues { IfOk result (λ m. EachKeepsQueues C.name shape.now knobs homes.now (running C.shard_table m)) }
-    ensures further { IfOk result (λ _. EachSays C.promised shape.now knobs homes.now (start_of C.defined shape.now knobs geom homes.now ops) (ranks_of_turns turns.now)) }
+    ensures run { IfOk result (λ m. running C.says m ≡ run_of_turns (start_of C.defined shape.now knobs geom homes.now ops) turns.now) }
+    ensures sound { IfOk result (λ m. IsSound (running C.says m)) }
+    ensures changes { IfOk result (λ m. OnlyWritersChange (running C.says m)) }
+    ensures queues { IfOk result (λ m. EachKeepsQueues C.name shape.now knobs homes.now (running C.says m)) }
+    ensures further { IfOk result (λ _. RunSays C.defined C.promised shape.now knobs geom homes.now ops (ranks_of_turns turns.now)) }
 {
     let mut machine = Machine::new(alloc, shape, knobs, geom, homes, ops)?;
     let mut rests = no_rests(alloc, &machine)?;

@@ -4,21 +4,19 @@ use Rattle.std.specs.List.{slice_get}
 use Rattle.std.proofs.lemmas.Option.{slice_get-get_or, slice_get_within, get_or_from_slice_get}
 use Rattle.std.proofs.lemmas.List.{length-map, map-append, take_more}
 use Rattle.std.proofs.lemmas.List.Elements.{All-cons, All-nil, All-tail}
-use Rattle.rl_word.specs.Acts.{Layout}
 use Rattle.rl_word.specs.Shapes.{TheShape}
 use Rattle.rl_word.specs.laws.Places.{get_map, some_at}
 use Rattle.rl_word.specs.declared.locks.LockName.{LockName}
 use Rattle.rl_word.specs.declared.shapes.Knobs.{Knobs}
 use Rattle.rl_model.specs.declared.call.Call.{Call}
 use Rattle.rl_model.specs.declared.geom.Geom.{Geom}
-use Rattle.rl_core.specs.ShardTables.{ShardTable, site_with}
-use Rattle.rl_core.specs.ShardLaws.{GoodOf}
+use Rattle.rl_core.specs.ShardTables.{ShardTable}
+use Rattle.rl_core.specs.Moments.{CoreSays}
 use Rattle.rl_step.specs.LockQueues.{queues_of, readers_share, lock_under, spares_gets}
 use Rattle.rl_place.specs.LockWords.{name_of}
 use Rattle.rl_place.specs.Places.{ThePlace, IsProper}
 use Rattle.rl_place.specs.Shapes.{shape_of, knobs_of}
 use Rattle.rl_ops.specs.declared.ops.Ops.{Ops}
-use Rattle.rl_ops.specs.Room.{updates_on}
 use Rattle.rl_journal.specs.Blocks.{is_tenure}
 use Rattle.rl_site.specs.Site.{Site}
 use Rattle.std.specs.Prelude.{Bool, false, slice_index}
@@ -34,7 +32,7 @@ use Rattle.rl_shard.specs.declared.seat.Seat.{Seat}
 use Rattle.rl_shard.specs.Shards.{IsShardOf}
 use Rattle.rl_run.specs.declared.caller.Caller.{Caller}
 use Rattle.rl_run.specs.Told.{ToldNumbersFit, AreClosedShards, all_done, part_of}
-use Rattle.rl_run.specs.Runs.{AreNew, AreCallers, HaveBegun, HasRun, CallerMayWork, made_of, wanted, told}
+use Rattle.rl_run.specs.Runs.{AreNew, AreCallers, HaveBegun, HasRun, CallerMayWork, made_of, table_for, table_of, site_in, wanted, told}
 use Rattle.rl_run.specs.laws.RunLaws.{are_callers, wanted_long}
 use Rattle.rl_run.specs.laws.EndLaws.{closed_shards}
 use Rattle.rl_run.specs.laws.ReportLaws.{updates_few, lawful}
@@ -46,20 +44,20 @@ sizes_long shards [] (s ∷ sizes) each = absurd each
 sizes_long shards (c ∷ lists) [] each = absurd each
 sizes_long shards (c ∷ lists) (s ∷ sizes) each = ap suc (sizes_long shards lists sizes each.1)
 
-module _ {C V : Type 0} (D : TheShape → ℕ → Knobs → Site → ShardTable V) (table : C → ShardTable V) (good : GoodOf C V) (layout : C → Layout)
+module _ {C V : Type 0} (D : TheShape → ℕ → Knobs → Site → ShardTable V) (says : C → CoreSays V)
     (place : ThePlace) (ops : Ops) (proper : IsProper place) (fit : OpsFit (length place.paths) place.geom.shards ops)
     (shape : TheShape) (knobs : Knobs) (geom : Geom) (homes : List ℕ) (shape_is : shape ≡ shape_of place) (knobs_is : knobs ≡ knobs_of place.lock) (geom_is : geom ≡ place.geom) (homes_is : homes ≡ place.homes)
-    (shards : List (Shard C V)) (rows : List (List (Seat C V))) (new : AreNew D table good layout shape knobs geom homes ops.by_rank shards rows) (all : length shards ≡ geom.shards)
+    (shards : List (Shard C V)) (rows : List (List (Seat C V))) (new : AreNew D says (table_for shape knobs geom homes ops.by_rank) shards rows) (all : length shards ≡ geom.shards)
     (batches : Bool) (has_batches : (shape : TheShape) (home : ℕ) (knobs : Knobs) (site : Site) → (D shape home knobs site).batches ≡ batches) (alone : batches ≡ false → (k i : ℕ) → slice_index (get_or ops.sizes k []) i ≤ 1) where
   long : length ops.sizes ≡ length ops.by_rank
   long = sizes_long place.geom.shards ops.by_rank ops.sizes fit.blocks
 
-  new_place : AreNew D table good layout (shape_of place) (knobs_of place.lock) place.geom place.homes ops.by_rank shards rows
+  new_place : AreNew D says (table_of place ops) shards rows
   new_place =
-      subst (λ h. AreNew D table good layout (shape_of place) (knobs_of place.lock) place.geom h ops.by_rank shards rows) homes_is
-      (subst (λ g. AreNew D table good layout (shape_of place) (knobs_of place.lock) g homes ops.by_rank shards rows) geom_is
-      (subst (λ k. AreNew D table good layout (shape_of place) k geom homes ops.by_rank shards rows) knobs_is
-      (subst (λ s. AreNew D table good layout s knobs geom homes ops.by_rank shards rows) shape_is new)))
+      subst (λ h. AreNew D says (table_for (shape_of place) (knobs_of place.lock) place.geom h ops.by_rank) shards rows) homes_is
+      (subst (λ g. AreNew D says (table_for (shape_of place) (knobs_of place.lock) g homes ops.by_rank) shards rows) geom_is
+      (subst (λ k. AreNew D says (table_for (shape_of place) k geom homes ops.by_rank) shards rows) knobs_is
+      (subst (λ s. AreNew D says (table_for s knobs geom homes ops.by_rank) shards rows) shape_is new)))
 
   all_place : length shards ≡ place.geom.shards
   all_place = all ∙ ap (λ g. g.shards) geom_is
@@ -68,25 +66,25 @@ module _ {C V : Type 0} (D : TheShape → ℕ → Knobs → Site → ShardTable 
     as_many : length cs ≡ length ops.by_rank
     as_many = sym (length-map cs made_of) ∙ ap length made ∙ wanted_long place.geom 0 ops.by_rank ops.sizes rows long new_place.ranks
 
-    are_callers_of : All (CallerMayWork table good layout) cs → AreCallers table good layout shards cs
+    are_callers_of : All (CallerMayWork says) cs → AreCallers says shards cs
     are_callers_of may =
-        are_callers D table good layout (shape_of place) (knobs_of place.lock) place.geom place.homes ops.by_rank ops.sizes shards rows new_place proper.geom all_place long
+        are_callers D says (table_of place ops) ops.sizes shards rows new_place proper.geom all_place long
         (λ k. let f = few_calls ops.by_rank k 20000 fit.few in omega arith) (each_blocks place.geom proper.geom ops.by_rank ops.sizes fit.blocks)
-        (λ s w gw e. alone (sym (ap (λ z. z.batches) (new_place.each s w gw).table_is ∙ has_batches (shape_of place) (get_or place.homes s 0) (knobs_of place.lock) (site_with place.geom s (map (updates_on place.geom s) ops.by_rank))) ∙ e)) cs made may
+        (λ s w gw e. alone (sym (ap (λ z. z.batches) (new_place.each s w gw).table_is ∙ has_batches (shape_of place) (get_or place.homes s 0) (knobs_of place.lock) (site_in (table_of place ops) s)) ∙ e)) cs made may
 
-    rooted : All (IsShardOf table (length cs)) shards
-    rooted k d within = subst (λ n. IsShardOf table n (get_or shards k d)) (sym as_many) (new_place.each k (get_or shards k d) (slice_get-get_or shards k d within)).is_shard
+    rooted : All (IsShardOf says (length cs)) shards
+    rooted k d within = subst (λ n. IsShardOf says n (get_or shards k d)) (sym as_many) (new_place.each k (get_or shards k d) (slice_get-get_or shards k d within)).is_shard
 
-    pub begun : All (CallerMayWork table good layout) cs → HaveBegun D table good layout place ops shards cs
+    pub begun : All (CallerMayWork says) cs → HaveBegun D says place ops shards cs
     begun may = record { rows = rows; new = new_place; all = all_place; made = made; rooted = rooted; callers = are_callers_of may }
 
-module _ {C V : Type 0} (D : TheShape → ℕ → Knobs → Site → ShardTable V) (table : C → ShardTable V) (good : GoodOf C V) (layout : C → Layout)
+module _ {C V : Type 0} (D : TheShape → ℕ → Knobs → Site → ShardTable V) (says : C → CoreSays V)
     (place : ThePlace) (ops : Ops) (proper : IsProper place) (fit : OpsFit (length place.paths) place.geom.shards ops)
-    (shards : List (Shard C V)) (cs : List (Caller C V)) (begun : HaveBegun D table good layout place ops shards cs)
+    (shards : List (Shard C V)) (cs : List (Caller C V)) (begun : HaveBegun D says place ops shards cs)
     (name : LockName) (kind : name ≡ lock_under (name_of place.lock)) (has_queues : (shape : TheShape) (home : ℕ) (knobs : Knobs) (site : Site) → (D shape home knobs site).queues ≡ queues_of name shape home knobs)
-    (spares : Bool → Bool) (has_tenures : (shape : TheShape) (home : ℕ) (knobs : Knobs) (site : Site) → (D shape home knobs site).tenure ≡ is_tenure (spares (readers_share name))) (as_told : spares (readers_share name) ≡ spares_gets (name_of place.lock)) (ends : List Closed) (run : HasRun table layout shards cs ends) where
+    (spares : Bool → Bool) (has_tenures : (shape : TheShape) (home : ℕ) (knobs : Knobs) (site : Site) → (D shape home knobs site).tenure ≡ is_tenure (spares (readers_share name))) (as_told : spares (readers_share name) ≡ spares_gets (name_of place.lock)) (ends : List Closed) (run : HasRun says shards cs ends) where
   are : AreClosedShards place ops (map told ends)
-  are = closed_shards D name table good layout has_queues spares has_tenures place ops kind as_told proper fit (sizes_long place.geom.shards ops.by_rank ops.sizes fit.blocks) shards begun.rows begun.new begun.all cs begun.made ends run
+  are = closed_shards D name says has_queues spares has_tenures place ops kind as_told proper fit (sizes_long place.geom.shards ops.by_rank ops.sizes fit.blocks) shards begun.rows begun.new begun.all cs begun.made ends run
 
   pub short : (k : ℕ) (d : Closed) → k < length ends → vec_len (get_or ends k d).journal < 2 ^ 32
   short k d within =

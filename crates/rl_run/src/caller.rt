@@ -2,7 +2,7 @@
 
 ghost use Rattle.std.specs.Prelude.{◌≡◌, ◌↔◌, ◌<◌, false, length};
 ghost use Rattle.rl_step.specs.declared.events.Stepped.TheVariants.{Finished};
-ghost use Rattle.rl_run.specs.Callers.{IsCaller, IsReady, IsAtEnd, AllClosed, HasNone, Opens, OpensDue, StepsSeat, IsStep, who, seats_of};
+ghost use Rattle.rl_run.specs.Callers.{IsCaller, IsReady, IsAtEnd, AllClosed, HasNone, HasNothingLeft, Opens, OpensDue, StepsSeat, IsStep, who, seats_of};
 
 use crate::waiting::Patience;
 use arrayvec::ArrayVec;
@@ -52,8 +52,8 @@ impl<C: ShardCore> Caller<C> {
         geom: Geom,
         seats: Vec<Seat<C>>,
     ) -> Caller<C>
-        ensures caller { (shards : _) → IsReady C.shard_table C.good C.layout shards geom rank calls.items sizes.items seats.items →
-            IsCaller C.shard_table C.good C.layout shards result }
+        ensures caller { (shards : _) → IsReady C.says shards geom rank calls.items sizes.items seats.items →
+            IsCaller C.says shards result }
         ensures who { who result ≡ (rank, calls.items, sizes.items, geom) }
         ensures seats { seats_of result ≡ seats.items }
         ensures none { result.opened ≡ 0 }
@@ -87,8 +87,8 @@ impl<C: ShardCore> Caller<C> {
 
     // Whether a block is open: it would be at the shard of the last call that was opened.
     fn is_open(&self, shards: &[Shard<C>]) -> bool
-        requires caller { IsCaller C.shard_table C.good C.layout shards.now self.now }
-        ensures { (result ≡ false) ↔ AllClosed C.shard_table shards.now self.now.seats.items }
+        requires caller { IsCaller C.says shards.now self.now }
+        ensures { (result ≡ false) ↔ AllClosed C.says shards.now self.now.seats.items }
     {
         let at = self.at as usize;
         let seat = &self.seats[at];
@@ -97,13 +97,13 @@ impl<C: ShardCore> Caller<C> {
 
     // Opens the next block on the shard of its calls.
     fn open_next(&mut self, shards: &[Shard<C>])
-        requires caller { IsCaller C.shard_table C.good C.layout shards.now self.old }
-        requires closed { AllClosed C.shard_table shards.now self.old.seats.items }
+        requires caller { IsCaller C.says shards.now self.old }
+        requires closed { AllClosed C.says shards.now self.old.seats.items }
         requires left { self.old.opened < length self.old.calls.items }
-        ensures caller { IsCaller C.shard_table C.good C.layout shards.now self.new }
+        ensures caller { IsCaller C.says shards.now self.new }
         ensures same { who self.new ≡ who self.old }
-        ensures opens { Opens C.shard_table shards.now self.old self.new }
-        ensures is_open { AllClosed C.shard_table shards.now self.new.seats.items → ⊥ }
+        ensures opens { Opens C.says shards.now self.old self.new }
+        ensures is_open { AllClosed C.says shards.now self.new.seats.items → ⊥ }
     {
         let first = self.opened;
         let block = block_from(self.calls.as_slice(), self.sizes.as_slice(), first);
@@ -118,12 +118,12 @@ impl<C: ShardCore> Caller<C> {
     // Opens the next block, of which the gate is told, where none is open and one is left. Whether it did.
     #[inline(never)]
     fn open_due<G: Gate>(&mut self, shards: &[Shard<C>], gate: &G) -> bool
-        requires caller { IsCaller C.shard_table C.good C.layout shards.now self.old }
-        ensures caller { IsCaller C.shard_table C.good C.layout shards.now self.new }
+        requires caller { IsCaller C.says shards.now self.old }
+        ensures caller { IsCaller C.says shards.now self.new }
         ensures same { who self.new ≡ who self.old }
-        ensures due { OpensDue C.shard_table shards.now self.old self.new }
-        ensures none { result ≡ false → HasNone C.shard_table shards.now self.old self.new }
-        ensures all { AllClosed C.shard_table shards.now self.new.seats.items → self.new.opened ≡ length self.new.calls.items }
+        ensures due { OpensDue C.says shards.now self.old self.new }
+        ensures none { result ≡ false → HasNone C.says shards.now self.old self.new }
+        ensures all { AllClosed C.says shards.now self.new.seats.items → self.new.opened ≡ length self.new.calls.items }
     {
         if self.opened as usize >= self.calls.len() {
             return false;
@@ -138,13 +138,13 @@ impl<C: ShardCore> Caller<C> {
 
     // A step at the shard of the last call that was opened.
     fn step_last(&mut self, shards: &[Shard<C>]) -> Stepped
-        requires caller { IsCaller C.shard_table C.good C.layout shards.now self.old }
-        ensures caller { IsCaller C.shard_table C.good C.layout shards.now self.new }
+        requires caller { IsCaller C.says shards.now self.old }
+        ensures caller { IsCaller C.says shards.now self.new }
         ensures same { who self.new ≡ who self.old }
-        ensures steps { StepsSeat C.shard_table C.good C.layout C.cause shards.now self.old self.new result }
-        ensures finished { result ≡ Finished → AllClosed C.shard_table shards.now self.old.seats.items }
-        ensures still { AllClosed C.shard_table shards.now self.old.seats.items → AllClosed C.shard_table shards.now self.new.seats.items }
-        ensures closed { AllClosed C.shard_table shards.now self.old.seats.items → result ≡ Finished }
+        ensures steps { StepsSeat C.says shards.now self.old self.new result }
+        ensures finished { result ≡ Finished → AllClosed C.says shards.now self.old.seats.items }
+        ensures still { AllClosed C.says shards.now self.old.seats.items → AllClosed C.says shards.now self.new.seats.items }
+        ensures closed { AllClosed C.says shards.now self.old.seats.items → result ≡ Finished }
     {
         let at = self.at as usize;
         let seat = &mut self.seats[at];
@@ -160,10 +160,10 @@ impl<C: ShardCore> Caller<C> {
         gate: &G,
         patience: &mut Patience,
     )
-        requires caller { IsCaller C.shard_table C.good C.layout shards.now self.old }
-        ensures caller { IsCaller C.shard_table C.good C.layout shards.now self.new }
+        requires caller { IsCaller C.says shards.now self.old }
+        ensures caller { IsCaller C.says shards.now self.new }
         ensures same { who self.new ≡ who self.old }
-        ensures closed { AllClosed C.shard_table shards.now self.new.seats.items }
+        ensures closed { AllClosed C.says shards.now self.new.seats.items }
     {
         let rank = self.rank;
         let at = self.at as usize;
@@ -187,12 +187,12 @@ impl<C: ShardCore> Caller<C> {
     /// The answers are those of `Seat::step`, but Finished, which comes exactly where no block is open and none is left: then all calls
     /// of the rank are done.
     pub fn step(&mut self, shards: &[Shard<C>]) -> Stepped
-        requires caller { IsCaller C.shard_table C.good C.layout shards.now self.old }
-        ensures caller { IsCaller C.shard_table C.good C.layout shards.now self.new }
+        requires caller { IsCaller C.says shards.now self.old }
+        ensures caller { IsCaller C.says shards.now self.new }
         ensures same { who self.new ≡ who self.old }
-        ensures step { IsStep C.shard_table C.good C.layout C.cause shards.now self.old self.new result }
-        ensures finished { (result ≡ Finished) ↔ (AllClosed C.shard_table shards.now self.old.seats.items × (self.old.opened ≡ length self.old.calls.items)) }
-        ensures all_done { result ≡ Finished → IsAtEnd C.shard_table shards.now self.new }
+        ensures step { IsStep C.says shards.now self.old self.new result }
+        ensures finished { (result ≡ Finished) ↔ HasNothingLeft C.says shards.now self.old }
+        ensures all_done { result ≡ Finished → IsAtEnd C.says shards.now self.new }
     {
         self.open_due(shards, &OpenGate);
         self.step_last(shards)
@@ -201,10 +201,10 @@ impl<C: ShardCore> Caller<C> {
     /// Steps until all calls of the rank are done. The gate is told of each block before it is opened, and of each step after it was
     /// made. It may wait for other ranks; it takes no memory. The shards are those of the caller's seats.
     pub fn work<G: Gate, R: Wait>(&mut self, rt: &R, shards: &[Shard<C>], gate: &G)
-        requires caller { IsCaller C.shard_table C.good C.layout shards.now self.old }
-        ensures caller { IsCaller C.shard_table C.good C.layout shards.now self.new }
+        requires caller { IsCaller C.says shards.now self.old }
+        ensures caller { IsCaller C.says shards.now self.new }
         ensures same { who self.new ≡ who self.old }
-        ensures all_done { IsAtEnd C.shard_table shards.now self.new }
+        ensures all_done { IsAtEnd C.says shards.now self.new }
     {
         let mut patience = Patience::new();
         for _ in rt.forever() {

@@ -29,9 +29,9 @@ pub fn rows_of<C: ShardCore>(
 
 // Closes one shard, with its seats in the order of the ranks.
 fn close_one<C: ShardCore>(shard: Shard<C>, column: Vec<Seat<C>>) -> Result<Closed, OutOfMemory>
-    requires rooted { IsShardOf C.shard_table (vec_len column) shard }
-    requires column { IsColumn (IsShutSeat C.shard_table C.good C.layout) shard column.items }
-    ensures { IfOk result (λ e. IsEnd C.shard_table C.layout shard column.items e) }
+    requires rooted { IsShardOf C.says (vec_len column) shard }
+    requires column { IsColumn (IsShutSeat C.says) shard column.items }
+    ensures { IfOk result (λ e. IsEnd C.says shard column.items e) }
 {
     match shard.close(column) {
         Ok(closed) => Ok(closed),
@@ -45,9 +45,9 @@ pub fn close_all<C: ShardCore>(
     shards: Vec<Shard<C>>,
     rows: Vec<Vec<Seat<C>>>,
 ) -> Result<Vec<Closed>, OutOfMemory>
-    requires rooted { All (IsShardOf C.shard_table (vec_len rows)) shards.items }
-    requires grid { IsGrid (IsShutSeat C.shard_table C.good C.layout) shards.items (map vec_items rows.items) }
-    ensures { IfOk result (λ ends. AreEnded (IsEnd C.shard_table C.layout) shards.items (map vec_items rows.items) ends.items) }
+    requires rooted { All (IsShardOf C.says (vec_len rows)) shards.items }
+    requires grid { IsGrid (IsShutSeat C.says) shards.items (map vec_items rows.items) }
+    ensures { IfOk result (λ ends. AreEnded (IsEnd C.says) shards.items (map vec_items rows.items) ends.items) }
 {
     let mut ends = Vec::with_capacity(alloc, shards.len())?;
     let mut left = rows_in_turn(alloc, rows)?;

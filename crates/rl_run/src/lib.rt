@@ -27,7 +27,7 @@ mod working;
 pub use caller::Caller;
 pub use closing::{close_all, rows_of};
 pub use opening::{begin_all, callers_of, open_all};
-pub use reporting::{part_of, replies_fit, tallies_fit};
+pub use reporting::part_of;
 pub use rows::deal_seats;
 pub use run::run_callers;
 pub use whole_run::run_all;

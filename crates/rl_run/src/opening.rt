@@ -7,7 +7,7 @@ ghost use Rattle.rl_word.specs.Shapes.{IsProper};
 ghost use Rattle.rl_place.specs.Places.{IsProper as IsProperPlace};
 ghost use Rattle.rl_place.specs.Shapes.{shape_of, knobs_of};
 ghost use Rattle.rl_ops.specs.Ops.{OpsFit, total_calls};
-ghost use Rattle.rl_run.specs.Runs.{AreNew, HaveBegun, CallerMayWork, made_of, wanted};
+ghost use Rattle.rl_run.specs.Runs.{AreAllNew, AreMadeOf, HaveBegun, CallerMayWork, table_for};
 
 use crate::caller::Caller;
 use crate::rows::deal_seats;
@@ -52,7 +52,7 @@ pub fn open_all<C: ShardCore>(
     requires ranks { length ops.now.by_rank ≡ length shape.now.node_of }
     requires few { total_calls ops.now.by_rank ≤ 20000 }
     ensures all { IfOk result (λ p. length p.0.items ≡ geom.shards) }
-    ensures made { IfOk result (λ p. AreNew C.defined C.shard_table C.good C.layout shape.now knobs geom homes.now ops.now.by_rank p.0.items (map vec_items p.1.items)) }
+    ensures made { IfOk result (AreAllNew C.defined C.says (table_for shape.now knobs geom homes.now ops.now.by_rank)) }
 {
     let mut rooms = ops.rooms(alloc, geom)?;
     let mut shards = Vec::new(alloc);
@@ -78,8 +78,8 @@ pub fn callers_of<C: ShardCore>(
     requires sizes { vec_len sizes ≡ vec_len calls }
     requires rows { vec_len rows ≡ vec_len calls }
     requires few { vec_len calls ≤ 32 }
-    ensures made { IfOk result (λ callers. map made_of callers.items ≡ wanted geom 0 (map vec_items calls.items) (map vec_items sizes.items) (map vec_items rows.items)) }
-    ensures may { IfOk result (λ callers. All (CallerMayWork C.shard_table C.good C.layout) callers.items) }
+    ensures made { IfOk result (AreMadeOf geom calls sizes rows) }
+    ensures may { IfOk result (λ callers. All (CallerMayWork C.says) callers.items) }
 {
     let mut callers = Vec::with_capacity(alloc, calls.len())?;
     let mut rank = 0;
@@ -107,7 +107,7 @@ pub fn begin_all<C: ShardCore>(
     requires knobs { C.suits_knobs (shape_of place.now) (knobs_of place.now.lock) }
     requires batches { C.batches ≡ false → (k i : ℕ) → slice_index (get_or ops.sizes k []) i ≤ 1 }
     requires calls { OpsFit (length place.now.paths) place.now.geom.shards ops }
-    ensures { IfOk result (λ p. HaveBegun C.defined C.shard_table C.good C.layout place.now ops p.0.items p.1.items) }
+    ensures { IfOk result (λ p. HaveBegun C.defined C.says place.now ops p.0.items p.1.items) }
 {
     let shape = place.shape(alloc)?;
     let homes = place.homes.as_slice();

@@ -1,53 +1,18 @@
 //! The report of closed shards.
 
 ghost use Rattle.std.specs.Prelude.{◌≡◌, ◌<◌, ◌^◌, All, map, IfOk, vec_len};
-ghost use Rattle.rl_report.specs.Reports.{ReplyFits, TallyFits};
 ghost use Rattle.rl_run.specs.Runs.{told};
 ghost use Rattle.rl_run.specs.Told.{ToldNumbersFit, part_of};
 
-use rl_model::Entry;
-use rl_report::{ShardReport, merge};
+use rl_report::{ShardReport, merge, replies_fit, tallies_fit};
 use rl_shard::Closed;
-use rl_step::Tally;
 use std::alloc::{AllocError as OutOfMemory, Global};
 
-// The numbers of an entry's reply are in their range, as its type has them. There is nothing to run.
-fn reply_fits(entry: Entry)
-    ensures { ReplyFits entry.reply }
-{
-    let _ = entry.reply;
-}
-
-// The same of a tally.
-fn tally_fits(tally: Tally)
-    ensures { TallyFits tally }
-{
-    let _ = tally.settled;
-}
-
-// And of a pair.
+// The numbers of a pair are in their range, as its type has them. There is nothing to run.
 fn pair_fits(pair: (u64, u64))
     ensures { (pair.0 < 2 ^ 64) × (pair.1 < 2 ^ 64) }
 {
     let _ = pair.0;
-}
-
-/// The numbers of the replies of all entries are in their ranges. There is nothing to run but to look at each.
-pub fn replies_fit(entries: &[Entry])
-    ensures { All (λ e. ReplyFits e.reply) entries.now }
-{
-    for entry in entries {
-        reply_fits(*entry);
-    }
-}
-
-/// The same of all tallies.
-pub fn tallies_fit(tallies: &[Tally])
-    ensures { All TallyFits tallies.now }
-{
-    for tally in tallies {
-        tally_fits(*tally);
-    }
 }
 
 // Of all pairs.

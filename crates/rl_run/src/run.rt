@@ -24,9 +24,9 @@ pub fn run_callers<C: ShardCore + Send + Sync, G: Gate, R: Threads + Wait + Sync
 ) -> Result<Vec<Closed>, OutOfMemory>
 where
     C::View: Send + Sync,
-    requires rooted { All (IsShardOf C.shard_table (vec_len callers)) shards.items }
-    requires callers { AreCallers C.shard_table C.good C.layout shards.items callers.items }
-    ensures { IfOk result (λ ends. HasRun C.shard_table C.layout shards.items callers.items ends.items) }
+    requires rooted { All (IsShardOf C.says (vec_len callers)) shards.items }
+    requires callers { AreCallers C.says shards.items callers.items }
+    ensures { IfOk result (λ ends. HasRun C.says shards.items callers.items ends.items) }
 {
     work_all(rt, shards.as_slice(), gate, callers.as_mut_slice());
     let rows = rows_of(alloc, callers)?;

@@ -1,7 +1,7 @@
 //! All callers at work, each in a thread of its own.
 
 ghost use Rattle.std.specs.Prelude.{◌≡◌, All, map};
-ghost use Rattle.rl_run.specs.Callers.{IsCaller, IsAtEnd, who};
+ghost use Rattle.rl_run.specs.Callers.{IsCaller, IsAtEnd, HasWorked, who};
 
 use crate::caller::Caller;
 use rl_core::ShardCore;
@@ -20,9 +20,9 @@ pub fn work_all<C: ShardCore + Send + Sync, G: Gate, R: Threads + Wait + Sync>(
 )
 where
     C::View: Send + Sync,
-    requires { All (IsCaller C.shard_table C.good C.layout shards.now) callers.old }
-    ensures callers { All (IsCaller C.shard_table C.good C.layout shards.now) callers.new }
-    ensures all_done { All (IsAtEnd C.shard_table shards.now) callers.new }
+    requires { All (IsCaller C.says shards.now) callers.old }
+    ensures callers { All (IsCaller C.says shards.now) callers.new }
+    ensures all_done { All (IsAtEnd C.says shards.now) callers.new }
     ensures same { map who callers.new ≡ map who callers.old }
 {
     let threads = callers.len().max(1);
@@ -31,8 +31,8 @@ where
         callers,
         threads,
         &|_place: usize, caller: &mut Caller<C>|
-            requires { IsCaller C.shard_table C.good C.layout shards.now caller.old }
-            ensures { IsCaller C.shard_table C.good C.layout shards.entry.now caller.new × IsAtEnd C.shard_table shards.entry.now caller.new × (who caller.new ≡ who caller.old) }
+            requires { IsCaller C.says shards.now caller.old }
+            ensures { HasWorked C.says shards.entry.now caller.old caller.new }
         { caller.work(rt, shards, gate) },
     );
 }

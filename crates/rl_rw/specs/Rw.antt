@@ -63,7 +63,13 @@ abbrev pub behind_tree : Shared → ℕ
 behind_tree K = of_queues K.rooted
 
 abbrev pub counters_of : Shared → TheCounters
-counters_of K = record { arrive = every_second (behind_tree K) (groups K); depart = every_second (behind_tree K + 1) (groups K); root_tail = 0; readers = K.readers }
+counters_of K = record {
+  arrive = every_second (behind_tree K) (groups K);
+  depart = every_second (behind_tree K + 1) (groups K);
+  root_tail =
+      0;
+  readers = K.readers;
+}
 
 -- they live on the node of the group's first rank
 abbrev pub rw_spot : Shared → ℕ → Spot
@@ -100,7 +106,8 @@ from_counter K v p Nothing w = after_hook K v
 from_counter K v p q w = record { view = rw_view v.tree v.counter.counter q; events = []; waits = w }
 
 abbrev pub rw_learn : Shared → RwView → Bool → ℕ → Told RwView
-rw_learn K v true got = from_counter K v v.counter.doing (counter_turn (counters_of K) v.counter.doing got).doing (counter_turn (counters_of K) v.counter.doing got).waits
+rw_learn K v true got = from_counter K v v.counter.doing (counter_turn (counters_of K) v.counter.doing got).doing
+    (counter_turn (counters_of K) v.counter.doing got).waits
 rw_learn K v false got = from_tree v (at_hook (tree_learn (tree_of K.rooted) v.tree got).view) (tree_learn (tree_of K.rooted) v.tree got)
 
 abbrev pub asks_for : RwView → Mode → RwView

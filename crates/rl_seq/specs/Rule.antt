@@ -45,7 +45,8 @@ IsOddBetween = (at : WaySite) (words : List ℕ) (sides : List SeqRank) → SeqG
 -- and that rank is a writer
 abbrev pub WritersBetween : Type 0
 WritersBetween =
-    (at : WaySite) (words : List ℕ) (sides : List SeqRank) → SeqGood at words sides → (r : ℕ) (x : SeqRank) → slice_get sides r ≡ Some x → is_between x.work.stage ≡ true → x.standing ≡ Writer
+    (at : WaySite) (words : List ℕ) (sides : List SeqRank) → SeqGood at words sides → (r : ℕ)
+    (x : SeqRank) → slice_get sides r ≡ Some x → is_between x.work.stage ≡ true → x.standing ≡ Writer
 
 -- a get has found an even version, and the version is no lower
 abbrev pub FindsEven : Type 0
@@ -56,26 +57,30 @@ FindsEven =
 -- while it is still the one found nobody writes, the count is the one found, and so is each word that was loaded since
 abbrev pub StandsStill : Type 0
 StandsStill =
-    (at : WaySite) (words : List ℕ) (sides : List SeqRank) → SeqGood at words sides → (r : ℕ) (x : SeqRank) → slice_get sides r ≡ Some x → found_version x.work.stage ≡ Some (version_in at words)
+    (at : WaySite) (words : List ℕ) (sides : List SeqRank) → SeqGood at words sides → (r : ℕ)
+    (x : SeqRank) → slice_get sides r ≡ Some x → found_version x.work.stage ≡ Some (version_in at words)
     → IsQuiet sides × AgreesWith x.work.work.seen.pairs (volume_of at.site.geom (front at words))
     × ((count : ℕ) → found_count x.work.stage ≡ Some count → slice_index (front at words) count_word ≡ count)
 
 -- no atom of the work lowers the version
 abbrev pub NeverLowers : Type 0
 NeverLowers =
-    (at : WaySite) (home : ℕ) (words : List ℕ) (sides : List SeqRank) (r : ℕ) (x : SeqRank) (a : Atom) → Works (seq_table at home) (SeqGood at) words sides r x a
+    (at : WaySite) (home : ℕ) (words : List ℕ) (sides : List SeqRank) (r : ℕ) (x : SeqRank) (a : Atom) → Works (seq_table at home)
+    (SeqGood at) words sides r x a
     → version_in at words ≤ version_in at (do_words a words)
 
 -- the next atom of a get is a load, of the version or of a word before the lock's
 abbrev pub GetsLoad : Type 0
 GetsLoad =
-    (at : WaySite) (words : List ℕ) (sides : List SeqRank) → SeqGood at words sides → (r : ℕ) (x : SeqRank) → slice_get sides r ≡ Some x → is_getting x.work.stage ≡ true
+    (at : WaySite) (words : List ℕ) (sides : List SeqRank) → SeqGood at words sides → (r : ℕ)
+    (x : SeqRank) → slice_get sides r ≡ Some x → is_getting x.work.stage ≡ true
     → (w : ℕ) × (seq_atom at x.work ≡ Some (atom.Load w)) × ((w ≡ seq_version_word at) ⊎ (w < lock_base at.site))
 
 -- and in each try it loads no more words of the volume than a bucket's chain has
 abbrev pub ReadsFew : Type 0
 ReadsFew =
-    (at : WaySite) (words : List ℕ) (sides : List SeqRank) → SeqGood at words sides → (r : ℕ) (x : SeqRank) → slice_get sides r ≡ Some x → is_getting x.work.stage ≡ true
+    (at : WaySite) (words : List ℕ) (sides : List SeqRank) → SeqGood at words sides → (r : ℕ)
+    (x : SeqRank) → slice_get sides r ≡ Some x → is_getting x.work.stage ≡ true
     → length x.work.work.seen.pairs ≤ 3 + 2 * at.site.geom.overflow
 
 -- a block waits exactly where it is a get that found an odd version

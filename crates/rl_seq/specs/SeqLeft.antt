@@ -57,7 +57,8 @@ most_near volume = 2 * volume + 8
 
 -- an update makes the tries of all gets longer, and pays for that with its own atoms
 abbrev pub seq_left : WaySite → List ℕ → List TheSeqWork → ℕ
-seq_left at words works = two_sums (most_near (volume_words at.site.geom)) (far (volume_words at.site.geom)) (near (volume_words at.site.geom) (version_in at words)) works
+seq_left at words works = two_sums (most_near (volume_words at.site.geom)) (far (volume_words at.site.geom))
+    (near (volume_words at.site.geom) (version_in at words)) works
 
 -- a block has 8 calls at most
 abbrev pub seq_most : WaySite → ℕ

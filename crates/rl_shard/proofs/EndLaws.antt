@@ -1,5 +1,5 @@
 -- What the rule tells once no block is open: the parts that a closed shard leaves are right.
-use Rattle.std.proofs.Common.{◌≡◌, ◌<◌, ◌≤◌, ℕ, ◌+◌, ◌*◌, Bool, true, false, List, [], ◌∷◌, All, count_by, length, map, sum_by, get_or, slice_get, Option, Some, sym, refl, ap, ◌∙◌, subst, ⊎_elim, arith}
+use Rattle.std.proofs.Common.{◌≡◌, ◌<◌, ◌≤◌, ℕ, ◌+◌, ◌*◌, Bool, true, false, List, [], ◌∷◌, All, count_by, length, map, sum_by, get_or, slice_get, Some, sym, refl, ap, ◌∙◌, subst, ⊎_elim, arith}
 use Rattle.std.specs.Prelude.{if◌then◌else◌}
 use Rattle.std.proofs.lemmas.List.{length-map}
 use Rattle.std.proofs.lemmas.List.Elements.{All-head, All-tail, All-nil, All-cons}
@@ -7,14 +7,10 @@ use Rattle.std.proofs.lemmas.List.Sums.{get_or-le-sum_by}
 use Rattle.std.proofs.lemmas.Option.{slice_get_within, get_or_from_slice_get}
 use Rattle.std.specs.Prelude.{suc}
 use Rattle.rl_word.specs.laws.Places.{get_map_back}
-use Rattle.rl_word.specs.Acts.{Layout}
-use Rattle.rl_word.specs.declared.acts.Atom.{Atom}
 use Rattle.rl_model.specs.Table.{sum_below}
 use Rattle.rl_model.specs.declared.entry.Entry.{Entry}
 use Rattle.rl_step.specs.declared.events.Event.{Event}
-use Rattle.rl_step.specs.declared.events.Stepped.{Stepped}
 use Rattle.rl_step.specs.declared.tallies.Tally.{Tally}
-use Rattle.rl_step.specs.Lock.{Deed}
 use Rattle.rl_step.specs.Do.{TheWindow}
 use Rattle.rl_step.specs.Queues.{QueueOf, settled, passed, tenures}
 use Rattle.rl_journal.specs.Blocks.{is_tenure}
@@ -25,14 +21,15 @@ use Rattle.rl_journal.specs.Ranks.{IsOwn}
 use Rattle.rl_site.specs.Opens.{IsOwnTranscript}
 use Rattle.rl_core.specs.Desks.{desk_entries}
 use Rattle.rl_core.specs.Standings.{leaves}
-use Rattle.rl_core.specs.ShardTables.{ShardTable, journal_at, kept_in}
-use Rattle.rl_core.specs.ShardLaws.{ShardCoreLaws, IsSeated, AllShut}
+use Rattle.rl_core.specs.ShardTables.{ShardTable, AllShut, journal_at, kept_in}
+use Rattle.rl_core.specs.Moments.{Moment, CoreSays}
+use Rattle.rl_core.specs.ShardLaws.{ShardCoreLaws, IsSeated}
 use Rattle.rl_shard.specs.declared.counting.CountedView.{CountedView}
 use Rattle.rl_shard.specs.Tallies.{full, tally_at}
 use Rattle.rl_shard.specs.Queues.{is_had_by, settled_if, tenures_of, AreTallied}
 use Rattle.rl_shard.specs.Reached.{IsLeftBehind}
 use Rattle.rl_shard.specs.Counting.{whole_of, rooms_of, settled_by, passed_by, AnyFull, ComeTo, CountGood}
-use Rattle.rl_shard.specs.laws.CountingLaws as counting
+use Rattle.rl_shard.specs.laws.CountingLaws.{moment_of, seated}
 use Rattle.rl_shard.specs.Closing.{entries_in, pairs_left}
 use Rattle.rl_shard.proofs.Tenures.{only_if, sum_same, rank_tenures, element_tenures, had_all}
 
@@ -67,34 +64,42 @@ entries_twice : {V : Type 0} (T : ShardTable V) (vs : List (CountedView V)) → 
 entries_twice T [] = refl
 entries_twice T (x ∷ vs) = ap (λ z. entries_in T x ∷ z) (entries_twice T vs)
 
-module _ (V : Type 0) (T : ShardTable V) (good : TheWindow → List V → List Event → List Deed → Type 0) (cause : TheWindow → V → Option Atom → Stepped → Type 0) (further : List Event → List Deed → Type 0) (layout : Layout) (laws : ShardCoreLaws T good cause further layout) (h : TheWindow) (vs : List (CountedView V)) (g : CountGood T good layout h vs) (none : (r : ℕ) (x : CountedView V) → slice_get vs r ≡ Some x → (T.own x.whole).is_open ≡ false) where
+module _ {V : Type 0} (S : CoreSays V) (laws : ShardCoreLaws S) (h : TheWindow) (vs : List (CountedView V)) (g : CountGood S h vs)
+    (none : (r : ℕ) (x : CountedView V) → slice_get vs r ≡ Some x → (S.table.own x.whole).is_open ≡ false) where
+  abbrev T : ShardTable V
+  T = S.table
+
+  -- the moment by which the state meets the rule
+  abbrev now : Moment V
+  now = moment_of S h vs g
+
   -- the journal, and a rank as the machine sees it
   abbrev the_journal : List Entry
   the_journal = journal_at T h.words
 
-  seat_of : (r : ℕ) (x : CountedView V) → slice_get vs r ≡ Some x → IsSeated T good h (map whole_of vs) g.trace g.acts r x.whole
-  seat_of r x has = counting.seated V T good cause further layout laws h vs r x g has
+  seat_of : (r : ℕ) (x : CountedView V) → slice_get vs r ≡ Some x → IsSeated S now r x.whole
+  seat_of r x has = seated S h vs r x g has
 
   -- the words tell each desk as its rank's view does
   as_told : kept_in T h.words 0 (map whole_of vs) ≡ map (entries_in T) vs
   as_told = kept_same T h.words 0 vs (λ r x has. let at : r ≡ 0 + r = omega arith in
-      subst (λ n. T.desk h.words n x.whole ≡ T.own x.whole) at (laws.settled h (map whole_of vs) g.trace g.acts r x.whole (seat_of r x has) (none r x has)))
+      subst (λ n. T.desk h.words n x.whole ≡ T.own x.whole) at (laws.settled now r x.whole (seat_of r x has) (none r x has)))
 
   pub own_at : (r : ℕ) (t : List Entry) → slice_get (map (entries_in T) vs) r ≡ Some t → IsOwnTranscript T.site r t
   own_at r t e =
       let x = get_map_back (entries_in T) vs r t e in
-      subst (IsOwnTranscript T.site r) x.2 (laws.own_desk h (map whole_of vs) g.trace g.acts r x.0.whole (seat_of r x.0 x.1)).own
+      subst (IsOwnTranscript T.site r) x.2 (laws.own_desk now r x.0.whole (seat_of r x.0 x.1)).own
 
   pub legal_now : IsLegal T.site.geom the_journal (map (entries_in T) vs)
-  legal_now = subst (IsLegal T.site.geom the_journal) as_told (laws.legal h (map whole_of vs) g.trace g.acts g.is_good)
+  legal_now = subst (IsLegal T.site.geom the_journal) as_told (laws.legal now g.is_good)
 
   pub sorted_now : IsSorted (history the_journal (map (entries_in T) vs))
-  sorted_now = subst (λ ts. IsSorted (history the_journal ts)) as_told (laws.sorted h (map whole_of vs) g.trace g.acts g.is_good)
+  sorted_now = subst (λ ts. IsSorted (history the_journal ts)) as_told (laws.sorted now g.is_good)
 
-  ranks_are : length vs ≡ length layout.node_of
-  ranks_are = sym (length-map vs whole_of) ∙ laws.ranks h (map whole_of vs) g.trace g.acts g.is_good
+  ranks_are : length vs ≡ length S.layout.node_of
+  ranks_are = sym (length-map vs whole_of) ∙ laws.ranks now g.is_good
 
-  all_shut : AllShut T good (map whole_of vs)
+  all_shut : AllShut T (map whole_of vs)
   all_shut r v e = let x = get_map_back whole_of vs r v e in ap (λ z. (T.own z).is_open) (sym x.2) ∙ none r x.0 x.1
 
   module _ (tallies : List Tally)
@@ -110,12 +115,11 @@ module _ (V : Type 0) (T : ShardTable V) (good : TheWindow → List V → List E
     passed_is q low = let s = passes q low in s.0 ∙ exact (passed_by q) vs (passed q the_trace) (g.passed_are q low) s.1
 
     -- the state of the rule is one that leaves this behind
-    pub left_now : (journal : List Entry) (transcripts : List (List Entry)) (pairs : List (ℕ × ℕ)) → journal ≡ the_journal → transcripts ≡ map (entries_in T) vs → pairs ≡ pairs_left T h.words → IsLeftBehind T layout.nodes (rooms_of T vs) journal transcripts pairs tallies
+    pub left_now : (journal : List Entry) (transcripts : List (List Entry)) (pairs : List (ℕ × ℕ)) → journal ≡ the_journal → transcripts ≡ map (entries_in T) vs →
+        pairs ≡ pairs_left T h.words → IsLeftBehind T S.layout.nodes (rooms_of T vs) journal transcripts pairs tallies
     left_now journal transcripts pairs journal_is transcripts_are pairs_are =
         record {
-          held = h;
-          views = map whole_of vs;
-          trace = the_trace;
+          moment = now;
           reached = g.reached;
           closed = all_shut;
           journal_is = journal_is;
@@ -129,14 +133,14 @@ module _ (V : Type 0) (T : ShardTable V) (good : TheWindow → List V → List E
       -- a queue of ranks, by the history
       by_ranks : (q : ℕ) (d : QueueOf) → slice_get T.queues q ≡ Some d → d.of_ranks ≡ true → tenures d the_trace ≡ count_by (is_had_by d shares) (history the_journal (map (entries_in T) vs))
       by_ranks q d has ranks =
-          let n : ℕ = length layout.node_of in
+          let n : ℕ = length S.layout.node_of in
           let as_many : length (map (entries_in T) vs) ≡ n = length-map vs (entries_in T) ∙ ranks_are in
           rank_tenures d ranks n (λ k is. g.members.of_ranks q k d has ranks is) the_trace
           ∙ ap (sum_below (λ k. only_if (d.members k) (leaves k the_trace))) (sym as_many)
           ∙ sym (had_all d shares the_trace (map (entries_in T) vs) (λ k es e.
           let x = get_map_back (entries_in T) vs k es e in (
             own_ranks T.site.shard k es (own_at k es e).own,
-            laws.left_as h (map whole_of vs) the_trace g.acts k x.0.whole (seat_of k x.0 x.1) (none k x.0 x.1) ∙ ap (λ f. count_by f (entries_in T x.0)) tenure ∙ ap (count_by (is_tenure shares)) x.2,
+            laws.left_as now k x.0.whole (seat_of k x.0 x.1) (none k x.0 x.1) ∙ ap (λ f. count_by f (entries_in T x.0)) tenure ∙ ap (count_by (is_tenure shares)) x.2,
           )))
           ∙ sym (same_entries (is_had_by d shares) T.site.geom the_journal (map (entries_in T) vs) legal_now)
 
@@ -162,13 +166,13 @@ module _ (V : Type 0) (T : ShardTable V) (good : TheWindow → List V → List E
             each = many;
             budgets = λ q budget d has is.
                 let low : q < length T.queues = slice_get_within T.queues q d has in
-                let within = (laws.queues h (map whole_of vs) the_trace g.acts g.is_good).totals q budget d has is in
+                let within = (laws.queues now g.is_good).totals q budget d has is in
                 subst (λ n. n ≤ budget * (tally_at q tallies).settled) (sym (passed_is q low)) (subst (λ n. passed q the_trace ≤ budget * n) (sym (settled_is q low)) within);
             tenures = λ q d has.
                 let low : q < length T.queues = slice_get_within T.queues q d has in
                 let s = settled_is q low in
                 let p = passed_is q low in
-                let counted = laws.counted h (map whole_of vs) the_trace g.acts g.is_good all_shut q d has in
+                let counted = laws.counted now g.is_good all_shut q d has in
                 let same : settled q the_trace + passed q the_trace ≡ (tally_at q tallies).settled + (tally_at q tallies).passed = omega arith in
                 sym same ∙ counted ∙ tenures_is q d has d.of_ranks refl;
           }

@@ -2,9 +2,7 @@
 use Rattle.std.proofs.Common.{◌≡◌, ℕ, List, [], ◌∷◌, length, map, slice_get, Some, false, sym, refl, ap, ◌∙◌, subst}
 use Rattle.std.proofs.lemmas.List.{length-map}
 use Rattle.rl_word.specs.laws.Places.{get_map, get_map_back}
-use Rattle.rl_word.specs.Acts.{Layout}
-use Rattle.rl_core.specs.ShardTables.{ShardTable}
-use Rattle.rl_core.specs.ShardLaws.{GoodOf}
+use Rattle.rl_core.specs.Moments.{CoreSays}
 use Rattle.rl_window.specs.declared.knows.Knows.TheVariants.{Root}
 use Rattle.rl_window.specs.declared.window.WinSeat.{WinSeat}
 use Rattle.rl_window.specs.Seats.{IsSeatOf, IsKept, IsAll, AreKept, HasSeats, all_given, view_of}
@@ -33,25 +31,25 @@ module _ {C V : Type 0} where
   seated_views [] = refl
   seated_views (s ∷ inner) = ap (λ z. view_of s ∷ z) (seated_views inner)
 
-  module _ (table : C → ShardTable V) (good : GoodOf C V) (layout : C → Layout) (shard : Shard C V) (seats : List (Seat C V)) (inner : List (WinSeat (Counting C V) (CountedView V))) (is : inner ≡ map inner_of seats) where
+  module _ (says : C → CoreSays V) (shard : Shard C V) (seats : List (Seat C V)) (inner : List (WinSeat (Counting C V) (CountedView V))) (is : inner ≡ map inner_of seats) where
     -- a shard's seats are its window's
-    pub all_inner : AreOf table good layout shard seats → (n : ℕ) → HasSeats shard.window n → n ≡ length seats → IsAll (counting_rule table good layout) shard.window inner
+    pub all_inner : AreOf says shard seats → (n : ℕ) → HasSeats shard.window n → n ≡ length seats → IsAll (counting_rule says) shard.window inner
     all_inner are n root e =
         record {
           table = root.0;
           root = root.1 ∙ ap (λ k. (Root (all_given shard.window k), [])) (e ∙ sym (length-map seats inner_of) ∙ ap length (sym is));
           each = λ i s has.
               let q = get_map_back inner_of seats i s (ap (λ l. slice_get l i) (sym is) ∙ has) in
-              subst (λ z. (z.rank ≡ i) × IsSeatOf (counting_rule table good layout) shard.window z) q.2 ((are i q.0 q.1).0, (are i q.0 q.1).1.seat);
+              subst (λ z. (z.rank ≡ i) × IsSeatOf (counting_rule says) shard.window z) q.2 ((are i q.0 q.1).0, (are i q.0 q.1).1.seat);
         }
 
-    pub kept_inner : AreOf table good layout shard seats → AreKept (counting_rule table good layout) shard.window inner
+    pub kept_inner : AreOf says shard seats → AreKept (counting_rule says) shard.window inner
     kept_inner are i s has =
         let q = get_map_back inner_of seats i s (ap (λ l. slice_get l i) (sym is) ∙ has) in
-        subst (IsKept (counting_rule table good layout) shard.window) q.2 (are i q.0 q.1).1.kept
+        subst (IsKept (counting_rule says) shard.window) q.2 (are i q.0 q.1).1.kept
 
     -- and the other way
-    pub all_seated : IsAll (counting_rule table good layout) shard.window inner → AreKept (counting_rule table good layout) shard.window inner → HasSeats shard.window (length seats) × AreOf table good layout shard seats
+    pub all_seated : IsAll (counting_rule says) shard.window inner → AreKept (counting_rule says) shard.window inner → HasSeats shard.window (length seats) × AreOf says shard seats
     all_seated all kept = (
       (all.table, all.root ∙ ap (λ k. (Root (all_given shard.window k), [])) (ap length is ∙ length-map seats inner_of)),
       λ r s e.
@@ -60,10 +58,12 @@ module _ {C V : Type 0} where
     )
 
   -- no seat has an open block where its view has none
-  pub seats_closed : (table : C → ShardTable V) (shard : Shard C V) (seats : List (Seat C V)) (vs : List (CountedView V)) → map counted_at seats ≡ vs → ((r : ℕ) (x : CountedView V) → slice_get vs r ≡ Some x → ((table_at table shard).own x.whole).is_open ≡ false) → AreClosed table shard seats
-  seats_closed table shard seats vs is closed r s e = closed r (counted_at s) (ap (λ l. slice_get l r) (sym is) ∙ get_map counted_at seats r s e)
+  pub seats_closed : (says : C → CoreSays V) (shard : Shard C V) (seats : List (Seat C V)) (vs : List (CountedView V)) → map counted_at seats ≡ vs →
+      ((r : ℕ) (x : CountedView V) → slice_get vs r ≡ Some x → ((table_at says shard).own x.whole).is_open ≡ false) → AreClosed says shard seats
+  seats_closed says shard seats vs is closed r s e = closed r (counted_at s) (ap (λ l. slice_get l r) (sym is) ∙ get_map counted_at seats r s e)
 
-  pub views_closed : (table : C → ShardTable V) (shard : Shard C V) (seats : List (Seat C V)) (vs : List (CountedView V)) → vs ≡ map counted_at seats → AreClosed table shard seats → (r : ℕ) (x : CountedView V) → slice_get vs r ≡ Some x → ((table_at table shard).own x.whole).is_open ≡ false
-  views_closed table shard seats vs is closed r x e =
+  pub views_closed : (says : C → CoreSays V) (shard : Shard C V) (seats : List (Seat C V)) (vs : List (CountedView V)) → vs ≡ map counted_at seats →
+      AreClosed says shard seats → (r : ℕ) (x : CountedView V) → slice_get vs r ≡ Some x → ((table_at says shard).own x.whole).is_open ≡ false
+  views_closed says shard seats vs is closed r x e =
       let q = get_map_back counted_at seats r x (ap (λ l. slice_get l r) (sym is) ∙ e) in
-      ap (λ (z : CountedView V). ((table_at table shard).own z.whole).is_open) (sym q.2) ∙ closed r q.0 q.1
+      ap (λ (z : CountedView V). ((table_at says shard).own z.whole).is_open) (sym q.2) ∙ closed r q.0 q.1

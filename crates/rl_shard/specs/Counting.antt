@@ -1,6 +1,5 @@
 -- A rank's machine on one shard with the rank's tallies of the queues beside it; and the rule of a window of such machines.
 use Rattle.std.specs.Prelude.{◌≡◌, ◌⊎◌, ◌≤◌, ◌<◌, ◌*◌, ℕ, List, length, map, replicate, sum_by, slice_get, Some}
-use Rattle.rl_word.specs.Acts.{Layout}
 use Rattle.rl_step.specs.declared.events.Event.{Event}
 use Rattle.rl_step.specs.declared.events.Standing.{Standing}
 use Rattle.rl_step.specs.Lock.{Deed}
@@ -8,7 +7,7 @@ use Rattle.rl_step.specs.Do.{TheWindow}
 use Rattle.rl_step.specs.Core.{CoreTable, Turned}
 use Rattle.rl_step.specs.Queues.{QueueOf, settled, passed}
 use Rattle.rl_core.specs.ShardTables.{ShardTable, first_views}
-use Rattle.rl_core.specs.ShardLaws.{GoodOf}
+use Rattle.rl_core.specs.Moments.{Moment, CoreSays}
 use Rattle.rl_shard.specs.Reached.{IsReached}
 use Rattle.rl_shard.specs.declared.counting.Counting.{Counting}
 use Rattle.rl_shard.specs.declared.counting.CountedView.{CountedView}
@@ -68,24 +67,30 @@ module _ {V : Type 0} where
   -- The ranks' counts keep the budgets: all ranks together have counted, of each queue that has a budget, at most so many passes for each
   -- settlement; unless a count of the queue is full, and so has stood still.
   abbrev pub CountsKeepBudgets : List QueueOf → List (CountedView V) → Type 0
-  CountsKeepBudgets queues vs = (q budget : ℕ) (queue : QueueOf) → slice_get queues q ≡ Some queue → queue.budget ≡ Some budget → HasFullCount q vs ⊎ (sum_by (passed_by q) vs ≤ budget * sum_by (settled_by q) vs)
+  CountsKeepBudgets queues vs =
+      (q budget : ℕ) (queue : QueueOf) → slice_get queues q ≡ Some queue → queue.budget ≡ Some budget →
+      HasFullCount q vs ⊎ (sum_by (passed_by q) vs ≤ budget * sum_by (settled_by q) vs)
 
-  -- The rule of a window: the state is good, by some events and acts, and the ranks have come to it, with these events, by what their machines do;
-  -- each rank has a tally of each queue; the members of the queues are there; and each queue was settled and passed in these events as often
-  -- as the ranks have counted.
-  pub record CountGood (T : ShardTable V) (good : TheWindow → List V → List Event → List Deed → Type 0) (layout : Layout) (h : TheWindow) (vs : List (CountedView V)) : Type 0 where
+  -- the moment of the machines without tallies, with what has happened so far
+  abbrev pub whole_moment : TheWindow → List (CountedView V) → List Event → List Deed → Moment V
+  whole_moment h vs trace acts = record { held = h; views = map whole_of vs; trace = trace; acts = acts }
+
+  -- The rule of a window: by some events and acts so far the moment is good, and the ranks have come to it by what their machines do; each rank
+  -- has a tally of each queue; the members of the queues are there; and each queue was settled and passed in these events as often as the
+  -- ranks have counted.
+  pub record CountGood (S : CoreSays V) (h : TheWindow) (vs : List (CountedView V)) : Type 0 where
     pub trace : List Event
     pub acts : List Deed
-    pub is_good : good h (map whole_of vs) trace acts
-    pub reached : IsReached T layout.nodes (rooms_of T vs) h (map whole_of vs) trace
-    pub each : (r : ℕ) (x : CountedView V) → slice_get vs r ≡ Some x → length x.tallies ≡ length T.queues
-    pub members : AreMembersThere T.queues (length layout.node_of)
-    pub settled_are : (q : ℕ) → q < length T.queues → ComeTo (settled_by q) vs (settled q trace)
-    pub passed_are : (q : ℕ) → q < length T.queues → ComeTo (passed_by q) vs (passed q trace)
+    pub is_good : S.good (whole_moment h vs trace acts)
+    pub reached : IsReached S.table S.layout.nodes (rooms_of S.table vs) (whole_moment h vs trace acts)
+    pub each : (r : ℕ) (x : CountedView V) → slice_get vs r ≡ Some x → length x.tallies ≡ length S.table.queues
+    pub members : AreMembersThere S.table.queues (length S.layout.node_of)
+    pub settled_are : (q : ℕ) → q < length S.table.queues → ComeTo (settled_by q) vs (settled q trace)
+    pub passed_are : (q : ℕ) → q < length S.table.queues → ComeTo (passed_by q) vs (passed q trace)
 
 -- the rule of the window of a core
-abbrev pub counting_rule : {C V : Type 0} → (C → ShardTable V) → GoodOf C V → (C → Layout) → Counting C V → TheWindow → List (CountedView V) → Type 0
-counting_rule table good layout core = CountGood (table core.whole) (good core.whole) (layout core.whole)
+abbrev pub counting_rule : {C V : Type 0} → (C → CoreSays V) → Counting C V → TheWindow → List (CountedView V) → Type 0
+counting_rule says core = CountGood (says core.whole)
 
 -- the views of all ranks before their first block: each with room for so many entries, and a tally of nothing for each of so many queues
 abbrev pub first_counted : {V : Type 0} → ShardTable V → ℕ → List ℕ → List (CountedView V)

@@ -42,4 +42,6 @@ module _ {V : Type 0} (T : ShardTable V) where
 
   -- while one rank's next atom stores there, no other rank's next atom comes there, but for that of a get alone
   abbrev pub OneStores : List (CountedView V) → Type 0
-  OneStores vs = (i j : ℕ) (x y : CountedView V) → slice_get vs i ≡ Some x → slice_get vs j ≡ Some y → StoresThere x → ComesThere y → (i ≡ j) ⊎ IsGetAlone (T.own y.whole).calls
+  OneStores vs =
+      (i j : ℕ) (x y : CountedView V) → slice_get vs i ≡ Some x → slice_get vs j ≡ Some y → StoresThere x → ComesThere y →
+      (i ≡ j) ⊎ IsGetAlone (T.own y.whole).calls

@@ -1,19 +1,21 @@
 -- A shard, and the seats of its ranks.
-use Rattle.std.specs.Prelude.{◌≡◌, ◌<◌, ◌≤◌, ℕ, false, List, sum, slice_get, Option, Some}
-use Rattle.rl_word.specs.Acts.{Layout}
+use Rattle.std.specs.Prelude.{◌≡◌, ◌<◌, ◌≤◌, ℕ, false, List, map, sum, slice_get, Option, Some}
 use Rattle.rl_word.specs.declared.acts.Atom.{Atom}
+use Rattle.rl_model.specs.declared.call.Call.{Call}
 use Rattle.rl_model.specs.declared.entry.Entry.{Entry}
 use Rattle.rl_model.specs.Geom.{GeomFits}
 use Rattle.rl_step.specs.declared.tallies.Tally.{Tally}
+use Rattle.rl_step.specs.Do.{TheWindow}
+use Rattle.rl_site.specs.Opens.{IsOpen}
 use Rattle.rl_core.specs.Desks.{Desk, desk_entries}
 use Rattle.rl_core.specs.ShardTables.{ShardTable}
-use Rattle.rl_core.specs.ShardLaws.{GoodOf}
+use Rattle.rl_core.specs.Moments.{CoreSays}
 use Rattle.rl_window.specs.Seats.{IsSeatOf, IsKept, HasSeats, core_of, view_of, seat_rank, table_steps}
 use Rattle.rl_shard.specs.declared.shard.Shard.{Shard}
 use Rattle.rl_shard.specs.declared.seat.Seat.{Seat}
 use Rattle.rl_shard.specs.declared.counting.Counting.{Counting}
 use Rattle.rl_shard.specs.declared.counting.CountedView.{CountedView}
-use Rattle.rl_shard.specs.Counting.{counting_rule}
+use Rattle.rl_shard.specs.Counting.{first_counted, counting_rule}
 
 module _ {C V : Type 0} where
   -- the machine of the shard's ranks with their tallies, and without
@@ -40,10 +42,13 @@ module _ {C V : Type 0} where
   abbrev pub steps_at : Seat C V → ℕ
   steps_at s = table_steps s.seat
 
-  module _ (table : C → ShardTable V) where
-    -- the machine of the shard's ranks as plain functions
+  module _ (says : C → CoreSays V) where
+    -- what is said of the machine of the shard's ranks; and the machine as plain functions
+    abbrev pub says_at : Shard C V → CoreSays V
+    says_at shard = says (core_at shard)
+
     abbrev pub table_at : Shard C V → ShardTable V
-    table_at shard = table (core_at shard)
+    table_at shard = (says_at shard).table
 
     -- the shard has so many ranks, and all its seats were given; the table has a size that there is, and few updates are made
     pub record IsShardOf (ranks : ℕ) (shard : Shard C V) : Type 0 where
@@ -63,6 +68,14 @@ module _ {C V : Type 0} where
     abbrev pub next_at : Shard C V → Seat C V → Option Atom
     next_at shard s = (table_at shard).core.next (view_at s)
 
+    -- the block, whose first call has this number, fits the rank on the shard
+    abbrev pub FitsSeat : Shard C V → Seat C V → List Call → ℕ → Type 0
+    FitsSeat shard s calls seq = IsOpen (table_at shard).site (rank_at s) calls seq (desk_at shard s).kept
+
+    -- the seats have the first views, with a tally of nothing for each of so many queues, and with these rooms for the ranks' entries
+    abbrev pub AreFirst : Shard C V → List (Seat C V) → ℕ → List ℕ → Type 0
+    AreFirst shard seats queues rooms = map counted_at seats ≡ first_counted (table_at shard) queues rooms
+
     -- no block of the seat is open, and of no seat
     abbrev pub IsClosed : Shard C V → Seat C V → Type 0
     IsClosed shard s = (desk_at shard s).is_open ≡ false
@@ -70,12 +83,15 @@ module _ {C V : Type 0} where
     abbrev pub AreClosed : Shard C V → List (Seat C V) → Type 0
     AreClosed shard seats = (r : ℕ) (s : Seat C V) → slice_get seats r ≡ Some s → IsClosed shard s
 
-    module _ (good : GoodOf C V) (layout : C → Layout) where
-      -- the seat is the shard's, and its view is one that the rule allows
-      pub record IsOf (shard : Shard C V) (s : Seat C V) : Type 0 where
-        pub seat : IsSeatOf (counting_rule table good layout) shard.window s.seat
-        pub kept : IsKept (counting_rule table good layout) shard.window s.seat
+    -- the seat is the shard's, and its view is one that the rule allows
+    pub record IsOf (shard : Shard C V) (s : Seat C V) : Type 0 where
+      pub seat : IsSeatOf (counting_rule says) shard.window s.seat
+      pub kept : IsKept (counting_rule says) shard.window s.seat
 
-      -- the seats are the shard's, in the order of the ranks
-      abbrev pub AreOf : Shard C V → List (Seat C V) → Type 0
-      AreOf shard seats = (r : ℕ) (s : Seat C V) → slice_get seats r ≡ Some s → (rank_at s ≡ r) × IsOf shard s
+    -- the seats are the shard's, in the order of the ranks
+    abbrev pub AreOf : Shard C V → List (Seat C V) → Type 0
+    AreOf shard seats = (r : ℕ) (s : Seat C V) → slice_get seats r ≡ Some s → (rank_at s ≡ r) × IsOf shard s
+
+    -- this holds of the views of all ranks in each state of the shard's window that meets its rule
+    abbrev pub AtEachState : Shard C V → (List (CountedView V) → Type 0) → Type 0
+    AtEachState shard P = (h : TheWindow) (vs : List (CountedView V)) → counting_rule says (counting_at shard) h vs → P vs

@@ -5,9 +5,9 @@ ghost use Rattle.std.specs.FinMap as finite;
 ghost use Rattle.rl_site.specs.Site.{journal_base};
 ghost use Rattle.rl_core.specs.ShardTables.{journal_at};
 ghost use Rattle.rl_shard.specs.Tallies.{full};
-ghost use Rattle.rl_shard.specs.Shards.{IsShardOf, table_at, tallies_at};
+ghost use Rattle.rl_shard.specs.Shards.{IsShardOf, table_at};
 ghost use Rattle.rl_shard.specs.Ends.{all_settled, all_passed};
-ghost use Rattle.rl_shard.specs.Closing.{inner_of, seated, entries_in, IsLeft, pairs_left, IsEmptyWithRoom, AreTotals};
+ghost use Rattle.rl_shard.specs.Closing.{inner_of, seated, all_entries, IsLeft, most_pairs, pairs_left, IsEmptyWithRoom, AreTotals, AreAllTotals};
 
 use crate::closed::Closed;
 use crate::counting::{CountedView, Counting};
@@ -78,10 +78,10 @@ pub fn take_parts<C: ShardCore>(
     shard: &Shard<C>,
     seats: &[Seat<C>],
 ) -> Result<Parts<C>, OutOfMemory>
-    requires shard { IsShardOf C.shard_table (length seats.now) shard.now }
-    ensures room { IfOk result (λ p. IsEmptyWithRoom (table_at C.shard_table shard.now) (length seats.now) p.closed) }
+    requires shard { IsShardOf C.says (length seats.now) shard.now }
+    ensures room { IfOk result (λ p. IsEmptyWithRoom (table_at C.says shard.now) (length seats.now) p.closed) }
     ensures inner { IfOk result (λ p. (p.inner.items ≡ []) × (length seats.now ≤ vec_capacity p.inner)) }
-    ensures queues { IfOk result (λ p. (s : _) → slice_get seats.now 0 ≡ Some s → AreTotals seats.now (length (tallies_at s)) p.closed.queues.items) }
+    ensures queues { IfOk result (λ p. AreAllTotals seats.now p.closed.queues.items) }
 {
     let queues = match seats.first() {
         Some(seat) => seat.queues(),
@@ -123,9 +123,9 @@ pub fn give_seats<C: ShardCore>(inner: Vec<WinSeat<Counting<C>>>, seats: &mut Ve
 
 /// The entry of the update at a place of the journal.
 fn update_at<C: ShardCore>(core: &C, words: &[u64], at: u32) -> Entry
-    requires left { IsLeft (C.shard_table core.now) (C.good core.now) words.now }
-    requires there { at < length (journal_at (C.shard_table core.now) words.now) }
-    ensures { slice_get (journal_at (C.shard_table core.now) words.now) at ≡ Some result }
+    requires left { IsLeft (C.says core.now) words.now }
+    requires there { at < length (journal_at (C.says core.now).table words.now) }
+    ensures { slice_get (journal_at (C.says core.now).table words.now) at ≡ Some result }
 {
     let first = journal_base(core.geom()) as usize + ENTRY_WORDS as usize * at as usize;
     let spelled = [
@@ -141,9 +141,9 @@ fn update_at<C: ShardCore>(core: &C, words: &[u64], at: u32) -> Entry
 
 /// Reads the journal.
 fn read_journal<C: ShardCore>(core: &C, words: &[u64], journal: &mut Vec<Entry>)
-    requires left { IsLeft (C.shard_table core.now) (C.good core.now) words.now }
-    requires room { (journal.old.items ≡ []) × (sum (C.shard_table core.now).site.rooms ≤ vec_capacity journal.old) }
-    ensures { journal.new.items ≡ journal_at (C.shard_table core.now) words.now }
+    requires left { IsLeft (C.says core.now) words.now }
+    requires room { (journal.old.items ≡ []) × (sum (C.says core.now).table.site.rooms ≤ vec_capacity journal.old) }
+    ensures { journal.new.items ≡ journal_at (C.says core.now).table words.now }
 {
     for at in 0..words[COUNT_WORD as usize] as u32 {
         journal.push_reserved(update_at(core, words, at));
@@ -152,9 +152,9 @@ fn read_journal<C: ShardCore>(core: &C, words: &[u64], journal: &mut Vec<Entry>)
 
 /// Reads what the table holds.
 fn read_pairs<C: ShardCore>(core: &C, words: &[u64], pairs: &mut Vec<(u64, u64)>)
-    requires left { IsLeft (C.shard_table core.now) (C.good core.now) words.now }
-    requires room { (pairs.old.items ≡ []) × ((C.shard_table core.now).site.geom.buckets + (C.shard_table core.now).site.geom.overflow ≤ vec_capacity pairs.old) }
-    ensures { pairs.new.items ≡ pairs_left (C.shard_table core.now) words.now }
+    requires left { IsLeft (C.says core.now) words.now }
+    requires room { (pairs.old.items ≡ []) × (most_pairs (C.says core.now).table ≤ vec_capacity pairs.old) }
+    ensures { pairs.new.items ≡ pairs_left (C.says core.now).table words.now }
 {
     let geom = core.geom();
     let first = VOLUME_BASE as usize;
@@ -169,7 +169,7 @@ fn take_transcripts<C: ShardCore>(
     transcripts: &mut Vec<Vec<Entry>>,
 )
     requires { vec_len views + vec_len transcripts.old ≤ vec_capacity transcripts.old }
-    ensures { map vec_items transcripts.new.items ≡ map vec_items transcripts.old.items ++ map (entries_in (C.shard_table core.now)) views.items }
+    ensures { map vec_items transcripts.new.items ≡ map vec_items transcripts.old.items ++ all_entries (C.says core.now).table views.items }
 {
     for view in views {
         let CountedView { whole, tallies: _ } = view;
@@ -184,11 +184,11 @@ pub fn finish<C: ShardCore>(
     views: Vec<CountedView<C::View>>,
     mut closed: Closed,
 ) -> Closed
-    requires left { IsLeft (C.shard_table core.now) (C.good core.now) words.now }
-    requires room { IsEmptyWithRoom (C.shard_table core.now) (vec_len views) closed }
-    ensures journal { result.journal.items ≡ journal_at (C.shard_table core.now) words.now }
-    ensures pairs { result.pairs.items ≡ pairs_left (C.shard_table core.now) words.now }
-    ensures transcripts { map vec_items result.transcripts.items ≡ map (entries_in (C.shard_table core.now)) views.items }
+    requires left { IsLeft (C.says core.now) words.now }
+    requires room { IsEmptyWithRoom (C.says core.now).table (vec_len views) closed }
+    ensures journal { result.journal.items ≡ journal_at (C.says core.now).table words.now }
+    ensures pairs { result.pairs.items ≡ pairs_left (C.says core.now).table words.now }
+    ensures transcripts { map vec_items result.transcripts.items ≡ all_entries (C.says core.now).table views.items }
     ensures queues { result.queues ≡ closed.queues }
 {
     read_journal(core, words, &mut closed.journal);

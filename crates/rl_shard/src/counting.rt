@@ -31,11 +31,11 @@ pub struct Counting<C: ShardCore> {
 impl<C: ShardCore> Core for Counting<C> {
     type View = CountedView<C::View>;
 
-    ghost table = { λ c. counted_table (C.shard_table c.whole).core };
+    ghost table = { λ c. counted_table (C.says c.whole).table.core };
 
     ghost plan_of = { λ c x. C.plan_of c.whole x.whole };
 
-    ghost rule = { counting_rule C.shard_table C.good C.layout };
+    ghost rule = { counting_rule C.says };
 
     #[inline(always)]
     fn next(&self, view: &CountedView<C::View>) -> Option<(Atom, Plan)> {
@@ -59,14 +59,14 @@ impl<C: ShardCore> Core for Counting<C> {
         self.whole.home(word)
     }
 
-    ghost laws = { λ c. counting_laws _ (C.shard_table c.whole) (C.good c.whole) (C.cause c.whole) (C.further c.whole) (C.layout c.whole) (C.shard_laws c.whole) (C.rule c.whole) (C.ruled c.whole) (C.table c.whole) (C.same_table c.whole) (C.laws c.whole) };
+    ghost laws = { counting_laws C.says C.shard_laws C.rule C.ruled C.table C.same_table C.laws };
 }
 
 impl<C: ShardCore> Counting<C> {
     /// Whether a block of the view is open.
     pub fn is_open(&self, view: &CountedView<C::View>) -> bool
-        requires { MayBe (counting_rule C.shard_table C.good C.layout self.now) view.now }
-        ensures { result ≡ ((C.shard_table self.now.whole).own view.now.whole).is_open }
+        requires { MayBe (counting_rule C.says self.now) view.now }
+        ensures { result ≡ ((C.says self.now.whole).table.own view.now.whole).is_open }
     {
         self.whole.is_open(&view.whole)
     }
@@ -74,9 +74,9 @@ impl<C: ShardCore> Counting<C> {
     /// Opens a block, where none is open; `seq` is the number of its first call. It counts nothing and takes no memory.
     pub fn open_block(&self, view: &mut CountedView<C::View>, calls: &[Call], seq: u32)
         requires few { length calls.now ≤ 8 }
-        requires closed { ((C.shard_table self.now.whole).own view.old.whole).is_open ≡ false }
-        requires possible { MayBe (counting_rule C.shard_table C.good C.layout self.now) view.old }
-        ensures { view.new ≡ record view.old { whole = (C.shard_table self.now.whole).opened calls.now seq view.old.whole } }
+        requires closed { ((C.says self.now.whole).table.own view.old.whole).is_open ≡ false }
+        requires possible { MayBe (counting_rule C.says self.now) view.old }
+        ensures { view.new ≡ record view.old { whole = (C.says self.now.whole).table.opened calls.now seq view.old.whole } }
     {
         self.whole.open_block(&mut view.whole, calls, seq);
     }

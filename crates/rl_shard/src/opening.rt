@@ -16,10 +16,10 @@ pub fn first_views<C: ShardCore>(
     rooms: &[u32],
     queues: usize,
 ) -> Result<Vec<CountedView<C::View>>, OutOfMemory>
-    requires fits { GeomFits (C.shard_table core.now).site.geom }
-    requires ranks { length rooms.now ≡ length (C.layout core.now).node_of }
+    requires fits { GeomFits (C.says core.now).table.site.geom }
+    requires ranks { length rooms.now ≡ length (C.says core.now).layout.node_of }
     requires few { length rooms.now < 2 ^ 32 }
-    ensures { IfOk result (λ views. views.items ≡ first_counted (C.shard_table core.now) queues rooms.now) }
+    ensures { IfOk result (λ views. views.items ≡ first_counted (C.says core.now).table queues rooms.now) }
 {
     let mut views = Vec::new(alloc);
     for rank in 0..rooms.len() as u32 {

@@ -1,12 +1,10 @@
 //! A rank's seat at a shard.
 
-ghost use Rattle.std.specs.Prelude.{◌≡◌, ◌↔◌, ◌∷◌, [], Some, None, false, length};
-ghost use Rattle.rl_step.specs.declared.events.Stepped.TheVariants.{Finished};
-ghost use Rattle.rl_site.specs.Opens.{IsOpen};
+ghost use Rattle.std.specs.Prelude.{◌≡◌, ◌∷◌, [], false, length};
 ghost use Rattle.rl_core.specs.Desks.{OpensBlock};
 ghost use Rattle.rl_shard.specs.Tallies.{tally_at};
-ghost use Rattle.rl_shard.specs.Shards.{IsOf, IsClosed, core_at, table_at, view_at, desk_at, tallies_at, entries_at, rank_at, steps_at, next_at};
-ghost use Rattle.rl_shard.specs.Steps.{Makes, CauseAt, TurnsAt, IsUnhindered};
+ghost use Rattle.rl_shard.specs.Shards.{IsOf, IsClosed, FitsSeat, table_at, view_at, desk_at, tallies_at, entries_at, rank_at, steps_at};
+ghost use Rattle.rl_shard.specs.Steps.{IsSeatStep};
 
 use crate::counting::Counting;
 use crate::shard::Shard;
@@ -38,7 +36,7 @@ impl<C: ShardCore> Seat<C> {
     ///
     /// The shard is the seat's.
     pub fn transcript<'a>(&'a self, shard: &Shard<C>) -> &'a [Entry]
-        ensures { result.now ≡ entries_at C.shard_table shard.now self.now }
+        ensures { result.now ≡ entries_at C.says shard.now self.now }
     {
         shard.core().entries(&self.seat.view().whole)
     }
@@ -61,8 +59,8 @@ impl<C: ShardCore> Seat<C> {
     ///
     /// The seat is the shard's.
     pub fn is_open(&self, shard: &Shard<C>) -> bool
-        requires { IsOf C.shard_table C.good C.layout shard.now self.now }
-        ensures { result ≡ (desk_at C.shard_table shard.now self.now).is_open }
+        requires { IsOf C.says shard.now self.now }
+        ensures { result ≡ (desk_at C.says shard.now self.now).is_open }
     {
         shard.window.core().is_open(self.seat.view())
     }
@@ -72,13 +70,13 @@ impl<C: ShardCore> Seat<C> {
     /// The seat is the shard's. The call is one of the shard, its number `seq` greater than those of all the rank's entries here, and
     /// the seat has room for it: for one more entry, and where it is an update, for one more update.
     pub fn begin(&mut self, shard: &Shard<C>, call: Call, seq: u32)
-        requires seat { IsOf C.shard_table C.good C.layout shard.now self.old }
-        requires closed { IsClosed C.shard_table shard.now self.old }
-        requires open { IsOpen (table_at C.shard_table shard.now).site (rank_at self.old) (call ∷ []) seq (desk_at C.shard_table shard.now self.old).kept }
-        ensures seat { IsOf C.shard_table C.good C.layout shard.now self.new }
+        requires seat { IsOf C.says shard.now self.old }
+        requires closed { IsClosed C.says shard.now self.old }
+        requires open { FitsSeat C.says shard.now self.old (call ∷ []) seq }
+        ensures seat { IsOf C.says shard.now self.new }
         ensures rank { rank_at self.new ≡ rank_at self.old }
-        ensures opened { view_at self.new ≡ (table_at C.shard_table shard.now).opened (call ∷ []) seq (view_at self.old) }
-        ensures desk { OpensBlock (call ∷ []) seq (desk_at C.shard_table shard.now self.old) (desk_at C.shard_table shard.now self.new) }
+        ensures opened { view_at self.new ≡ (table_at C.says shard.now).opened (call ∷ []) seq (view_at self.old) }
+        ensures desk { OpensBlock (call ∷ []) seq (desk_at C.says shard.now self.old) (desk_at C.says shard.now self.new) }
         ensures tallies { tallies_at self.new ≡ tallies_at self.old }
         ensures no_step { steps_at self.new ≡ steps_at self.old }
     {
@@ -92,14 +90,14 @@ impl<C: ShardCore> Seat<C> {
     /// block is a call alone. The first call has the number `seq`, and the others the numbers after it, which are below 2^32; `seq` is
     /// greater than the numbers of all the rank's entries here; and the seat has room for them: for so many more entries and updates.
     pub fn begin_batch(&mut self, shard: &Shard<C>, calls: &[Call], seq: u32)
-        requires seat { IsOf C.shard_table C.good C.layout shard.now self.old }
-        requires closed { IsClosed C.shard_table shard.now self.old }
-        requires open { IsOpen (table_at C.shard_table shard.now).site (rank_at self.old) calls.now seq (desk_at C.shard_table shard.now self.old).kept }
-        requires takes { (table_at C.shard_table shard.now).batches ≡ false → length calls.now ≡ 1 }
-        ensures seat { IsOf C.shard_table C.good C.layout shard.now self.new }
+        requires seat { IsOf C.says shard.now self.old }
+        requires closed { IsClosed C.says shard.now self.old }
+        requires open { FitsSeat C.says shard.now self.old calls.now seq }
+        requires takes { (table_at C.says shard.now).batches ≡ false → length calls.now ≡ 1 }
+        ensures seat { IsOf C.says shard.now self.new }
         ensures rank { rank_at self.new ≡ rank_at self.old }
-        ensures opened { view_at self.new ≡ (table_at C.shard_table shard.now).opened calls.now seq (view_at self.old) }
-        ensures desk { OpensBlock calls.now seq (desk_at C.shard_table shard.now self.old) (desk_at C.shard_table shard.now self.new) }
+        ensures opened { view_at self.new ≡ (table_at C.says shard.now).opened calls.now seq (view_at self.old) }
+        ensures desk { OpensBlock calls.now seq (desk_at C.says shard.now self.old) (desk_at C.says shard.now self.new) }
         ensures tallies { tallies_at self.new ≡ tallies_at self.old }
         ensures no_step { steps_at self.new ≡ steps_at self.old }
     {
@@ -122,15 +120,8 @@ impl<C: ShardCore> Seat<C> {
     ///
     /// A rank that is alone on the shard is never answered Waiting, Lost or Busy.
     pub fn step(&mut self, shard: &Shard<C>) -> Stepped
-        requires seat { IsOf C.shard_table C.good C.layout shard.now self.old }
-        ensures seat { IsOf C.shard_table C.good C.layout shard.now self.new }
-        ensures rank { rank_at self.new ≡ rank_at self.old }
-        ensures finished { (result ≡ Finished) ↔ IsClosed C.shard_table shard.now self.old }
-        ensures nothing { IsClosed C.shard_table shard.now self.old → self.new ≡ self.old }
-        ensures makes { (at : _) → next_at C.shard_table shard.now self.old ≡ Some at → Makes C.shard_table C.good C.layout shard.now self.old self.new at result }
-        ensures cause { CauseAt C.shard_table C.good C.layout C.cause shard.now self.old result }
-        ensures alone { length (C.layout (core_at shard.now)).node_of ≡ 1 → IsUnhindered result }
-        ensures turned { TurnsAt C.shard_table shard.now self.old self.new }
+        requires seat { IsOf C.says shard.now self.old }
+        ensures step { IsSeatStep C.says shard.now self.old self.new result }
     {
         self.step_with(shard, &mut ArrayVec::new())
     }
@@ -138,17 +129,10 @@ impl<C: ShardCore> Seat<C> {
     /// The same step with a list for its events, which is empty before and after: who makes many steps makes the list but once.
     #[inline(always)]
     pub fn step_with(&mut self, shard: &Shard<C>, events: &mut ArrayVec<Event, 8>) -> Stepped
-        requires seat { IsOf C.shard_table C.good C.layout shard.now self.old }
+        requires seat { IsOf C.says shard.now self.old }
         requires none { events.old.items ≡ [] }
-        ensures seat { IsOf C.shard_table C.good C.layout shard.now self.new }
         ensures none { events.new.items ≡ [] }
-        ensures rank { rank_at self.new ≡ rank_at self.old }
-        ensures finished { (result ≡ Finished) ↔ IsClosed C.shard_table shard.now self.old }
-        ensures nothing { IsClosed C.shard_table shard.now self.old → self.new ≡ self.old }
-        ensures makes { (at : _) → next_at C.shard_table shard.now self.old ≡ Some at → Makes C.shard_table C.good C.layout shard.now self.old self.new at result }
-        ensures cause { CauseAt C.shard_table C.good C.layout C.cause shard.now self.old result }
-        ensures alone { length (C.layout (core_at shard.now)).node_of ≡ 1 → IsUnhindered result }
-        ensures turned { TurnsAt C.shard_table shard.now self.old self.new }
+        ensures step { IsSeatStep C.says shard.now self.old self.new result }
     {
         let stepped = step(&shard.window, &mut self.seat, events);
         events.clear();

@@ -6,8 +6,8 @@ ghost use Rattle.rl_word.specs.Shapes.{IsProper, layout_of};
 ghost use Rattle.rl_step.specs.LockQueues.{queues_of};
 ghost use Rattle.rl_core.specs.ShardTables.{site_with};
 ghost use Rattle.rl_window.specs.Seats.{HasSeats};
-ghost use Rattle.rl_shard.specs.Counting.{counting_rule, first_counted};
-ghost use Rattle.rl_shard.specs.Shards.{IsShardOf, AreOf, AreClosed, core_at, table_at, counting_at, counted_at};
+ghost use Rattle.rl_shard.specs.Counting.{counting_rule};
+ghost use Rattle.rl_shard.specs.Shards.{IsShardOf, AreOf, AreClosed, AreFirst, core_at, table_at, counting_at, counted_at};
 ghost use Rattle.rl_shard.specs.Starts.{IsStart};
 ghost use Rattle.rl_shard.specs.Ends.{IsEnd};
 
@@ -57,12 +57,12 @@ impl<C: ShardCore> Shard<C> {
         requires fits { GeomFits geom }
         requires calls { vec_len room.calls ≡ length shape.now.node_of }
         requires updates { (vec_len room.updates ≡ length shape.now.node_of) × (sum room.updates.items ≤ 20000) }
-        ensures core { IfOk result (λ p. table_at C.shard_table p.0 ≡ C.defined shape.now home knobs (site_with geom shard room.updates.items)) }
-        ensures layout { IfOk result (λ p. C.layout (core_at p.0) ≡ layout_of shape.now) }
-        ensures shard { IfOk result (λ p. IsShardOf C.shard_table (length shape.now.node_of) p.0) }
-        ensures seats { IfOk result (λ p. AreOf C.shard_table C.good C.layout p.0 p.1.items) }
-        ensures views { IfOk result (λ p. map counted_at p.1.items ≡ first_counted (table_at C.shard_table p.0) (length (queues_of C.name shape.now home knobs)) room.calls.items) }
-        ensures closed { IfOk result (λ p. AreClosed C.shard_table p.0 p.1.items) }
+        ensures core { IfOk result (λ p. table_at C.says p.0 ≡ C.defined shape.now home knobs (site_with geom shard room.updates.items)) }
+        ensures layout { IfOk result (λ p. (C.says (core_at p.0)).layout ≡ layout_of shape.now) }
+        ensures shard { IfOk result (λ p. IsShardOf C.says (length shape.now.node_of) p.0) }
+        ensures seats { IfOk result (λ p. AreOf C.says p.0 p.1.items) }
+        ensures views { IfOk result (λ p. AreFirst C.says p.0 p.1.items (length (queues_of C.name shape.now home knobs)) room.calls.items) }
+        ensures closed { IfOk result (λ p. AreClosed C.says p.0 p.1.items) }
     {
         let Room { calls, updates } = room;
         let site = Site {
@@ -83,12 +83,12 @@ impl<C: ShardCore> Shard<C> {
         rooms: &[u32],
         queues: usize,
     ) -> Result<(Shard<C>, Vec<Seat<C>>), OutOfMemory>
-        requires start { IsStart C.shard_table C.good C.layout core nodes queues rooms.now }
+        requires start { IsStart C.says core nodes queues rooms.now }
         ensures core { IfOk result (λ p. core_at p.0 ≡ core) }
-        ensures shard { IfOk result (λ p. IsShardOf C.shard_table (length rooms.now) p.0) }
-        ensures seats { IfOk result (λ p. AreOf C.shard_table C.good C.layout p.0 p.1.items) }
-        ensures views { IfOk result (λ p. map counted_at p.1.items ≡ first_counted (table_at C.shard_table p.0) queues rooms.now) }
-        ensures closed { IfOk result (λ p. AreClosed C.shard_table p.0 p.1.items) }
+        ensures shard { IfOk result (λ p. IsShardOf C.says (length rooms.now) p.0) }
+        ensures seats { IfOk result (λ p. AreOf C.says p.0 p.1.items) }
+        ensures views { IfOk result (λ p. AreFirst C.says p.0 p.1.items queues rooms.now) }
+        ensures closed { IfOk result (λ p. AreClosed C.says p.0 p.1.items) }
     {
         let words = first_words(alloc, &core)?;
         let views = first_views(alloc, &core, rooms, queues)?;
@@ -116,10 +116,10 @@ impl<C: ShardCore> Shard<C> {
         nodes: u32,
         views: Vec<CountedView<C::View>>,
     ) -> Result<(Shard<C>, Vec<Seat<C>>), OutOfMemory>
-        requires rule { counting_rule C.shard_table C.good C.layout core (record { words = words.now; cards = replicate nodes 0 }) views.items }
+        requires rule { counting_rule C.says core (record { words = words.now; cards = replicate nodes 0 }) views.items }
         requires some { (0 < length words.now) × (0 < vec_len views) × (vec_len views < 2 ^ 32) }
         ensures core { IfOk result (λ p. counting_at p.0 ≡ core) }
-        ensures seats { IfOk result (λ p. HasSeats p.0.window (vec_len views) × AreOf C.shard_table C.good C.layout p.0 p.1.items) }
+        ensures seats { IfOk result (λ p. HasSeats p.0.window (vec_len views) × AreOf C.says p.0 p.1.items) }
         ensures views { IfOk result (λ p. map counted_at p.1.items ≡ views.items) }
     {
         let mut seats = Vec::with_capacity(alloc, views.len())?;
@@ -138,10 +138,10 @@ impl<C: ShardCore> Shard<C> {
     /// Want of memory, which is taken before anything is closed; a count that doesn't fit 64 bits is treated so too. Shard and seats
     /// are handed back as they were.
     pub fn close(self, mut seats: Vec<Seat<C>>) -> Result<Closed, (Shard<C>, Vec<Seat<C>>)>
-        requires shard { IsShardOf C.shard_table (vec_len seats) self }
-        requires seats { AreOf C.shard_table C.good C.layout self seats.items }
-        requires closed { AreClosed C.shard_table self seats.items }
-        ensures end { IfOk result (λ e. IsEnd C.shard_table C.layout self seats.items e) }
+        requires shard { IsShardOf C.says (vec_len seats) self }
+        requires seats { AreOf C.says self seats.items }
+        requires closed { AreClosed C.says self seats.items }
+        ensures end { IfOk result (λ e. IsEnd C.says self seats.items e) }
         ensures refused { IfErr result (λ p. (p.0 ≡ self) × (p.1.items ≡ seats.items)) }
     {
         let Ok(parts) = take_parts(&self, seats.as_slice()) else {

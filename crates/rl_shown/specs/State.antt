@@ -1,6 +1,6 @@
 -- The state before a step of a replay: each word by its name, with its home and its value; who is in a card; and how each rank stands.
 use Rattle.std.specs.Prelude.{◌≡◌, ℕ, ◌==◌, List, [], ◌∷◌, ◌++◌, Bool, true, false, not, codes, decimal, flat_map, length, sum_by, take, slice_get, slice_index, Option, Some, None}
-use Rattle.std.specs.List.{range_with_len}
+use Rattle.std.specs.List.{AllByRecursion, range_with_len}
 use Rattle.rl_text.specs.Spelling.{text_of}
 use Rattle.rl_step.specs.declared.events.Standing.{Standing}
 use Rattle.rl_step.specs.declared.events.Standing.TheVariants as standing
@@ -8,7 +8,8 @@ use Rattle.rl_place.specs.Places.{ThePlace}
 use Rattle.rl_place.specs.Shapes.{shape_of, knobs_of}
 use Rattle.rl_ops.specs.declared.ops.Ops.{Ops}
 use Rattle.rl_ops.specs.declared.schedule.Schedule.{Schedule}
-use Rattle.rl_ops.specs.Schedule.{steps_of}
+use Rattle.rl_ops.specs.declared.schedule.Turn.{Turn}
+use Rattle.rl_ops.specs.Schedule.{TurnFits, steps_of}
 use Rattle.rl_site.specs.Site.{lock_base}
 use Rattle.rl_report.specs.Naming.{TheNaming, naming_of}
 use Rattle.rl_names.specs.declared.word_map.WordMap.{WordMap}
@@ -17,11 +18,12 @@ use Rattle.rl_names.specs.declared.word_name.WordName.TheVariants as word
 use Rattle.rl_names.specs.Layout.{map_of}
 use Rattle.rl_names.specs.Names.{name_of}
 use Rattle.rl_names.specs.Spelling.{name_words, found_words}
-use Rattle.rl_machine.specs.Running.{ShardRun, Running}
+use Rattle.rl_core.specs.Moments.{CoreSays}
+use Rattle.rl_machine.specs.Running.{ShardRun, Running, TheMachine, running}
 use Rattle.rl_machine.specs.Run.{on_shard, place_of, done_of, run_of, ranks_of_turns}
 use Rattle.rl_machine.specs.Start.{start_of}
 use Rattle.rl_machine.specs.Whereabouts.{standing_by, card_by}
-use Rattle.rl_locks.specs.Kinds.{Defined, lock_kind_of}
+use Rattle.rl_locks.specs.Kinds.{Defined, LockKind, lock_kind_of}
 use Rattle.rl_inputs.specs.declared.replay.Replay.{Replay}
 use Rattle.rl_viewer.specs.declared.asking.Window.{Window}
 use Rattle.rl_shown.specs.Listing.{shown}
@@ -52,6 +54,15 @@ module _ {V : Type 0} where
   -- those of the shard with this number
   abbrev pub lines_of_shard : ThePlace → TheNaming → Running V → ℕ → List (List (List ℕ))
   lines_of_shard place naming m s = on_shard [] (shard_lines place naming s) (slice_get m.shards s)
+
+module _ {C V : Type 0} (says : C → CoreSays V) where
+  -- those of a shard whose core is this one
+  abbrev pub core_lines : TheNaming → WordMap → ℕ → C → List ℕ → List (List (List ℕ))
+  core_lines naming map shard core words = words_lines naming map shard (says core).table.core.home words
+
+  -- those of all shards of a machine
+  abbrev pub machine_lines : ThePlace → TheNaming → TheMachine C V → List (List (List ℕ))
+  machine_lines place naming m = flat_map (lines_of_shard place naming (running says m)) (range_with_len 0 (length m.shards))
 
 -- ---- ranks
 
@@ -110,6 +121,14 @@ machine_before defined place ops schedule step =
 
 abbrev pub state_with : {V : Type 0} → Defined V → ThePlace → Ops → Schedule → ℕ → List ℕ
 state_with defined place ops schedule step = state_spelling place step (steps_of_all schedule) (machine_before defined place ops schedule step)
+
+-- the same, for a kind of lock
+abbrev pub state_by : LockKind → ThePlace → Ops → Schedule → ℕ → List ℕ
+state_by kind = state_with kind.defined
+
+-- turns of so many ranks
+abbrev pub AreTurnsOf : ℕ → List Turn → Type 0
+AreTurnsOf ranks turns = AllByRecursion (TurnFits ranks) turns
 
 -- the state before a step of a replay, whose shards are guarded by the lock of its placement
 abbrev pub state_of : Replay → ℕ → List ℕ

@@ -1,13 +1,12 @@
 //! The cores of a placement's shards, by themselves: they tell where each word lives.
 
-ghost use Rattle.std.specs.Prelude.{◌≡◌, ◌<◌, ◌≤◌, length, slice_index, sum, IfOk};
+ghost use Rattle.std.specs.Prelude.{◌≡◌, ◌<◌, ◌≤◌, length, sum, IfOk};
 ghost use Rattle.rl_word.specs.Shapes.{IsProper as IsProperShape};
 ghost use Rattle.rl_place.specs.Places.{IsProper};
 ghost use Rattle.rl_place.specs.Shapes.{shape_of, knobs_of};
 ghost use Rattle.rl_ops.specs.Ops.{OpsFit};
-ghost use Rattle.rl_core.specs.ShardTables.{site_with};
-ghost use Rattle.rl_machine.specs.Start.{start_of};
-ghost use Rattle.rl_shown.specs.Cores.{HaveTables, tables_of};
+ghost use Rattle.rl_locks.specs.Runs.{start_with};
+ghost use Rattle.rl_shown.specs.Cores.{HaveTables, tables_of, table_with};
 
 use rl_core::ShardCore;
 use rl_ops::{Ops, Room};
@@ -31,7 +30,7 @@ fn core_of<C: ShardCore>(
     requires there { shard < place.now.geom.shards }
     requires ranks { length room.updates.items ≡ length place.now.paths }
     requires few { sum room.updates.items ≤ 20000 }
-    ensures { IfOk result (λ core. C.shard_table core ≡ C.defined (shape_of place.now) (slice_index place.now.homes shard) (knobs_of place.now.lock) (site_with place.now.geom shard room.updates.items)) }
+    ensures { IfOk result (λ core. (C.says core).table ≡ table_with C.defined place.now shard room.updates.items) }
 {
     let site = Site {
         geom: place.geom,
@@ -60,7 +59,7 @@ pub fn cores_of<C: ShardCore>(
     requires shape { shape.now ≡ shape_of place.now }
     requires well { IsProperShape shape.now }
     requires calls { OpsFit (length place.now.paths) place.now.geom.shards ops.now }
-    ensures { IfOk result (λ cores. HaveTables C.shard_table cores.items (tables_of (start_of C.defined (shape_of place.now) (knobs_of place.now.lock) place.now.geom place.now.homes ops.now))) }
+    ensures { IfOk result (λ cores. HaveTables C.says cores.items (tables_of (start_with C.defined place.now ops.now))) }
 {
     let mut rooms = ops.rooms(alloc, place.geom)?;
     let mut cores = Vec::new(alloc);

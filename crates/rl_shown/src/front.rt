@@ -1,9 +1,9 @@
 //! The first steps of a schedule.
 
 ghost use Rattle.std.specs.Prelude.{◌≡◌, ℕ, ◌≤◌, ◌<◌, ◌^◌, sum_by, take, IfOk};
-ghost use Rattle.std.specs.List.{AllByRecursion};
-ghost use Rattle.rl_ops.specs.Schedule.{TurnFits, rank_of, steps_of};
+ghost use Rattle.rl_ops.specs.Schedule.{rank_of, steps_of};
 ghost use Rattle.rl_machine.specs.Run.{turn_ranks, ranks_of_turns, steps_in};
+ghost use Rattle.rl_shown.specs.State.{AreTurnsOf};
 
 use rl_ops::Turn;
 use std::alloc::{AllocError as OutOfMemory, Global};
@@ -34,7 +34,7 @@ fn shortened(turn: Turn, most: u32) -> Turn
 /// The turns of the first so many steps, or of all where there are no more. Refused only for want of memory.
 pub fn front_of(alloc: Global, turns: &[Turn], steps: u32) -> Result<Vec<Turn>, OutOfMemory>
     ensures front { IfOk result (λ front. ranks_of_turns front.items ≡ take steps (ranks_of_turns turns.now)) }
-    ensures there { (ranks : ℕ) → AllByRecursion (TurnFits ranks) turns.now → IfOk result (λ front. AllByRecursion (TurnFits ranks) front.items) }
+    ensures there { (ranks : ℕ) → AreTurnsOf ranks turns.now → IfOk result (λ front. AreTurnsOf ranks front.items) }
     ensures few { IfOk result (λ front. steps_in front.items ≤ steps) }
 {
     let mut front = Vec::with_capacity(alloc, turns.len())?;

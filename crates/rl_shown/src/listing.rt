@@ -10,7 +10,7 @@ ghost use Rattle.rl_ops.specs.Schedule.{ScheduleFits};
 ghost use Rattle.rl_inputs.specs.Reading.{SuitsLock};
 ghost use Rattle.rl_locks.specs.Kinds.{lock_kind_of};
 ghost use Rattle.rl_text.specs.Spelling.{text_of};
-ghost use Rattle.rl_shown.specs.Listing.{head_lines, listing_with, IsListing};
+ghost use Rattle.rl_shown.specs.Listing.{head_lines, listing_with, listing_by, IsListing, ReplayFits};
 
 use crate::stepping::{Scene, take_turn};
 use rl_core::{Resting, ShardCore, ShardGuiding};
@@ -80,9 +80,9 @@ struct ListTask<'a> {
 impl CoreTask for ListTask<'_> {
     type Out = Result<Vec<u8>, OutOfMemory>;
 
-    ghost takes = { λ r place. OpsFit (length place.paths) place.geom.shards r.ops × SuitsLock place r.ops × ScheduleFits (length place.paths) r.schedule.now };
+    ghost takes = { λ r place. ReplayFits place r.ops r.schedule.now };
 
-    ghost gives = { λ r place kind urgent result. IfOk result (λ text. text.items ≡ listing_with kind.defined place r.ops r.schedule.now r.window) };
+    ghost gives = { λ r place kind urgent result. IfOk result (λ text. text.items ≡ listing_by kind place r.ops r.schedule.now r.window) };
 
     fn over<C: Resting + Promising + ShardGuiding>(
         self,

@@ -1,7 +1,8 @@
 //! Where the ranks are: who is in which card, and how each stands.
 
-ghost use Rattle.std.specs.Prelude.{◌≡◌, ◌<◌, ◌++◌, ◌∷◌, [], codes, decimal, flat_map, length, slice_index, IfOk, OnOk};
+ghost use Rattle.std.specs.Prelude.{◌≡◌, ◌<◌, ◌++◌, ◌∷◌, [], codes, decimal, flat_map, length, slice_index, IfOk};
 ghost use Rattle.std.specs.List.{range_with_len};
+ghost use Rattle.rl_text.specs.Printing.{Puts};
 ghost use Rattle.rl_text.specs.Spelling.{line_text, text_of};
 ghost use Rattle.rl_machine.specs.Run.{place_of, done_of};
 ghost use Rattle.rl_machine.specs.Running.{running};
@@ -16,7 +17,7 @@ use std::alloc::{AllocError as OutOfMemory, Global};
 
 /// `card SHARD NODE RANK`.
 fn put_card(out: &mut Vec<u8>, shard: u32, node: u32, rank: u32) -> Result<(), OutOfMemory>
-    ensures { OnOk result (out.new.items ≡ out.old.items ++ line_text (codes "card" ∷ decimal shard ∷ decimal node ∷ decimal rank ∷ [])) }
+    ensures { Puts result out.old out.new (line_text (codes "card" ∷ decimal shard ∷ decimal node ∷ decimal rank ∷ [])) }
 {
     out.extend_from_slice(b"card")?;
     put_value(out, u64::from(shard))?;
@@ -33,7 +34,7 @@ fn put_card_of<C: ShardCore>(
     rank: u32,
 ) -> Result<(), OutOfMemory>
     requires { rank < length machine.now.calls }
-    ensures { OnOk result (out.new.items ≡ out.old.items ++ text_of (card_lines (running C.shard_table machine.now) rank)) }
+    ensures { Puts result out.old out.new (text_of (card_lines (running C.says machine.now) rank)) }
 {
     match machine.card(rank) {
         Some(node) => put_card(out, machine.place(rank), node, rank),
@@ -48,7 +49,7 @@ pub fn put_cards<C: ShardCore>(
     ranks: u32,
 ) -> Result<(), OutOfMemory>
     requires { ranks ≡ length machine.now.calls }
-    ensures { OnOk result (out.new.items ≡ out.old.items ++ text_of (flat_map (card_lines (running C.shard_table machine.now)) (range_with_len 0 ranks))) }
+    ensures { Puts result out.old out.new (text_of (flat_map (card_lines (running C.says machine.now)) (range_with_len 0 ranks))) }
 {
     for rank in 0..ranks {
         put_card_of(out, machine, rank)?;
@@ -80,7 +81,7 @@ struct Told {
 
 /// `rank RANK SHARD STANDING opened N done M`.
 fn put_told(out: &mut Vec<u8>, rank: u32, told: Told) -> Result<(), OutOfMemory>
-    ensures { OnOk result (out.new.items ≡ out.old.items ++ line_text (told_line rank told.shard told.standing told.opened told.done)) }
+    ensures { Puts result out.old out.new (line_text (told_line rank told.shard told.standing told.opened told.done)) }
 {
     out.extend_from_slice(b"rank")?;
     put_value(out, u64::from(rank))?;
@@ -102,7 +103,7 @@ fn put_rank<C: ShardCore>(
     rank: u32,
 ) -> Result<(), OutOfMemory>
     requires { rank < length machine.now.calls }
-    ensures { OnOk result (out.new.items ≡ out.old.items ++ text_of (rank_lines (running C.shard_table machine.now) rank)) }
+    ensures { Puts result out.old out.new (text_of (rank_lines (running C.says machine.now) rank)) }
 {
     let told = Told {
         shard: machine.place(rank),
@@ -121,7 +122,7 @@ pub fn put_ranks<C: ShardCore>(
     ranks: u32,
 ) -> Result<(), OutOfMemory>
     requires { ranks ≡ length machine.now.calls }
-    ensures { OnOk result (out.new.items ≡ out.old.items ++ text_of (flat_map (rank_lines (running C.shard_table machine.now)) (range_with_len 0 ranks))) }
+    ensures { Puts result out.old out.new (text_of (flat_map (rank_lines (running C.says machine.now)) (range_with_len 0 ranks))) }
 {
     for rank in 0..ranks {
         put_rank(alloc, out, machine, rank)?;

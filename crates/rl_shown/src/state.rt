@@ -1,7 +1,8 @@
 //! The state before a step: its machine is made, over the lock of the placement, makes the steps before it, and is told.
 
-ghost use Rattle.std.specs.Prelude.{◌≡◌, ◌≤◌, ◌++◌, length, IfOk, OnOk};
+ghost use Rattle.std.specs.Prelude.{◌≡◌, ◌≤◌, ◌++◌, length, IfOk};
 ghost use Rattle.rl_step.specs.LockQueues.{does_batches};
+ghost use Rattle.rl_text.specs.Printing.{Puts};
 ghost use Rattle.rl_text.specs.Spelling.{text_of};
 ghost use Rattle.rl_place.specs.LockWords.{name_of};
 ghost use Rattle.rl_word.specs.Shapes.{IsProper as IsProperShape};
@@ -14,7 +15,8 @@ ghost use Rattle.rl_machine.specs.Running.{running};
 ghost use Rattle.rl_inputs.specs.Reading.{SuitsLock};
 ghost use Rattle.rl_locks.specs.Kinds.{lock_kind_of};
 ghost use Rattle.rl_shown.specs.Cores.{HaveTables, tables_of};
-ghost use Rattle.rl_shown.specs.State.{head_lines, body_lines, state_spelling, machine_before, state_with, IsState};
+ghost use Rattle.rl_shown.specs.Listing.{ReplayFits};
+ghost use Rattle.rl_shown.specs.State.{head_lines, body_lines, state_spelling, machine_before, state_with, state_by, IsState};
 
 use crate::cores::cores_of;
 use crate::front::{front_of, total_steps};
@@ -54,8 +56,8 @@ fn put_body<C: ShardCore>(
 ) -> Result<(), OutOfMemory>
     requires proper { IsProper place.now }
     requires ranks { length machine.now.calls ≡ length place.now.paths }
-    requires cores { HaveTables C.shard_table cores.now (tables_of (running C.shard_table machine.now)) }
-    ensures { OnOk result (out.new.items ≡ out.old.items ++ text_of (body_lines place.now (naming_of place.now) (running C.shard_table machine.now))) }
+    requires cores { HaveTables C.says cores.now (tables_of (running C.says machine.now)) }
+    ensures { Puts result out.old out.new (text_of (body_lines place.now (naming_of place.now) (running C.says machine.now))) }
 {
     let naming = Naming::of(alloc, place)?;
     put_words(out, place, &naming, machine, cores)?;
@@ -74,8 +76,8 @@ fn machine_text<C: ShardCore>(
 ) -> Result<Vec<u8>, OutOfMemory>
     requires proper { IsProper place.now }
     requires ranks { length machine.now.calls ≡ length place.now.paths }
-    requires cores { HaveTables C.shard_table cores.now (tables_of (running C.shard_table machine.now)) }
-    ensures { IfOk result (λ text. text.items ≡ state_spelling place.now step total (running C.shard_table machine.now)) }
+    requires cores { HaveTables C.says cores.now (tables_of (running C.says machine.now)) }
+    ensures { IfOk result (λ text. text.items ≡ state_spelling place.now step total (running C.says machine.now)) }
 {
     let mut out = head(alloc, step, total)?;
     put_body(alloc, &mut out, place, machine, cores)?;
@@ -100,7 +102,7 @@ fn machine_before<C: Resting>(
     requires calls { OpsFit (length place.now.paths) place.now.geom.shards ops }
     requires suits { SuitsLock place.now ops }
     requires schedule { ScheduleFits (length place.now.paths) schedule.now }
-    ensures { IfOk result (λ m. running C.shard_table m ≡ machine_before C.defined place.now ops schedule.now step) }
+    ensures { IfOk result (λ m. running C.says m ≡ machine_before C.defined place.now ops schedule.now step) }
 {
     let front = front_of(alloc, schedule.turns.as_slice(), step)?;
     replay::<C>(
@@ -149,9 +151,9 @@ struct StateTask<'a> {
 impl CoreTask for StateTask<'_> {
     type Out = Result<Vec<u8>, OutOfMemory>;
 
-    ghost takes = { λ r place. OpsFit (length place.paths) place.geom.shards r.ops × SuitsLock place r.ops × ScheduleFits (length place.paths) r.schedule.now };
+    ghost takes = { λ r place. ReplayFits place r.ops r.schedule.now };
 
-    ghost gives = { λ r place kind urgent result. IfOk result (λ text. text.items ≡ state_with kind.defined place r.ops r.schedule.now r.step) };
+    ghost gives = { λ r place kind urgent result. IfOk result (λ text. text.items ≡ state_by kind place r.ops r.schedule.now r.step) };
 
     fn over<C: Resting + Promising + ShardGuiding>(
         self,

@@ -2,13 +2,14 @@
 
 ghost use Rattle.std.specs.Prelude.{◌≡◌, ◌+◌, ◌-◌, ◌<◌, ◌^◌, ◌++◌, ◌∷◌, [], length, replicate, OnOk};
 ghost use Rattle.rl_model.specs.Geom.{GeomFits};
+ghost use Rattle.rl_text.specs.Printing.{Puts};
 ghost use Rattle.rl_text.specs.Spelling.{text_of};
 ghost use Rattle.rl_step.specs.Answers.{steps_made};
 ghost use Rattle.rl_ops.specs.Schedule.{TurnFits, steps_of};
 ghost use Rattle.rl_machine.specs.Running.{running};
 ghost use Rattle.rl_machine.specs.Run.{stepped, run_of, turn_ranks};
 ghost use Rattle.rl_report.specs.Printing.{spaced};
-ghost use Rattle.rl_shown.specs.Listing.{is_out, out_word, step_line, step_lines};
+ghost use Rattle.rl_shown.specs.Listing.{is_out, out_word, step_line, step_lines, scene_line, scene_lines};
 
 use rl_core::ShardCore;
 use rl_machine::Machine;
@@ -39,7 +40,7 @@ fn steps_made(steps: Steps) -> u32
 
 /// `out`, where a rank that stood at the lock before a step is out of it behind it.
 fn put_out(out: &mut Vec<u8>, before: Standing, behind: Standing) -> Result<(), OutOfMemory>
-    ensures { OnOk result (out.new.items ≡ out.old.items ++ spaced (out_word before behind)) }
+    ensures { Puts result out.old out.new (spaced (out_word before behind)) }
 {
     if !is_out(before) && is_out(behind) {
         return put_word(out, b"out");
@@ -66,8 +67,8 @@ fn list_step<C: ShardCore>(
     requires there { rank < length machine.old.calls }
     requires few { steps_made machine.old.steps < 2 ^ 32 - 1 }
     requires fits { GeomFits scene.place.now.geom }
-    ensures text { OnOk result (out.new.items ≡ out.old.items ++ text_of (step_line scene.entry.place.now scene.entry.naming.now (running C.shard_table machine.old) rank ∷ [])) }
-    ensures stepped { OnOk result (running C.shard_table machine.new ≡ stepped (running C.shard_table machine.old) rank) }
+    ensures text { Puts result out.old out.new (text_of (scene_line C.says scene.entry machine.old rank ∷ [])) }
+    ensures stepped { OnOk result (running C.says machine.new ≡ stepped (running C.says machine.old) rank) }
     ensures counted { OnOk result (steps_made machine.new.steps ≡ steps_made machine.old.steps + 1) }
     ensures calls { OnOk result (machine.new.calls ≡ machine.old.calls) }
 {
@@ -91,8 +92,8 @@ fn take_step<C: ShardCore>(
     requires there { rank < length machine.old.calls }
     requires few { steps_made machine.old.steps < 2 ^ 32 - 1 }
     requires fits { GeomFits scene.place.now.geom }
-    ensures text { OnOk result (out.new.items ≡ out.old.items ++ text_of (step_lines scene.entry.place.now scene.entry.naming.now scene.entry.window (running C.shard_table machine.old) (rank ∷ []))) }
-    ensures stepped { OnOk result (running C.shard_table machine.new ≡ stepped (running C.shard_table machine.old) rank) }
+    ensures text { Puts result out.old out.new (text_of (scene_lines C.says scene.entry machine.old (rank ∷ []))) }
+    ensures stepped { OnOk result (running C.says machine.new ≡ stepped (running C.says machine.old) rank) }
     ensures counted { OnOk result (steps_made machine.new.steps ≡ steps_made machine.old.steps + 1) }
     ensures calls { OnOk result (machine.new.calls ≡ machine.old.calls) }
 {
@@ -115,8 +116,8 @@ fn take_steps<C: ShardCore>(
     requires there { rank < length machine.old.calls }
     requires few { steps_made machine.old.steps + count < 2 ^ 32 }
     requires fits { GeomFits scene.place.now.geom }
-    ensures text { OnOk result (out.new.items ≡ out.old.items ++ text_of (step_lines scene.entry.place.now scene.entry.naming.now scene.entry.window (running C.shard_table machine.old) (replicate count rank))) }
-    ensures run { OnOk result (running C.shard_table machine.new ≡ run_of (running C.shard_table machine.old) (replicate count rank)) }
+    ensures text { Puts result out.old out.new (text_of (scene_lines C.says scene.entry machine.old (replicate count rank))) }
+    ensures run { OnOk result (running C.says machine.new ≡ run_of (running C.says machine.old) (replicate count rank)) }
     ensures counted { OnOk result (steps_made machine.new.steps ≡ steps_made machine.old.steps + count) }
     ensures calls { OnOk result (machine.new.calls ≡ machine.old.calls) }
 {
@@ -136,8 +137,8 @@ pub fn take_turn<C: ShardCore>(
     requires there { TurnFits (length machine.old.calls) turn }
     requires few { steps_made machine.old.steps + steps_of turn < 2 ^ 32 }
     requires fits { GeomFits scene.place.now.geom }
-    ensures text { OnOk result (out.new.items ≡ out.old.items ++ text_of (step_lines scene.entry.place.now scene.entry.naming.now scene.entry.window (running C.shard_table machine.old) (turn_ranks turn))) }
-    ensures run { OnOk result (running C.shard_table machine.new ≡ run_of (running C.shard_table machine.old) (turn_ranks turn)) }
+    ensures text { Puts result out.old out.new (text_of (scene_lines C.says scene.entry machine.old (turn_ranks turn))) }
+    ensures run { OnOk result (running C.says machine.new ≡ run_of (running C.says machine.old) (turn_ranks turn)) }
     ensures counted { OnOk result (steps_made machine.new.steps ≡ steps_made machine.old.steps + steps_of turn) }
     ensures calls { OnOk result (machine.new.calls ≡ machine.old.calls) }
 {

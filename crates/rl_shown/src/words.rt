@@ -1,11 +1,11 @@
 //! The words of a shard, each by its name with its home and its value.
 
-ghost use Rattle.std.specs.Prelude.{◌≡◌, ◌+◌, ◌<◌, ◌^◌, ◌++◌, flat_map, length, slice_get, OnOk, Some};
-ghost use Rattle.std.specs.List.{range_with_len};
+ghost use Rattle.std.specs.Prelude.{◌≡◌, ◌+◌, ◌<◌, ◌^◌, ◌++◌, flat_map, length, slice_get, Some};
 ghost use Rattle.rl_model.specs.Geom.{GeomFits};
+ghost use Rattle.rl_text.specs.Printing.{Puts};
 ghost use Rattle.rl_text.specs.Spelling.{line_text, text_of};
 ghost use Rattle.rl_machine.specs.Running.{running};
-ghost use Rattle.rl_shown.specs.State.{is_told, word_line, word_lines, words_lines, lines_of_shard};
+ghost use Rattle.rl_shown.specs.State.{is_told, word_line, word_lines, words_lines, lines_of_shard, core_lines, machine_lines};
 ghost use Rattle.rl_shown.specs.Cores.{HaveTables, tables_of};
 
 use rl_core::ShardCore;
@@ -36,7 +36,7 @@ fn put_line(
     name: WordName,
     value: u64,
 ) -> Result<(), OutOfMemory>
-    ensures { OnOk result (out.new.items ≡ out.old.items ++ line_text (word_line naming.now shard node name value)) }
+    ensures { Puts result out.old out.new (line_text (word_line naming.now shard node name value)) }
 {
     out.extend_from_slice(b"word")?;
     put_value(out, u64::from(shard))?;
@@ -57,7 +57,7 @@ fn put_told(
     name: WordName,
     value: u64,
 ) -> Result<(), OutOfMemory>
-    ensures { OnOk result (out.new.items ≡ out.old.items ++ text_of (word_lines naming.now shard node name value)) }
+    ensures { Puts result out.old out.new (text_of (word_lines naming.now shard node name value)) }
 {
     if is_told(name, value) {
         put_line(out, naming, shard, node, name, value)
@@ -76,10 +76,10 @@ fn put_words_of<C: ShardCore>(
     words: &Words,
 ) -> Result<(), OutOfMemory>
     requires fits { GeomFits map.now.geom }
-    requires all { length words.now.words ≡ map.now.lock_at + (C.shard_table core.now).behind }
+    requires all { length words.now.words ≡ map.now.lock_at + (C.says core.now).table.behind }
     requires few { length words.now.words < 2 ^ 32 }
-    requires sized { (C.shard_table core.now).core.size ≡ length words.now.words }
-    ensures { OnOk result (out.new.items ≡ out.old.items ++ text_of (words_lines naming.now map.now shard (C.shard_table core.now).core.home words.now.words)) }
+    requires sized { (C.says core.now).table.core.size ≡ length words.now.words }
+    ensures { Puts result out.old out.new (text_of (core_lines C.says naming.now map.now shard core.now words.now.words)) }
 {
     for word in 0..map.lock_at + core.words() {
         let node = core.home(word);
@@ -106,8 +106,8 @@ fn put_shard<C: ShardCore>(
 ) -> Result<(), OutOfMemory>
     requires fits { GeomFits place.now.geom }
     requires there { shard < length machine.now.shards }
-    requires core { slice_get (tables_of (running C.shard_table machine.now)) shard ≡ Some (C.shard_table core.now) }
-    ensures { OnOk result (out.new.items ≡ out.old.items ++ text_of (lines_of_shard place.now naming.now (running C.shard_table machine.now) shard)) }
+    requires core { slice_get (tables_of (running C.says machine.now)) shard ≡ Some (C.says core.now).table }
+    ensures { Puts result out.old out.new (text_of (lines_of_shard place.now naming.now (running C.says machine.now) shard)) }
 {
     rules(machine);
     let map = WordMap::of(place, naming, machine.behind_journal(shard));
@@ -123,8 +123,8 @@ pub fn put_words<C: ShardCore>(
     cores: &[C],
 ) -> Result<(), OutOfMemory>
     requires fits { GeomFits place.now.geom }
-    requires cores { HaveTables C.shard_table cores.now (tables_of (running C.shard_table machine.now)) }
-    ensures { OnOk result (out.new.items ≡ out.old.items ++ text_of (flat_map (lines_of_shard place.now naming.now (running C.shard_table machine.now)) (range_with_len 0 (length machine.now.shards)))) }
+    requires cores { HaveTables C.says cores.now (tables_of (running C.says machine.now)) }
+    ensures { Puts result out.old out.new (text_of (machine_lines C.says place.now naming.now machine.now)) }
 {
     for shard in 0..machine.shards() {
         put_shard(out, place, naming, machine, shard, &cores[shard as usize])?;

@@ -11,7 +11,7 @@ use Rattle.rl_queue.specs.Queue.{TheNames}
 use Rattle.rl_queue.specs.RankWords.{every_second}
 use Rattle.rl_tree.specs.declared.rooted.Rooted.{Rooted}
 use Rattle.rl_tree.specs.declared.view.TreeView.{TreeView}
-use Rattle.rl_tree.specs.Tree.{TheTree}
+use Rattle.rl_tree.specs.Tree.{TheTree, path}
 
 abbrev pub how_many : Rooted → ℕ
 how_many K = length K.shape.elements
@@ -46,8 +46,10 @@ names_by shape root q =
       queue = q;
       tail = q;
       tail_class = class.Card;
-      next = if node_in shape q then every_second (words_of_elements shape) (length shape.node_of) else 0 ∷ every_second (length shape.elements) (length shape.elements - 1);
-      status = if node_in shape q then every_second (words_of_elements shape + 1) (length shape.node_of) else 0 ∷ every_second (length shape.elements + 1) (length shape.elements - 1);
+      next = if node_in shape q then every_second (words_of_elements shape) (length shape.node_of) else 0 ∷ every_second
+          (length shape.elements) (length shape.elements - 1);
+      status = if node_in shape q then every_second (words_of_elements shape + 1) (length shape.node_of) else 0 ∷ every_second
+          (length shape.elements + 1) (length shape.elements - 1);
       budget = element_budget shape root q;
     }
 
@@ -65,6 +67,10 @@ all_names shape root = upto (names_by shape root) (length shape.elements)
 
 abbrev pub tree_of : Rooted → TheTree
 tree_of K = record { names = names_in K; parent = λ e. parent_of (slice_get K.shape.elements e) }
+
+-- the path up from an element as the code has it: the element, and the three above it
+abbrev pub path_row : Rooted → ℕ → List ℕ
+path_row K e = path (tree_of K) e 0 ∷ path (tree_of K) e 1 ∷ path (tree_of K) e 2 ∷ path (tree_of K) e 3 ∷ []
 
 -- the members of a queue: a node's are its ranks, another element's the elements whose parent it is; and the queues by number
 abbrev pub is_in : Rooted → ℕ → ℕ → Bool

@@ -98,7 +98,12 @@ walk_turn T v w t = tree_walk T v w t.phase t.events t.waits
 -- a queue with a budget is left by the leave of one that has something above it
 abbrev pub tree_learn : TheTree → TreeView → ℕ → Told TreeView
 tree_learn T v got =
-    if v.query then record { view = at_level v v.level (Look (told_left (names_at T v v.level).budget got) (is_some (names_at T v v.level).budget)); events = []; waits = false }
+    if v.query then record {
+      view =
+          at_level v v.level (Look (told_left (names_at T v v.level).budget got) (is_some (names_at T v v.level).budget));
+      events = [];
+      waits = false;
+    }
     else walk_turn T v v.level (turn_at (names_at T v v.level) (works_for T v v.level) v.phase got)
 
 -- the view stands at the hook above the root
@@ -112,7 +117,8 @@ at_hook v = hook_by v.query v.phase
 
 -- and goes on from there: a head of the root settles, and with it all queues below; a leaver hands the root over
 abbrev pub resume_by : TheTree → TreeView → Phase → List Event → Told TreeView
-resume_by T v Settle es = comes_in T v v.level (full_budget (names_at T v v.level).budget) (es ++ event.Settle (names_at T v v.level).queue (works_for T v v.level) ∷ [])
+resume_by T v Settle es = comes_in T v v.level (full_budget (names_at T v v.level).budget)
+    (es ++ event.Settle (names_at T v v.level).queue (works_for T v v.level) ∷ [])
 resume_by T v p es = record { view = at_level v v.level (resume_at p); events = es; waits = false }
 
 abbrev pub tree_resume : TheTree → TreeView → Told TreeView

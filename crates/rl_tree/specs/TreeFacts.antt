@@ -63,7 +63,8 @@ pub record HasView (K : Rooted) (levels : ℕ) (inside : Bool) (ws : List ℕ) (
   pub has : slice_get vs r ≡ Some v
 
 -- and, away from the hook, plans the act a
-pub record PlansAct (K : Rooted) (levels : ℕ) (inside : Bool) (ws : List ℕ) (vs : List TreeView) (t : List Event) (r : ℕ) (v : TreeView) (a : Act) : Type 0 where
+pub record PlansAct (K : Rooted) (levels : ℕ) (inside : Bool) (ws : List ℕ) (vs : List TreeView) (t : List Event) (r : ℕ) (v : TreeView)
+    (a : Act) : Type 0 where
   pub viewed : HasView K levels inside ws vs t r v
   pub away : at_hook v ≡ false
   pub planned : tree_plan (tree_of K) v ≡ Some a
@@ -88,15 +89,18 @@ module _ (K : Rooted) (levels : ℕ) where
 
   -- a good tree stays good, and its root as open, where a word behind the tree's is written
   abbrev pub BeyondKeeps : Type 0
-  BeyondKeeps = (inside : Bool) (ws : List ℕ) (vs : List TreeView) (t : List Event) (w x : ℕ) → of_tree K ≤ w → GoodAt K levels inside ws vs t → GoodAt K levels inside (slice_set ws w x) vs t
+  BeyondKeeps = (inside : Bool) (ws : List ℕ) (vs : List TreeView) (t : List Event)
+      (w x : ℕ) → of_tree K ≤ w → GoodAt K levels inside ws vs t → GoodAt K levels inside (slice_set ws w x) vs t
 
   -- after an event that is of no queue
   abbrev pub BesideKeeps : Type 0
-  BesideKeeps = (inside : Bool) (ws : List ℕ) (vs : List TreeView) (t : List Event) (e : Event) → IsBeside e → GoodAt K levels inside ws vs t → GoodAt K levels inside ws vs (t ++ e ∷ [])
+  BesideKeeps = (inside : Bool) (ws : List ℕ) (vs : List TreeView) (t : List Event)
+      (e : Event) → IsBeside e → GoodAt K levels inside ws vs t → GoodAt K levels inside ws vs (t ++ e ∷ [])
 
   -- where a rank that is out asks, and where one that is inside begins to leave
   abbrev pub AsksKeep : Type 0
-  AsksKeep = (inside : Bool) (ws : List ℕ) (vs : List TreeView) (t : List Event) (r : ℕ) (v : TreeView) → Viewed inside ws vs t r v → tree_standing v ≡ Out → GoodAt K levels inside ws (slice_set vs r (at_level v 0 Clear)) t
+  AsksKeep = (inside : Bool) (ws : List ℕ) (vs : List TreeView) (t : List Event) (r : ℕ)
+      (v : TreeView) → Viewed inside ws vs t r v → tree_standing v ≡ Out → GoodAt K levels inside ws (slice_set vs r (at_level v 0 Clear)) t
 
   abbrev pub LeavesKeep : Type 0
   LeavesKeep =
@@ -108,7 +112,8 @@ module _ (K : Rooted) (levels : ℕ) where
   ActsKeep =
       (inside : Bool) (ws : List ℕ) (vs : List TreeView) (t : List Event) (r : ℕ) (v : TreeView) (a : Act) → Planned inside ws vs t r v a →
       (now : Bool) × (is_some K.root ≡ true → GateMoves (at_hook (learnt_in K ws v a).view) (learnt_in K ws v a).view.phase inside now) ×
-      GoodAt K levels now (slice_set ws (word_of a) (written a (slice_index ws (word_of a)))) (slice_set vs r (learnt_in K ws v a).view) (t ++ (learnt_in K ws v a).events)
+      GoodAt K levels now (slice_set ws (word_of a) (written a (slice_index ws (word_of a)))) (slice_set vs r (learnt_in K ws v a).view)
+      (t ++ (learnt_in K ws v a).events)
 
   -- and where it goes on from the hook
   abbrev pub ResumesKeep : Type 0
@@ -125,7 +130,8 @@ module _ (K : Rooted) (levels : ℕ) where
   -- a member has its element's queue only where the element has its parent's
   abbrev pub HasWhatIsAbove : Type 0
   HasWhatIsAbove =
-      (inside : Bool) (ws : List ℕ) (vs : List TreeView) (t : List Event) (g : GoodAt K levels inside ws vs t) (e p m : ℕ) → length vs ≡ ranks_in K → e < how_many K → (tree_of K).parent e ≡ Some p →
+      (inside : Bool) (ws : List ℕ) (vs : List TreeView) (t : List Event) (g : GoodAt K levels inside ws vs t)
+      (e p m : ℕ) → length vs ≡ ranks_in K → e < how_many K → (tree_of K).parent e ≡ Some p →
       IsGrantedAt (g.tree.phase e m) → IsGrantedAt (g.tree.phase p e)
 
   -- one rank at most acts for an element: two that work above it for it are one
@@ -141,11 +147,13 @@ module _ (K : Rooted) (levels : ℕ) where
       at_hook v ≡ true → at_hook w ≡ true → i ≡ j
 
   abbrev pub IsShutAtHook : Type 0
-  IsShutAtHook = (inside : Bool) (ws : List ℕ) (vs : List TreeView) (t : List Event) (r : ℕ) (v : TreeView) → Viewed inside ws vs t r v → at_hook v ≡ true → inside ≡ false
+  IsShutAtHook = (inside : Bool) (ws : List ℕ) (vs : List TreeView) (t : List Event) (r : ℕ)
+      (v : TreeView) → Viewed inside ws vs t r v → at_hook v ≡ true → inside ≡ false
 
   -- under a root without budget none stands there to go out
   abbrev pub OnlyComesIn : Type 0
-  OnlyComesIn = (inside : Bool) (ws : List ℕ) (vs : List TreeView) (t : List Event) (r : ℕ) (v : TreeView) → Viewed inside ws vs t r v → K.root ≡ None → at_hook v ≡ true → v.phase ≡ Settle
+  OnlyComesIn = (inside : Bool) (ws : List ℕ) (vs : List TreeView) (t : List Event) (r : ℕ)
+      (v : TreeView) → Viewed inside ws vs t r v → K.root ≡ None → at_hook v ≡ true → v.phase ≡ Settle
 
   -- one at most holds the lock, and then the root is open
   abbrev pub HasOneHolder : Type 0
@@ -154,25 +162,29 @@ module _ (K : Rooted) (levels : ℕ) where
       IsHolder (tree_standing v) → IsHolder (tree_standing w) → i ≡ j
 
   abbrev pub IsOpenForHolder : Type 0
-  IsOpenForHolder = (inside : Bool) (ws : List ℕ) (vs : List TreeView) (t : List Event) (r : ℕ) (v : TreeView) → Viewed inside ws vs t r v → tree_standing v ≡ Writer → inside ≡ true
+  IsOpenForHolder = (inside : Bool) (ws : List ℕ) (vs : List TreeView) (t : List Event) (r : ℕ)
+      (v : TreeView) → Viewed inside ws vs t r v → tree_standing v ≡ Writer → inside ≡ true
 
   -- while no rank is in a call the root is shut, and its tail is 0
   abbrev pub AllAreOut : List TreeView → Type 0
   AllAreOut vs = (r : ℕ) (v : TreeView) → slice_get vs r ≡ Some v → tree_standing v ≡ Out
 
   abbrev pub IsShutAtRest : Type 0
-  IsShutAtRest = (inside : Bool) (ws : List ℕ) (vs : List TreeView) (t : List Event) → length vs ≡ ranks_in K → GoodAt K levels inside ws vs t → AllAreOut vs → (inside ≡ false) × (slice_index ws 0 ≡ 0)
+  IsShutAtRest = (inside : Bool) (ws : List ℕ) (vs : List TreeView)
+      (t : List Event) → length vs ≡ ranks_in K → GoodAt K levels inside ws vs t → AllAreOut vs → (inside ≡ false) × (slice_index ws 0 ≡ 0)
 
   -- each queue keeps its budget, which is that of its level, serves first who came first, and was given as often as it was had
   abbrev pub KeepsBudgets : Type 0
-  KeepsBudgets = (inside : Bool) (ws : List ℕ) (vs : List TreeView) (t : List Event) (q B : ℕ) → GoodAt K levels inside ws vs t → q < how_many K → (names_in K q).budget ≡ Some B → IsWithin t q B
+  KeepsBudgets = (inside : Bool) (ws : List ℕ) (vs : List TreeView) (t : List Event)
+      (q B : ℕ) → GoodAt K levels inside ws vs t → q < how_many K → (names_in K q).budget ≡ Some B → IsWithin t q B
 
   abbrev pub ServesInOrder : Type 0
   ServesInOrder = (inside : Bool) (ws : List ℕ) (vs : List TreeView) (t : List Event) (q : ℕ) → GoodAt K levels inside ws vs t → q < how_many K → IsFifo t q
 
   abbrev pub CountsTenures : Type 0
   CountsTenures =
-      (inside : Bool) (ws : List ℕ) (vs : List TreeView) (t : List Event) (q : ℕ) → length vs ≡ ranks_in K → GoodAt K levels inside ws vs t → AllAreOut vs → q < how_many K →
+      (inside : Bool) (ws : List ℕ) (vs : List TreeView) (t : List Event)
+      (q : ℕ) → length vs ≡ ranks_in K → GoodAt K levels inside ws vs t → AllAreOut vs → q < how_many K →
       settled q t + passed q t ≡ tenures (queue_at K q) t
 
   -- the words live on nodes, and each planned act on them is lawful and no local compare-and-swap
@@ -192,14 +204,17 @@ module _ (K : Rooted) (levels : ℕ) where
   MayAllPlan = (inside : Bool) (ws : List ℕ) (vs : List TreeView) (t : List Event) (r : ℕ) (v : TreeView) → Viewed inside ws vs t r v → MayPlan K v
 
   abbrev pub MayAllLearn : Type 0
-  MayAllLearn = (inside : Bool) (ws : List ℕ) (vs : List TreeView) (t : List Event) (r : ℕ) (v : TreeView) (a : Act) → Planned inside ws vs t r v a → TreeMayLearn K v (told a (slice_index ws (word_of a)))
+  MayAllLearn = (inside : Bool) (ws : List ℕ) (vs : List TreeView) (t : List Event) (r : ℕ) (v : TreeView)
+      (a : Act) → Planned inside ws vs t r v a → TreeMayLearn K v (told a (slice_index ws (word_of a)))
 
   -- what an act tells, and what goes on from the hook, is as the laws of a lock ask
   abbrev pub LearnsFit : Type 0
-  LearnsFit = (inside : Bool) (ws : List ℕ) (vs : List TreeView) (t : List Event) (r : ℕ) (v : TreeView) (a : Act) → Planned inside ws vs t r v a → LearnFits K r v (learnt_in K ws v a)
+  LearnsFit = (inside : Bool) (ws : List ℕ) (vs : List TreeView) (t : List Event) (r : ℕ) (v : TreeView)
+      (a : Act) → Planned inside ws vs t r v a → LearnFits K r v (learnt_in K ws v a)
 
   abbrev pub ResumesFit : Type 0
-  ResumesFit = (inside : Bool) (ws : List ℕ) (vs : List TreeView) (t : List Event) (r : ℕ) (v : TreeView) → Viewed inside ws vs t r v → at_hook v ≡ true → LearnFits K r v (resumed_in K v)
+  ResumesFit = (inside : Bool) (ws : List ℕ) (vs : List TreeView) (t : List Event) (r : ℕ)
+      (v : TreeView) → Viewed inside ws vs t r v → at_hook v ≡ true → LearnFits K r v (resumed_in K v)
 
   -- one that comes to the hook has at most joined
   abbrev pub JoinsToHook : Type 0
@@ -217,10 +232,12 @@ module _ (K : Rooted) (levels : ℕ) where
 
   -- a rank that is alone finds what it compares with, and waits for nobody
   abbrev pub FindsAlone : Type 0
-  FindsAlone = (inside : Bool) (ws : List ℕ) (vs : List TreeView) (t : List Event) (r : ℕ) (v : TreeView) (a : Act) → ranks_in K ≡ 1 → Planned inside ws vs t r v a → FindsOld a (slice_index ws (word_of a))
+  FindsAlone = (inside : Bool) (ws : List ℕ) (vs : List TreeView) (t : List Event) (r : ℕ) (v : TreeView)
+      (a : Act) → ranks_in K ≡ 1 → Planned inside ws vs t r v a → FindsOld a (slice_index ws (word_of a))
 
   abbrev pub MovesOnAlone : Type 0
-  MovesOnAlone = (inside : Bool) (ws : List ℕ) (vs : List TreeView) (t : List Event) (r : ℕ) (v : TreeView) (a : Act) → ranks_in K ≡ 1 → Planned inside ws vs t r v a → (learnt_in K ws v a).waits ≡ false
+  MovesOnAlone = (inside : Bool) (ws : List ℕ) (vs : List TreeView) (t : List Event) (r : ℕ) (v : TreeView)
+      (a : Act) → ranks_in K ≡ 1 → Planned inside ws vs t r v a → (learnt_in K ws v a).waits ≡ false
 
 -- all of it
 pub record TreeFacts (K : Rooted) (levels : ℕ) : Type 0 where

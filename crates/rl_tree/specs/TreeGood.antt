@@ -131,15 +131,20 @@ granted_in (Some h) = one_if h.phase
 
 -- A tree is good by these phases of members, these lines and these counts of ended tenures: each rank has its view, and each queue is
 -- good; a view tells the phases of those for whom it works; and the gate of an element's queue tells how it stands in its parent's.
-pub record IsGoodBy (K : Rooted) (levels : ℕ) (phase : ℕ → ℕ → Phase) (line : ℕ → List ℕ) (ended : ℕ → ℕ) (words : List ℕ) (views : List TreeView) (trace : List Event) : Type 0 where
+pub record IsGoodBy (K : Rooted) (levels : ℕ) (phase : ℕ → ℕ → Phase) (line : ℕ → List ℕ) (ended : ℕ → ℕ) (words : List ℕ)
+    (views : List TreeView) (trace : List Event) : Type 0 where
   pub own : (r : ℕ) (v : TreeView) → slice_get views r ≡ Some v → (v.rank ≡ r) × (v.leaf ≡ leaf_of_rank K r)
   pub shaped : (r : ℕ) (v : TreeView) → slice_get views r ≡ Some v → Shaped levels v
   pub queue : (q : ℕ) → q < how_many K → QueueGood (names_in K q) (InQueue K q) words (phase q) (line q) trace (ended q)
-  pub below : (r : ℕ) (v : TreeView) (j : ℕ) → slice_get views r ≡ Some v → j < v.level → phase (path (tree_of K) v.leaf j) (works_for (tree_of K) v j) ≡ below_by (way_of v.query v.phase) (behind_at v.behind j)
+  pub below : (r : ℕ) (v : TreeView) (j : ℕ) → slice_get views r ≡ Some v → j < v.level →
+      phase (path (tree_of K) v.leaf j) (works_for (tree_of K) v j) ≡ below_by (way_of v.query v.phase) (behind_at v.behind j)
   pub here : (r : ℕ) (v : TreeView) → slice_get views r ≡ Some v → Tells v v.query (phase (path (tree_of K) v.leaf v.level) (works_for (tree_of K) v v.level))
-  pub gates : (e p : ℕ) → e < how_many K → (tree_of K).parent e ≡ Some p → Matches (gate_of (head_in (lane_of (names_in K e) words (phase e)) (line e))) (phase p e)
+  pub gates : (e p : ℕ) → e < how_many K → (tree_of K).parent e ≡ Some p →
+      Matches (gate_of (head_in (lane_of (names_in K e) words (phase e)) (line e))) (phase p e)
   pub spent : (q m : ℕ) → Spent (is_some (names_in K q).budget) (phase q m)
-  pub tenured : (q : ℕ) → q < how_many K → ended q + (if is_node K q then 0 else granted_in (head_in (lane_of (names_in K q) words (phase q)) (line q))) ≡ tenures (queue_at K q) trace
+  pub tenured : (q : ℕ) → q < how_many K →
+      ended q + (if is_node K q then 0 else granted_in (head_in (lane_of (names_in K q) words (phase q)) (line q))) ≡ tenures (queue_at K q)
+      trace
 
 pub record TreeGood (K : Rooted) (levels : ℕ) (words : List ℕ) (views : List TreeView) (trace : List Event) : Type 0 where
   pub phase : ℕ → ℕ → Phase

@@ -1,9 +1,9 @@
 -- What a lock asks of its tree, whatever budget the root has.
-use Rattle.std.specs.Prelude.{◌≡◌, ℕ, zero, suc, ◌-◌, ◌*◌, ◌<◌, ◌≤◌, List, length, slice_get, slice_index, true, Option, Some, None, is_some}
+use Rattle.std.specs.Prelude.{◌≡◌, ℕ, zero, suc, ◌-◌, ◌*◌, ◌<◌, ◌≤◌, List, length, slice_get, slice_index, true, false, Option, Some, None, is_some}
 use Rattle.rl_word.specs.declared.shapes.Element.{Element}
 use Rattle.rl_word.specs.Shapes.{TheShape, IsProper}
 use Rattle.rl_step.specs.LockQueues.{parent_of, stands, budget_by}
-use Rattle.rl_tree.specs.Tree.{path}
+use Rattle.rl_tree.specs.Tree.{path, is_none}
 use Rattle.rl_tree.specs.declared.rooted.Rooted.{Rooted}
 use Rattle.rl_tree.specs.Elements.{how_many, ranks_in, leaf_of_rank, is_node, first_node_of, names_in, tree_of}
 
@@ -13,7 +13,8 @@ pub record IsTreed (K : Rooted) (levels : ℕ) : Type 0 where
   pub depth : ℕ → ℕ
   pub there : (r j : ℕ) → r < ranks_in K → j ≤ levels → path (tree_of K) (leaf_of_rank K r) j < how_many K
   pub deep : (r j : ℕ) → r < ranks_in K → j ≤ levels → depth (path (tree_of K) (leaf_of_rank K r) j) ≡ j
-  pub up : (r j : ℕ) → r < ranks_in K → j < levels → (tree_of K).parent (path (tree_of K) (leaf_of_rank K r) j) ≡ Some (path (tree_of K) (leaf_of_rank K r) (suc j))
+  pub up : (r j : ℕ) → r < ranks_in K → j < levels → (tree_of K).parent (path (tree_of K) (leaf_of_rank K r) j) ≡ Some
+      (path (tree_of K) (leaf_of_rank K r) (suc j))
   pub top : (r : ℕ) → r < ranks_in K → (tree_of K).parent (path (tree_of K) (leaf_of_rank K r) levels) ≡ None
   pub node : (e : ℕ) → e < how_many K → is_node K e ≡ true → depth e ≡ 0
   pub leaf : (r : ℕ) → r < ranks_in K → is_node K (leaf_of_rank K r) ≡ true
@@ -43,6 +44,10 @@ pub record IsWellShaped (K : Rooted) (levels : ℕ) : Type 0 where
 abbrev pub IsBudgeted : TheShape → Type 0
 IsBudgeted shape = (e : ℕ) → 0 < e → e < length shape.elements → is_some (budget_by (slice_get shape.elements e)) ≡ true
 
+-- every element but the root has a parent
+abbrev pub IsParented : Rooted → Type 0
+IsParented K = (e : ℕ) → 0 < e → e < how_many K → is_none ((tree_of K).parent e) ≡ false
+
 -- how many steps an element is under one without a parent, in at most so many
 abbrev pub above_it : (ℕ → ℕ) → Option ℕ → ℕ
 above_it h None = 0
@@ -64,7 +69,8 @@ level_in K levels e = levels - steps_up K.shape.elements (how_many K) e
 pub record IsTreeLaid (K : Rooted) (levels : ℕ) : Type 0 where
   pub there : (r j : ℕ) → r < ranks_in K → j ≤ levels → path (tree_of K) (leaf_of_rank K r) j < how_many K
   pub deep : (r j : ℕ) → r < ranks_in K → j ≤ levels → level_in K levels (path (tree_of K) (leaf_of_rank K r) j) ≡ j
-  pub up : (r j : ℕ) → r < ranks_in K → j < levels → parent_of (slice_get K.shape.elements (path (tree_of K) (leaf_of_rank K r) j)) ≡ Some (path (tree_of K) (leaf_of_rank K r) (suc j))
+  pub up : (r j : ℕ) → r < ranks_in K → j < levels → parent_of (slice_get K.shape.elements (path (tree_of K) (leaf_of_rank K r) j)) ≡ Some
+      (path (tree_of K) (leaf_of_rank K r) (suc j))
   pub top : (r : ℕ) → r < ranks_in K → path (tree_of K) (leaf_of_rank K r) levels ≡ 0
   pub node : (e : ℕ) → e < how_many K → stands K.shape.leaf_of e ≡ true → level_in K levels e ≡ 0
   pub leaf : (r : ℕ) → r < ranks_in K → stands K.shape.leaf_of (leaf_of_rank K r) ≡ true
@@ -86,4 +92,5 @@ pub record IsTreeLaid (K : Rooted) (levels : ℕ) : Type 0 where
 
 -- a proper shape that holds the home is that, with a budget on every element but the root, and a modest one at the root if any
 abbrev pub ProperIsWellShaped : Type 0
-ProperIsWellShaped = (K : Rooted) → IsProper K.shape → K.home < K.shape.nodes → IsBudgeted K.shape → ((b : ℕ) → K.root ≡ Some b → b ≤ 1000) → IsWellShaped K (levels_of K.shape)
+ProperIsWellShaped = (K : Rooted) → IsProper K.shape → K.home < K.shape.nodes → IsBudgeted K.shape →
+    ((b : ℕ) → K.root ≡ Some b → b ≤ 1000) → IsWellShaped K (levels_of K.shape)

@@ -1,10 +1,12 @@
 pub mod Cases
 pub mod TreePaths
 pub mod TreeWords
+pub mod RanksInTree
 pub mod TreeClimb
+pub mod TreePuts
+pub mod TreeParts
 pub mod TreeKeeps
 pub mod TreeActs
-pub mod TreeParts
 pub mod TreeStays
 pub mod TreeOnward
 pub mod TreeCalls
@@ -12,6 +14,7 @@ pub mod TreeHook
 pub mod TreeProper
 pub mod TreeSize
 pub mod TreeLaid
+pub mod PathRows
 pub mod TreeEvents
 pub mod TreeLawful
 pub mod TreeHolders

@@ -1,7 +1,7 @@
 //! A shape as a lock's tree stands on it.
 
-ghost use Rattle.std.specs.Prelude.{◌≡◌, ◌<◌};
-ghost use Rattle.rl_tree.specs.Elements.{of_tree, tree_spot};
+ghost use Rattle.std.specs.Prelude.{◌≡◌, ◌<◌, unwrap_or};
+ghost use Rattle.rl_tree.specs.Elements.{of_tree, path_row, tree_of, tree_spot};
 ghost use Rattle.rl_tree.specs.TreeShape.{IsTreeLaid, levels_of};
 
 use rl_word::{Class, Shape, Spot};
@@ -24,6 +24,29 @@ impl Rooted {
     {
         let elements = self.shape.elements.len() as u32;
         elements + 2 * (elements - 1) + 2 * self.shape.node_of.len() as u32
+    }
+
+    /// The parent of an element; 0 where it has none, as the root.
+    fn above(&self, element: u32) -> u32
+        ensures { result ≡ unwrap_or ((tree_of self.now).parent element) 0 }
+    {
+        match self.shape.elements.get(element as usize) {
+            Some(there) => match there.parent {
+                Some(parent) => parent,
+                None => 0,
+            },
+            None => 0,
+        }
+    }
+
+    /// The path up from an element: the element, and the three above it.
+    pub(crate) fn path(&self, element: u32) -> [u32; 4]
+        ensures { result ≡ path_row self.now element }
+    {
+        let first = self.above(element);
+        let second = self.above(first);
+        let third = self.above(second);
+        [element, first, second, third]
     }
 
     /// The class of a word, and where it lives.

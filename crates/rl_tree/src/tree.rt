@@ -4,8 +4,9 @@ ghost use Rattle.std.specs.Prelude.{◌≡◌, ℕ, ◌+◌, ◌*◌, ◌<◌, �
 ghost use Rattle.rl_word.specs.Shapes.{IsProper};
 ghost use Rattle.rl_step.specs.LockQueues.{stands};
 ghost use Rattle.rl_queue.specs.RankWords.{every_second};
-ghost use Rattle.rl_tree.specs.Elements.{how_many, ranks_in, leaf_of_rank, of_tree, names_by, names_in, all_names, upto, tree_of, tree_spot, out_at};
-ghost use Rattle.rl_tree.specs.TreeShape.{IsBudgeted, IsTreeLaid, levels_of};
+ghost use Rattle.rl_tree.specs.Tree.{path, is_none};
+ghost use Rattle.rl_tree.specs.Elements.{how_many, ranks_in, leaf_of_rank, of_tree, names_by, names_in, all_names, upto, path_row, tree_of, tree_spot, out_at};
+ghost use Rattle.rl_tree.specs.TreeShape.{IsBudgeted, IsParented, IsTreeLaid, levels_of};
 
 use crate::rooted::Rooted;
 use crate::view::TreeView;
@@ -25,9 +26,14 @@ pub struct Tree {
     queues: Vec<QueueNames>,
     /// The spot of each word.
     spots: Vec<Spot>,
+    /// The path up from each element. The elements say as much: it is here for speed, since each atom of a rank asks for one or two
+    /// elements of its path.
+    paths: Vec<[u32; 4]>,
     ghost laid: { IsTreeLaid rooted (levels_of rooted.shape) },
     ghost named: { queues.items ≡ all_names rooted.shape rooted.root },
     ghost placed: { spots.items ≡ upto (tree_spot rooted) (of_tree rooted) },
+    ghost pathed: { paths.items ≡ upto (path_row rooted) (how_many rooted) },
+    ghost parented: { IsParented rooted },
 }
 
 /// The next words of all elements, or their status words, with 0 for the root, which has none.
@@ -120,6 +126,18 @@ fn spots_of(alloc: Global, rooted: &Rooted) -> Result<Vec<Spot>, OutOfMemory>
     Ok(spots)
 }
 
+/// The paths up from all elements.
+fn paths_of(alloc: Global, rooted: &Rooted) -> Result<Vec<[u32; 4]>, OutOfMemory>
+    requires { how_many rooted.now ≤ 128 }
+    ensures { IfOk result (λ paths. paths.items ≡ upto (path_row rooted.now) (how_many rooted.now)) }
+{
+    let mut paths = Vec::new(alloc);
+    for element in 0..rooted.shape.elements.len() as u32 {
+        paths.push(rooted.path(element))?;
+    }
+    Ok(paths)
+}
+
 /// A copy of a shape.
 fn copy_of(shape: &Shape) -> Result<Shape, OutOfMemory>
     ensures { IfOk result (λ copy. copy ≡ shape.now) }
@@ -158,10 +176,12 @@ impl Tree {
             root,
         };
         let spots = spots_of(alloc, &rooted)?;
+        let paths = paths_of(alloc, &rooted)?;
         Ok(Tree {
             rooted,
             queues,
             spots,
+            paths,
         })
     }
 
@@ -190,15 +210,27 @@ impl Tree {
         TreeView::out(rank, self.rooted.shape.leaf_of[node as usize])
     }
 
-    /// The parent of an element: the root has none.
+    /// The element at a level of the path up from a leaf: 0 above the root, and above a leaf that isn't there.
     #[inline(always)]
-    pub(crate) fn parent(&self, element: u32) -> Option<u32>
-        ensures { result ≡ (tree_of self.now.rooted).parent element }
+    pub(crate) fn element_at(&self, leaf: u32, level: u32) -> u32
+        ensures { result ≡ path (tree_of self.now.rooted) leaf level }
     {
-        match self.rooted.shape.elements.get(element as usize) {
-            Some(there) => there.parent,
-            None => None,
+        if level < 4 && (leaf as usize) < self.paths.len() {
+            self.paths[leaf as usize][level as usize]
+        } else if level == 0 {
+            leaf
+        } else {
+            0
         }
+    }
+
+    /// Whether the element at a level of the path up from a leaf is the root.
+    #[inline(always)]
+    pub(crate) fn is_top(&self, leaf: u32, level: u32) -> bool
+        ensures { result ≡ is_none ((tree_of self.now.rooted).parent (path (tree_of self.now.rooted) leaf level)) }
+    {
+        let element = self.element_at(leaf, level);
+        element == 0 || element as usize >= self.paths.len()
     }
 
     /// The words of the queue of an element.

@@ -5,7 +5,7 @@ ghost use Rattle.rl_step.specs.declared.events.Event.{Event as TheEvent};
 ghost use Rattle.rl_step.specs.Lock.{Rests};
 ghost use Rattle.rl_queue.specs.Queue.{full_budget, resume_at};
 ghost use Rattle.rl_queue.specs.Lane.{told_left};
-ghost use Rattle.rl_tree.specs.Tree.{path, is_none, behind_at, leaves_behind, member_at as the_member, inside_from, settles_below, comes_in as the_entry, goes_up as the_rise, gives_up as the_release, goes_down as the_descent, tree_walk as the_walk, tree_plan, tree_standing, tree_learn, at_hook, resume_by, entry_if};
+ghost use Rattle.rl_tree.specs.Tree.{path, behind_at, leaves_behind, member_at as the_member, inside_from, settles_below, comes_in as the_entry, goes_up as the_rise, gives_up as the_release, goes_down as the_descent, tree_walk as the_walk, tree_plan, tree_standing, tree_learn, at_hook, resume_by, entry_if};
 ghost use Rattle.rl_tree.specs.Elements.{how_many, tree_of};
 ghost use Rattle.rl_tree.specs.Fits.{IsPlaced, MayPlan, TreeMayLearn, StatusFits};
 
@@ -121,21 +121,6 @@ pub fn tree_enter(view: &TreeView, events: &mut ArrayVec<Event, 8>)
 }
 
 impl Tree {
-    /// The element at a level of the path up from a leaf.
-    #[inline(always)]
-    fn element_at(&self, leaf: u32, level: u32) -> u32
-        ensures { result ≡ path (tree_of self.now.rooted) leaf level }
-    {
-        let mut at = leaf;
-        for _step in 0..level {
-            at = match self.parent(at) {
-                Some(parent) => parent,
-                None => 0,
-            };
-        }
-        at
-    }
-
     /// The member for which a rank works at a level.
     #[inline(always)]
     fn member_at(&self, rank: u32, leaf: u32, level: u32) -> u32
@@ -191,14 +176,6 @@ impl Tree {
         self.settle_below(view, level, told);
         let phase = self.inside(view, level, left);
         view.go_to(0, phase);
-    }
-
-    /// Whether the element at a level of the path up from a leaf is the root.
-    #[inline(always)]
-    fn is_top(&self, leaf: u32, level: u32) -> bool
-        ensures { result ≡ is_none ((tree_of self.now.rooted).parent (path (tree_of self.now.rooted) leaf level)) }
-    {
-        self.parent(self.element_at(leaf, level)).is_none()
     }
 
     /// Goes on from what a rank's turn at a level led to: the phase there, and whether the load has to be made again.

@@ -129,7 +129,7 @@ module _ (pairs : List (ℕ × ℕ)) where
       ] refl (agrees w) e
 
 -- a word that was read gives the same when more are
-value_front : (pairs more : List (ℕ × ℕ)) (word value : ℕ) → value_of pairs word ≡ Some value → value_of (pairs ++ more) word ≡ Some value
+pub value_front : (pairs more : List (ℕ × ℕ)) (word value : ℕ) → value_of pairs word ≡ Some value → value_of (pairs ++ more) word ≡ Some value
 value_front [] more word value e = absurd (cc)
 value_front (p ∷ ps) more word value e =
     elim (eqb p.0 word) as (λ b. cond b (Some p.1) (value_of ps word) ≡ Some value → cond b (Some p.1) (value_of (ps ++ more) word) ≡ Some value) [

@@ -1,11 +1,12 @@
 // Which word a call reads next.
-ghost use Rattle.std.specs.Prelude.{◌≡◌, ◌+◌, ◌*◌, ◌<◌, ◌≤◌, ◌↔◌, IfSome, None, length};
+ghost use Rattle.std.specs.Prelude.{◌≡◌, ◌+◌, ◌*◌, ◌-◌, ◌<◌, ◌≤◌, ◌↔◌, IfSome, None, length};
 ghost use Rattle.rl_model.specs.Geom.{GeomFits, bucket_of};
 ghost use Rattle.rl_volume.specs.Words as place;
 ghost use Rattle.rl_volume.specs.Walk.{free_walk, freed_walk, first_walk, inline_walk, cell_walk, end_walk, chain_walk, bucket_walk, most_reads};
 ghost use Rattle.rl_volume.specs.Seen.{value_of, next_in, next_word, IsReadingOver, AreNamed};
 
 use crate::seen::Seen;
+use crate::stand::Stand;
 use crate::words::{
     FREE_HEAD, cell_key_word, cell_value_word, key_word, link_word, named, state_word, value_word,
 };
@@ -57,6 +58,9 @@ fn next_in_bucket(geom: Geom, call: Call, key: u64, seen: &Seen) -> Option<u32>
     requires { GeomFits geom }
     ensures { result ≡ next_in (bucket_walk geom call key (bucket_of geom key)) seen.now.pairs }
 {
+    if let Some(stand) = seen.stand(geom, key) {
+        return next_in_chain(geom, call, key, stand, seen);
+    }
     let bucket = geom.bucket(key);
     let Some(state) = seen.value_at(0, state_word(bucket)) else {
         return Some(state_word(bucket));
@@ -70,7 +74,11 @@ fn next_in_bucket(geom: Geom, call: Call, key: u64, seen: &Seen) -> Option<u32>
     if own == key {
         next_inline(geom, call, bucket, state, seen)
     } else {
-        next_in_chain(geom, call, key, state - 1, seen)
+        let first = Stand {
+            link: state - 1,
+            passed: 0,
+        };
+        next_in_chain(geom, call, key, first, seen)
     }
 }
 
@@ -105,13 +113,14 @@ fn next_in_first(geom: Geom, first: Option<u32>, seen: &Seen) -> Option<u32>
     next_freed(geom, cell, 5, seen)
 }
 
-// The next word along the chain that begins with a link.
-fn next_in_chain(geom: Geom, call: Call, key: u64, first: u64, seen: &Seen) -> Option<u32>
-    requires { GeomFits geom }
-    ensures { result ≡ next_in (chain_walk geom call key first geom.overflow) seen.now.pairs }
+// The next word along a chain, from where the walk stands on it.
+fn next_in_chain(geom: Geom, call: Call, key: u64, from: Stand, seen: &Seen) -> Option<u32>
+    requires fits { GeomFits geom }
+    requires there { from.passed ≤ geom.overflow }
+    ensures { result ≡ next_in (chain_walk geom call key from.link (geom.overflow - from.passed)) seen.now.pairs }
 {
-    let mut link = first;
-    for passed in 0..geom.overflow {
+    let mut link = from.link;
+    for passed in from.passed..geom.overflow {
         let position = 2 + 2 * passed;
         let Some(cell) = named(geom, link) else {
             return next_at_end(geom, call, link, position, seen);

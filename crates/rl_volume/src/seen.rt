@@ -1,15 +1,17 @@
 // The words that a call has read.
-ghost use Rattle.std.specs.Prelude.{◌≡◌, ◌<◌, ◌++◌, ◌∷◌, ◌==◌, [], ℕ, List, length, position, IfOk, Some, None};
+ghost use Rattle.std.specs.Prelude.{◌≡◌, ◌<◌, ◌≤◌, ◌++◌, ◌∷◌, ◌==◌, [], ℕ, List, length, position, IfOk, IfSome, Some, None};
 ghost use Rattle.std.specs.List.{All};
 ghost use Rattle.rl_model.specs.Geom.{GeomFits};
 ghost use Rattle.rl_volume.specs.Words as word;
 ghost use Rattle.rl_volume.specs.Seen.{value_of, value_or_zero, AgreesWith, with_value, patched};
 ghost use Rattle.rl_volume.specs.Decision.{words_written};
+ghost use Rattle.rl_volume.specs.Stand.{GoesOn};
 
+use crate::stand::{Stand, first_stand, followed};
 use crate::words::volume_words;
 use crate::write::Write;
 use arrayvec::ArrayVec;
-use rl_model::Geom;
+use rl_model::{Call, Geom};
 use std::alloc::{AllocError as OutOfMemory, Global};
 use std::marker::Model;
 
@@ -19,20 +21,28 @@ use std::marker::Model;
 #[derive(Drop)]
 pub struct Seen {
     pairs: Vec<(u32, u64)>,
-    room: u32,
+    // Where the walk for a key stands on its chain: at this link, behind so many cells. None passed: nowhere.
+    // It is there so that a chain is walked once, and not from its bucket again for each of its words.
+    key: u64,
+    geom: Geom,
+    link: u16,
+    passed: u16,
 }
 
 impl Model for Seen {
-    ghost use Rattle.std.specs.Prelude.{◌≤◌, vec_capacity};
+    ghost use Rattle.std.specs.Prelude.{◌≤◌, ◌<◌, vec_capacity};
+    ghost use Rattle.rl_model.specs.Geom.{GeomFits};
     ghost use Rattle.rl_volume.specs.Seen.{SeenWords, seen_words_code, AreApart};
+    ghost use Rattle.rl_volume.specs.Stand.{GoesOn};
+    ghost use Rattle.rl_volume.specs.Words.{volume_words};
 
     ghost Value = { SeenWords };
 
     ghost coded = { seen_words_code };
 
-    ghost view = { λ s. record { pairs = s.pairs.items; room = s.room } };
+    ghost view = { λ s. record { pairs = s.pairs.items; room = volume_words s.geom } };
 
-    ghost invariant = { λ s. AreApart s.pairs.items s.room × (s.room ≤ vec_capacity s.pairs) };
+    ghost invariant = { λ s. AreApart s.pairs.items (volume_words s.geom) × (volume_words s.geom ≤ vec_capacity s.pairs) × GeomFits s.geom × (s.passed ≤ s.geom.overflow) × (0 < s.passed → GoesOn s.geom s.key s.link s.passed s.pairs.items) };
 }
 
 impl Seen {
@@ -49,7 +59,10 @@ impl Seen {
         let room = volume_words(geom);
         Ok(Seen {
             pairs: Vec::with_capacity(alloc, room as usize)?,
-            room,
+            key: 0,
+            geom,
+            link: 0,
+            passed: 0,
         })
     }
 
@@ -58,6 +71,7 @@ impl Seen {
         ensures nothing { self.new.pairs ≡ [] }
         ensures room { self.new.room ≡ self.old.room }
     {
+        self.passed = 0;
         self.pairs.clear();
     }
 
@@ -71,6 +85,74 @@ impl Seen {
         self.pairs.push_reserved((word, value));
     }
 
+    /// Goes on along the chain of the call's key, as far as its words were seen: the next word is then named from
+    /// there. It changes nothing of what was seen, and leaving it out costs time alone.
+    #[inline(always)]
+    pub fn walk_on(&mut self, call: Call)
+        ensures { self.new ≡ self.old }
+    {
+        // The words of the bucket, of the cells passed and of one more.
+        if self.pairs.len() >= 4 + 2 * usize::from(self.passed) {
+            self.follow_for(call);
+        }
+    }
+
+    fn follow_for(&mut self, call: Call)
+        ensures { self.new ≡ self.old }
+    {
+        match call {
+            Call::Put { key, .. }
+            | Call::Get { key }
+            | Call::Del { key }
+            | Call::Add { key, .. }
+            | Call::Cas { key, .. } => self.follow(key),
+            Call::Hold { .. } => {}
+        }
+    }
+
+    // Goes on from where the walk for the key stands, or from its bucket.
+    fn follow(&mut self, key: u64)
+        ensures { self.new ≡ self.old }
+    {
+        let geom = self.geom;
+        let stood = match self.stand(geom, key) {
+            Some(stand) => Some(stand),
+            None => first_stand(geom, key, self),
+        };
+        let Some(from) = stood else {
+            return;
+        };
+        let stand = followed(geom, key, from, self);
+        if stand.link <= u64::from(geom.overflow) {
+            self.key = key;
+            self.link = stand.link as u16;
+            self.passed = stand.passed as u16;
+        }
+    }
+
+    /// Where the walk for a key stands on its chain, if it was followed.
+    #[inline(always)]
+    pub(crate) fn stand(&self, geom: Geom, key: u64) -> Option<Stand>
+        ensures there { IfSome result (λ s. s.passed ≤ geom.overflow) }
+        ensures goes_on { IfSome result (λ s. GoesOn geom key s.link s.passed self.now.pairs) }
+    {
+        if self.passed != 0 && self.key == key && self.geom == geom {
+            Some(Stand {
+                link: u64::from(self.link),
+                passed: u32::from(self.passed),
+            })
+        } else {
+            None
+        }
+    }
+
+    /// How many words were seen.
+    pub(crate) fn many(&self) -> usize
+        ensures { result ≡ length self.now.pairs }
+    {
+        self.pairs.len()
+    }
+
     /// Takes writes as made: each word that is written has its new value from now on, whether it was seen
     /// or not. So the next call of a batch reads the volume as it is after the writes of the calls before.
     pub fn patch(&mut self, writes: &ArrayVec<Write, 5>)
@@ -79,6 +161,7 @@ impl Seen {
         ensures room { self.new.room ≡ self.old.room }
         ensures agrees { (words : List ℕ) → length words ≡ self.old.room → AgreesWith self.old.pairs words → AgreesWith self.new.pairs (words_written words writes.now.items) }
     {
+        self.passed = 0;
         self.write_all(writes.as_slice());
     }
 
@@ -110,6 +193,7 @@ impl Seen {
         ensures written { self.new.pairs ≡ with_value self.old.pairs word value }
         ensures room { self.new.room ≡ self.old.room }
     {
+        self.passed = 0;
         self.pairs[index] = (word, value);
     }
 

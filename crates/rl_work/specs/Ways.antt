@@ -222,13 +222,15 @@ pub record IsApart {K : Type 0} (T : WorkTable K) (sides : List (WorkSide K)) : 
   pub reads : (r : ℕ) (x : WorkSide K) → slice_get sides r ≡ Some x → x.standing ≡ Reader → T.mode x.work ≡ mode.Read
 
 -- the side of a rank in a state that meets the rule
-pub record IsSide {K : Type 0} (T : WorkTable K) (good : List ℕ → List (WorkSide K) → Type 0) (words : List ℕ) (sides : List (WorkSide K)) (r : ℕ) (x : WorkSide K) : Type 0 where
+pub record IsSide {K : Type 0} (T : WorkTable K) (good : List ℕ → List (WorkSide K) → Type 0) (words : List ℕ) (sides : List (WorkSide K))
+    (r : ℕ) (x : WorkSide K) : Type 0 where
   pub is_good : good words sides
   pub laid : IsLaid T words
   pub there : slice_get sides r ≡ Some x
 
 -- the rank is about to make this atom of the work
-pub record Works {K : Type 0} (T : WorkTable K) (good : List ℕ → List (WorkSide K) → Type 0) (words : List ℕ) (sides : List (WorkSide K)) (r : ℕ) (x : WorkSide K) (at : Atom) : Type 0 where
+pub record Works {K : Type 0} (T : WorkTable K) (good : List ℕ → List (WorkSide K) → Type 0) (words : List ℕ) (sides : List (WorkSide K))
+    (r : ℕ) (x : WorkSide K) (at : Atom) : Type 0 where
   pub side : IsSide T good words sides r x
   pub apart : IsApart T sides
   pub rests : Rests x.standing
@@ -320,58 +322,85 @@ pub record WorkLaws {K : Type 0} (T : WorkTable K) (good : List ℕ → List (Wo
   -- it has few words
   pub few_words : length T.site.rooms ≤ 32 → T.size ≤ 2 ^ 16
   -- the opening words and first sides are good, and of a first side nothing is known but its room
-  pub begins : GeomFits T.site.geom → (n : ℕ) → lock_base T.site ≤ T.behind → lock_base T.site + n ≡ T.behind + T.size → (sides : List (WorkSide K)) → length sides ≡ length T.site.rooms →
+  pub begins : GeomFits T.site.geom → (n : ℕ) → lock_base T.site ≤ T.behind → lock_base T.site + n ≡ T.behind + T.size →
+      (sides : List (WorkSide K)) → length sides ≡ length T.site.rooms →
       ((r : ℕ) (x : WorkSide K) → slice_get sides r ≡ Some x → IsFirst T r x) → good (opening_words T.site ++ replicate n 0) sides
-  pub first : (r room : ℕ) → (T.kept (T.first r room) ≡ record { items = []; room = room }) × (T.mode (T.first r room) ≡ mode.Write) × (T.is_open (T.first r room) ≡ false)
+  pub first : (r room : ℕ) → (T.kept (T.first r room) ≡ record { items = []; room = room }) × (T.mode (T.first r room) ≡ mode.Write) ×
+      (T.is_open (T.first r room) ≡ false)
   -- the rule speaks of fitting sizes, of a side for each room, and of no word of the lock
   pub fits : (words : List ℕ) (sides : List (WorkSide K)) → good words sides → GeomFits T.site.geom × (length sides ≡ length T.site.rooms)
   pub frame : (words others : List ℕ) (sides : List (WorkSide K)) → good words sides → IsLaid T words → SameWork T words others → good others sides
-  pub same_look : (words others : List ℕ) (sides : List (WorkSide K)) (r : ℕ) (x : WorkSide K) → IsSide T good words sides r x → SameWork T words others → look T others r x.work ≡ look T words r x.work
+  pub same_look : (words others : List ℕ) (sides : List (WorkSide K)) (r : ℕ) (x : WorkSide K) → IsSide T good words sides r x →
+      SameWork T words others → look T others r x.work ≡ look T words r x.work
   -- it stays where a rank that is out, with no block open, opens one that fits
-  pub opens : (words : List ℕ) (sides : List (WorkSide K)) (r : ℕ) (x : WorkSide K) (calls : List Call) (seq : ℕ) → IsSide T good words sides r x → x.standing ≡ Out → T.is_open x.work ≡ false → IsOpen T.site r calls seq (T.kept x.work) → Takes T calls →
+  pub opens : (words : List ℕ) (sides : List (WorkSide K)) (r : ℕ) (x : WorkSide K) (calls : List Call) (seq : ℕ) →
+      IsSide T good words sides r x → x.standing ≡ Out → T.is_open x.work ≡ false → IsOpen T.site r calls seq (T.kept x.work) →
+      Takes T calls →
       good words (slice_set sides r (record { standing = opened_standing (T.asks calls); work = T.opens r x.work calls seq }))
-  pub opened : (words : List ℕ) (sides : List (WorkSide K)) (r : ℕ) (x : WorkSide K) (calls : List Call) (seq : ℕ) → IsSide T good words sides r x → x.standing ≡ Out → T.is_open x.work ≡ false → IsOpen T.site r calls seq (T.kept x.work) → Takes T calls →
-      (look T words r (T.opens r x.work calls seq) ≡ opened_look (look T words r x.work) calls seq) × (own_look T (T.opens r x.work calls seq) ≡ opened_look (own_look T x.work) calls seq)
-      × (T.is_open (T.opens r x.work calls seq) ≡ true) × (T.ended (T.opens r x.work calls seq) ≡ T.ended x.work) × (T.mode (T.opens r x.work calls seq) ≡ opened_mode (T.asks calls) (T.mode x.work))
+  pub opened : (words : List ℕ) (sides : List (WorkSide K)) (r : ℕ) (x : WorkSide K) (calls : List Call) (seq : ℕ) →
+      IsSide T good words sides r x → x.standing ≡ Out → T.is_open x.work ≡ false → IsOpen T.site r calls seq (T.kept x.work) →
+      Takes T calls →
+      (look T words r (T.opens r x.work calls seq) ≡ opened_look (look T words r x.work) calls seq) ×
+      (own_look T (T.opens r x.work calls seq) ≡ opened_look (own_look T x.work) calls seq)
+      × (T.is_open (T.opens r x.work calls seq) ≡ true) × (T.ended (T.opens r x.work calls seq) ≡ T.ended x.work) ×
+      (T.mode (T.opens r x.work calls seq) ≡ opened_mode (T.asks calls) (T.mode x.work))
   -- where no block is open the rank keeps all its entries itself, and all are of blocks that are over
-  pub closed : (words : List ℕ) (sides : List (WorkSide K)) (r : ℕ) (x : WorkSide K) → IsSide T good words sides r x → T.is_open x.work ≡ false → (T.transcript words r x.work ≡ (T.kept x.work).items) × (T.ended x.work ≡ (T.kept x.work).items)
+  pub closed : (words : List ℕ) (sides : List (WorkSide K)) (r : ℕ) (x : WorkSide K) → IsSide T good words sides r x →
+      T.is_open x.work ≡ false → (T.transcript words r x.work ≡ (T.kept x.work).items) × (T.ended x.work ≡ (T.kept x.work).items)
   -- a rank's entries by the words are those that it keeps itself, and then more
-  pub keeps : (words : List ℕ) (sides : List (WorkSide K)) (r : ℕ) (x : WorkSide K) → IsSide T good words sides r x → (more : List Entry) × (T.transcript words r x.work ≡ (T.kept x.work).items ++ more)
+  pub keeps : (words : List ℕ) (sides : List (WorkSide K)) (r : ℕ) (x : WorkSide K) → IsSide T good words sides r x →
+      (more : List Entry) × (T.transcript words r x.work ≡ (T.kept x.work).items ++ more)
   -- it stays where the lock changes a standing
-  pub shifts : (words : List ℕ) (sides : List (WorkSide K)) (r : ℕ) (x : WorkSide K) (standing : Standing) (events : List Event) → IsSide T good words sides r x → Shift r x.standing standing events →
+  pub shifts : (words : List ℕ) (sides : List (WorkSide K)) (r : ℕ) (x : WorkSide K) (standing : Standing) (events : List Event) →
+      IsSide T good words sides r x → Shift r x.standing standing events →
       good words (slice_set sides r (record { standing = standing; work = x.work }))
   -- and where a rank makes an atom of the work
   pub makes : (words cards : List ℕ) (sides : List (WorkSide K)) (r : ℕ) (x : WorkSide K) (at : Atom) → Works T good words sides r x at →
       good (do_words at words) (slice_set sides r (side_after T r x (do_got at words cards)))
   -- which is a load or a store of a word that is there and isn't the lock's
   pub plain : (words : List ℕ) (sides : List (WorkSide K)) (r : ℕ) (x : WorkSide K) (at : Atom) → Works T good words sides r x at → IsWorkAtom T at
-  pub goes_on : (words : List ℕ) (sides : List (WorkSide K)) (r : ℕ) (x : WorkSide K) → IsSide T good words sides r x → GoesOnAt x.standing (T.is_open x.work) (T.next r x.work)
+  pub goes_on : (words : List ℕ) (sides : List (WorkSide K)) (r : ℕ) (x : WorkSide K) → IsSide T good words sides r x →
+      GoesOnAt x.standing (T.is_open x.work) (T.next r x.work)
   pub follows : (words cards : List ℕ) (sides : List (WorkSide K)) (r : ℕ) (x : WorkSide K) (at : Atom) → Works T good words sides r x at →
-      AsksOut (T.after r x.work (do_got at words cards)).follow x.standing × (T.mode (T.after r x.work (do_got at words cards)).work ≡ mode_after (T.after r x.work (do_got at words cards)).follow (T.mode x.work))
+      AsksOut (T.after r x.work (do_got at words cards)).follow x.standing ×
+      (T.mode (T.after r x.work (do_got at words cards)).work ≡ mode_after (T.after r x.work (do_got at words cards)).follow
+      (T.mode x.work))
   -- a holder's atoms on the words before the lock's are touches, and no other atom is one
-  pub touches : (words : List ℕ) (sides : List (WorkSide K)) (r : ℕ) (x : WorkSide K) (at : Atom) → Works T good words sides r x at → TouchesAs (T.touch x.work) x.standing
-  pub tells : (words : List ℕ) (sides : List (WorkSide K)) (r : ℕ) (x : WorkSide K) (at : Atom) → Works T good words sides r x at → TellsTouch (lock_base T.site) at x.standing (T.calls x.work) (T.touch x.work)
-  pub fronts : (words : List ℕ) (sides : List (WorkSide K)) (r : ℕ) (x : WorkSide K) (at : Atom) → Works T good words sides r x at → T.touch x.work ≢ None → IsFrontAtom (lock_base T.site) at
+  pub touches : (words : List ℕ) (sides : List (WorkSide K)) (r : ℕ) (x : WorkSide K) (at : Atom) → Works T good words sides r x at →
+      TouchesAs (T.touch x.work) x.standing
+  pub tells : (words : List ℕ) (sides : List (WorkSide K)) (r : ℕ) (x : WorkSide K) (at : Atom) → Works T good words sides r x at →
+      TellsTouch (lock_base T.site) at x.standing (T.calls x.work) (T.touch x.work)
+  pub fronts : (words : List ℕ) (sides : List (WorkSide K)) (r : ℕ) (x : WorkSide K) (at : Atom) → Works T good words sides r x at →
+      T.touch x.work ≢ None → IsFrontAtom (lock_base T.site) at
   pub answers : (words cards : List ℕ) (sides : List (WorkSide K)) (r : ℕ) (x : WorkSide K) (at : Atom) → Works T good words sides r x at →
-      AnswersAs at (do_got at words cards) (T.next r (T.after r x.work (do_got at words cards)).work) (T.after r x.work (do_got at words cards)).follow (T.after r x.work (do_got at words cards)).stepped
+      AnswersAs at (do_got at words cards) (T.next r (T.after r x.work (do_got at words cards)).work)
+      (T.after r x.work (do_got at words cards)).follow (T.after r x.work (do_got at words cards)).stepped
   -- one rank alone never waits and never loses
-  pub alone : (words cards : List ℕ) (sides : List (WorkSide K)) (r : ℕ) (x : WorkSide K) (at : Atom) → length sides ≡ 1 → Works T good words sides r x at → (T.after r x.work (do_got at words cards)).stepped ≡ Moved
+  pub alone : (words cards : List ℕ) (sides : List (WorkSide K)) (r : ℕ) (x : WorkSide K) (at : Atom) → length sides ≡ 1 →
+      Works T good words sides r x at → (T.after r x.work (do_got at words cards)).stepped ≡ Moved
   -- journal and transcripts are legal, their history is in order, the journal is no longer than its place, and each rank's entries are its
   -- own, in order, within its room
-  pub legal : (words : List ℕ) (sides : List (WorkSide K)) → good words sides → IsLaid T words → IsLegal T.site.geom (journal_by T.site words) (transcripts_from T words 0 sides)
-  pub sorted : (words : List ℕ) (sides : List (WorkSide K)) → good words sides → IsLaid T words → IsSorted (history (journal_by T.site words) (transcripts_from T words 0 sides))
+  pub legal : (words : List ℕ) (sides : List (WorkSide K)) → good words sides → IsLaid T words →
+      IsLegal T.site.geom (journal_by T.site words) (transcripts_from T words 0 sides)
+  pub sorted : (words : List ℕ) (sides : List (WorkSide K)) → good words sides → IsLaid T words →
+      IsSorted (history (journal_by T.site words) (transcripts_from T words 0 sides))
   pub short : (words : List ℕ) (sides : List (WorkSide K)) → good words sides → IsLaid T words → length (journal_by T.site words) ≤ places T.site
-  pub own : (words : List ℕ) (sides : List (WorkSide K)) (r : ℕ) (x : WorkSide K) → IsSide T good words sides r x → IsOwnTranscript T.site r (T.transcript words r x.work)
+  pub own : (words : List ℕ) (sides : List (WorkSide K)) (r : ℕ) (x : WorkSide K) → IsSide T good words sides r x →
+      IsOwnTranscript T.site r (T.transcript words r x.work)
   -- after an atom each rank's block goes on, or is done: under some ways by another rank
-  pub changes : (words cards : List ℕ) (sides : List (WorkSide K)) (r : ℕ) (x : WorkSide K) (at : Atom) → Works T good words sides r x at → (k : ℕ) (u w : WorkSide K) → slice_get sides k ≡ Some u →
-      slice_get (slice_set sides r (side_after T r x (do_got at words cards))) k ≡ Some w → AtomWork T.site.shard k (look T words k u.work) (look T (do_words at words) k w.work)
+  pub changes : (words cards : List ℕ) (sides : List (WorkSide K)) (r : ℕ) (x : WorkSide K) (at : Atom) → Works T good words sides r x at →
+      (k : ℕ) (u w : WorkSide K) → slice_get sides k ≡ Some u →
+      slice_get (slice_set sides r (side_after T r x (do_got at words cards))) k ≡ Some w → AtomWork T.site.shard k (look T words k u.work)
+      (look T (do_words at words) k w.work)
   -- and so it is by what the rank keeps itself
   pub turns : (words cards : List ℕ) (sides : List (WorkSide K)) (r : ℕ) (x : WorkSide K) (at : Atom) → Works T good words sides r x at →
       AtomWork T.site.shard r (own_look T x.work) (own_look T (T.after r x.work (do_got at words cards)).work)
   -- the blocks that are over are one tenure more exactly where a writer's is over
-  pub tenures : (words cards : List ℕ) (sides : List (WorkSide K)) (r : ℕ) (x : WorkSide K) (at : Atom) → Works T good words sides r x at → (shares : Bool) → Suits shares (T.mode x.work) x.standing →
+  pub tenures : (words cards : List ℕ) (sides : List (WorkSide K)) (r : ℕ) (x : WorkSide K) (at : Atom) → Works T good words sides r x at →
+      (shares : Bool) → Suits shares (T.mode x.work) x.standing →
       count_by (is_tenure (T.spares shares)) (T.ended (T.after r x.work (do_got at words cards)).work)
       ≡ count_by (is_tenure (T.spares shares)) (T.ended x.work) + tenure_of (T.after r x.work (do_got at words cards)).follow x.standing
   -- while no block is open the volume is that of the journal's table
-  pub volume : (words : List ℕ) (sides : List (WorkSide K)) → good words sides → IsLaid T words → ((r : ℕ) (x : WorkSide K) → slice_get sides r ≡ Some x → T.is_open x.work ≡ false) →
+  pub volume : (words : List ℕ) (sides : List (WorkSide K)) → good words sides → IsLaid T words →
+      ((r : ℕ) (x : WorkSide K) → slice_get sides r ≡ Some x → T.is_open x.work ≡ false) →
       IsVolume T.site.geom T.site.shard (volume_of T.site.geom (take (lock_base T.site) words)) (table_after T.site.geom finite.empty (journal_by T.site words))

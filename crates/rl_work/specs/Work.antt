@@ -111,7 +111,8 @@ abbrev pub entries_of : ℕ → ℕ → ℕ → ℕ → ℕ → ℕ → List Cal
 entries_of shard rank batch seq at part [] rs = []
 entries_of shard rank batch seq at part (c ∷ cs) [] = []
 entries_of shard rank batch seq at part (c ∷ cs) (a ∷ rs) =
-    record { shard = shard; rank = rank; seq = seq; call = c; at = at; reply = a; batch = batch; part = part } ∷ entries_of shard rank batch (seq + 1) (at + 1) (part + 1) cs rs
+    record { shard = shard; rank = rank; seq = seq; call = c; at = at; reply = a; batch = batch; part = part } ∷ entries_of shard rank batch
+    (seq + 1) (at + 1) (part + 1) cs rs
 
 -- the block that found a count is decided: its entries
 abbrev pub with_entries : ℕ → ℕ → TheWork → ℕ → Stage → TheWork
@@ -120,7 +121,8 @@ with_entries shard rank x count stage = record x { stage = stage; at = count; en
 -- all calls of the block are decided: updates go on to the journal, and any other call is over
 abbrev pub block_close : ℕ → ℕ → TheWork → ℕ → WorkTurned
 block_close shard rank x count =
-    if asks_update x.calls then record { work = with_entries shard rank x count (Journal 0); over = false } else at_rest (with_entries shard rank x count x.stage)
+    if asks_update x.calls then record { work = with_entries shard rank x count (Journal 0); over = false } else at_rest
+    (with_entries shard rank x count x.stage)
 
 -- the reply stops a block of so many calls: a call alone is never stopped
 abbrev pub stops_block : ℕ → Reply → Bool

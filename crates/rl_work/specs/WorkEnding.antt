@@ -22,7 +22,9 @@ module _ {K : Type 0} (T : WorkTable K) (good : List ℕ → List (WorkSide K) �
   pub record WorkEnds (most : ℕ) : Type 0 where
     pub nears : (words cards : List ℕ) (sides : List (WorkSide K)) (r : ℕ) (x : WorkSide K) (at : Atom) → Works T good words sides r x at → MayGo sides x →
         left (do_words at words) (slice_set (works_in sides) r (T.after r x.work (do_got at words cards)).work) < left words (works_in sides)
-    pub frame : (words others : List ℕ) (sides : List (WorkSide K)) → good words sides → IsLaid T words → SameWork T words others → left others (works_in sides) ≡ left words (works_in sides)
+    pub frame : (words others : List ℕ) (sides : List (WorkSide K)) → good words sides → IsLaid T words → SameWork T words others →
+        left others (works_in sides) ≡ left words (works_in sides)
     pub open_adds : (words : List ℕ) (sides : List (WorkSide K)) (r : ℕ) (x : WorkSide K) (calls : List Call) (seq : ℕ) → IsSide T good words sides r x →
-        ((i : ℕ) (y : WorkSide K) → slice_get sides i ≡ Some y → (y.standing ≡ Out) × (T.is_open y.work ≡ false)) → IsOpen T.site r calls seq (T.kept x.work) → Takes T calls →
+        ((i : ℕ) (y : WorkSide K) → slice_get sides i ≡ Some y → (y.standing ≡ Out) × (T.is_open y.work ≡ false)) → IsOpen T.site r calls
+        seq (T.kept x.work) → Takes T calls →
         left words (slice_set (works_in sides) r (T.opens r x.work calls seq)) ≤ left words (works_in sides) + most

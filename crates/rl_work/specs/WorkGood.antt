@@ -70,7 +70,8 @@ pub record IsNext (site : Site) (rank : ℕ) (journal : List Entry) (before : Li
   pub makes : IsVolume site.geom site.shard (words_written before writes) (table_after site.geom finite.empty (journal ++ b))
 
 -- a rank has decided the first calls of its block and none stopped it, and knows the volume that their writes would make
-pub record IsPartly (site : Site) (journal : List Entry) (before : List ℕ) (calls : List Call) (replies : List Reply) (writes : List Write) (pairs : List (ℕ × ℕ)) (rest : List Call) : Type 0 where
+pub record IsPartly (site : Site) (journal : List Entry) (before : List ℕ) (calls : List Call) (replies : List Reply) (writes : List Write)
+    (pairs : List (ℕ × ℕ)) (rest : List Call) : Type 0 where
   pub first : List Call
   pub split : first ++ rest ≡ calls
   pub replies_are : replies ≡ (in_turn site.geom (table_after site.geom finite.empty journal) first).1

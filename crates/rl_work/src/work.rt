@@ -224,6 +224,9 @@ impl LockedSide {
         ensures { self.new ≡ unlocked.with_word self.old word got }
     {
         self.seen.add(word, got);
+        if let Some(call) = self.calls.as_slice().first() {
+            self.seen.walk_on(*call);
+        }
     }
 
     /// Forgets all that was seen: the block is read for from the beginning.
@@ -243,6 +246,7 @@ impl LockedSide {
     {
         for place in self.replies.len()..self.calls.len() {
             let call = self.calls[place];
+            self.seen.walk_on(call);
             if let Some(word) = next_read(geom, call, &self.seen) {
                 self.stage = Stage::Read { count, word };
                 return false;

@@ -3,7 +3,6 @@ use Rattle.std.proofs.Common.{◌≡◌, ◌<◌, ◌≤◌, ℕ, ◌+◌, List,
 use Rattle.std.specs.Prelude.{All, count_by}
 use Rattle.std.proofs.lemmas.List.Elements.{All-cons, All-nil}
 use Rattle.rl_word.specs.laws.Places.{get_map, get_map_back}
-use Rattle.rl_word.specs.Acts.{Layout}
 use Rattle.rl_model.specs.declared.call.Call.{Call}
 use Rattle.rl_model.specs.declared.entry.Entry.{Entry}
 use Rattle.rl_model.specs.declared.geom.Geom.{Geom}
@@ -14,7 +13,8 @@ use Rattle.rl_site.specs.Transcript.{TheTranscript}
 use Rattle.rl_site.specs.Site.{Site}
 use Rattle.rl_core.specs.Desks.{desk_entries}
 use Rattle.rl_core.specs.ShardTables.{ShardTable, site_with, first_views}
-use Rattle.rl_core.specs.ShardLaws.{GoodOf, IsNewDesk}
+use Rattle.rl_core.specs.ShardLaws.{IsNewDesk}
+use Rattle.rl_core.specs.Moments.{CoreSays}
 use Rattle.rl_shard.specs.declared.shard.Shard.{Shard}
 use Rattle.rl_shard.specs.declared.seat.Seat.{Seat}
 use Rattle.rl_shard.specs.declared.counting.CountedView.{CountedView}
@@ -25,11 +25,11 @@ use Rattle.rl_shard.proofs.OpeningLaws.{fresh}
 use Rattle.rmalock.specs.Fresh.{IsFresh}
 
 -- such a seat can begin any call of the shard that it has room for
-pub fresh_opens : {C V : Type 0} (table : C → ShardTable V) (good : GoodOf C V) (layout : C → Layout) (geom : Geom) (number places : ℕ) (shard : Shard C V) (s : Seat C V) (call : Call) → IsFresh table good layout geom number places shard s → shard_of geom call ≡ number →
-    places_needed (is_update call) 1 ≤ places → IsOpen (table_at table shard).site (rank_at s) (call ∷ []) 0 (desk_at table shard s).kept
-fresh_opens table good layout geom number places shard s call f is needed =
-    let t : TheTranscript = (desk_at table shard s).kept in
-    let site : Site = (table_at table shard).site in
+pub fresh_opens : {C V : Type 0} (says : C → CoreSays V) (geom : Geom) (number places : ℕ) (shard : Shard C V) (s : Seat C V) (call : Call) → IsFresh says geom number places shard s → shard_of geom call ≡ number →
+    places_needed (is_update call) 1 ≤ places → IsOpen (table_at says shard).site (rank_at s) (call ∷ []) 0 (desk_at says shard s).kept
+fresh_opens says geom number places shard s call f is needed =
+    let t : TheTranscript = (desk_at says shard s).kept in
+    let site : Site = (table_at says shard).site in
     let none : length t.items ≡ 0 = ap length f.nothing in
     let one : 1 ≤ t.room = f.room in
     let here : shard_of site.geom call ≡ site.shard = ap (λ g. shard_of g call) f.geom_is ∙ is ∙ sym f.number_is in
@@ -44,13 +44,13 @@ fresh_opens table good layout geom number places shard s call f is needed =
       place = omega arith;
     }
 
-module _ {C V : Type 0} (table : C → ShardTable V) (good : GoodOf C V) (layout : C → Layout) (shard : Shard C V) where
+module _ {C V : Type 0} (says : C → CoreSays V) (shard : Shard C V) where
   -- each seat of a new shard whose ranks have room for one call each
-  pub fresh_at : (seats : List (Seat C V)) (geom : Geom) (number queues : ℕ) (rooms updates : List ℕ) → (table_at table shard).site ≡ site_with geom number updates → ((room rank : ℕ) → IsNewDesk room ((table_at table shard).own ((table_at table shard).first room rank))) →
-      AreOf table good layout shard seats → AreClosed table shard seats → map counted_at seats ≡ first_counted (table_at table shard) queues rooms → (r places : ℕ) (s : Seat C V) → slice_index rooms r ≡ 1 → slice_index updates r ≡ places → slice_get seats r ≡ Some s →
-      IsFresh table good layout geom number places shard s
+  pub fresh_at : (seats : List (Seat C V)) (geom : Geom) (number queues : ℕ) (rooms updates : List ℕ) → (table_at says shard).site ≡ site_with geom number updates → ((room rank : ℕ) → IsNewDesk room ((table_at says shard).own ((table_at says shard).first room rank))) →
+      AreOf says shard seats → AreClosed says shard seats → map counted_at seats ≡ first_counted (table_at says shard) queues rooms → (r places : ℕ) (s : Seat C V) → slice_index rooms r ≡ 1 → slice_index updates r ≡ places → slice_get seats r ≡ Some s →
+      IsFresh says geom number places shard s
   fresh_at seats geom number queues rooms updates site_is first_desk are closed views r places s one many get =
-      let T : ShardTable V = table_at table shard in
+      let T : ShardTable V = table_at says shard in
       let here : slice_get (first_counted T queues rooms) r ≡ Some (counted_at s) = ap (λ l. slice_get l r) (sym views) ∙ get_map counted_at seats r s get in
       let q = get_map_back (fresh queues) (first_views T 0 rooms) r (counted_at s) here in
       let whole : view_at s ≡ T.first (slice_index rooms r) (0 + r) = sym (ap (λ (z : CountedView V). z.whole) q.2) ∙ first_at T 0 rooms r q.0 q.1 in

@@ -3,13 +3,12 @@ use Rattle.std.proofs.Common.{◌≡◌, ◌<◌, ◌≢◌, ℕ, ◌*◌, List,
 use Rattle.std.proofs.lemmas.List.{length-map, length-replicate}
 use Rattle.std.proofs.lemmas.List.Folds.{sum_by-replicate}
 use Rattle.std.proofs.lemmas.Option.{slice_get-get_or, slice_get_within, get_or_from_slice_get}
-use Rattle.rl_word.specs.Acts.{Layout}
 use Rattle.rl_word.specs.Shapes.{TheShape, IsProper}
 use Rattle.rl_word.specs.laws.Places.{get_set_cases, some_at}
 use Rattle.rl_place.specs.Places.{ThePlace}
 use Rattle.rl_place.specs.Shapes.{shape_of}
 use Rattle.rl_core.specs.ShardTables.{ShardTable, first_views}
-use Rattle.rl_core.specs.ShardLaws.{GoodOf}
+use Rattle.rl_core.specs.Moments.{CoreSays}
 use Rattle.rl_core.specs.laws.Filling.{first_length}
 use Rattle.rl_shard.specs.declared.shard.Shard.{Shard}
 use Rattle.rl_shard.specs.declared.seat.Seat.{Seat}
@@ -37,11 +36,11 @@ sum_ones n = let all : sum (replicate n 1) ≡ n * 1 = sum_by-replicate (λ (x :
 
 module _ {C V : Type 0} where
   -- one caller is changed, and is still its rank's
-  pub one_caller_changed : (table : C → ShardTable V) (good : GoodOf C V) (layout : C → Layout) (shards : List (Shard C V)) (cs : List (Caller C V)) (r : ℕ) (c d : Caller C V) → AreCallers table good layout shards cs → slice_get cs r ≡ Some c →
-      d.rank ≡ c.rank → IsCaller table good layout shards d → AreCallers table good layout shards (slice_set cs r d)
-  one_caller_changed table good layout shards cs r c d are get same is k e at =
+  pub one_caller_changed : (says : C → CoreSays V) (shards : List (Shard C V)) (cs : List (Caller C V)) (r : ℕ) (c d : Caller C V) → AreCallers says shards cs → slice_get cs r ≡ Some c →
+      d.rank ≡ c.rank → IsCaller says shards d → AreCallers says shards (slice_set cs r d)
+  one_caller_changed says shards cs r c d are get same is k e at =
       ⊎_elim
-      (λ (p : (k ≡ r) × (e ≡ d)). subst (λ z. (z.rank ≡ k) × IsCaller table good layout shards z) (sym p.1) (same ∙ (are r c get).0 ∙ sym p.0, is))
+      (λ (p : (k ≡ r) × (e ≡ d)). subst (λ z. (z.rank ≡ k) × IsCaller says shards z) (sym p.1) (same ∙ (are r c get).0 ∙ sym p.0, is))
       (λ (p : (k ≢ r) × (slice_get cs k ≡ Some e)). are k e p.1)
       (get_set_cases cs r k d e at)
 
@@ -50,24 +49,24 @@ module _ {C V : Type 0} where
   new_long T queues ranks seats views =
       sym (length-map seats counted_at) ∙ ap length views ∙ length-map (first_views T 0 (replicate ranks 1)) _ ∙ first_length T 0 (replicate ranks 1) ∙ length-replicate ranks 1
 
-  module _ (table : C → ShardTable V) (good : GoodOf C V) (layout : C → Layout) (shard : Shard C V) where
+  module _ (says : C → CoreSays V) (shard : Shard C V) where
     -- one seat is changed, and is still its rank's
-    pub one_changed : (seats : List (Seat C V)) (r : ℕ) (s t : Seat C V) → AreOf table good layout shard seats → slice_get seats r ≡ Some s → rank_at t ≡ rank_at s → IsOf table good layout shard t → AreOf table good layout shard (slice_set seats r t)
+    pub one_changed : (seats : List (Seat C V)) (r : ℕ) (s t : Seat C V) → AreOf says shard seats → slice_get seats r ≡ Some s → rank_at t ≡ rank_at s → IsOf says shard t → AreOf says shard (slice_set seats r t)
     one_changed seats r s t are get same is k u e =
         ⊎_elim
-        (λ (p : (k ≡ r) × (u ≡ t)). subst (λ z. (rank_at z ≡ k) × IsOf table good layout shard z) (sym p.1) (same ∙ (are r s get).0 ∙ sym p.0, is))
+        (λ (p : (k ≡ r) × (u ≡ t)). subst (λ z. (rank_at z ≡ k) × IsOf says shard z) (sym p.1) (same ∙ (are r s get).0 ∙ sym p.0, is))
         (λ (p : (k ≢ r) × (slice_get seats k ≡ Some u)). are k u p.1)
         (get_set_cases seats r k t u e)
 
     -- each of the shard's seats
-    pub each_of : (seats : List (Seat C V)) → AreOf table good layout shard seats → (i : ℕ) (d : Seat C V) → i < length seats → (rank_at (get_or seats i d) ≡ i) × IsOf table good layout shard (get_or seats i d)
+    pub each_of : (seats : List (Seat C V)) → AreOf says shard seats → (i : ℕ) (d : Seat C V) → i < length seats → (rank_at (get_or seats i d) ≡ i) × IsOf says shard (get_or seats i d)
     each_of seats are i d low = are i (get_or seats i d) (slice_get-get_or seats i d low)
 
     -- all seats are changed, and each is still its rank's
-    pub all_changed : (old new : List (Seat C V)) → AreOf table good layout shard old → length new ≡ length old →
-        ((i : ℕ) (d : Seat C V) → i < length old → IsOf table good layout shard (get_or new i d) × (rank_at (get_or new i d) ≡ rank_at (get_or old i d))) → AreOf table good layout shard new
+    pub all_changed : (old new : List (Seat C V)) → AreOf says shard old → length new ≡ length old →
+        ((i : ℕ) (d : Seat C V) → i < length old → IsOf says shard (get_or new i d) × (rank_at (get_or new i d) ≡ rank_at (get_or old i d))) → AreOf says shard new
     all_changed old new are long each r s get =
         let there : r < length new = slice_get_within new r s get in
         let low : r < length old = omega arith in
         let at : get_or new r s ≡ s = get_or_from_slice_get new r s s get in
-        (ap rank_at (sym at) ∙ (each r s low).1 ∙ (each_of old are r s low).0, subst (IsOf table good layout shard) at (each r s low).0)
+        (ap rank_at (sym at) ∙ (each r s low).1 ∙ (each_of old are r s low).0, subst (IsOf says shard) at (each r s low).0)

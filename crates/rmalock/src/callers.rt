@@ -20,9 +20,9 @@ use std::alloc::{AllocError as OutOfMemory, Global};
 
 /// One step of a rank's caller.
 fn step_of<C: ShardCore>(shards: &[Shard<C>], callers: &mut Vec<Caller<C>>, rank: usize) -> Stepped
-    requires callers { AreCallers C.shard_table C.good C.layout shards.now callers.old.items }
+    requires callers { AreCallers C.says shards.now callers.old.items }
     requires there { rank < vec_len callers.old }
-    ensures callers { AreCallers C.shard_table C.good C.layout shards.now callers.new.items }
+    ensures callers { AreCallers C.says shards.now callers.new.items }
     ensures long { vec_len callers.new ≡ vec_len callers.old }
 {
     let caller = &mut callers[rank];

@@ -4,9 +4,9 @@ ghost use Rattle.std.specs.Prelude.{◌≤◌};
 ghost use Rattle.rl_place.specs.declared.limits.TheConstants.{MOST_RANKS};
 ghost use Rattle.rl_ops.specs.declared.ops.TheConstants.{MOST_CALLS};
 
+use rl_making::generate;
 use rl_ops::ops_text;
 use rl_place::place_text;
-use rl_program::generate;
 use std::alloc::{AllocError as OutOfMemory, Global};
 use std::process::Abort;
 

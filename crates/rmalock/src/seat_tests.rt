@@ -45,9 +45,9 @@ fn opened<C: ShardCore>(
 ) -> Result<(Shard<C>, Vec<Seat<C>>), OutOfMemory>
     requires proper { IsProper place.now }
     requires knobs { C.suits_knobs (shape_of place.now) (knobs_of place.now.lock) }
-    ensures shard { IfOk result (λ p. IsShardOf C.shard_table (vec_len p.1) p.0) }
-    ensures seats { IfOk result (λ p. AreOf C.shard_table C.good C.layout p.0 p.1.items) }
-    ensures fresh { IfOk result (λ p. (r : ℕ) (s : _) → slice_get p.1.items r ≡ Some s → IsFresh C.shard_table C.good C.layout place.now.geom 0 1 p.0 s) }
+    ensures shard { IfOk result (λ p. IsShardOf C.says (vec_len p.1) p.0) }
+    ensures seats { IfOk result (λ p. AreOf C.says p.0 p.1.items) }
+    ensures fresh { IfOk result (λ p. (r : ℕ) (s : _) → slice_get p.1.items r ≡ Some s → IsFresh C.says place.now.geom 0 1 p.0 s) }
 {
     let shape = place.shape(alloc)?;
     let ranks = place.paths.len();
@@ -77,11 +77,11 @@ fn begin_one<C: ShardCore>(
     rank: usize,
     call: Call,
 )
-    requires seats { AreOf C.shard_table C.good C.layout shard.now seats.old.items }
+    requires seats { AreOf C.says shard.now seats.old.items }
     requires there { rank < vec_len seats.old }
-    requires fresh { (s : _) → slice_get seats.old.items rank ≡ Some s → IsFresh C.shard_table C.good C.layout geom 0 1 shard.now s }
+    requires fresh { (s : _) → slice_get seats.old.items rank ≡ Some s → IsFresh C.says geom 0 1 shard.now s }
     requires here { shard_of geom call ≡ 0 }
-    ensures seats { AreOf C.shard_table C.good C.layout shard.now seats.new.items }
+    ensures seats { AreOf C.says shard.now seats.new.items }
     ensures long { vec_len seats.new ≡ vec_len seats.old }
     ensures others { (r : ℕ) → rank < r → slice_get seats.new.items r ≡ slice_get seats.old.items r }
 {
@@ -97,9 +97,9 @@ fn begin_all<C: ShardCore>(
     calls: &[Vec<Call>],
 )
     requires fits { GeomFits geom }
-    requires seats { AreOf C.shard_table C.good C.layout shard.now seats.old.items }
-    requires fresh { (r : ℕ) (s : _) → slice_get seats.old.items r ≡ Some s → IsFresh C.shard_table C.good C.layout geom 0 1 shard.now s }
-    ensures seats { AreOf C.shard_table C.good C.layout shard.now seats.new.items }
+    requires seats { AreOf C.says shard.now seats.old.items }
+    requires fresh { (r : ℕ) (s : _) → slice_get seats.old.items r ≡ Some s → IsFresh C.says geom 0 1 shard.now s }
+    ensures seats { AreOf C.says shard.now seats.new.items }
     ensures long { vec_len seats.new ≡ vec_len seats.old }
 {
     for rank in 0..seats.len() {
@@ -111,9 +111,9 @@ fn begin_all<C: ShardCore>(
 
 /// One step of a rank's seat.
 fn step_of<C: ShardCore>(shard: &Shard<C>, seats: &mut Vec<Seat<C>>, rank: usize) -> Stepped
-    requires seats { AreOf C.shard_table C.good C.layout shard.now seats.old.items }
+    requires seats { AreOf C.says shard.now seats.old.items }
     requires there { rank < vec_len seats.old }
-    ensures seats { AreOf C.shard_table C.good C.layout shard.now seats.new.items }
+    ensures seats { AreOf C.says shard.now seats.new.items }
     ensures long { vec_len seats.new ≡ vec_len seats.old }
 {
     let seat = &mut seats[rank];
@@ -276,8 +276,8 @@ pub(crate) fn trial_and_seats<R: AllocGlobal + Abort>(
 
 /// Makes so many steps.
 fn go<C: ShardCore>(shard: &Shard<C>, seat: &mut Seat<C>, steps: u32)
-    requires { IsOf C.shard_table C.good C.layout shard.now seat.old }
-    ensures { IsOf C.shard_table C.good C.layout shard.now seat.new × (rank_at seat.new ≡ rank_at seat.old) }
+    requires { IsOf C.says shard.now seat.old }
+    ensures { IsOf C.says shard.now seat.new × (rank_at seat.new ≡ rank_at seat.old) }
 {
     for _ in 0..steps {
         seat.step(shard);
@@ -293,8 +293,8 @@ fn go_in_threads<C: ShardCore + Send + Sync, R: Threads + Sync>(
 )
 where
     C::View: Send + Sync,
-    requires { AreOf C.shard_table C.good C.layout shard.now seats.old.items }
-    ensures seats { AreOf C.shard_table C.good C.layout shard.now seats.new.items }
+    requires { AreOf C.says shard.now seats.old.items }
+    ensures seats { AreOf C.says shard.now seats.new.items }
     ensures long { vec_len seats.new ≡ vec_len seats.old }
 {
     let threads = seats.len().max(1);
@@ -303,16 +303,16 @@ where
         seats.as_mut_slice(),
         threads,
         &|_rank: usize, seat: &mut Seat<C>|
-            requires { IsOf C.shard_table C.good C.layout shard.now seat.old }
-            ensures { IsOf C.shard_table C.good C.layout shard.entry.now seat.new × (rank_at seat.new ≡ rank_at seat.old) }
+            requires { IsOf C.says shard.now seat.old }
+            ensures { IsOf C.says shard.entry.now seat.new × (rank_at seat.new ≡ rank_at seat.old) }
         { go(shard, seat, steps) },
     );
 }
 
 /// Makes one step with each seat, one after the other.
 fn go_lap<C: ShardCore>(shard: &Shard<C>, seats: &mut Vec<Seat<C>>)
-    requires { AreOf C.shard_table C.good C.layout shard.now seats.old.items }
-    ensures seats { AreOf C.shard_table C.good C.layout shard.now seats.new.items }
+    requires { AreOf C.says shard.now seats.old.items }
+    ensures seats { AreOf C.says shard.now seats.new.items }
     ensures long { vec_len seats.new ≡ vec_len seats.old }
 {
     for rank in 0..seats.len() {
@@ -322,8 +322,8 @@ fn go_lap<C: ShardCore>(shard: &Shard<C>, seats: &mut Vec<Seat<C>>)
 
 /// Makes so many steps with each seat, by turns.
 fn go_by_turns<C: ShardCore>(shard: &Shard<C>, seats: &mut Vec<Seat<C>>, turns: u32)
-    requires { AreOf C.shard_table C.good C.layout shard.now seats.old.items }
-    ensures seats { AreOf C.shard_table C.good C.layout shard.now seats.new.items }
+    requires { AreOf C.says shard.now seats.old.items }
+    ensures seats { AreOf C.says shard.now seats.new.items }
     ensures long { vec_len seats.new ≡ vec_len seats.old }
 {
     for _ in 0..turns {
@@ -333,8 +333,8 @@ fn go_by_turns<C: ShardCore>(shard: &Shard<C>, seats: &mut Vec<Seat<C>>, turns: 
 
 /// Whether no block is open.
 fn all_closed<C: ShardCore>(shard: &Shard<C>, seats: &[Seat<C>]) -> bool
-    requires { AreOf C.shard_table C.good C.layout shard.now seats.now }
-    ensures { result ≡ true → AreClosed C.shard_table shard.now seats.now }
+    requires { AreOf C.says shard.now seats.now }
+    ensures { result ≡ true → AreClosed C.says shard.now seats.now }
 {
     for seat in seats {
         if seat.is_open(shard) {

@@ -73,19 +73,24 @@ module _ (K : Cohorts) where
     pub victim : slice_index s.words victim_no ≡ cohort_no (cohort_of K m)
 
   -- a view that is less far, whatever the words are; and one that is as far, with less change
-  nearer_view : (s : LockState AlockView) (words : List ℕ) (m : ℕ) (v u : AlockView) → slice_get s.views m ≡ Some v → far_of u < far_of v → alock_left K words (slice_set s.views m u) < alock_left K s.words s.views
+  nearer_view : (s : LockState AlockView) (words : List ℕ) (m : ℕ) (v u : AlockView) → slice_get s.views m ≡ Some v → far_of u < far_of v →
+      alock_left K words (slice_set s.views m u) < alock_left K s.words s.views
   nearer_view s words m v u has lt =
       nearer 3 far_of (near_of K s.words) (near_of K words)
-      (λ x. near_few (slice_index words (tail_no (cohort_of K x.queue.member))) (slice_index words victim_no) (cohort_of K x.queue.member) x.queue.phase x.entry) s.views m v u has lt
+      (λ x. near_few (slice_index words (tail_no (cohort_of K x.queue.member))) (slice_index words victim_no)
+      (cohort_of K x.queue.member) x.queue.phase x.entry) s.views m v u has lt
 
-  changed_view : (s : LockState AlockView) (words : List ℕ) (m : ℕ) (v u w : AlockView) → slice_get s.views m ≡ Some v → words ≡ s.words → w ≡ u → far_of u ≡ far_of v → near_of K s.words u < near_of K s.words v →
+  changed_view : (s : LockState AlockView) (words : List ℕ) (m : ℕ) (v u w : AlockView) → slice_get s.views m ≡ Some v → words ≡ s.words →
+      w ≡ u → far_of u ≡ far_of v → near_of K s.words u < near_of K s.words v →
       alock_left K words (slice_set s.views m w) < alock_left K s.words s.views
   changed_view s words m v u w has same_words same_view same_far lt =
       subst (λ ws. alock_left K ws (slice_set s.views m w) < alock_left K s.words s.views) (sym same_words)
-      (subst (λ z. alock_left K s.words (slice_set s.views m z) < alock_left K s.words s.views) (sym same_view) (less_change 3 far_of (near_of K s.words) s.views m v u has same_far lt))
+      (subst (λ z. alock_left K s.words (slice_set s.views m z) < alock_left K s.words s.views) (sym same_view)
+      (less_change 3 far_of (near_of K s.words) s.views m v u has same_far lt))
 
   -- an act that brings its rank nearer, and one that gets its member on
-  by_act : (s : LockState AlockView) (m : ℕ) (p : Phase) (st : SettleStage) (a : Act) → slice_get s.views m ≡ Some (at_entry m p st) → alock_plan (names_of K (cohort_of K m)) (cohort_of K m) m p st ≡ Some a →
+  by_act : (s : LockState AlockView) (m : ℕ) (p : Phase) (st : SettleStage) (a : Act) → slice_get s.views m ≡ Some (at_entry m p st) →
+      alock_plan (names_of K (cohort_of K m)) (cohort_of K m) m p st ≡ Some a →
       far_of (learns m p st (told a (slice_index s.words (word_of a)))) < far p st → CanGoOn T (alock_left K) s m
   by_act s m p st a has pl lt =
       record {
@@ -94,11 +99,13 @@ module _ (K : Cohorts) where
         way = inr (record {
           act = a;
           planned = pl;
-          less = nearer_view s (slice_set s.words (word_of a) (written a (slice_index s.words (word_of a)))) m (at_entry m p st) (learns m p st (told a (slice_index s.words (word_of a)))) has lt;
+          less = nearer_view s (slice_set s.words (word_of a) (written a (slice_index s.words (word_of a)))) m (at_entry m p st)
+              (learns m p st (told a (slice_index s.words (word_of a)))) has lt;
         });
       }
 
-  abbrev turn_far : (m : ℕ) (p : Phase) (st : SettleStage) (got : ℕ) → GetsOn p got → far (turn_at (names_of K (cohort_of K m)) m p got).phase Announce < far p st
+  abbrev turn_far : (m : ℕ) (p : Phase) (st : SettleStage) (got : ℕ) → GetsOn p got →
+      far (turn_at (names_of K (cohort_of K m)) m p got).phase Announce < far p st
   turn_far m p st got gets = turn_falls (λ q. far q st) (λ q. far q Announce) (far_falls st) (names_of K (cohort_of K m)) m p got gets
 
   -- a load that brings its rank on by small change
@@ -111,7 +118,8 @@ module _ (K : Cohorts) where
         way = inr (record {
           act = Load w;
           planned = pl;
-          less = changed_view s (slice_set s.words w (slice_index s.words w)) m (at_entry m p st) u (learns m p st (slice_index s.words w)) has (set-get_or s.words w 0) same_view same_far lt;
+          less = changed_view s (slice_set s.words w (slice_index s.words w)) m (at_entry m p st) u
+              (learns m p st (slice_index s.words w)) has (set-get_or s.words w 0) same_view same_far lt;
         });
       }
 
@@ -124,7 +132,9 @@ module _ (K : Cohorts) where
         way = inr (record {
           act = swap_act (tail_class (cohort_of K m)) (tail_no (cohort_of K m)) g (m + 1);
           planned = refl;
-          less = at_swap (λ w value got. alock_left K (slice_set s.words w value) (slice_set s.views m (learns m (Swing g) st got)) < alock_left K s.words s.views) s.words (tail_class (cohort_of K m)) (tail_no (cohort_of K m)) g (m + 1)
+          less = at_swap (λ w value got. alock_left K (slice_set s.words w value)
+              (slice_set s.views m (learns m (Swing g) st got)) < alock_left K s.words s.views) s.words (tail_class (cohort_of K m))
+              (tail_no (cohort_of K m)) g (m + 1)
               (⊎_elim (λ q. won q.1) (λ q. lost q.0) (eqb_tells (slice_index s.words (tail_no (cohort_of K m))) g));
         });
       } where
@@ -143,7 +153,8 @@ module _ (K : Cohorts) where
             let new : near_of K s.words (at_entry m (Swing tail) Announce) ≡ 0 = ap (λ b. if b then 0 else 1) (same_test tail) in
             changed_view s after m (at_entry m (Swing g) st) (at_entry m (Swing tail) Announce) (learns m (Swing g) st tail) has
             (ap (λ b. slice_set s.words (tail_no (cohort_of K m)) (if b then m + 1 else tail)) e ∙ set-get_or s.words (tail_no (cohort_of K m)) 0)
-            (ap (λ b. at_entry m (if b then moves_with (joined_at g) (event.Join (tail_no (cohort_of K m)) m) else moves_to (Swing tail)).phase Announce) e) refl (omega (arith, old, new))
+            (ap (λ b. at_entry m (if b then moves_with (joined_at g) (event.Join (tail_no (cohort_of K m)) m) else moves_to
+            (Swing tail)).phase Announce) e) refl (omega (arith, old, new))
 
   -- a head at its entry
   tail_goes : (s : LockState AlockView) (m : ℕ) → slice_get s.views m ≡ Some (at_entry m Settle Tail) → CanGoOn T (alock_left K) s m ⊎ Hangs s m
@@ -180,28 +191,35 @@ module _ (K : Cohorts) where
       by_act s m Settle Victim (Load victim_no) has refl (subst (λ z. far_of z < 1) (sym view) (omega arith)))
       (eqb_tells (slice_index s.words victim_no) (cohort_no (cohort_of K m)))
 
-  settle_goes : (s : LockState AlockView) (m : ℕ) (st : SettleStage) → slice_get s.views m ≡ Some (at_entry m Settle st) → CanGoOn T (alock_left K) s m ⊎ Hangs s m
+  settle_goes : (s : LockState AlockView) (m : ℕ) (st : SettleStage) → slice_get s.views m ≡ Some (at_entry m Settle st) →
+      CanGoOn T (alock_left K) s m ⊎ Hangs s m
   settle_goes s m Announce has = inl (by_act s m Settle Announce (Store victim_no (cohort_no (cohort_of K m))) has refl (omega arith))
   settle_goes s m Tail has = tail_goes s m has
   settle_goes s m Victim has = inl (victim_goes s m has)
 
   -- who uses its queue and isn't stuck there
   pub goes_by : (s : LockState AlockView) (m : ℕ) (p : Phase) (st : SettleStage) → slice_get s.views m ≡ Some (at_entry m p st) → Busy p → Flat p →
-      (Stuck p (slice_index s.words (queue_next_word (names_of K (cohort_of K m)) m)) (slice_index s.words (status_word (names_of K (cohort_of K m)) m)) → ⊥) → CanGoOn T (alock_left K) s m ⊎ Hangs s m
+      (Stuck p (slice_index s.words (queue_next_word (names_of K (cohort_of K m)) m))
+      (slice_index s.words (status_word (names_of K (cohort_of K m)) m)) → ⊥) → CanGoOn T (alock_left K) s m ⊎ Hangs s m
   goes_by s m Idle st has busy flat free = absurd busy
   goes_by s m Clear st has busy flat free = inl (by_act s m Clear st _ has refl (turn_far m Clear st 0 tt))
   goes_by s m Reset st has busy flat free = inl (by_act s m Reset st _ has refl (turn_far m Reset st 0 tt))
   goes_by s m (Swing g) st has busy flat free = inl (swing_goes s m g st has)
   goes_by s m (Link g) st has busy flat free = inl (by_act s m (Link g) st _ has refl (turn_far m (Link g) st 0 tt))
-  goes_by s m Wait st has busy flat free = inl (by_act s m Wait st _ has refl (turn_far m Wait st (slice_index s.words (status_word (names_of K (cohort_of K m)) m)) free))
+  goes_by s m Wait st has busy flat free =
+      inl (by_act s m Wait st _ has refl (turn_far m Wait st (slice_index s.words (status_word (names_of K (cohort_of K m)) m)) free))
   goes_by s m Settle st has busy flat free = settle_goes s m st has
   goes_by s m (Granted left) st has busy flat free = inl (record { view = at_entry m (Granted left) st; has = has; way = inl tt })
   goes_by s m (Look left true) st has busy flat free = absurd flat
-  goes_by s m (Look left false) st has busy flat free = inl (by_act s m (Look left false) st _ has refl (turn_far m (Look left false) st (slice_index s.words (queue_next_word (names_of K (cohort_of K m)) m)) tt))
+  goes_by s m (Look left false) st has busy flat free =
+      inl (by_act s m (Look left false) st _ has refl (turn_far m (Look left false) st
+      (slice_index s.words (queue_next_word (names_of K (cohort_of K m)) m)) tt))
   goes_by s m (Close left) st has busy flat free =
       let a : Act = swap_act (tail_class (cohort_of K m)) (tail_no (cohort_of K m)) (m + 1) 0 in
       inl (by_act s m (Close left) st a has refl (turn_far m (Close left) st (told a (slice_index s.words (word_of a))) tt))
-  goes_by s m (Await left) st has busy flat free = inl (by_act s m (Await left) st _ has refl (turn_far m (Await left) st (slice_index s.words (queue_next_word (names_of K (cohort_of K m)) m)) free))
+  goes_by s m (Await left) st has busy flat free =
+      inl (by_act s m (Await left) st _ has refl (turn_far m (Await left) st
+      (slice_index s.words (queue_next_word (names_of K (cohort_of K m)) m)) free))
   goes_by s m (Hand succ left) st has busy flat free = inl (by_act s m (Hand succ left) st _ has refl (turn_far m (Hand succ left) st 0 tt))
   goes_by s m (Above succ) st has busy flat free = absurd flat
 
@@ -209,7 +227,8 @@ module _ (K : Cohorts) where
   abbrev pub lane : LockState AlockView → Cohort → Lane
   lane s c = lane_of (names_of K c) s.words (phases_of K c s.views)
 
-  rank_goes : (s : LockState AlockView) (c : Cohort) (m : ℕ) → AlockGood K s → Goes (lane s c) m → (CanGoOn T (alock_left K) s m ⊎ Hangs s m) × (cohort_of K m ≡ c)
+  rank_goes : (s : LockState AlockView) (c : Cohort) (m : ℕ) → AlockGood K s → Goes (lane s c) m →
+      (CanGoOn T (alock_left K) s m ⊎ Hangs s m) × (cohort_of K m ≡ c)
   rank_goes s c m g k =
       let i = (g.queue c).inv.inside m k.busy in
       let lt = i.there in
@@ -217,15 +236,19 @@ module _ (K : Cohorts) where
       let there : m < length s.views = omega arith in
       let v = some_at s.views m there in
       let at : phases_of K c s.views m ≡ v.0.queue.phase = mine_is K c s.views m i.sits ∙ phase_get s.views m v.0 v.1 in
-      let has : slice_get s.views m ≡ Some (at_entry m v.0.queue.phase v.0.entry) = v.1 ∙ ap (λ j. Some (at_entry j v.0.queue.phase v.0.entry)) (g.own m v.0 v.1) in
+      let has : slice_get s.views m ≡ Some (at_entry m v.0.queue.phase v.0.entry) = v.1
+      ∙ ap (λ j. Some (at_entry j v.0.queue.phase v.0.entry)) (g.own m v.0 v.1) in
       let free : Stuck v.0.queue.phase (slice_index s.words (queue_next_word (names_of K c) m)) (slice_index s.words (status_word (names_of K c) m)) → ⊥ =
-      λ z. k.goes (subst (λ p. Stuck p (slice_index s.words (queue_next_word (names_of K c) m)) (slice_index s.words (status_word (names_of K c) m))) (sym at) z) in (
+      λ z. k.goes (subst (λ p. Stuck p (slice_index s.words (queue_next_word (names_of K c) m))
+      (slice_index s.words (status_word (names_of K c) m))) (sym at) z) in (
         goes_by s m v.0.queue.phase v.0.entry has (subst Busy at k.busy) (g.flat m v.0 v.1)
-            (subst (λ d. Stuck v.0.queue.phase (slice_index s.words (queue_next_word (names_of K d) m)) (slice_index s.words (status_word (names_of K d) m)) → ⊥) (sym i.sits) free),
+            (subst (λ d. Stuck v.0.queue.phase (slice_index s.words (queue_next_word (names_of K d) m))
+            (slice_index s.words (status_word (names_of K d) m)) → ⊥) (sym i.sits) free),
         i.sits,
       )
 
-  queue_goes : (s : LockState AlockView) (c : Cohort) (m : ℕ) (p : Phase) → AlockGood K s → phases_of K c s.views m ≡ p → Busy p → (k : ℕ) × (CanGoOn T (alock_left K) s k ⊎ Hangs s k) × (cohort_of K k ≡ c)
+  queue_goes : (s : LockState AlockView) (c : Cohort) (m : ℕ) (p : Phase) → AlockGood K s → phases_of K c s.views m ≡ p → Busy p →
+      (k : ℕ) × (CanGoOn T (alock_left K) s k ⊎ Hangs s k) × (cohort_of K k ≡ c)
   queue_goes s c m p g e busy =
       let k = busy_goes (Some (budget_in K c)) (InCohort K c) (lane s c) (g.line c) m p (g.queue c).inv (g.queue c).awaited e busy in
       let q = rank_goes s c k.0 g k.1 in (k.0, q.0, q.1)
@@ -238,7 +261,8 @@ module _ (K : Cohorts) where
   member_in s c [] g line ne = absurd (ne line)
   member_in s c (h ∷ r) g line ne = (h, inl refl)
 
-  tail_goes_on : (s : LockState AlockView) (c : Cohort) → AlockGood K s → slice_index s.words (tail_no c) ≢ 0 → (k : ℕ) × (CanGoOn T (alock_left K) s k ⊎ Hangs s k) × (cohort_of K k ≡ c)
+  tail_goes_on : (s : LockState AlockView) (c : Cohort) → AlockGood K s → slice_index s.words (tail_no c) ≢ 0 →
+      (k : ℕ) × (CanGoOn T (alock_left K) s k ⊎ Hangs s k) × (cohort_of K k ≡ c)
   tail_goes_on s c g ne =
       let m = member_in s c (g.line c) g (g.queue c).inv.line ne in
       let l = (g.queue c).inv.only m.0 m.1 in
@@ -253,7 +277,9 @@ module _ (K : Cohorts) where
       ⊎_elim inl
       (λ b.
       let c : Cohort = cohort_of K b.0 in
-      let k = queue_goes s (cohort_of K b.0) b.0 b.1.view.queue.phase g (mine_is K (cohort_of K b.0) s.views b.0 refl ∙ phase_get s.views b.0 b.1.view b.1.has) (not_out_busy b.1.view.queue.phase b.1.busy) in
+      let k = queue_goes s (cohort_of K b.0) b.0 b.1.view.queue.phase g
+      (mine_is K (cohort_of K b.0) s.views b.0 refl ∙ phase_get s.views b.0 b.1.view b.1.has)
+      (not_out_busy b.1.view.queue.phase b.1.busy) in
       ⊎_elim
       (λ go. inr (k.0, go))
       (λ h.
@@ -274,10 +300,13 @@ module _ (K : Cohorts) where
   alock_ends =
       record {
         somebody = λ s g. somebody_goes s g;
-        ask_adds = λ s r v m g has out. grows 3 far_of (near_of K s.words) s.views (ranks_of K) r 7 v (at_entry v.queue.member Clear Announce) g.all_views has (omega arith) (omega arith);
+        ask_adds = λ s r v m g has out. grows 3 far_of (near_of K s.words) s.views (ranks_of K) r 7 v
+            (at_entry v.queue.member Clear Announce) g.all_views has (omega arith) (omega arith);
         leave_adds = λ s r v g has holds.
-            grows 3 far_of (near_of K s.words) s.views (ranks_of K) r 7 v (at_entry v.queue.member (leave_at v.queue.phase false) Announce) g.all_views has (leaves_far v.queue.phase holds)
-            (leaves_near (slice_index s.words (tail_no (cohort_of K v.queue.member))) (slice_index s.words victim_no) (cohort_of K v.queue.member) v.queue.phase holds);
+            grows 3 far_of (near_of K s.words) s.views (ranks_of K) r 7 v
+            (at_entry v.queue.member (leave_at v.queue.phase false) Announce) g.all_views has (leaves_far v.queue.phase holds)
+            (leaves_near (slice_index s.words (tail_no (cohort_of K v.queue.member))) (slice_index s.words victim_no)
+            (cohort_of K v.queue.member) v.queue.phase holds);
       }
 
   -- and so in the states of which more is known

@@ -11,7 +11,8 @@ use Rattle.rl_alock.specs.AlockGood.{Announced, Entered}
 
 module _ (cohort : ℕ → Cohort) (ph ph' : ℕ → Phase) (en en' : ℕ → SettleStage) (status status' : ℕ → ℕ) (victim : ℕ) where
   -- a step that lets nobody be served whose cohort wasn't served, and nobody announce, keeps the entry
-  pub entered_back : Entered cohort ph en status victim → ((m : ℕ) → served (ph' m) (status' m) ≡ true → (h : ℕ) × (cohort h ≡ cohort m) × (served (ph h) (status h) ≡ true)) →
+  pub entered_back : Entered cohort ph en status victim → ((m : ℕ) → served (ph' m) (status' m) ≡ true → (h : ℕ) × (cohort h ≡ cohort m) ×
+      (served (ph h) (status h) ≡ true)) →
       ((k : ℕ) → Announced (ph' k) (en' k) → Announced (ph k) (en k)) → Entered cohort ph' en' status' victim
   entered_back g back said =
       record {
@@ -21,19 +22,23 @@ module _ (cohort : ℕ → Cohort) (ph ph' : ℕ → Phase) (en en' : ℕ → Se
       }
 
   -- a head announces: nobody of its cohort is served, and it becomes the victim
-  pub announce_keeps : (r : ℕ) → ((i : ℕ) → cohort i ≡ cohort r → served (ph i) (status i) ≡ true → ⊥) → ((m : ℕ) → served (ph' m) (status' m) ≡ true → served (ph m) (status m) ≡ true) →
+  pub announce_keeps : (r : ℕ) → ((i : ℕ) → cohort i ≡ cohort r → served (ph i) (status i) ≡ true → ⊥) →
+      ((m : ℕ) → served (ph' m) (status' m) ≡ true → served (ph m) (status m) ≡ true) →
       Entered cohort ph en status victim → Entered cohort ph' en' status' (cohort_no (cohort r))
   announce_keeps r none back g =
       record {
         named = λ k a. cohort_named (cohort r);
         yields = λ m k ne s a.
-            ⊎_elim (λ q. ap cohort_no (sym q)) (λ q. absurd (none m (two_same (cohort m) (cohort k) (cohort r) ne q) (back m s))) (same_cohort (cohort k) (cohort r));
+            ⊎_elim (λ q. ap cohort_no (sym q)) (λ q. absurd (none m (two_same (cohort m) (cohort k) (cohort r) ne q) (back m s)))
+            (same_cohort (cohort k) (cohort r));
         one = λ m k ne s t. g.one m k ne (back m s) (back k t);
       }
 
   -- a head settles: nobody of the other cohort is served, and whoever of it has announced is the victim
-  pub settled_keeps : (r : ℕ) → ((i : ℕ) → cohort i ≢ cohort r → served (ph i) (status i) ≡ true → ⊥) → ((k : ℕ) → cohort k ≢ cohort r → Announced (ph k) (en k) → victim ≡ cohort_no (cohort k)) →
-      ((m : ℕ) → m ≢ r → served (ph' m) (status' m) ≡ true → served (ph m) (status m) ≡ true) → ((k : ℕ) → Announced (ph' k) (en' k) → Announced (ph k) (en k)) →
+  pub settled_keeps : (r : ℕ) → ((i : ℕ) → cohort i ≢ cohort r → served (ph i) (status i) ≡ true → ⊥) →
+      ((k : ℕ) → cohort k ≢ cohort r → Announced (ph k) (en k) → victim ≡ cohort_no (cohort k)) →
+      ((m : ℕ) → m ≢ r → served (ph' m) (status' m) ≡ true → served (ph m) (status m) ≡ true) →
+      ((k : ℕ) → Announced (ph' k) (en' k) → Announced (ph k) (en k)) →
       Entered cohort ph en status victim → Entered cohort ph' en' status' victim
   settled_keeps r none yield back said g =
       let away : (m : ℕ) → cohort m ≢ cohort r → m ≢ r = λ m ne e. ne (ap cohort e) in
@@ -50,7 +55,9 @@ module _ (cohort : ℕ → Cohort) (ph ph' : ℕ → Phase) (en en' : ℕ → Se
       }
 
 -- a head that has announced and sees another victim may settle
-pub may_settle : (cohort : ℕ → Cohort) (ph : ℕ → Phase) (en : ℕ → SettleStage) (status : ℕ → ℕ) (victim r : ℕ) → Entered cohort ph en status victim → Announced (ph r) (en r) → victim ≢ cohort_no (cohort r) →
-    ((i : ℕ) → cohort i ≢ cohort r → served (ph i) (status i) ≡ true → ⊥) × ((k : ℕ) → cohort k ≢ cohort r → Announced (ph k) (en k) → victim ≡ cohort_no (cohort k))
+pub may_settle : (cohort : ℕ → Cohort) (ph : ℕ → Phase) (en : ℕ → SettleStage) (status : ℕ → ℕ) (victim r : ℕ) →
+    Entered cohort ph en status victim → Announced (ph r) (en r) → victim ≢ cohort_no (cohort r) →
+    ((i : ℕ) → cohort i ≢ cohort r → served (ph i) (status i) ≡ true → ⊥) ×
+    ((k : ℕ) → cohort k ≢ cohort r → Announced (ph k) (en k) → victim ≡ cohort_no (cohort k))
 may_settle cohort ph en status victim r g said ne =
     (λ i far s. ne (g.yields i r far s said), λ k far a. other_no victim (cohort r) (cohort k) (λ q. far (sym q)) (g.named r said) ne)

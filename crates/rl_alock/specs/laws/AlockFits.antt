@@ -30,7 +30,12 @@ use Rattle.rl_alock.specs.laws.AlockTurns.{entry_all}
 
 -- a rank of a cohort is a member of its queue
 pub member_of : (K : Cohorts) (c : Cohort) (m : ℕ) → InCohort K c m → IsMember (queue_in K Local ∷ queue_in K Remote ∷ []) (tail_no c) m
-member_of K c m i = record { queue = queue_in K c; is_queue = by c; is_member = ap (λ z. z && is_in_cohort K c m) (lt_test m (ranks_of K) i.there) ∙ in_own K c m i.sits } where
+member_of K c m i = record {
+  queue = queue_in K c;
+  is_queue = by c;
+  is_member =
+      ap (λ z. z && is_in_cohort K c m) (lt_test m (ranks_of K) i.there) ∙ in_own K c m i.sits;
+} where
   by : (d : Cohort) → slice_get (queue_in K Local ∷ queue_in K Remote ∷ []) (tail_no d) ≡ Some (queue_in K d)
   by Local = refl
   by Remote = refl
@@ -44,7 +49,8 @@ pub record LearnFits (K : Cohorts) (k : ℕ) (p : Phase) (u : Told AlockView) : 
 
 module _ (K : Cohorts) (k : ℕ) where
   -- a turn with no event that leaves its rank asking, or leaving, or out, or inside
-  plain_fits : (p q : Phase) (w : Bool) → Shift k (standing_of p) (standing_of q) (holds_only (entry_events k q)) → LearnFits K k p (told_turn k (record { phase = q; events = []; waits = w }))
+  plain_fits : (p q : Phase) (w : Bool) → Shift k (standing_of p) (standing_of q) (holds_only (entry_events k q)) →
+      LearnFits K k p (told_turn k (record { phase = q; events = []; waits = w }))
   plain_fits p q w s =
       record {
         shift = s;
@@ -53,14 +59,16 @@ module _ (K : Cohorts) (k : ℕ) where
         names = entry_all (AllNamed (queue_in K Local ∷ queue_in K Remote ∷ []) (alock_table K).cohort) k q tt (tt, tt);
       }
 
-  queue_fits : (p : Phase) (st : SettleStage) (a : Act) (got : ℕ) → plan_at (names_of K (cohort_of K k)) k p ≡ Some a → Flat p → k < ranks_of K → ((s left : ℕ) → p ≡ Hand s left → InCohort K (cohort_of K k) s) →
+  queue_fits : (p : Phase) (st : SettleStage) (a : Act) (got : ℕ) → plan_at (names_of K (cohort_of K k)) k p ≡ Some a → Flat p →
+      k < ranks_of K → ((s left : ℕ) → p ≡ Hand s left → InCohort K (cohort_of K k) s) →
       LearnFits K k p (told_turn k (turn_at (names_of K (cohort_of K k)) k p got))
   queue_fits Clear st a got pl f lt hs = plain_fits Clear Reset false refl
   queue_fits Reset st a got pl f lt hs = plain_fits Reset (Swing 0) false refl
   queue_fits (Swing guess) st a got pl f lt hs =
       let i : InCohort K (cohort_of K k) k = record { there = lt; sits = refl } in
       let m = member_of K (cohort_of K k) k i in
-      choose (λ u. LearnFits K k (Swing guess) (told_turn k u)) (got == guess) (moves_with (joined_at guess) (event.Join (tail_no (cohort_of K k)) k)) (moves_to (Swing got))
+      choose (λ u. LearnFits K k (Swing guess) (told_turn k u)) (got == guess)
+      (moves_with (joined_at guess) (event.Join (tail_no (cohort_of K k)) k)) (moves_to (Swing got))
       (choose (λ q. LearnFits K k (Swing guess) (told_turn k (moves_with q (event.Join (tail_no (cohort_of K k)) k)))) (guess == 0) Settle (Link guess)
       (record { shift = refl; order = tt; few = omega arith; names = (m, tt) })
       (record { shift = refl; order = tt; few = omega arith; names = (m, tt) }))
@@ -68,18 +76,24 @@ module _ (K : Cohorts) (k : ℕ) where
   queue_fits (Link guess) st a got pl f lt hs = plain_fits (Link guess) Wait false refl
   queue_fits Wait st a got pl f lt hs =
       let B : Option ℕ = (names_of K (cohort_of K k)).budget in
-      choose (λ u. LearnFits K k Wait (told_turn k u)) (got == 0) (waits_at Wait) (if got == 1 then moves_to Settle else moves_to (Granted (code_left B got))) (plain_fits Wait Wait true refl)
-      (choose (λ u. LearnFits K k Wait (told_turn k u)) (got == 1) (moves_to Settle) (moves_to (Granted (code_left B got))) (plain_fits Wait Settle false refl) (plain_fits Wait (Granted (code_left B got)) false refl))
+      choose (λ u. LearnFits K k Wait (told_turn k u)) (got == 0) (waits_at Wait)
+      (if got == 1 then moves_to Settle else moves_to (Granted (code_left B got))) (plain_fits Wait Wait true refl)
+      (choose (λ u. LearnFits K k Wait (told_turn k u)) (got == 1) (moves_to Settle) (moves_to (Granted (code_left B got)))
+      (plain_fits Wait Settle false refl) (plain_fits Wait (Granted (code_left B got)) false refl))
   queue_fits (Look left true) st a got pl f lt hs = absurd f
   queue_fits (Look left false) st a got pl f lt hs =
-      choose (λ q. LearnFits K k (Look left false) (told_turn k (moves_to q))) (got == 0) (Close left) (Hand (got - 1) left) (plain_fits (Look left false) (Close left) false refl) (plain_fits (Look left false) (Hand (got - 1) left) false refl)
+      choose (λ q. LearnFits K k (Look left false) (told_turn k (moves_to q))) (got == 0) (Close left) (Hand (got - 1) left)
+      (plain_fits (Look left false) (Close left) false refl) (plain_fits (Look left false) (Hand (got - 1) left) false refl)
   queue_fits (Close left) st a got pl f lt hs =
-      choose (λ u. LearnFits K k (Close left) (told_turn k u)) (got == k + 1) (moves_to Idle) (moves_to (Await left)) (plain_fits (Close left) Idle false refl) (plain_fits (Close left) (Await left) false refl)
+      choose (λ u. LearnFits K k (Close left) (told_turn k u)) (got == k + 1) (moves_to Idle) (moves_to (Await left))
+      (plain_fits (Close left) Idle false refl) (plain_fits (Close left) (Await left) false refl)
   queue_fits (Await left) st a got pl f lt hs =
-      choose (λ u. LearnFits K k (Await left) (told_turn k u)) (got == 0) (waits_at (Await left)) (moves_to (Hand (got - 1) left)) (plain_fits (Await left) (Await left) true refl) (plain_fits (Await left) (Hand (got - 1) left) false refl)
+      choose (λ u. LearnFits K k (Await left) (told_turn k u)) (got == 0) (waits_at (Await left)) (moves_to (Hand (got - 1) left))
+      (plain_fits (Await left) (Await left) true refl) (plain_fits (Await left) (Hand (got - 1) left) false refl)
   queue_fits (Hand s left) st a got pl f lt hs =
       let m = member_of K (cohort_of K k) s (hs s left refl) in
-      choose (λ u. LearnFits K k (Hand s left) (told_turn k u)) (left == 0) (moves_to Idle) (moves_with Idle (event.Pass (tail_no (cohort_of K k)) s)) (plain_fits (Hand s left) Idle false refl)
+      choose (λ u. LearnFits K k (Hand s left) (told_turn k u)) (left == 0) (moves_to Idle)
+      (moves_with Idle (event.Pass (tail_no (cohort_of K k)) s)) (plain_fits (Hand s left) Idle false refl)
       (record { shift = refl; order = tt; few = omega arith; names = (m, tt) })
   queue_fits _ st a got pl f lt hs = cc
 
@@ -95,14 +109,18 @@ module _ (K : Cohorts) (k : ℕ) where
   entry_fits : (st : SettleStage) (got : ℕ) → k < ranks_of K → LearnFits K k Settle (entry_told (names_of K (cohort_of K k)) (cohort_of K k) k st got)
   entry_fits Announce got lt = record { shift = refl; order = tt; few = omega arith; names = (cohort_there (cohort_of K k), tt) }
   entry_fits Tail got lt =
-      choose (LearnFits K k Settle) (got == 0) (settles_now (names_of K (cohort_of K k)) k) (record { view = at_entry k Settle Victim; events = []; waits = false }) (settles_fits lt)
+      choose (LearnFits K k Settle) (got == 0) (settles_now (names_of K (cohort_of K k)) k)
+      (record { view = at_entry k Settle Victim; events = []; waits = false }) (settles_fits lt)
       (record { shift = refl; order = tt; few = omega arith; names = tt })
   entry_fits Victim got lt =
-      choose (LearnFits K k Settle) (got == cohort_no (cohort_of K k)) (record { view = at_entry k Settle Tail; events = []; waits = true }) (settles_now (names_of K (cohort_of K k)) k)
+      choose (LearnFits K k Settle) (got == cohort_no (cohort_of K k)) (record { view = at_entry k Settle Tail; events = []; waits = true })
+      (settles_now (names_of K (cohort_of K k)) k)
       (record { shift = refl; order = tt; few = omega arith; names = tt }) (settles_fits lt)
 
   -- it is so for each planned act
-  pub learn_fits_at : (p : Phase) (st : SettleStage) (a : Act) (got : ℕ) → alock_plan (names_of K (cohort_of K k)) (cohort_of K k) k p st ≡ Some a → Flat p → k < ranks_of K → ((s left : ℕ) → p ≡ Hand s left → InCohort K (cohort_of K k) s) →
+  pub learn_fits_at : (p : Phase) (st : SettleStage) (a : Act) (got : ℕ) →
+      alock_plan (names_of K (cohort_of K k)) (cohort_of K k) k p st ≡ Some a → Flat p → k < ranks_of K →
+      ((s left : ℕ) → p ≡ Hand s left → InCohort K (cohort_of K k) s) →
       LearnFits K k p (alock_learn (names_of K (cohort_of K k)) (cohort_of K k) k p st got)
   learn_fits_at Idle st a got pl f lt hs = cc
   learn_fits_at Settle st a got pl f lt hs = entry_fits st got lt
@@ -117,7 +135,8 @@ plan_rests N c k (Granted left) st f = (λ e. tt, λ t. refl)
 plan_rests N c k (Above succ) st f = absurd f
 plan_rests N c k _ st f = (λ e. cc, λ t. absurd t)
 
-pub spot_home : (K : Cohorts) (nodes : ℕ) (w : ℕ) → Seated (record { node_of = K.node_of; nodes = nodes }) → K.home < nodes → w < 3 + 2 * ranks_of K → (alock_spot K w).home < nodes
+pub spot_home : (K : Cohorts) (nodes : ℕ) (w : ℕ) → Seated (record { node_of = K.node_of; nodes = nodes }) → K.home < nodes →
+    w < 3 + 2 * ranks_of K → (alock_spot K w).home < nodes
 spot_home K nodes zero seated homed lt = homed
 spot_home K nodes (suc zero) seated homed lt = homed
 spot_home K nodes (suc (suc zero)) seated homed lt = homed
@@ -149,7 +168,15 @@ module _ (K : Cohorts) (nodes : ℕ) (seated : Seated (record { node_of = K.node
     free Remote = refl
 
   swaps : (r old new : ℕ) (c : Cohort) → cohort_of K r ≡ c → MayMake r (swap_act (tail_class c) (tail_no c) old new)
-  swaps r old new Local e = (record { there = omega arith; homed = homed; allowed = (refl, eqb_means (slice_index K.node_of r) K.home (in_own K Local r e)) }, ap (λ z. domain z r (LocalCas 0 old new)) e)
+  swaps r old new Local e = (
+    record {
+      there = omega arith;
+      homed = homed;
+      allowed =
+          (refl, eqb_means (slice_index K.node_of r) K.home (in_own K Local r e));
+    },
+    ap (λ z. domain z r (LocalCas 0 old new)) e,
+  )
   swaps r old new Remote e = (record { there = omega arith; homed = homed; allowed = refl }, ap (λ z. domain z r (CardCas 1 old new)) e)
 
   tail_small : (c : Cohort) → tail_no c < 3 + 2 * ranks_of K
@@ -157,12 +184,15 @@ module _ (K : Cohorts) (nodes : ℕ) (seated : Seated (record { node_of = K.node
   tail_small Remote = omega arith
 
   -- each planned act is lawful, and in its rank's domain
-  pub lawful_in : (k : ℕ) (p : Phase) (st : SettleStage) (a : Act) → k < ranks_of K → ((g : ℕ) → p ≡ Link g → g - 1 < ranks_of K) → ((s left : ℕ) → p ≡ Hand s left → s < ranks_of K) →
+  pub lawful_in : (k : ℕ) (p : Phase) (st : SettleStage) (a : Act) → k < ranks_of K → ((g : ℕ) → p ≡ Link g → g - 1 < ranks_of K) →
+      ((s left : ℕ) → p ≡ Hand s left → s < ranks_of K) →
       alock_plan (names_of K (cohort_of K k)) (cohort_of K k) k p st ≡ Some a → MayMake k a
   lawful_in k Clear st a lt gs hs pl = subst (MayMake k) (same_Some _ _ pl) (let e = next_is K (cohort_of K k) k lt in stores k _ _ (omega arith) (omega arith))
-  lawful_in k Reset st a lt gs hs pl = subst (MayMake k) (same_Some _ _ pl) (let e = status_is K (cohort_of K k) k lt in stores k _ _ (omega arith) (omega arith))
+  lawful_in k Reset st a lt gs hs pl = subst (MayMake k) (same_Some _ _ pl) (let e = status_is K (cohort_of K k) k lt in
+      stores k _ _ (omega arith) (omega arith))
   lawful_in k (Swing guess) st a lt gs hs pl = subst (MayMake k) (same_Some _ _ pl) (swaps k guess (k + 1) (cohort_of K k) refl)
-  lawful_in k (Link guess) st a lt gs hs pl = subst (MayMake k) (same_Some _ _ pl) (let h = gs guess refl in let e = next_is K (cohort_of K k) (guess - 1) h in stores k _ _ (omega arith) (omega arith))
+  lawful_in k (Link guess) st a lt gs hs pl = subst (MayMake k) (same_Some _ _ pl) (let h = gs guess refl in let e =
+      next_is K (cohort_of K k) (guess - 1) h in stores k _ _ (omega arith) (omega arith))
   lawful_in k Wait st a lt gs hs pl = subst (MayMake k) (same_Some _ _ pl) (let e = status_is K (cohort_of K k) k lt in loads k _ (omega arith))
   lawful_in k Settle Announce a lt gs hs pl = subst (MayMake k) (same_Some _ _ pl) (stores k 2 _ (omega arith) (omega arith))
   lawful_in k Settle Tail a lt gs hs pl = subst (MayMake k) (same_Some _ _ pl) (loads k _ (tail_small (other (cohort_of K k))))
@@ -170,5 +200,6 @@ module _ (K : Cohorts) (nodes : ℕ) (seated : Seated (record { node_of = K.node
   lawful_in k (Look left u) st a lt gs hs pl = subst (MayMake k) (same_Some _ _ pl) (let e = next_is K (cohort_of K k) k lt in loads k _ (omega arith))
   lawful_in k (Close left) st a lt gs hs pl = subst (MayMake k) (same_Some _ _ pl) (swaps k (k + 1) 0 (cohort_of K k) refl)
   lawful_in k (Await left) st a lt gs hs pl = subst (MayMake k) (same_Some _ _ pl) (let e = next_is K (cohort_of K k) k lt in loads k _ (omega arith))
-  lawful_in k (Hand succ left) st a lt gs hs pl = subst (MayMake k) (same_Some _ _ pl) (let h = hs succ left refl in let e = status_is K (cohort_of K k) succ h in stores k _ _ (omega arith) (omega arith))
+  lawful_in k (Hand succ left) st a lt gs hs pl = subst (MayMake k) (same_Some _ _ pl) (let h = hs succ left refl in let e =
+      status_is K (cohort_of K k) succ h in stores k _ _ (omega arith) (omega arith))
   lawful_in k _ st a lt gs hs pl = cc

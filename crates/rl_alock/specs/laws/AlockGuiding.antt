@@ -61,7 +61,8 @@ module _ (K : Cohorts) where
   hangs_none : (s : LockState AlockView) (m n : ℕ) → Hangs K s m → rank_urgent K s.words m Settle Tail ≡ Some n → ⊥
   hangs_none s m n h e =
       ⊎_elim (λ q. absurd (h.waits q.1))
-      (λ q. ⊎_elim (λ z. let some = q.0 in let own = z.0 in cc) (λ z. absurd (z.1 h.victim)) (eqb_tells (slice_index s.words victim_no) (cohort_no (cohort_of K m))))
+      (λ q. ⊎_elim (λ z. let some = q.0 in let own = z.0 in cc) (λ z. absurd (z.1 h.victim))
+      (eqb_tells (slice_index s.words victim_no) (cohort_no (cohort_of K m))))
       (eqb_tells (slice_index s.words (tail_no (other (cohort_of K m)))) 0)
 
   -- the rank that is chosen goes on, as all do that are urgent
@@ -71,7 +72,8 @@ module _ (K : Cohorts) where
       let p : Phase = v.queue.phase in
       let same : v.queue.member ≡ r = g.own r v c.has in
       let has : slice_get s.views r ≡ Some (at_entry r v.queue.phase v.entry) = c.has ∙ ap (λ j. Some (at_entry j v.queue.phase v.entry)) same in
-      let urgent : rank_urgent K s.words r v.queue.phase v.entry ≡ Some c.urgency = subst (λ j. rank_urgent K s.words j v.queue.phase v.entry ≡ Some c.urgency) same c.is_urgent in
+      let urgent : rank_urgent K s.words r v.queue.phase v.entry ≡ Some c.urgency =
+      subst (λ j. rank_urgent K s.words j v.queue.phase v.entry ≡ Some c.urgency) same c.is_urgent in
       ⊎_elim (λ go. go)
       (λ h.
       let view : at_entry r v.queue.phase v.entry ≡ at_entry r Settle Tail = same_Some _ _ (sym has ∙ h.stands) in
@@ -79,19 +81,23 @@ module _ (K : Cohorts) where
       (goes_by K s r p v.entry has (rank_busy s.words r p v.entry c.urgency urgent) (g.flat r v c.has) (rank_free s.words r p v.entry c.urgency urgent))
 
   -- who uses its queue, isn't stuck there and isn't urgent hangs at the entry
-  head_hangs : (s : LockState AlockView) (m : ℕ) (st : SettleStage) → slice_get s.views m ≡ Some (at_entry m Settle st) → rank_urgent K s.words m Settle st ≡ None → Hangs K s m
+  head_hangs : (s : LockState AlockView) (m : ℕ) (st : SettleStage) → slice_get s.views m ≡ Some (at_entry m Settle st) →
+      rank_urgent K s.words m Settle st ≡ None → Hangs K s m
   head_hangs s m Announce has e = cc
   head_hangs s m Victim has e = cc
   head_hangs s m Tail has e =
       ⊎_elim (λ q. let empty = q.0 in cc)
-      (λ q. ⊎_elim (λ z. record { stands = has; waits = q.1; victim = z.1 }) (λ z. let some = q.0 in let no = z.0 in cc) (eqb_tells (slice_index s.words victim_no) (cohort_no (cohort_of K m))))
+      (λ q. ⊎_elim (λ z. record { stands = has; waits = q.1; victim = z.1 }) (λ z. let some = q.0 in let no = z.0 in cc)
+      (eqb_tells (slice_index s.words victim_no) (cohort_no (cohort_of K m))))
       (eqb_tells (slice_index s.words (tail_no (other (cohort_of K m)))) 0)
 
-  rank_hangs : (s : LockState AlockView) (m : ℕ) (p : Phase) (st : SettleStage) → slice_get s.views m ≡ Some (at_entry m p st) → Busy p → (StuckAt s.words m p → ⊥) → rank_urgent K s.words m p st ≡ None → Hangs K s m
+  rank_hangs : (s : LockState AlockView) (m : ℕ) (p : Phase) (st : SettleStage) → slice_get s.views m ≡ Some (at_entry m p st) → Busy p →
+      (StuckAt s.words m p → ⊥) → rank_urgent K s.words m p st ≡ None → Hangs K s m
   rank_hangs s m Settle st has busy free e = head_hangs s m st has e
   rank_hangs s m p st has busy free e = absurd (free_urgent (names_of K (cohort_of K m)) s.words m p busy free e)
 
-  member_hangs : (s : LockState AlockView) (c : Cohort) (m : ℕ) → AlockGood K s → Goes (lane K s c) m → NoneUrgent (alock_urgent K s.words) s.views → Hangs K s m × (cohort_of K m ≡ c)
+  member_hangs : (s : LockState AlockView) (c : Cohort) (m : ℕ) → AlockGood K s → Goes (lane K s c) m →
+      NoneUrgent (alock_urgent K s.words) s.views → Hangs K s m × (cohort_of K m ≡ c)
   member_hangs s c m g k none =
       let i = (g.queue c).inv.inside m k.busy in
       let lt = i.there in
@@ -101,17 +107,21 @@ module _ (K : Cohorts) where
       let own : v.0.queue.member ≡ m = g.own m v.0 v.1 in
       let at : phases_of K c s.views m ≡ v.0.queue.phase = mine_is K c s.views m i.sits ∙ phase_get s.views m v.0 v.1 in
       let free : Stuck v.0.queue.phase (slice_index s.words (queue_next_word (names_of K c) m)) (slice_index s.words (status_word (names_of K c) m)) → ⊥ =
-      λ z. k.goes (subst (λ p. Stuck p (slice_index s.words (queue_next_word (names_of K c) m)) (slice_index s.words (status_word (names_of K c) m))) (sym at) z) in (
+      λ z. k.goes (subst (λ p. Stuck p (slice_index s.words (queue_next_word (names_of K c) m))
+      (slice_index s.words (status_word (names_of K c) m))) (sym at) z) in (
         rank_hangs s m v.0.queue.phase v.0.entry (v.1 ∙ ap (λ j. Some (at_entry j v.0.queue.phase v.0.entry)) own) (subst Busy at k.busy)
-            (subst (λ d. Stuck v.0.queue.phase (slice_index s.words (queue_next_word (names_of K d) m)) (slice_index s.words (status_word (names_of K d) m)) → ⊥) (sym i.sits) free)
+            (subst (λ d. Stuck v.0.queue.phase (slice_index s.words (queue_next_word (names_of K d) m))
+            (slice_index s.words (status_word (names_of K d) m)) → ⊥) (sym i.sits) free)
             (subst (λ j. rank_urgent K s.words j v.0.queue.phase v.0.entry ≡ None) own (none m v.0 v.1)),
         i.sits,
       )
 
   -- where nobody is urgent, a queue that is used has a head that hangs
-  queue_hangs : (s : LockState AlockView) (c : Cohort) (m : ℕ) → AlockGood K s → NoneUrgent (alock_urgent K s.words) s.views → Busy (phases_of K c s.views m) → (k : ℕ) × Hangs K s k × (cohort_of K k ≡ c)
+  queue_hangs : (s : LockState AlockView) (c : Cohort) (m : ℕ) → AlockGood K s → NoneUrgent (alock_urgent K s.words) s.views →
+      Busy (phases_of K c s.views m) → (k : ℕ) × Hangs K s k × (cohort_of K k ≡ c)
   queue_hangs s c m g none busy =
-      let k = busy_goes (Some (budget_in K c)) (InCohort K c) (lane K s c) (g.line c) m (phases_of K c s.views m) (g.queue c).inv (g.queue c).awaited refl busy in
+      let k = busy_goes (Some (budget_in K c)) (InCohort K c) (lane K s c) (g.line c) m (phases_of K c s.views m) (g.queue c).inv
+      (g.queue c).awaited refl busy in
       let h = member_hangs s c k.0 g k.1 none in (k.0, h.0, h.1)
 
   all_rest : (s : LockState AlockView) → AlockGood K s → NoneUrgent (alock_urgent K s.words) s.views → AllOut (alock_table K) s
@@ -119,7 +129,8 @@ module _ (K : Cohorts) where
       ⊎_elim (λ out. out)
       (λ b.
       let c : Cohort = cohort_of K b.0 in
-      let at : phases_of K (cohort_of K b.0) s.views b.0 ≡ b.1.view.queue.phase = mine_is K (cohort_of K b.0) s.views b.0 refl ∙ phase_get s.views b.0 b.1.view b.1.has in
+      let at : phases_of K (cohort_of K b.0) s.views b.0 ≡ b.1.view.queue.phase = mine_is K (cohort_of K b.0) s.views b.0 refl
+      ∙ phase_get s.views b.0 b.1.view b.1.has in
       let k = queue_hangs s (cohort_of K b.0) b.0 g none (subst Busy (sym at) (not_out_busy b.1.view.queue.phase b.1.busy)) in
       let d : Cohort = other (cohort_of K k.0) in
       let m = member_in K s (other (cohort_of K k.0)) (g.line (other (cohort_of K k.0))) g (g.queue (other (cohort_of K k.0))).inv.line k.1.waits in

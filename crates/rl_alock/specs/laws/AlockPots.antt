@@ -56,9 +56,11 @@ abbrev pub enters : Phase → ℕ
 enters (Granted left) = 1
 enters p = 0
 
-module _ (n : TheNames) (In : ℕ → Type 0) (B : ℕ) (limit : n.budget ≡ Some B) (y : Bool) (en en' : ℕ → SettleStage) (m : ℕ) (moved : en' m ≡ Announce) (others : (i : ℕ) → i ≢ m → en' i ≡ en i) where
+module _ (n : TheNames) (In : ℕ → Type 0) (B : ℕ) (limit : n.budget ≡ Some B) (y : Bool) (en en' : ℕ → SettleStage) (m : ℕ)
+    (moved : en' m ≡ Announce) (others : (i : ℕ) → i ≢ m → en' i ≡ en i) where
   -- the head stays who it is
-  stays_pot : (p : Phase) (x z : Option Head) → p ≢ Settle → ((h : Head) → x ≡ Some h → h.who ≡ m → h.phase ≡ p) → z ≡ x → 0 + head_pot B y en' z ≤ head_pot B y en x
+  stays_pot : (p : Phase) (x z : Option Head) → p ≢ Settle → ((h : Head) → x ≡ Some h → h.who ≡ m → h.phase ≡ p) → z ≡ x →
+      0 + head_pot B y en' z ≤ head_pot B y en x
   stays_pot p None z ne at e = let k : head_pot B y en' z ≡ 0 = ap (head_pot B y en') e in omega arith
   stays_pot p (Some h) z ne at e =
       let k : head_pot B y en' z ≡ pot B y (en' h.who) h.phase h.status = ap (head_pot B y en') e in
@@ -69,7 +71,8 @@ module _ (n : TheNames) (In : ℕ → Type 0) (B : ℕ) (limit : n.budget ≡ So
       omega arith
 
   -- the head moves, to one that lets no more in
-  head_pots : (x z : Option Head) (p q : Phase) (s c : ℕ) → x ≡ head m p s → z ≡ head m q s → c + pot B y (en' m) q s ≤ pot B y (en m) p s → c + head_pot B y en' z ≤ head_pot B y en x
+  head_pots : (x z : Option Head) (p q : Phase) (s c : ℕ) → x ≡ head m p s → z ≡ head m q s → c + pot B y (en' m) q s ≤ pot B y (en m) p s →
+      c + head_pot B y en' z ≤ head_pot B y en x
   head_pots x z p q s c ex ez le =
       let a : head_pot B y en x ≡ pot B y (en m) p s = ap (head_pot B y en) ex in
       let b : head_pot B y en' z ≡ pot B y (en' m) q s = ap (head_pot B y en') ez in omega arith
@@ -121,9 +124,11 @@ module _ (n : TheNames) (In : ℕ → Type 0) (B : ℕ) (limit : n.budget ≡ So
         hand_out (Some b) = choose (λ w. enters w.phase ≡ 0) (left == 0) (moves_to Idle) (moves_with Idle (event.Pass n.queue succ)) refl refl
 
   choose_by : (P : QueueTurn → Type 0) (a b : ℕ) (u w : QueueTurn) → P u → (a ≢ b → P w) → P (if a == b then u else w)
-  choose_by P a b u w pu pw = ⊎_elim (λ q. subst (λ z. P (if z then u else w)) (sym q.0) pu) (λ q. subst (λ z. P (if z then u else w)) (sym q.0) (pw q.1)) (eqb_tells a b)
+  choose_by P a b u w pu pw = ⊎_elim (λ q. subst (λ z. P (if z then u else w)) (sym q.0) pu)
+      (λ q. subst (λ z. P (if z then u else w)) (sym q.0) (pw q.1)) (eqb_tells a b)
 
-  turn_pots : (p : Phase) (got s : ℕ) (x z : Option Head) → p ≢ Settle → ((left : ℕ) → p ≢ Granted left) → (p ≡ Wait → got ≡ s) → Known p x → TurnPots p s x z (turn_at n m p got)
+  turn_pots : (p : Phase) (got s : ℕ) (x z : Option Head) → p ≢ Settle → ((left : ℕ) → p ≢ Granted left) → (p ≡ Wait → got ≡ s) →
+      Known p x → TurnPots p s x z (turn_at n m p got)
   turn_pots (Swing guess) got s x z n0 g es k =
       choose (TurnPots (Swing guess) s x z) (got == guess) (moves_with (joined_at guess) (event.Join n.queue m)) (moves_to (Swing got))
       (join_pots guess s x z k) (λ f. stays_pot (Swing guess) x z n0 k f)
@@ -161,28 +166,38 @@ module _ (n : TheNames) (In : ℕ → Type 0) (B : ℕ) (limit : n.budget ≡ So
       sym (ap (λ w. w.phase) same) ∙ ap L.phase (ap (λ w. w.who) same ∙ who) ∙ e
 
   -- Each planned act of the queue takes the entry that it makes off what its head may let in.
-  pub act_pots : (ws : List ℕ) (ph ph' : ℕ → Phase) (l k : List ℕ) (t : List Event) (e : ℕ) (p : Phase) (a : Act) → IsNaming n In (length ws) → QueueGood n In ws ph l t e → ph m ≡ p → plan_at n m p ≡ Some a →
+  pub act_pots : (ws : List ℕ) (ph ph' : ℕ → Phase) (l k : List ℕ) (t : List Event) (e : ℕ) (p : Phase) (a : Act) →
+      IsNaming n In (length ws) → QueueGood n In ws ph l t e → ph m ≡ p → plan_at n m p ≡ Some a →
       ActMoves n In ws ph ph' m p a → LineStep m p (turn_at n m p (told a (slice_index ws (word_of a)))).phase l k →
-      enters (turn_at n m p (told a (slice_index ws (word_of a)))).phase + head_pot B y en' (head_in (lane_of n (slice_set ws (word_of a) (written a (slice_index ws (word_of a)))) ph') k) ≤ head_pot B y en (head_in (lane_of n ws ph) l)
+      enters (turn_at n m p (told a (slice_index ws (word_of a)))).phase + head_pot B y en'
+      (head_in (lane_of n (slice_set ws (word_of a) (written a (slice_index ws (word_of a)))) ph') k) ≤ head_pot B y en
+      (head_in (lane_of n ws ph) l)
   act_pots ws ph ph' l k t e p a d g q pl mv step =
       let no = plans_no_settle p a pl in
-      turn_pots p (told a (slice_index ws (word_of a))) (slice_index ws (status_word n m)) (head_in (lane_of n ws ph) l) (head_in (lane_of n (slice_set ws (word_of a) (written a (slice_index ws (word_of a)))) ph') k)
+      turn_pots p (told a (slice_index ws (word_of a))) (slice_index ws (status_word n m)) (head_in (lane_of n ws ph) l)
+      (head_in (lane_of n (slice_set ws (word_of a) (written a (slice_index ws (word_of a)))) ph') k)
       no.0 no.1 (λ w. wait_found n In ws m p a pl w) (head_known (lane_of n ws ph) l p q) (head_act n In ws ph ph' l k t e m p a d g q pl mv step)
 
 -- a member lets no more in than its queue's head, and the head is a member
-pub pot_of_head : (n : TheNames) (In : ℕ → Type 0) (B : ℕ) (y : Bool) (en : ℕ → SettleStage) (ws : List ℕ) (ph : ℕ → Phase) (l : List ℕ) (t : List Event) (e m : ℕ) → QueueGood n In ws ph l t e →
+pub pot_of_head : (n : TheNames) (In : ℕ → Type 0) (B : ℕ) (y : Bool) (en : ℕ → SettleStage) (ws : List ℕ) (ph : ℕ → Phase) (l : List ℕ)
+    (t : List Event) (e m : ℕ) → QueueGood n In ws ph l t e →
     pot B y (en m) (ph m) (slice_index ws (status_word n m)) ≤ head_pot B y en (head_in (lane_of n ws ph) l)
 pot_of_head n In B y en ws ph l t e m g = by (pot B y (en m) (ph m) (slice_index ws (status_word n m))) refl where
-  by : (x : ℕ) → pot B y (en m) (ph m) (slice_index ws (status_word n m)) ≡ x → pot B y (en m) (ph m) (slice_index ws (status_word n m)) ≤ head_pot B y en (head_in (lane_of n ws ph) l)
+  by : (x : ℕ) → pot B y (en m) (ph m) (slice_index ws (status_word n m)) ≡ x →
+      pot B y (en m) (ph m) (slice_index ws (status_word n m)) ≤ head_pot B y en (head_in (lane_of n ws ph) l)
   by zero eq = omega arith
   by (suc x) eq =
       let a = is_first n.budget In (lane_of n ws ph) l m g.inv (pot_first B y (en m) (ph m) (slice_index ws (status_word n m)) (omega arith)) in
-      let same : head_pot B y en (head_in (lane_of n ws ph) l) ≡ pot B y (en m) (ph m) (slice_index ws (status_word n m)) = ap (λ z. head_pot B y en (head_in (lane_of n ws ph) z)) a.1 in
+      let same : head_pot B y en (head_in (lane_of n ws ph) l) ≡ pot B y (en m) (ph m) (slice_index ws (status_word n m)) =
+      ap (λ z. head_pot B y en (head_in (lane_of n ws ph) z)) a.1 in
       omega arith
 
-pub head_is : (n : TheNames) (In : ℕ → Type 0) (B : ℕ) (y : Bool) (en : ℕ → SettleStage) (ws : List ℕ) (ph : ℕ → Phase) (l : List ℕ) (t : List Event) (e : ℕ) → QueueGood n In ws ph l t e →
-    (head_pot B y en (head_in (lane_of n ws ph) l) ≡ 0) ⊎ ((h : ℕ) × (In h) × (head_pot B y en (head_in (lane_of n ws ph) l) ≡ pot B y (en h) (ph h) (slice_index ws (status_word n h))))
+pub head_is : (n : TheNames) (In : ℕ → Type 0) (B : ℕ) (y : Bool) (en : ℕ → SettleStage) (ws : List ℕ) (ph : ℕ → Phase) (l : List ℕ)
+    (t : List Event) (e : ℕ) → QueueGood n In ws ph l t e →
+    (head_pot B y en (head_in (lane_of n ws ph) l) ≡ 0) ⊎ ((h : ℕ) × (In h) ×
+    (head_pot B y en (head_in (lane_of n ws ph) l) ≡ pot B y (en h) (ph h) (slice_index ws (status_word n h))))
 head_is n In B y en ws ph l t e g = at l (λ x h. in_line n.budget In (lane_of n ws ph) l x g.inv h) where
-  at : (k : List ℕ) → ((x : ℕ) → Has x k → In x) → (head_pot B y en (head_in (lane_of n ws ph) k) ≡ 0) ⊎ ((h : ℕ) × (In h) × (head_pot B y en (head_in (lane_of n ws ph) k) ≡ pot B y (en h) (ph h) (slice_index ws (status_word n h))))
+  at : (k : List ℕ) → ((x : ℕ) → Has x k → In x) → (head_pot B y en (head_in (lane_of n ws ph) k) ≡ 0) ⊎ ((h : ℕ) × (In h) ×
+      (head_pot B y en (head_in (lane_of n ws ph) k) ≡ pot B y (en h) (ph h) (slice_index ws (status_word n h))))
   at [] f = inl refl
   at (x ∷ r) f = inr (x, f x (inl refl), refl)

@@ -23,7 +23,8 @@ flat_hand q None s left = tt
 flat_hand q (Some b) s left = choose (λ z. Flat z.phase) (left == 0) (moves_to Idle) (moves_with Idle (event.Pass q s)) tt tt
 
 pub turn_flat : (n : TheNames) (m : ℕ) (p : Phase) (got : ℕ) → Flat p → Flat (turn_at n m p got).phase
-turn_flat n m (Swing guess) got f = choose (λ z. Flat z.phase) (got == guess) (moves_with (joined_at guess) (event.Join n.queue m)) (moves_to (Swing got)) (flat_joined guess) tt
+turn_flat n m (Swing guess) got f = choose (λ z. Flat z.phase) (got == guess) (moves_with (joined_at guess) (event.Join n.queue m))
+    (moves_to (Swing got)) (flat_joined guess) tt
 turn_flat n m Wait got f =
     choose (λ z. Flat z.phase) (got == 0) (waits_at Wait) (if got == 1 then moves_to Settle else moves_to (Granted (code_left n.budget got))) tt
     (choose (λ z. Flat z.phase) (got == 1) (moves_to Settle) (moves_to (Granted (code_left n.budget got))) tt tt)

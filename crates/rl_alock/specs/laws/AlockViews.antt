@@ -53,7 +53,8 @@ module _ (K : Cohorts) where
     by false = refl
 
   -- rank r of the cohort c moves: in its own queue as it does, and in the other not at all
-  pub moves_mine : (c : Cohort) (vs : List AlockView) (r : ℕ) (v w : AlockView) → cohort_of K r ≡ c → slice_get vs r ≡ Some v → Moves (phases_of K c vs) (phases_of K c (slice_set vs r w)) r v.queue.phase w.queue.phase
+  pub moves_mine : (c : Cohort) (vs : List AlockView) (r : ℕ) (v w : AlockView) → cohort_of K r ≡ c → slice_get vs r ≡ Some v →
+      Moves (phases_of K c vs) (phases_of K c (slice_set vs r w)) r v.queue.phase w.queue.phase
   moves_mine c vs r v w e has =
       record {
         was = mine_is c vs r e ∙ phase_get vs r v has;
@@ -61,7 +62,8 @@ module _ (K : Cohorts) where
         others = λ x ne. ap (part (is_in_cohort K c x)) (phase_set_other vs r w x ne);
       }
 
-  pub moves_other : (c : Cohort) (vs : List AlockView) (r : ℕ) (w : AlockView) → cohort_of K r ≡ c → (x : ℕ) → (x ≡ r) ⊎ (x ≢ r) → phases_of K (other c) (slice_set vs r w) x ≡ phases_of K (other c) vs x
+  pub moves_other : (c : Cohort) (vs : List AlockView) (r : ℕ) (w : AlockView) → cohort_of K r ≡ c → (x : ℕ) → (x ≡ r) ⊎ (x ≢ r) →
+      phases_of K (other c) (slice_set vs r w) x ≡ phases_of K (other c) vs x
   moves_other c vs r w e x which =
       ⊎_elim
       (λ q. let ex : cohort_of K x ≡ c = ap (cohort_of K) q ∙ e in other_is c (slice_set vs r w) x ex ∙ sym (other_is c vs x ex))

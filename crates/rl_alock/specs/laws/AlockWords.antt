@@ -32,7 +32,8 @@ named_in K c size e =
     }
 
 -- what the words of a cohort's queue are
-place_is : (K : Cohorts) (c : Cohort) (w : ℕ) → Place (names_of K c) (InCohort K c) w → (w ≡ tail_no c) ⊎ ((k : ℕ) × (cohort_of K k ≡ c) × ((w ≡ 3 + 2 * k) ⊎ (w ≡ 4 + 2 * k)))
+place_is : (K : Cohorts) (c : Cohort) (w : ℕ) → Place (names_of K c) (InCohort K c) w →
+    (w ≡ tail_no c) ⊎ ((k : ℕ) × (cohort_of K k ≡ c) × ((w ≡ 3 + 2 * k) ⊎ (w ≡ 4 + 2 * k)))
 place_is K c w p =
     ⊎_elim (λ e. inl e)
     (λ q. ⊎_elim
@@ -60,7 +61,8 @@ cohorts_apart K c =
       places = λ w p q.
           let low = tail_low c in
           let low' = tail_low (other c) in
-          let differ : (x y : ℕ) → cohort_of K x ≡ c → cohort_of K y ≡ other c → x ≡ y → ⊥ = λ x y ex ey e. other_differs c (sym ex ∙ ap (cohort_of K) e ∙ ey) in
+          let differ : (x y : ℕ) → cohort_of K x ≡ c → cohort_of K y ≡ other c → x ≡ y → ⊥ =
+          λ x y ex ey e. other_differs c (sym ex ∙ ap (cohort_of K) e ∙ ey) in
           ⊎_elim
           (λ e. ⊎_elim (λ f. two_tails c (sym e ∙ f)) (λ y. ⊎_elim (λ f. absurd (omega arith)) (λ f. absurd (omega arith)) y.2) (place_is K (other c) w q))
           (λ x. ⊎_elim

@@ -20,4 +20,5 @@ same_entry x y e = search rules
 pub same_alock : (x y : AlockView) → alock.ghosts.eq x y ≡ true → x ≡ y
 same_alock x y e =
     let p = both (queue.ghosts.eq x.queue y.queue) (entry.ghosts.eq x.entry y.entry) e in
-    ap (λ z. record { queue = z; entry = x.entry }) (same_queue x.queue y.queue p.0) ∙ ap (λ z. record { queue = y.queue; entry = z }) (same_entry x.entry y.entry p.1)
+    ap (λ z. record { queue = z; entry = x.entry }) (same_queue x.queue y.queue p.0)
+    ∙ ap (λ z. record { queue = y.queue; entry = z }) (same_entry x.entry y.entry p.1)

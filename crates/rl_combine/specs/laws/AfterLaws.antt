@@ -32,7 +32,8 @@ on_test x true s t a c = a
 on_test x false s t a c = c
 
 on_sweep : (S : WaySite) (x y : TheCombineSide) (owner : ℕ) → opened_of y ≡ opened_of x → GoesOnOpen x (sweep_on S y owner)
-on_sweep S x y owner same = on_test x (owner == combine_ranks S) (to_collect y) (combine_to_stage y (Sweep owner)) (on_stage x (with_nothing y) (Collect 0) same refl) (on_stage x y (Sweep owner) same refl)
+on_sweep S x y owner same = on_test x (owner == combine_ranks S) (to_collect y) (combine_to_stage y (Sweep owner))
+    (on_stage x (with_nothing y) (Collect 0) same refl) (on_stage x y (Sweep owner) same refl)
 
 on_read : (S : WaySite) (x y : TheCombineSide) (owner : ℕ) → opened_of y ≡ opened_of x → GoesOnOpen x (combine_read_on S y owner)
 on_read S x y owner same = by_next (next_word S.site.geom y.posted y.seen.pairs) where
@@ -57,20 +58,28 @@ pub data Happens (S : WaySite) (r : ℕ) (x : TheCombineSide) (got : ℕ) (st : 
 
 pub happens : (S : WaySite) (r : ℕ) (x : TheCombineSide) (got : ℕ) (st : CombineStage) → Happens S r x got st
 happens S r x got Rest = rests refl
-happens S r x got (Post made) = goes (on_test x (made + 1 == 5) (combine_to_stage x Raise) (combine_to_stage x (Post (made + 1))) (on_stage x x Raise refl refl) (on_stage x x (Post (made + 1)) refl refl))
+happens S r x got (Post made) =
+    goes (on_test x (made + 1 == 5) (combine_to_stage x Raise) (combine_to_stage x (Post (made + 1))) (on_stage x x Raise refl refl)
+    (on_stage x x (Post (made + 1)) refl refl))
 happens S r x got Raise = asks refl
 happens S r x got Look = goes (on_test x (got == 2) (to_collect x) (combine_to_stage x Count) (on_stage x (with_nothing x) (Collect 0) refl refl) (on_stage x x Count refl refl))
 happens S r x got Count = goes (on_sweep S x (record x { count = got }) 0 refl)
 happens S r x got (Sweep owner) =
-    goes (on_test x (got == 1) (combine_to_stage (with_nothing x) (Copy owner 0)) (sweep_on S x (owner + 1)) (on_stage x (with_nothing x) (Copy owner 0) refl refl) (on_sweep S x x (owner + 1) refl))
+    goes (on_test x (got == 1) (combine_to_stage (with_nothing x) (Copy owner 0)) (sweep_on S x (owner + 1))
+    (on_stage x (with_nothing x) (Copy owner 0) refl refl) (on_sweep S x x (owner + 1) refl))
 happens S r x got (Copy owner made) =
     goes (on_test x (made + 1 == 5) (combine_read_on S (with_posted S (with_copied x got)) owner) (combine_to_stage (with_copied x got) (Copy owner (made + 1)))
     (on_read S x (with_posted S (with_copied x got)) owner refl) (on_stage x (with_copied x got) (Copy owner (made + 1)) refl refl))
 happens S r x got (Read owner word) = goes (on_read S x (combine_with_word x word got) owner refl)
-happens S r x got (Journal owner made) = goes (on_test x (made + 1 == 6) (combine_to_stage x (Volume owner 0)) (combine_to_stage x (Journal owner (made + 1))) (on_stage x x (Volume owner 0) refl refl) (on_stage x x (Journal owner (made + 1)) refl refl))
+happens S r x got (Journal owner made) =
+    goes (on_test x (made + 1 == 6) (combine_to_stage x (Volume owner 0)) (combine_to_stage x (Journal owner (made + 1)))
+    (on_stage x x (Volume owner 0) refl refl) (on_stage x x (Journal owner (made + 1)) refl refl))
 happens S r x got (Volume owner made) = goes (on_write x owner made (slice_get x.writes made))
-happens S r x got (Answer owner made) = goes (on_test x (made + 1 == 3) (combine_to_stage x (Mark owner)) (combine_to_stage x (Answer owner (made + 1))) (on_stage x x (Mark owner) refl refl) (on_stage x x (Answer owner (made + 1)) refl refl))
+happens S r x got (Answer owner made) =
+    goes (on_test x (made + 1 == 3) (combine_to_stage x (Mark owner)) (combine_to_stage x (Answer owner (made + 1)))
+    (on_stage x x (Mark owner) refl refl) (on_stage x x (Answer owner (made + 1)) refl refl))
 happens S r x got (Mark owner) = goes (on_sweep S x x (owner + 1) refl)
 happens S r x got (Collect made) =
-    goes (on_test x (made + 1 == 3) (combine_to_stage (with_copied x got) Lower) (combine_to_stage (with_copied x got) (Collect (made + 1))) (on_stage x (with_copied x got) Lower refl refl) (on_stage x (with_copied x got) (Collect (made + 1)) refl refl))
+    goes (on_test x (made + 1 == 3) (combine_to_stage (with_copied x got) Lower) (combine_to_stage (with_copied x got) (Collect (made + 1)))
+    (on_stage x (with_copied x got) Lower refl refl) (on_stage x (with_copied x got) (Collect (made + 1)) refl refl))
 happens S r x got Lower = ends refl

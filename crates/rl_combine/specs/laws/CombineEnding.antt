@@ -36,15 +36,20 @@ module _ (S : WaySite) (node : ℕ → ℕ) where
   pub combine_ends : WorkEnds (combine_table S node) (CombineGood S) (combine_left S) (combine_most S)
   combine_ends =
       record {
-        nears = λ words cards sides r x at w may. sum_falls (far S) (works_in sides) r x.work (combine_after S r x.work (do_got at words cards)).work (get_map (λ (z : RankSide). z.work) sides r x w.side.there) (atom_less words cards sides r x at w);
+        nears = λ words cards sides r x at w may. sum_falls (far S) (works_in sides) r x.work
+            (combine_after S r x.work (do_got at words cards)).work (get_map (λ (z : RankSide). z.work) sides r x w.side.there)
+            (atom_less words cards sides r x at w);
         frame = λ words others sides g laid same. refl;
         open_adds = λ words sides r x calls seq s shut fits takes.
-            sum_grows (far S) (works_in sides) r (combine_most S) x.work (combine_with_block r x.work calls seq) (get_map (λ (z : RankSide). z.work) sides r x s.there) (opened r x.work calls seq (takes refl));
+            sum_grows (far S) (works_in sides) r (combine_most S) x.work (combine_with_block r x.work calls seq)
+            (get_map (λ (z : RankSide). z.work) sides r x s.there) (opened r x.work calls seq (takes refl));
       } where
-        stage_less : (r : ℕ) (x : TheCombineSide) (got : ℕ) (st : CombineStage) → x.seen.room ≡ V → (st ≡ Rest → ⊥) → CanTurn S r x got st → far S (combine_stage_after S r x got st).work < far_at V R x st
+        stage_less : (r : ℕ) (x : TheCombineSide) (got : ℕ) (st : CombineStage) → x.seen.room ≡ V → (st ≡ Rest → ⊥) → CanTurn S r x got st →
+            far S (combine_stage_after S r x got st).work < far_at V R x st
         stage_less r x got Rest room busy can = absurd (busy refl)
         stage_less r x got (Post made) room busy can =
-            either S (made + 1 == 5) (combine_to_stage x Raise) (combine_to_stage x (Post (made + 1))) _ (λ e. omega arith) (λ e. let k = below made 5 can e in omega arith)
+            either S (made + 1 == 5) (combine_to_stage x Raise) (combine_to_stage x (Post (made + 1))) _ (λ e. omega arith)
+            (λ e. let k = below made 5 can e in omega arith)
         stage_less r x got Raise room busy can = omega arith
         stage_less r x got Look room busy can = either S (got == 2) (to_collect x) (combine_to_stage x Count) _ (λ e. omega arith) (λ e. omega arith)
         stage_less r x got Count room busy can = let k = swept S (record x { count = got }) 0 (sweep_left V R 0) (omega arith) in omega arith
@@ -56,29 +61,38 @@ module _ (S : WaySite) (node : ℕ → ℕ) where
             let y : TheCombineSide = with_posted S (with_copied x got) in
             let k = read_far S y owner in
             let few = few_words_unseen V y.seen.pairs in
-            either S (made + 1 == 5) (combine_read_on S y owner) (combine_to_stage (with_copied x got) (Copy owner (made + 1))) _ (λ e. omega arith) (λ e. let b = below made 5 can.0 e in omega arith)
+            either S (made + 1 == 5) (combine_read_on S y owner) (combine_to_stage (with_copied x got) (Copy owner (made + 1))) _
+            (λ e. omega arith) (λ e. let b = below made 5 can.0 e in omega arith)
         stage_less r x got (Read owner word) room busy can =
             let y : TheCombineSide = combine_with_word x word got in
             let k = read_far S y owner in
             let low : word < V = subst (λ n. word < n) room can.0 in
             let fall : words_unseen V y.seen.pairs + 1 ≤ words_unseen V x.seen.pairs =
-            words_unseen_falls V x.seen.pairs (x.seen.pairs ++ (word, got) ∷ []) word low (ap one_unless can.1) (appended_seen x.seen.pairs word got) (appended_stays x.seen.pairs word got) in
+            words_unseen_falls V x.seen.pairs (x.seen.pairs ++ (word, got) ∷ []) word low (ap one_unless can.1)
+            (appended_seen x.seen.pairs word got) (appended_stays x.seen.pairs word got) in
             omega arith
         stage_less r x got (Journal owner made) room busy can =
-            either S (made + 1 == 6) (combine_to_stage x (Volume owner 0)) (combine_to_stage x (Journal owner (made + 1))) _ (λ e. omega arith) (λ e. let k = below made 6 can e in omega arith)
+            either S (made + 1 == 6) (combine_to_stage x (Volume owner 0)) (combine_to_stage x (Journal owner (made + 1))) _
+            (λ e. omega arith) (λ e. let k = below made 6 can e in omega arith)
         stage_less r x got (Volume owner made) room busy can = written S x owner made (slice_get x.writes made) refl
         stage_less r x got (Answer owner made) room busy can =
-            either S (made + 1 == 3) (combine_to_stage x (Mark owner)) (combine_to_stage x (Answer owner (made + 1))) _ (λ e. omega arith) (λ e. let k = below made 3 can e in omega arith)
+            either S (made + 1 == 3) (combine_to_stage x (Mark owner)) (combine_to_stage x (Answer owner (made + 1))) _ (λ e. omega arith)
+            (λ e. let k = below made 3 can e in omega arith)
         stage_less r x got (Mark owner) room busy can = let k = swept S x (owner + 1) (sweep_left V R (owner + 1)) (omega arith) in omega arith
         stage_less r x got (Collect made) room busy can =
-            either S (made + 1 == 3) (combine_to_stage (with_copied x got) Lower) (combine_to_stage (with_copied x got) (Collect (made + 1))) _ (λ e. omega arith) (λ e. let k = below made 3 can.0 e in omega arith)
+            either S (made + 1 == 3) (combine_to_stage (with_copied x got) Lower)
+            (combine_to_stage (with_copied x got) (Collect (made + 1))) _ (λ e. omega arith)
+            (λ e. let k = below made 3 can.0 e in omega arith)
         stage_less r x got Lower room busy can = omega arith
 
         not_rest : (r : ℕ) (x : TheCombineSide) (at : Atom) (st : CombineStage) → combine_stage_atom S r x st ≡ Some at → st ≡ Rest → ⊥
         not_rest r x at st e q = let bad : None ≡ Some at = sym (ap (combine_stage_atom S r x) q) ∙ e in cc
 
-        atom_less : (words cards : List ℕ) (sides : List RankSide) (r : ℕ) (x : RankSide) (at : Atom) → Works (combine_table S node) (CombineGood S) words sides r x at → far S (combine_after S r x.work (do_got at words cards)).work < far S x.work
+        atom_less : (words cards : List ℕ) (sides : List RankSide) (r : ℕ) (x : RankSide) (at : Atom) →
+            Works (combine_table S node) (CombineGood S) words sides r x at →
+            far S (combine_after S r x.work (do_got at words cards)).work < far S x.work
         atom_less words cards sides r x at w =
             let got : ℕ = do_got at words cards in
-            let can = may_turn S node r x.work got (record { words = words; cards = cards; sides = sides; standing = x.standing; at = at; works = w; gives = refl }) in
+            let can = may_turn S node r x.work got
+            (record { words = words; cards = cards; sides = sides; standing = x.standing; at = at; works = w; gives = refl }) in
             stage_less r x.work got x.work.stage (w.side.is_good.seen_rooms r x w.side.there) (not_rest r x.work at x.work.stage w.planned) can

@@ -25,7 +25,8 @@ sweep_more volume ranks owner low =
     ap (λ n. 5 + (volume + 40) * n) e ∙ grind arith
 
 -- both ways of a choice leave less
-pub either : (S : WaySite) (b : Bool) (p q : Worked TheCombineSide) (n : ℕ) → (b ≡ true → far S p.work < n) → (b ≡ false → far S q.work < n) → far S (if b then p else q).work < n
+pub either : (S : WaySite) (b : Bool) (p q : Worked TheCombineSide) (n : ℕ) → (b ≡ true → far S p.work < n) →
+    (b ≡ false → far S q.work < n) → far S (if b then p else q).work < n
 either S true p q n here there = here refl
 either S false p q n here there = there refl
 
@@ -52,7 +53,8 @@ module _ (S : WaySite) where
     by true = omega arith
     by false = le
 
-  decided : (x : TheCombineSide) (owner : ℕ) (b : Bool) (d : List Write × _) → length d.0 ≤ 5 → far S (combine_to_stage (with_decision S x owner d) (decided_stage owner b)).work ≤ sweep_left V R (owner + 1) + 17
+  decided : (x : TheCombineSide) (owner : ℕ) (b : Bool) (d : List Write × _) → length d.0 ≤ 5 →
+      far S (combine_to_stage (with_decision S x owner d) (decided_stage owner b)).work ≤ sweep_left V R (owner + 1) + 17
   decided x owner true d few = omega arith
   decided x owner false d few = omega arith
 
@@ -65,6 +67,7 @@ module _ (S : WaySite) where
         let k = decided x owner (is_update x.posted) (decision S.site.geom x.posted (value_or_zero x.seen.pairs)) few in
         omega arith
 
-  pub written : (x : TheCombineSide) (owner made : ℕ) (o : Option Write) → slice_get x.writes made ≡ o → far S (combine_written_on x owner made o).work < far_at V R x (Volume owner made)
+  pub written : (x : TheCombineSide) (owner made : ℕ) (o : Option Write) → slice_get x.writes made ≡ o →
+      far S (combine_written_on x owner made o).work < far_at V R x (Volume owner made)
   written x owner made (Some w) e = let k = slice_get_within x.writes made w e in omega arith
   written x owner made None e = omega arith

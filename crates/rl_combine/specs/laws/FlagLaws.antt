@@ -34,7 +34,8 @@ use Rattle.rl_combine.specs.laws.SeatLaws.{seat_word}
 use Rattle.rl_combine.specs.laws.LateLaws.{none_of, one_of, late_by, late_says}
 
 -- a flag that was found 1 is held until 2 is stored there
-by_test : (b : Bool) (s t : Worked TheCombineSide) (owner : ℕ) → found s.work.stage ≡ Some owner → found t.work.stage ≡ Some owner → found (cond b s t).work.stage ≡ Some owner
+by_test : (b : Bool) (s t : Worked TheCombineSide) (owner : ℕ) → found s.work.stage ≡ Some owner → found t.work.stage ≡ Some owner →
+    found (cond b s t).work.stage ≡ Some owner
 by_test true s t owner a c = a
 by_test false s t owner a c = c
 
@@ -52,7 +53,8 @@ writes_found : (x : TheCombineSide) (owner made : ℕ) (o : Option Write) → fo
 writes_found x owner made (Some w) = refl
 writes_found x owner made None = refl
 
-pub holds_on : (S : WaySite) (r : ℕ) (x : TheCombineSide) (got owner : ℕ) (st : CombineStage) → found st ≡ Some owner → (st ≡ Mark owner) ⊎ (found (combine_stage_after S r x got st).work.stage ≡ Some owner)
+pub holds_on : (S : WaySite) (r : ℕ) (x : TheCombineSide) (got owner : ℕ) (st : CombineStage) → found st ≡ Some owner →
+    (st ≡ Mark owner) ⊎ (found (combine_stage_after S r x got st).work.stage ≡ Some owner)
 holds_on S r x got owner Rest e = absurd (cc)
 holds_on S r x got owner (Post made) e = absurd (cc)
 holds_on S r x got owner Raise e = absurd (cc)
@@ -60,11 +62,14 @@ holds_on S r x got owner Look e = absurd (cc)
 holds_on S r x got owner Count e = absurd (cc)
 holds_on S r x got owner (Sweep j) e = absurd (cc)
 holds_on S r x got owner (Copy j made) e =
-    inr (by_test (made + 1 == 5) (combine_read_on S (with_posted S (with_copied x got)) j) (combine_to_stage (with_copied x got) (Copy j (made + 1))) j (reads_found S (with_posted S (with_copied x got)) j) refl ∙ e)
+    inr (by_test (made + 1 == 5) (combine_read_on S (with_posted S (with_copied x got)) j)
+    (combine_to_stage (with_copied x got) (Copy j (made + 1))) j (reads_found S (with_posted S (with_copied x got)) j) refl ∙ e)
 holds_on S r x got owner (Read j word) e = inr (reads_found S (combine_with_word x word got) j ∙ e)
-holds_on S r x got owner (Journal j made) e = inr (by_test (made + 1 == 6) (combine_to_stage x (Volume j 0)) (combine_to_stage x (Journal j (made + 1))) j refl refl ∙ e)
+holds_on S r x got owner (Journal j made) e =
+    inr (by_test (made + 1 == 6) (combine_to_stage x (Volume j 0)) (combine_to_stage x (Journal j (made + 1))) j refl refl ∙ e)
 holds_on S r x got owner (Volume j made) e = inr (writes_found x j made (slice_get x.writes made) ∙ e)
-holds_on S r x got owner (Answer j made) e = inr (by_test (made + 1 == 3) (combine_to_stage x (Mark j)) (combine_to_stage x (Answer j (made + 1))) j refl refl ∙ e)
+holds_on S r x got owner (Answer j made) e =
+    inr (by_test (made + 1 == 3) (combine_to_stage x (Mark j)) (combine_to_stage x (Answer j (made + 1))) j refl refl ∙ e)
 holds_on S r x got owner (Mark j) e = inl (ap (λ n. Mark n) (same_Some j owner e))
 holds_on S r x got owner (Collect made) e = absurd (cc)
 holds_on S r x got owner Lower e = absurd (cc)
@@ -84,7 +89,8 @@ writes_kept : (x : TheCombineSide) (owner made : ℕ) (o : Option Write) → (co
 writes_kept x owner made (Some w) = refl
 writes_kept x owner made None = refl
 
-pub found_keeps : (S : WaySite) (r : ℕ) (x : TheCombineSide) (got owner : ℕ) (st : CombineStage) → found st ≡ Some owner → (combine_stage_after S r x got st).work.kept ≡ x.kept
+pub found_keeps : (S : WaySite) (r : ℕ) (x : TheCombineSide) (got owner : ℕ) (st : CombineStage) → found st ≡ Some owner →
+    (combine_stage_after S r x got st).work.kept ≡ x.kept
 found_keeps S r x got owner Rest e = absurd (cc)
 found_keeps S r x got owner (Post made) e = absurd (cc)
 found_keeps S r x got owner Raise e = absurd (cc)
@@ -92,11 +98,14 @@ found_keeps S r x got owner Look e = absurd (cc)
 found_keeps S r x got owner Count e = absurd (cc)
 found_keeps S r x got owner (Sweep j) e = absurd (cc)
 found_keeps S r x got owner (Copy j made) e =
-    kept_by_test (made + 1 == 5) (combine_read_on S (with_posted S (with_copied x got)) j) (combine_to_stage (with_copied x got) (Copy j (made + 1))) x.kept (reads_kept S (with_posted S (with_copied x got)) j) refl
+    kept_by_test (made + 1 == 5) (combine_read_on S (with_posted S (with_copied x got)) j)
+    (combine_to_stage (with_copied x got) (Copy j (made + 1))) x.kept (reads_kept S (with_posted S (with_copied x got)) j) refl
 found_keeps S r x got owner (Read j word) e = reads_kept S (combine_with_word x word got) j
-found_keeps S r x got owner (Journal j made) e = kept_by_test (made + 1 == 6) (combine_to_stage x (Volume j 0)) (combine_to_stage x (Journal j (made + 1))) x.kept refl refl
+found_keeps S r x got owner (Journal j made) e = kept_by_test (made + 1 == 6) (combine_to_stage x (Volume j 0))
+    (combine_to_stage x (Journal j (made + 1))) x.kept refl refl
 found_keeps S r x got owner (Volume j made) e = writes_kept x j made (slice_get x.writes made)
-found_keeps S r x got owner (Answer j made) e = kept_by_test (made + 1 == 3) (combine_to_stage x (Mark j)) (combine_to_stage x (Answer j (made + 1))) x.kept refl refl
+found_keeps S r x got owner (Answer j made) e = kept_by_test (made + 1 == 3) (combine_to_stage x (Mark j))
+    (combine_to_stage x (Answer j (made + 1))) x.kept refl refl
 found_keeps S r x got owner (Mark j) e = kept_by_test (j + 1 == combine_ranks S) (to_collect x) (combine_to_stage x (Sweep (j + 1))) x.kept refl refl
 found_keeps S r x got owner (Collect made) e = absurd (cc)
 found_keeps S r x got owner Lower e = absurd (cc)
@@ -118,7 +127,8 @@ found_open (Collect made) owner e = refl
 found_open Lower owner e = refl
 
 -- so where the call is over, 2 was stored
-stores_two : (S : WaySite) (r : ℕ) (x : TheCombineSide) (owner : ℕ) (more : List ℕ) → found x.stage ≡ Some owner → combine_is_open (after_all S r x more).stage ≡ false → StoresTwo S owner (atoms_of S r x more)
+stores_two : (S : WaySite) (r : ℕ) (x : TheCombineSide) (owner : ℕ) (more : List ℕ) → found x.stage ≡ Some owner →
+    combine_is_open (after_all S r x more).stage ≡ false → StoresTwo S owner (atoms_of S r x more)
 stores_two S r x owner [] held over = let is = found_open x.stage owner held in absurd (cc)
 stores_two S r x owner (got ∷ more) held over =
     ⊎_elim
@@ -129,19 +139,23 @@ stores_two S r x owner (got ∷ more) held over =
     (holds_on S r x got owner x.stage held)
 
 -- a rank that found the flag 1 in its sweep has stored 2 there before its call is over
-pub sweep_stores : (S : WaySite) (r : ℕ) (x : TheCombineSide) (owner : ℕ) (more : List ℕ) → x.stage ≡ Sweep owner → combine_is_open (after_all S r x (1 ∷ more)).stage ≡ false → StoresTwo S owner (atoms_of S r x (1 ∷ more))
+pub sweep_stores : (S : WaySite) (r : ℕ) (x : TheCombineSide) (owner : ℕ) (more : List ℕ) → x.stage ≡ Sweep owner →
+    combine_is_open (after_all S r x (1 ∷ more)).stage ≡ false → StoresTwo S owner (atoms_of S r x (1 ∷ more))
 sweep_stores S r x owner more at over =
     let held : found (combine_after S r x 1).work.stage ≡ Some owner = ap (λ st. found (combine_stage_after S r x 1 st).work.stage) at in
     let later : StoresTwo S owner (atoms_of S r (combine_after S r x 1).work more) = stores_two S r (combine_after S r x 1).work owner more held over in
     record { place = suc later.place; is = later.is }
 
-module _ (S : WaySite) (node : ℕ → ℕ) (words : List ℕ) (laid : IsLaid (combine_table S node) words) (sides : List RankSide) (g : CombineGood S words sides) (k : ℕ) (x : RankSide) (has : slice_get sides k ≡ Some x) where
+module _ (S : WaySite) (node : ℕ → ℕ) (words : List ℕ) (laid : IsLaid (combine_table S node) words) (sides : List RankSide)
+    (g : CombineGood S words sides) (k : ℕ) (x : RankSide) (has : slice_get sides k ≡ Some x) where
   -- the call of a seat that has the entry of the answer is answered as is due
-  due_of : (y : Seat) (e : Entry) → slice_get g.seats k ≡ Some y → y.work.transcript ≡ more_entries x.work.kept (e ∷ []) → IsLegalRead S.site.geom (journal_by S.site words) e
+  due_of : (y : Seat) (e : Entry) → slice_get g.seats k ≡ Some y → y.work.transcript ≡ more_entries x.work.kept (e ∷ []) →
+      IsLegalRead S.site.geom (journal_by S.site words) e
   due_of y e seat has_one =
       let items : List Entry = x.work.kept.items in
       let all : All (IsLegalRead S.site.geom (journal_by S.site words)) (items ++ e ∷ []) =
-      (always_legal S.site (front_of S words) g.seats g.work).reads_are k (items ++ e ∷ []) (get_map transcript_of g.seats k y seat ∙ ap (λ (t : TheTranscript). Some t.items) has_one) in
+      (always_legal S.site (front_of S words) g.seats g.work).reads_are k (items ++ e ∷ [])
+      (get_map transcript_of g.seats k y seat ∙ ap (λ (t : TheTranscript). Some t.items) has_one) in
       subst (IsLegalRead S.site.geom (journal_by S.site words)) (get_or-append-add items (e ∷ []) 0 e)
       (All-get_or (IsLegalRead S.site.geom (journal_by S.site words)) (items ++ e ∷ []) (length items + 0) e (omega (arith, length-append items (e ∷ []))) all)
 
@@ -157,7 +171,8 @@ module _ (S : WaySite) (node : ℕ → ℕ) (words : List ℕ) (laid : IsLaid (c
         due = λ two. absurd (omega arith);
       }
 
-  done_says : (y : Seat) → slice_get g.seats k ≡ Some y → combine_is_open x.work.stage ≡ true → IsAnswered S (post_of S words k) k (opened_of x.work) y → FlagSays S words sides k x.work
+  done_says : (y : Seat) → slice_get g.seats k ≡ Some y → combine_is_open x.work.stage ≡ true →
+      IsAnswered S (post_of S words k) k (opened_of x.work) y → FlagSays S words sides k x.work
   done_says y seat is a =
       let two : (post_of S words k).flag ≡ 2 = a.flag in
       let e : Entry = answered_entry S.site.shard k x.work.seq x.work.call (post_of S words k).answer in
@@ -170,7 +185,8 @@ module _ (S : WaySite) (node : ℕ → ℕ) (words : List ℕ) (laid : IsLaid (c
         due = λ _. due_of y e seat a.free.has;
       }
 
-  posted_says : (y : Seat) → slice_get g.seats k ≡ Some y → combine_is_open x.work.stage ≡ true → IsPosted S (post_of S words k) k (opened_of x.work) y → FlagSays S words sides k x.work
+  posted_says : (y : Seat) → slice_get g.seats k ≡ Some y → combine_is_open x.work.stage ≡ true →
+      IsPosted S (post_of S words k) k (opened_of x.work) y → FlagSays S words sides k x.work
   posted_says y seat is p = by_case p.progress where
     raised : (post_of S words k).flag ≡ 1 → (early S words k x.work ≡ []) ⊎ IsLate sides k x.work → FlagSays S words sides k x.work
     raised one open_still =
@@ -189,7 +205,8 @@ module _ (S : WaySite) (node : ℕ → ℕ) (words : List ℕ) (laid : IsLaid (c
     by_case (counted c) = raised c.flag (inr (late_by S node words laid sides g k x has y seat c))
     by_case (answered a) = done_says y seat is a
 
-  says_at : (y : Seat) → slice_get g.seats k ≡ Some y → (st : CombineStage) → x.work.stage ≡ st → OwnAt S (post_of S words k) k x y st → FlagSays S words sides k x.work
+  says_at : (y : Seat) → slice_get g.seats k ≡ Some y → (st : CombineStage) → x.work.stage ≡ st → OwnAt S (post_of S words k) k x y st →
+      FlagSays S words sides k x.work
   says_at y seat Rest e o = zero_says o.1
   says_at y seat (Post made) e o = zero_says o.2.flag
   says_at y seat Raise e o = zero_says o.1.flag
@@ -240,7 +257,9 @@ module _ (S : WaySite) (node : ℕ → ℕ) (words : List ℕ) (laid : IsLaid (c
   answer_small = let s = seat_of S node words laid sides g k x has in small_at s.0 x.work.stage (g.own k x s.0 has s.1)
 
 -- who stores to the flags
-module _ (S : WaySite) (node : ℕ → ℕ) (words : List ℕ) (laid : IsLaid (combine_table S node) words) (sides : List RankSide) (g : CombineGood S words sides) (apart : IsApart (combine_table S node) sides) (r : ℕ) (x : RankSide) (has : slice_get sides r ≡ Some x) (k : ℕ) where
+module _ (S : WaySite) (node : ℕ → ℕ) (words : List ℕ) (laid : IsLaid (combine_table S node) words) (sides : List RankSide)
+    (g : CombineGood S words sides) (apart : IsApart (combine_table S node) sides) (r : ℕ) (x : RankSide) (has : slice_get sides r ≡ Some x)
+    (k : ℕ) where
   abbrev Moves : Atom → Type 0
   Moves at = FlagMoves S words at r x k
 
@@ -250,21 +269,25 @@ module _ (S : WaySite) (node : ℕ → ℕ) (words : List ℕ) (laid : IsLaid (c
 
   -- a store to a word of a post, which is no flag
   no_flag : (owner i v : ℕ) → 1 ≤ i → i < 9 → Moves (atom.Store (post_word S owner i) v)
-  no_flag owner i v low few = passes (λ (e : post_word S owner i ≡ flag_word S k). absurd (omega arith)) (get_or-set_other words (post_word S owner i) (post_word S k 0) v 0 (λ e. absurd (omega arith)))
+  no_flag owner i v low few = passes (λ (e : post_word S owner i ≡ flag_word S k). absurd (omega arith))
+      (get_or-set_other words (post_word S owner i) (post_word S k 0) v 0 (λ e. absurd (omega arith)))
 
   flag_set : (owner v : ℕ) → owner < combine_ranks S → (k ≡ owner → Moves (atom.Store (post_word S owner 0) v)) → Moves (atom.Store (post_word S owner 0) v)
   flag_set owner v there same =
       ⊎_elim
       (λ (e : k ≡ owner). same e)
-      (λ (ne : k ≢ owner). passes (λ (e : post_word S owner 0 ≡ flag_word S k). absurd (ne (omega arith))) (ap (λ (p : ThePost). p.flag) (others_stay S words owner 0 v k (omega arith) ne)))
+      (λ (ne : k ≢ owner). passes (λ (e : post_word S owner 0 ≡ flag_word S k). absurd (ne (omega arith)))
+      (ap (λ (p : ThePost). p.flag) (others_stay S words owner 0 v k (omega arith) ne)))
       (same_or_not k owner)
 
-  stored : (owner was v : ℕ) → owner < combine_ranks S → (post_of S words owner).flag ≡ was → k ≡ owner → StoresFlag S words (atom.Store (post_word S owner 0) v) k was v
+  stored : (owner was v : ℕ) → owner < combine_ranks S → (post_of S words owner).flag ≡ was → k ≡ owner →
+      StoresFlag S words (atom.Store (post_word S owner 0) v) k was v
   stored owner was v there is same =
       record {
         store = ap (λ n. atom.Store (post_word S n 0) v) (sym same);
         before = subst (λ n. (post_of S words n).flag ≡ was) (sym same) is;
-        after = subst (λ n. (post_of S (slice_set words (post_word S owner 0) v) n).flag ≡ v) (sym same) (ap (λ (p : ThePost). p.flag) (flag_stored S words owner v there laid.all));
+        after = subst (λ n. (post_of S (slice_set words (post_word S owner 0) v) n).flag ≡ v) (sym same)
+            (ap (λ (p : ThePost). p.flag) (flag_stored S words owner v there laid.all));
       }
 
   front_store : (w v : ℕ) → w < S.behind → Moves (atom.Store w v)
@@ -281,12 +304,15 @@ module _ (S : WaySite) (node : ℕ → ℕ) (words : List ℕ) (laid : IsLaid (c
       here : (a : Atom) → Moves a → Some a ≡ Some at → Moves at
       here a is e = subst Moves (same_Some _ _ e) is
 
-      by_write : (owner made : ℕ) (y : Seat) → slice_get g.seats owner ≡ Some y → (o : Option Write) → work_atom S.site.geom y.work ≡ Some (write_atom (x.work.count + 1) o) → Moves (write_atom (x.work.count + 1) o)
+      by_write : (owner made : ℕ) (y : Seat) → slice_get g.seats owner ≡ Some y → (o : Option Write) →
+          work_atom S.site.geom y.work ≡ Some (write_atom (x.work.count + 1) o) → Moves (write_atom (x.work.count + 1) o)
       by_write owner made y there (Some w) p =
-          front_store (volume_base + w.word) w.value (let l = laid.low in let h = seat_word S node words laid sides g apart r x has owner y there (volume_base + w.word) w.value p in omega arith)
+          front_store (volume_base + w.word) w.value (let l = laid.low in let h = seat_word S node words laid sides g apart r x has owner y
+          there (volume_base + w.word) w.value p in omega arith)
       by_write owner made y there None p = front_store count_word (x.work.count + 1) (let l = laid.low in omega arith)
 
-      by_stage : (y : Seat) (st : CombineStage) → x.work.stage ≡ st → OwnAt S (post_of S words r) r x y st → SweepAt S words g.seats r x.work st → combine_stage_atom S r x.work st ≡ Some at → Moves at
+      by_stage : (y : Seat) (st : CombineStage) → x.work.stage ≡ st → OwnAt S (post_of S words r) r x y st →
+          SweepAt S words g.seats r x.work st → combine_stage_atom S r x.work st ≡ Some at → Moves at
       by_stage y Rest e o w p = absurd (cc)
       by_stage y (Post made) e o w p = let few = o.1 in here _ (no_flag r (1 + made) _ (omega arith) (omega arith)) p
       by_stage y Raise e o w p = here _ (flag_set r 1 rank (λ same. raises same (stored r 0 1 rank o.1.flag same))) p
@@ -297,11 +323,14 @@ module _ (S : WaySite) (node : ℕ → ℕ) (words : List ℕ) (laid : IsLaid (c
       by_stage y (Read owner word) e o w p = here _ (no_store (volume_base + word)) p
       by_stage y (Journal owner made) e o w p =
           here _ (front_store (journal_base S.site.geom + (6 * x.work.count + made)) _ (let l = laid.low in
-          let h = seat_word S node words laid sides g apart r x has owner (deciding x.work (block.Journal made) w.1.seen w.1.t) w.1.seat (journal_base S.site.geom + (6 * x.work.count + made)) (slice_index (spelling x.work.entry) made) refl in
+          let h = seat_word S node words laid sides g apart r x has owner (deciding x.work (block.Journal made) w.1.seen w.1.t) w.1.seat
+          (journal_base S.site.geom + (6 * x.work.count + made)) (slice_index (spelling x.work.entry) made) refl in
           omega arith)) p
-      by_stage y (Volume owner made) e o w p = here _ (by_write owner made (deciding x.work (block.Volume made) w.1.seen w.1.t) w.1.seat (slice_get x.work.writes made) refl) p
+      by_stage y (Volume owner made) e o w p =
+          here _ (by_write owner made (deciding x.work (block.Volume made) w.1.seen w.1.t) w.1.seat (slice_get x.work.writes made) refl) p
       by_stage y (Answer owner made) e o w p = let few = w.1 in here _ (no_flag owner (6 + made) _ (omega arith) (omega arith)) p
       by_stage y (Mark owner) e o w p =
-          here _ (flag_set owner 2 w.0.there (λ same. marks o.0 (e ∙ ap (λ n. Mark n) (sym same)) (stored owner 1 2 w.0.there (found_flag S node words laid sides g r x has owner (ap found e)) same))) p
+          here _ (flag_set owner 2 w.0.there (λ same. marks o.0 (e ∙ ap (λ n. Mark n) (sym same))
+          (stored owner 1 2 w.0.there (found_flag S node words laid sides g r x has owner (ap found e)) same))) p
       by_stage y (Collect made) e o w p = here _ (no_store (post_word S r (6 + made))) p
       by_stage y Lower e o w p = here _ (flag_set r 0 rank (λ same. lowers same (stored r 2 0 rank o.1.done.flag same))) p

@@ -41,12 +41,14 @@ next_more x count None on e = e
 close_more : (shard rank count : ℕ) (x : TheWork) → asks_update x.calls ≡ true → (block_close shard rank x count).over ≡ false
 close_more shard rank count x update = ap (λ b. (block_close_by shard rank x count b).over) update
 
-reads_more : (geom : Geom) (shard rank count : ℕ) (rest : List Call) (x : TheWork) → asks_update x.calls ≡ true → (read_on geom shard rank count rest x).over ≡ false
+reads_more : (geom : Geom) (shard rank count : ℕ) (rest : List Call) (x : TheWork) → asks_update x.calls ≡ true →
+    (read_on geom shard rank count rest x).over ≡ false
 reads_more geom shard rank count [] x update = close_more shard rank count x update
 reads_more geom shard rank count (c ∷ rest) x update =
     let d : List Write × Reply = decision_of geom x c in
     next_more x count (next_word geom c x.seen.pairs) _
-    (elim (stops_block (length x.calls) d.1) as (λ b. (cond b (block_close shard rank (with_stop x d.1 rest) count) (read_on geom shard rank count rest (with_call x d))).over ≡ false) [
+    (elim (stops_block (length x.calls) d.1) as (λ b. (cond b (block_close shard rank (with_stop x d.1 rest) count)
+    (read_on geom shard rank count rest (with_call x d))).over ≡ false) [
       | true ↦ close_more shard rank count (with_stop x d.1 rest) update
       | false ↦ reads_more geom shard rank count rest (with_call x d) update
     ])
@@ -55,7 +57,8 @@ no_load : (count w : ℕ) (o : Option Write) → Some (write_atom count o) ≡ S
 no_load count w (Some d) e = absurd (cc)
 no_load count w None e = absurd (cc)
 
-loads_more : (geom : Geom) (shard rank got w : ℕ) (x : TheWork) (st : BlockStage) → block_atom geom x st ≡ Some (atom.Load w) → asks_update x.calls ≡ true → (block_after geom shard rank x got st).over ≡ false
+loads_more : (geom : Geom) (shard rank got w : ℕ) (x : TheWork) (st : BlockStage) → block_atom geom x st ≡ Some (atom.Load w) →
+    asks_update x.calls ≡ true → (block_after geom shard rank x got st).over ≡ false
 loads_more geom shard rank got w x block.Rest e update = absurd (cc)
 loads_more geom shard rank got w x block.Begin e update = reads_more geom shard rank got (left_of x) x update
 loads_more geom shard rank got w x (block.Read count word) e update =
@@ -64,11 +67,13 @@ loads_more geom shard rank got w x (block.Read count word) e update =
 loads_more geom shard rank got w x (block.Journal made) e update = absurd (cc)
 loads_more geom shard rank got w x (block.Volume made) e update = absurd (no_load (x.at + length x.entries) w (slice_get x.writes made) e)
 
-module _ (S : WaySite) (node : ℕ → ℕ) (words : List ℕ) (laid : IsLaid (combine_table S node) words) (sides : List RankSide) (g : CombineGood S words sides) (k : ℕ) (x : RankSide) (has : slice_get sides k ≡ Some x) where
+module _ (S : WaySite) (node : ℕ → ℕ) (words : List ℕ) (laid : IsLaid (combine_table S node) words) (sides : List RankSide)
+    (g : CombineGood S words sides) (k : ℕ) (x : RankSide) (has : slice_get sides k ≡ Some x) where
   -- the entry that is done early, by the seat
   pub none_of : (y : Seat) → slice_get g.seats k ≡ Some y → y.work.transcript ≡ x.work.kept → early S words k x.work ≡ []
   none_of y seat has_none =
-      ⊎_elim (λ (n : HasNone S words k x.work y). n.none) (λ (o : HasOne S words k x.work y). absurd (no_more_entries x.work.kept o.entry (sym has_none ∙ o.has))) (shown S words sides g k x y seat has)
+      ⊎_elim (λ (n : HasNone S words k x.work y). n.none) (λ (o : HasOne S words k x.work y). absurd
+      (no_more_entries x.work.kept o.entry (sym has_none ∙ o.has))) (shown S words sides g k x y seat has)
 
   pub one_of : (y : Seat) (e : Entry) → slice_get g.seats k ≡ Some y → y.work.transcript ≡ more_entries x.work.kept (e ∷ []) → early S words k x.work ≡ e ∷ []
   one_of y e seat has_one =
@@ -127,9 +132,11 @@ module _ (S : WaySite) (node : ℕ → ℕ) (words : List ℕ) (laid : IsLaid (c
   late_says l = by_stage l.side.work.stage (g.sweeps l.rank l.side l.there) l.late where
     left : IsLeft g.seats l.side.work.entry k → LateSays l.side
     left q =
-        let one : (post_of S words k).flag ≡ 1 = flag_at S (post_of S words k) k x q.side x.work.stage (own_by q.side q.seat) (λ out. let leaves = q.leaves in absurd (cc)) in
+        let one : (post_of S words k).flag ≡ 1 = flag_at S (post_of S words k) k x q.side x.work.stage (own_by q.side q.seat)
+        (λ out. let leaves = q.leaves in absurd (cc)) in
         let c : IsCounted (post_of S words k) (opened_of x.work) q.side =
-        counted_as S (post_of S words k) k (opened_of x.work) q.side q.leaves (posted_at S (post_of S words k) k x q.side x.work.stage (own_by q.side q.seat) one) in
+        counted_as S (post_of S words k) k (opened_of x.work) q.side q.leaves
+        (posted_at S (post_of S words k) k x q.side x.work.stage (own_by q.side q.seat) one) in
         let same : c.entry ∷ [] ≡ l.side.work.entry ∷ [] = sym c.entries ∙ q.entries in
         (one, one_of q.side c.entry q.seat c.has ∙ same)
 
@@ -137,14 +144,18 @@ module _ (S : WaySite) (node : ℕ → ℕ) (words : List ℕ) (laid : IsLaid (c
     ends posted number q =
         let calls : q.side.work.calls ≡ x.work.call ∷ [] = (handed_at S (post_of S words k) k x q.side x.work.stage (own_by q.side q.seat) q.writes).0 in
         let over : true ≡ false =
-        ap (λ (t : WorkTurned). t.over) (sym q.ends) ∙ loads_more S.site.geom S.site.shard k (slice_index words q.loads) q.loads q.side.work q.side.work.stage q.atom (ap asks_update calls ∙ l.update) in
+        ap (λ (t : WorkTurned). t.over) (sym q.ends) ∙ loads_more S.site.geom S.site.shard k (slice_index words q.loads) q.loads q.side.work
+        q.side.work.stage q.atom (ap asks_update calls ∙ l.update) in
         absurd (cc)
 
-    by_end : (owner : ℕ) → IsLeft g.seats l.side.work.entry owner ⊎ IsToEnd S words g.seats l.side.work.posted l.side.work.posted_number l.side.work.entry owner → owner ≡ k → LateSays l.side
+    by_end : (owner : ℕ) → IsLeft g.seats l.side.work.entry owner ⊎
+        IsToEnd S words g.seats l.side.work.posted l.side.work.posted_number l.side.work.entry owner → owner ≡ k → LateSays l.side
     by_end owner end same =
         ⊎_elim
         (λ (q : IsLeft g.seats l.side.work.entry owner). left (subst (IsLeft g.seats l.side.work.entry) same q))
-        (λ (q : IsToEnd S words g.seats l.side.work.posted l.side.work.posted_number l.side.work.entry owner). ends l.side.work.posted l.side.work.posted_number (subst (IsToEnd S words g.seats l.side.work.posted l.side.work.posted_number l.side.work.entry) same q))
+        (λ (q : IsToEnd S words g.seats l.side.work.posted l.side.work.posted_number l.side.work.entry owner). ends l.side.work.posted
+        l.side.work.posted_number (subst (IsToEnd S words g.seats l.side.work.posted l.side.work.posted_number l.side.work.entry) same
+        q))
         end
 
     by_stage : (st : CombineStage) → SweepAt S words g.seats l.rank l.side.work st → IsLateAt st k → LateSays l.side

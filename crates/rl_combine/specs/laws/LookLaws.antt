@@ -31,14 +31,17 @@ use Rattle.rl_combine.specs.laws.StandLaws.{at_rest_of}
 
 -- lists that agree one by one
 transcripts_are : (S : WaySite) (node : ℕ → ℕ) (words : List ℕ) (r : ℕ) (sides : List RankSide) (seats : List Seat) → length sides ≡ length seats →
-    ((k : ℕ) (z : RankSide) (y : Seat) → slice_get sides k ≡ Some z → slice_get seats k ≡ Some y → transcript S words (r + k) z.work ≡ y.work.transcript.items) →
+    ((k : ℕ) (z : RankSide) (y : Seat) → slice_get sides k ≡ Some z → slice_get seats k ≡ Some y → transcript S words
+    (r + k) z.work ≡ y.work.transcript.items) →
     transcripts_from (combine_table S node) words r sides ≡ transcripts seats
 transcripts_are S node words r [] [] same each = refl
 transcripts_are S node words r [] (y ∷ seats) same each = absurd (omega arith)
 transcripts_are S node words r (z ∷ sides) [] same each = absurd (omega arith)
 transcripts_are S node words r (z ∷ sides) (y ∷ seats) same each =
-    ap (λ t. t ∷ transcripts_from (combine_table S node) words (r + 1) sides) (subst (λ n. transcript S words n z.work ≡ y.work.transcript.items) (omega arith) (each 0 z y refl refl))
-    ∙ ap (λ ts. y.work.transcript.items ∷ ts) (transcripts_are S node words (r + 1) sides seats (omega arith) (λ k a b at bt. subst (λ n. transcript S words n a.work ≡ b.work.transcript.items) (omega arith) (each (suc k) a b at bt)))
+    ap (λ t. t ∷ transcripts_from (combine_table S node) words (r + 1) sides)
+    (subst (λ n. transcript S words n z.work ≡ y.work.transcript.items) (omega arith) (each 0 z y refl refl))
+    ∙ ap (λ ts. y.work.transcript.items ∷ ts) (transcripts_are S node words (r + 1) sides seats (omega arith)
+    (λ k a b at bt. subst (λ n. transcript S words n a.work ≡ b.work.transcript.items) (omega arith) (each (suc k) a b at bt)))
 
 module _ (S : WaySite) (node : ℕ → ℕ) (words : List ℕ) (sides : List RankSide) (g : CombineGood S words sides) where
   same_transcripts : transcripts_from (combine_table S node) words 0 sides ≡ transcripts g.seats
@@ -53,7 +56,8 @@ module _ (S : WaySite) (node : ℕ → ℕ) (words : List ℕ) (sides : List Ran
   sorted = subst (λ t. IsSorted (history (journal_by S.site words) t)) (sym same_transcripts) (always_sorted S.site (front_of S words) g.seats g.work)
 
   pub short : length (journal_by S.site words) ≤ places S.site
-  short = let same = journal_is S.site (front_of S words) g.seats g.work in subst (λ j. length j ≤ places S.site) (sym same) (journal_short S.site (front_of S words) g.seats g.work)
+  short = let same = journal_is S.site (front_of S words) g.seats g.work in
+      subst (λ j. length j ≤ places S.site) (sym same) (journal_short S.site (front_of S words) g.seats g.work)
 
   module _ (laid : IsLaid (combine_table S node) words) where
     pub own : (r : ℕ) (x : RankSide) → slice_get sides r ≡ Some x → IsOwnTranscript S.site r (transcript S words r x.work)
@@ -66,10 +70,12 @@ module _ (S : WaySite) (node : ℕ → ℕ) (words : List ℕ) (sides : List Ran
         IsVolume S.site.geom S.site.shard (volume_of S.site.geom (front_of S words)) (table_after S.site.geom finite.empty (journal_by S.site words))
     volume closed =
         let still : volume_of S.site.geom (front_of S words) ≡ g.work.before = g.work.still (λ k y seat. quiet k y seat) in
-        subst (λ j. IsVolume S.site.geom S.site.shard (volume_of S.site.geom (front_of S words)) (table_after S.site.geom finite.empty j)) (sym (journal_is S.site (front_of S words) g.seats g.work))
+        subst (λ j. IsVolume S.site.geom S.site.shard (volume_of S.site.geom (front_of S words)) (table_after S.site.geom finite.empty j))
+        (sym (journal_is S.site (front_of S words) g.seats g.work))
         (subst (λ v. IsVolume S.site.geom S.site.shard v (table_after S.site.geom finite.empty g.work.journal)) (sym still) g.work.volume)
       where
-        by_stage : (k : ℕ) (y : Seat) (st : BlockStage) → y.standing ≡ Out → BlockFits S.site (front_of S words) g.work.journal g.work.before k y st → is_writing st ≡ false
+        by_stage : (k : ℕ) (y : Seat) (st : BlockStage) → y.standing ≡ Out →
+            BlockFits S.site (front_of S words) g.work.journal g.work.before k y st → is_writing st ≡ false
         by_stage k y block.Rest out f = refl
         by_stage k y block.Begin out f = refl
         by_stage k y (block.Read count word) out f = refl
@@ -96,10 +102,12 @@ pub no_more_entries : (t : TheTranscript) (e : Entry) → t ≡ more_entries t (
 no_more_entries t e same = absurd (let l = ap (λ (z : TheTranscript). length z.items) same in omega (arith, length-append t.items (e ∷ [])))
 
 not_two_more : (t : TheTranscript) (e f h : Entry) → more_entries t (e ∷ []) ≡ more_entries (more_entries t (f ∷ [])) (h ∷ []) → ⊥
-not_two_more t e f h same = absurd (let l = ap (λ (z : TheTranscript). length z.items) same in omega (arith, length-append t.items (e ∷ []), length-append (t.items ++ f ∷ []) (h ∷ []), length-append t.items (f ∷ [])))
+not_two_more t e f h same = absurd (let l = ap (λ (z : TheTranscript). length z.items) same in omega
+    (arith, length-append t.items (e ∷ []), length-append (t.items ++ f ∷ []) (h ∷ []), length-append t.items (f ∷ [])))
 
 not_two : (t : TheTranscript) (f h : Entry) → t ≡ more_entries (more_entries t (f ∷ [])) (h ∷ []) → ⊥
-not_two t f h same = absurd (let l = ap (λ (z : TheTranscript). length z.items) same in omega (arith, length-append (t.items ++ f ∷ []) (h ∷ []), length-append t.items (f ∷ [])))
+not_two t f h same = absurd (let l = ap (λ (z : TheTranscript). length z.items) same in
+    omega (arith, length-append (t.items ++ f ∷ []) (h ∷ []), length-append t.items (f ∷ [])))
 
 -- an entry that is done early is one of an open call
 open_with : (S : WaySite) (words : List ℕ) (k : ℕ) (x : TheCombineSide) (e : Entry) → early S words k x ≡ e ∷ [] → combine_is_open x.stage ≡ true
@@ -116,7 +124,8 @@ module _ (S : WaySite) (node : ℕ → ℕ) (words vs : List ℕ) (k : ℕ) (a b
   pub owes_one : HasOne S words k a y → combine_owes S words k a ≡ (combine_is_open a.stage && false)
   owes_one o = ap (λ (l : List Entry). combine_is_open a.stage && (length l == 0)) o.one
 
-  goes_look : IsSameCall a b → transcript S words k a ≡ y.work.transcript.items → transcript S vs k b ≡ u.work.transcript.items → u.work.transcript ≡ y.work.transcript → combine_owes S vs k b ≡ combine_owes S words k a →
+  goes_look : IsSameCall a b → transcript S words k a ≡ y.work.transcript.items → transcript S vs k b ≡ u.work.transcript.items →
+      u.work.transcript ≡ y.work.transcript → combine_owes S vs k b ≡ combine_owes S words k a →
       BlockGoesOn (look (combine_table S node) words k a) (look (combine_table S node) vs k b)
   goes_look c before after stays owed =
       record {
@@ -128,8 +137,10 @@ module _ (S : WaySite) (node : ℕ → ℕ) (words vs : List ℕ) (k : ℕ) (a b
       }
 
 -- how a rank looks after an atom, where its open call is the same
-pub look_goes : (S : WaySite) (node : ℕ → ℕ) (words vs : List ℕ) (k : ℕ) (a b : TheCombineSide) (y u : Seat) → IsSameCall a b → transcript S words k a ≡ y.work.transcript.items → transcript S vs k b ≡ u.work.transcript.items →
-    HasNone S words k a y ⊎ HasOne S words k a y → HasNone S vs k b u ⊎ HasOne S vs k b u → (y.standing ≡ Writer → (y.work.calls ≡ a.call ∷ []) × (y.work.seq ≡ a.seq)) → SeatGoesOn S k y u →
+pub look_goes : (S : WaySite) (node : ℕ → ℕ) (words vs : List ℕ) (k : ℕ) (a b : TheCombineSide) (y u : Seat) → IsSameCall a b →
+    transcript S words k a ≡ y.work.transcript.items → transcript S vs k b ≡ u.work.transcript.items →
+    HasNone S words k a y ⊎ HasOne S words k a y → HasNone S vs k b u ⊎ HasOne S vs k b u →
+    (y.standing ≡ Writer → (y.work.calls ≡ a.call ∷ []) × (y.work.seq ≡ a.seq)) → SeatGoesOn S k y u →
     AtomWork S.site.shard k (look (combine_table S node) words k a) (look (combine_table S node) vs k b)
 look_goes S node words vs k a b y u c before after had have handed moves = ⊎_elim stays grows moves where
   kept : b.kept ≡ a.kept
@@ -139,12 +150,14 @@ look_goes S node words vs k a b y u c before after had have handed moves = ⊎_e
   stays same =
       ⊎_elim
       (λ (n : HasNone S words k a y). ⊎_elim
-      (λ (m : HasNone S vs k b u). inl (goes_look S node words vs k a b y u c before after same (owes_none S node vs words k b a u y m ∙ ap (λ o. o && true) c.open_too ∙ sym (owes_none S node words vs k a b y u n))))
+      (λ (m : HasNone S vs k b u). inl (goes_look S node words vs k a b y u c before after same
+      (owes_none S node vs words k b a u y m ∙ ap (λ o. o && true) c.open_too ∙ sym (owes_none S node words vs k a b y u n))))
       (λ (o : HasOne S vs k b u). absurd (no_more_entries a.kept o.entry (sym n.has ∙ sym same ∙ o.has ∙ ap (λ t. more_entries t (o.entry ∷ [])) kept)))
       have)
       (λ (o : HasOne S words k a y). ⊎_elim
       (λ (n : HasNone S vs k b u). absurd (no_more_entries a.kept o.entry (sym kept ∙ sym n.has ∙ same ∙ o.has)))
-      (λ (m : HasOne S vs k b u). inl (goes_look S node words vs k a b y u c before after same (owes_one S node vs words k b a u y m ∙ ap (λ o. o && false) c.open_too ∙ sym (owes_one S node words vs k a b y u o))))
+      (λ (m : HasOne S vs k b u). inl (goes_look S node words vs k a b y u c before after same
+      (owes_one S node vs words k b a u y m ∙ ap (λ o. o && false) c.open_too ∙ sym (owes_one S node words vs k a b y u o))))
       have)
       had
 
@@ -169,12 +182,14 @@ look_goes S node words vs k a b y u c before after had have handed moves = ⊎_e
       have)
       (λ (o : HasOne S words k a y). absurd (⊎_elim
       (λ (m : HasNone S vs k b u). not_two a.kept o.entry q.entry (sym kept ∙ sym m.has ∙ q.has ∙ ap (λ t. more_entries t (q.entry ∷ [])) o.has))
-      (λ (m : HasOne S vs k b u). not_two_more a.kept m.entry o.entry q.entry (ap (λ t. more_entries t (m.entry ∷ [])) (sym kept) ∙ sym m.has ∙ q.has ∙ ap (λ t. more_entries t (q.entry ∷ [])) o.has))
+      (λ (m : HasOne S vs k b u). not_two_more a.kept m.entry o.entry q.entry
+      (ap (λ t. more_entries t (m.entry ∷ [])) (sym kept) ∙ sym m.has ∙ q.has ∙ ap (λ t. more_entries t (q.entry ∷ [])) o.has))
       have))
       had
 
 -- a rank whose seat writes has its call there
-pub handed_at : (S : WaySite) (p : ThePost) (k : ℕ) (z : RankSide) (y : Seat) (st : CombineStage) → OwnAt S p k z y st → y.standing ≡ Writer → (y.work.calls ≡ z.work.call ∷ []) × (y.work.seq ≡ z.work.seq)
+pub handed_at : (S : WaySite) (p : ThePost) (k : ℕ) (z : RankSide) (y : Seat) (st : CombineStage) → OwnAt S p k z y st →
+    y.standing ≡ Writer → (y.work.calls ≡ z.work.call ∷ []) × (y.work.seq ≡ z.work.seq)
 handed_at S p k z y st o writes =
     let one : p.flag ≡ 1 = flag_at S p k z y st o (λ out. absurd (cc)) in
     let h : IsInHand p (opened_of z.work) y = handled_as S p k (opened_of z.work) y writes (posted_at S p k z y st o one) in

@@ -76,7 +76,8 @@ module _ (S : WaySite) (p : ThePost) (k : ℕ) (z : RankSide) (y : Seat) where
   pub combiner_of : (st : CombineStage) → Combines st → OwnAt S p k z y st → IsCombiner S p k z y
   combiner_of st c o = (own_as st c).0 o
 
-module _ (S : WaySite) (node : ℕ → ℕ) (words : List ℕ) (laid : IsLaid (combine_table S node) words) (sides : List RankSide) (g : CombineGood S words sides) where
+module _ (S : WaySite) (node : ℕ → ℕ) (words : List ℕ) (laid : IsLaid (combine_table S node) words) (sides : List RankSide)
+    (g : CombineGood S words sides) where
   -- each rank has a seat
   pub seat_of : (k : ℕ) (z : RankSide) → slice_get sides k ≡ Some z → (y : Seat) × (slice_get g.seats k ≡ Some y)
   seat_of k z there = some_at g.seats k (let h = slice_get_within sides k z there in let e = g.work.ranks in let f = g.ranks in omega arith)
@@ -95,7 +96,8 @@ module _ (S : WaySite) (node : ℕ → ℕ) (words : List ℕ) (laid : IsLaid (c
 
   module _ (r : ℕ) (x : RankSide) (has : slice_get sides r ≡ Some x) where
     -- this rank alone moves
-    pub own_moves : (vs : List ℕ) (w : RankSide) → front_of S vs ≡ front_of S words → ((k : ℕ) → k ≢ r → post_of S vs k ≡ post_of S words k) → w.work.seen.room ≡ x.work.seen.room →
+    pub own_moves : (vs : List ℕ) (w : RankSide) → front_of S vs ≡ front_of S words →
+        ((k : ℕ) → k ≢ r → post_of S vs k ≡ post_of S words k) → w.work.seen.room ≡ x.work.seen.room →
         ((y : Seat) → slice_get g.seats r ≡ Some y → OwnAt S (post_of S vs r) r w y w.work.stage) →
         SweepAt S vs g.seats r w.work w.work.stage →
         ((q : ℕ) (z : RankSide) → q ≢ r → slice_get sides q ≡ Some z → SweepAt S vs g.seats q z.work z.work.stage) →
@@ -109,7 +111,13 @@ module _ (S : WaySite) (node : ℕ → ℕ) (words : List ℕ) (laid : IsLaid (c
             ⊎_elim
             (λ (e : h.holder ≡ r).
             let side : h.side ≡ x = one_at sides r h.side x (subst (λ z. slice_get sides z ≡ Some h.side) e h.there) has in
-            record { holder = r; side = w; there = get_set_same sides r x w has; holds = hand k (subst (λ (z : RankSide). in_hand z.work.stage ≡ Some k) side h.holds) })
+            record {
+              holder = r;
+              side = w;
+              there = get_set_same sides r x w has;
+              holds =
+                  hand k (subst (λ (z : RankSide). in_hand z.work.stage ≡ Some k) side h.holds);
+            })
             (λ (ne : h.holder ≢ r). record { holder = h.holder; side = h.side; there = get_set_other sides r h.holder w ne ∙ h.there; holds = h.holds })
             (same_or_not h.holder r)
 
@@ -123,12 +131,14 @@ module _ (S : WaySite) (node : ℕ → ℕ) (words : List ℕ) (laid : IsLaid (c
               (λ q. g.seen_rooms k z q.1)
               (get_set_cases sides r k w z at);
           own = λ k z y at there. ⊎_elim
-              (λ q. subst (λ n. OwnAt S (post_of S vs n) n z y z.work.stage) (sym q.0) (subst (λ (u : RankSide). OwnAt S (post_of S vs r) r u y u.work.stage) (sym q.1)
+              (λ q. subst (λ n. OwnAt S (post_of S vs n) n z y z.work.stage) (sym q.0)
+              (subst (λ (u : RankSide). OwnAt S (post_of S vs r) r u y u.work.stage) (sym q.1)
               (own y (subst (λ n. slice_get g.seats n ≡ Some y) q.0 there))))
               (λ q. subst (λ p. OwnAt S p k z y z.work.stage) (sym (posts k q.0)) (g.own k z y q.1 there))
               (get_set_cases sides r k w z at);
           sweeps = λ k z at. ⊎_elim
-              (λ q. subst (λ n. SweepAt S vs g.seats n z.work z.work.stage) (sym q.0) (subst (λ (u : RankSide). SweepAt S vs g.seats r u.work u.work.stage) (sym q.1) sweep))
+              (λ q. subst (λ n. SweepAt S vs g.seats n z.work z.work.stage) (sym q.0)
+              (subst (λ (u : RankSide). SweepAt S vs g.seats r u.work u.work.stage) (sym q.1) sweep))
               (λ q. others k z q.0 q.1)
               (get_set_cases sides r k w z at);
           held = λ k y there. ⊎_elim (λ out. inl out) (λ h. inr (still k h)) (g.held k y there);
@@ -149,11 +159,13 @@ module _ (S : WaySite) (node : ℕ → ℕ) (words : List ℕ) (laid : IsLaid (c
         subst (λ (z : RankSide). in_hand z.work.stage ≡ Some k) side h.holds
 
     -- all seats but that of the call in hand are out
-    others_out : x.standing ≡ Writer → (j : ℕ) → ((k : ℕ) → in_hand x.work.stage ≡ Some k → k ≡ j) → (k : ℕ) (y : Seat) → slice_get g.seats k ≡ Some y → k ≢ j → y.standing ≡ Out
+    others_out : x.standing ≡ Writer → (j : ℕ) → ((k : ℕ) → in_hand x.work.stage ≡ Some k → k ≡ j) → (k : ℕ) (y : Seat) →
+        slice_get g.seats k ≡ Some y → k ≢ j → y.standing ≡ Out
     others_out writes j hand k y there ne = ⊎_elim (λ e. e) (λ h. absurd (ne (hand k (held_by writes k h)))) (g.held k y there)
 
     -- so nobody is beside it among the seats
-    pub seats_apart : x.standing ≡ Writer → (j : ℕ) → ((k : ℕ) → in_hand x.work.stage ≡ Some k → k ≡ j) → (y : Seat) → (y.standing ≡ Reader → ⊥) → AreApart (slice_set g.seats j y)
+    pub seats_apart : x.standing ≡ Writer → (j : ℕ) → ((k : ℕ) → in_hand x.work.stage ≡ Some k → k ≡ j) → (y : Seat) →
+        (y.standing ≡ Reader → ⊥) → AreApart (slice_set g.seats j y)
     seats_apart writes j hand y unread =
         record {
           excludes = λ a b u v at bt w h. is_j a u at (subst IsHolder (sym w) tt) ∙ sym (is_j b v bt h);
@@ -170,7 +182,8 @@ module _ (S : WaySite) (node : ℕ → ℕ) (words : List ℕ) (laid : IsLaid (c
         is_j a u at h = ⊎_elim (λ q. q.0) (λ q. absurd (out_not u.standing (others_out writes j hand a u q.1 q.0) h)) (get_set_cases g.seats j a y u at)
 
     -- a writer moves, and with it one seat
-    pub writer_moves : x.standing ≡ Writer → (vs : List ℕ) (w : RankSide) (j : ℕ) (y u : Seat) → slice_get g.seats j ≡ Some y → WorkGood S.site (front_of S vs) (slice_set g.seats j u) →
+    pub writer_moves : x.standing ≡ Writer → (vs : List ℕ) (w : RankSide) (j : ℕ) (y u : Seat) → slice_get g.seats j ≡ Some y →
+        WorkGood S.site (front_of S vs) (slice_set g.seats j u) →
         ((k : ℕ) → k ≢ j → post_of S vs k ≡ post_of S words k) → w.work.seen.room ≡ x.work.seen.room →
         ((v : Seat) → slice_get (slice_set g.seats j u) r ≡ Some v → OwnAt S (post_of S vs r) r w v w.work.stage) →
         (j ≢ r → (z : RankSide) → slice_get sides j ≡ Some z → OwnAt S (post_of S vs j) j z u z.work.stage) →
@@ -189,7 +202,8 @@ module _ (S : WaySite) (node : ℕ → ℕ) (words : List ℕ) (laid : IsLaid (c
               (get_set_cases g.seats j k u b bt);
         }
       where
-        other : (k : ℕ) (z : RankSide) (v : Seat) → k ≢ r → slice_get sides k ≡ Some z → ((k ≡ j) × (v ≡ u)) ⊎ ((k ≢ j) × (slice_get g.seats k ≡ Some v)) → OwnAt S (post_of S vs k) k z v z.work.stage
+        other : (k : ℕ) (z : RankSide) (v : Seat) → k ≢ r → slice_get sides k ≡ Some z →
+            ((k ≡ j) × (v ≡ u)) ⊎ ((k ≢ j) × (slice_get g.seats k ≡ Some v)) → OwnAt S (post_of S vs k) k z v z.work.stage
         other k z v ne there cases =
             ⊎_elim
             (λ q. subst (λ n. OwnAt S (post_of S vs n) n z v z.work.stage) (sym q.0) (subst (λ a. OwnAt S (post_of S vs j) j z a z.work.stage) (sym q.1)
@@ -207,14 +221,16 @@ module _ (S : WaySite) (node : ℕ → ℕ) (words : List ℕ) (laid : IsLaid (c
               (λ q. g.seen_rooms k z q.1)
               (get_set_cases sides r k w z at);
           own = λ k z v at there. ⊎_elim
-              (λ q. subst (λ n. OwnAt S (post_of S vs n) n z v z.work.stage) (sym q.0) (subst (λ (a : RankSide). OwnAt S (post_of S vs r) r a v a.work.stage) (sym q.1)
+              (λ q. subst (λ n. OwnAt S (post_of S vs n) n z v z.work.stage) (sym q.0)
+              (subst (λ (a : RankSide). OwnAt S (post_of S vs r) r a v a.work.stage) (sym q.1)
               (own_r v (subst (λ n. slice_get (slice_set g.seats j u) n ≡ Some v) q.0 there))))
               (λ q. other k z v q.0 q.1 (get_set_cases g.seats j k u v there))
               (get_set_cases sides r k w z at);
           sweeps = λ k z at. ⊎_elim
               (λ q. subst (λ n. SweepAt S vs (slice_set g.seats j u) n z.work z.work.stage) (sym q.0)
               (subst (λ (a : RankSide). SweepAt S vs (slice_set g.seats j u) r a.work a.work.stage) (sym q.1) sweep))
-              (λ q. let s = seat_of k z q.1 in sweep_any S (post_of S words k) k z s.0 z.work.stage (g.own k z s.0 q.1 s.1) (only_writer writes k z q.1 q.0) vs (slice_set g.seats j u))
+              (λ q. let s = seat_of k z q.1 in sweep_any S (post_of S words k) k z s.0 z.work.stage (g.own k z s.0 q.1 s.1)
+              (only_writer writes k z q.1 q.0) vs (slice_set g.seats j u))
               (get_set_cases sides r k w z at);
           held = λ k v there. ⊎_elim
               (λ q. ⊎_elim
@@ -226,10 +242,13 @@ module _ (S : WaySite) (node : ℕ → ℕ) (words : List ℕ) (laid : IsLaid (c
         }
 
     -- a writer goes on with its sweep, and with it the post and seat of one rank
-    pub combiner_moves : (vs : List ℕ) (w : TheCombineSide) (j : ℕ) (y u : Seat) → slice_get g.seats j ≡ Some y → WorkGood S.site (front_of S vs) (slice_set g.seats j u) →
-        ((k : ℕ) → k ≢ j → post_of S vs k ≡ post_of S words k) → w.seen.room ≡ x.work.seen.room → opened_of w ≡ opened_of x.work → Combines x.work.stage → Combines w.stage →
+    pub combiner_moves : (vs : List ℕ) (w : TheCombineSide) (j : ℕ) (y u : Seat) → slice_get g.seats j ≡ Some y →
+        WorkGood S.site (front_of S vs) (slice_set g.seats j u) →
+        ((k : ℕ) → k ≢ j → post_of S vs k ≡ post_of S words k) → w.seen.room ≡ x.work.seen.room → opened_of w ≡ opened_of x.work → Combines
+        x.work.stage → Combines w.stage →
         (post_of S words j).flag ≡ 1 →
-        ((z : RankSide) → slice_get sides j ≡ Some z → IsPosted S (post_of S words j) j (opened_of z.work) y → IsPosted S (post_of S vs j) j (opened_of z.work) u) →
+        ((z : RankSide) → slice_get sides j ≡ Some z → IsPosted S (post_of S words j) j (opened_of z.work) y → IsPosted S (post_of S vs j) j
+        (opened_of z.work) u) →
         SweepAt S vs (slice_set g.seats j u) r w w.stage →
         ((k : ℕ) → in_hand x.work.stage ≡ Some k → k ≡ j) →
         (u.standing ≡ Out) ⊎ (in_hand w.stage ≡ Some j) → SeatGoesOn S j y u →

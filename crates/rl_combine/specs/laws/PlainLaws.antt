@@ -20,16 +20,22 @@ use Rattle.rl_combine.specs.CombineGood.{RankSide, front_of, OwnAt, SweepAt, Com
 use Rattle.rl_combine.specs.laws.MoveLaws.{seat_of, is_rank}
 use Rattle.rl_combine.specs.laws.SeatLaws.{seat_word}
 
-module _ (S : WaySite) (node : ℕ → ℕ) (words : List ℕ) (laid : IsLaid (combine_table S node) words) (sides : List RankSide) (g : CombineGood S words sides) (apart : IsApart (combine_table S node) sides) (r : ℕ) (x : RankSide) (has : slice_get sides r ≡ Some x) where
+module _ (S : WaySite) (node : ℕ → ℕ) (words : List ℕ) (laid : IsLaid (combine_table S node) words) (sides : List RankSide)
+    (g : CombineGood S words sides) (apart : IsApart (combine_table S node) sides) (r : ℕ) (x : RankSide)
+    (has : slice_get sides r ≡ Some x) where
   post_there : (k i : ℕ) → k < combine_ranks S → i < 9 → IsWorkWord (combine_table S node) (post_word S k i)
   post_there k i low few = record { there = omega arith; place = inr (omega arith) }
 
   front_there : (w : ℕ) → w < lock_base S.site → IsWorkWord (combine_table S node) w
   front_there w low = record { there = (let l = laid.low in omega arith); place = inl low }
 
-  write_there : (owner made : ℕ) (seat : Seat) → slice_get g.seats owner ≡ Some seat → (o : Option Write) → work_atom S.site.geom seat.work ≡ Some (write_atom (x.work.count + 1) o) → (a : Atom) → Some (write_atom (x.work.count + 1) o) ≡ Some a → IsWorkAtom (combine_table S node) a
+  write_there : (owner made : ℕ) (seat : Seat) → slice_get g.seats owner ≡ Some seat → (o : Option Write) →
+      work_atom S.site.geom seat.work ≡ Some (write_atom (x.work.count + 1) o) → (a : Atom) →
+      Some (write_atom (x.work.count + 1) o) ≡ Some a → IsWorkAtom (combine_table S node) a
   write_there owner made seat there (Some w) planned a e =
-      subst (IsWorkAtom (combine_table S node)) (same_Some _ _ e) (front_there (volume_base + w.word) (seat_word S node words laid sides g apart r x has owner seat there (volume_base + w.word) w.value planned))
+      subst (IsWorkAtom (combine_table S node)) (same_Some _ _ e)
+      (front_there (volume_base + w.word) (seat_word S node words laid sides g apart r x has owner seat there (volume_base + w.word)
+      w.value planned))
   write_there owner made seat there None planned a e = subst (IsWorkAtom (combine_table S node)) (same_Some _ _ e) (front_there count_word (omega arith))
 
   pub plain : (at : Atom) → combine_stage_atom S r x.work x.work.stage ≡ Some at → IsWorkAtom (combine_table S node) at
@@ -43,7 +49,8 @@ module _ (S : WaySite) (node : ℕ → ℕ) (words : List ℕ) (laid : IsLaid (c
       here : (a : Atom) → IsWorkAtom (combine_table S node) a → Some a ≡ Some at → IsWorkAtom (combine_table S node) at
       here a is e = subst (IsWorkAtom (combine_table S node)) (same_Some _ _ e) is
 
-      by_stage : (y : Seat) (st : CombineStage) → OwnAt S (post_of S words r) r x y st → SweepAt S words g.seats r x.work st → combine_stage_atom S r x.work st ≡ Some at → IsWorkAtom (combine_table S node) at
+      by_stage : (y : Seat) (st : CombineStage) → OwnAt S (post_of S words r) r x y st → SweepAt S words g.seats r x.work st →
+          combine_stage_atom S r x.work st ≡ Some at → IsWorkAtom (combine_table S node) at
       by_stage y Rest o w e = absurd (cc)
       by_stage y (Post made) o w e = let few = o.1 in here _ (post_there r (1 + made) rank (omega arith)) e
       by_stage y Raise o w e = here _ (post_there r 0 rank (omega arith)) e
@@ -53,20 +60,27 @@ module _ (S : WaySite) (node : ℕ → ℕ) (words : List ℕ) (laid : IsLaid (c
       by_stage y (Copy owner made) o w e = let few = w.1.few in here _ (post_there owner (1 + made) w.0.there (omega arith)) e
       by_stage y (Read owner word) o w e =
           let can : volume_base + word < length (front_of S words) =
-          atom_can S.site (front_of S words) g.seats g.work owner (reading x.work (block.Read x.work.count word) w.1.at w.1.entries w.1.t) w.1.seat (atom.Load (volume_base + word)) (λ n. 0) [] refl in
+          atom_can S.site (front_of S words) g.seats g.work owner
+          (reading x.work (block.Read x.work.count word) w.1.at w.1.entries w.1.t) w.1.seat (atom.Load (volume_base + word))
+          (λ n. 0) [] refl in
           here _ (front_there (volume_base + word) (let size = g.work.size in omega arith)) e
       by_stage y (Journal owner made) o w e =
-          here _ (front_there (journal_base S.site.geom + (6 * x.work.count + made)) (seat_word S node words laid sides g apart r x has owner (deciding x.work (block.Journal made) w.1.seen w.1.t) w.1.seat
+          here _ (front_there (journal_base S.site.geom + (6 * x.work.count + made))
+          (seat_word S node words laid sides g apart r x has owner (deciding x.work (block.Journal made) w.1.seen w.1.t) w.1.seat
           (journal_base S.site.geom + (6 * x.work.count + made)) (slice_index (spelling x.work.entry) made) refl)) e
-      by_stage y (Volume owner made) o w e = write_there owner made (deciding x.work (block.Volume made) w.1.seen w.1.t) w.1.seat (slice_get x.work.writes made) refl at e
+      by_stage y (Volume owner made) o w e = write_there owner made (deciding x.work (block.Volume made) w.1.seen w.1.t) w.1.seat
+          (slice_get x.work.writes made) refl at e
       by_stage y (Answer owner made) o w e = let few = w.1 in here _ (post_there owner (6 + made) w.0.there (omega arith)) e
       by_stage y (Mark owner) o w e = here _ (post_there owner 0 w.0.there (omega arith)) e
       by_stage y (Collect made) o w e = let few = o.1 in here _ (post_there r (6 + made) rank (omega arith)) e
       by_stage y Lower o w e = here _ (post_there r 0 rank (omega arith)) e
 
-  write_front : (owner made : ℕ) (seat : Seat) → slice_get g.seats owner ≡ Some seat → (o : Option Write) → work_atom S.site.geom seat.work ≡ Some (write_atom (x.work.count + 1) o) → (a : Atom) → Some (write_atom (x.work.count + 1) o) ≡ Some a → IsFrontAtom (lock_base S.site) a
+  write_front : (owner made : ℕ) (seat : Seat) → slice_get g.seats owner ≡ Some seat → (o : Option Write) →
+      work_atom S.site.geom seat.work ≡ Some (write_atom (x.work.count + 1) o) → (a : Atom) →
+      Some (write_atom (x.work.count + 1) o) ≡ Some a → IsFrontAtom (lock_base S.site) a
   write_front owner made seat there (Some w) planned a e =
-      subst (IsFrontAtom (lock_base S.site)) (same_Some _ _ e) (seat_word S node words laid sides g apart r x has owner seat there (volume_base + w.word) w.value planned)
+      subst (IsFrontAtom (lock_base S.site)) (same_Some _ _ e) (seat_word S node words laid sides g apart r x has owner seat there
+      (volume_base + w.word) w.value planned)
   write_front owner made seat there None planned a e =
       let low : count_word < lock_base S.site = omega arith in
       subst (IsFrontAtom (lock_base S.site)) (same_Some _ _ e) low
@@ -83,7 +97,8 @@ module _ (S : WaySite) (node : ℕ → ℕ) (words : List ℕ) (laid : IsLaid (c
       stores : (word value : ℕ) → word < lock_base S.site → Some (atom.Store word value) ≡ Some at → IsFrontAtom (lock_base S.site) at
       stores word value low e = subst (IsFrontAtom (lock_base S.site)) (same_Some _ _ e) low
 
-      by_stage : (y : Seat) (st : CombineStage) → OwnAt S (post_of S words r) r x y st → SweepAt S words g.seats r x.work st → combine_stage_atom S r x.work st ≡ Some at → combine_touch_at st ≢ None → IsFrontAtom (lock_base S.site) at
+      by_stage : (y : Seat) (st : CombineStage) → OwnAt S (post_of S words r) r x y st → SweepAt S words g.seats r x.work st →
+          combine_stage_atom S r x.work st ≡ Some at → combine_touch_at st ≢ None → IsFrontAtom (lock_base S.site) at
       by_stage y Rest o w e told = absurd (told refl)
       by_stage y (Post made) o w e told = absurd (told refl)
       by_stage y Raise o w e told = absurd (told refl)
@@ -93,12 +108,15 @@ module _ (S : WaySite) (node : ℕ → ℕ) (words : List ℕ) (laid : IsLaid (c
       by_stage y (Copy owner made) o w e told = absurd (told refl)
       by_stage y (Read owner word) o w e told =
           let can : volume_base + word < length (front_of S words) =
-          atom_can S.site (front_of S words) g.seats g.work owner (reading x.work (block.Read x.work.count word) w.1.at w.1.entries w.1.t) w.1.seat (atom.Load (volume_base + word)) (λ n. 0) [] refl in
+          atom_can S.site (front_of S words) g.seats g.work owner
+          (reading x.work (block.Read x.work.count word) w.1.at w.1.entries w.1.t) w.1.seat (atom.Load (volume_base + word))
+          (λ n. 0) [] refl in
           loads (volume_base + word) (let size = g.work.size in omega arith) e
       by_stage y (Journal owner made) o w e told =
           stores _ _ (seat_word S node words laid sides g apart r x has owner (deciding x.work (block.Journal made) w.1.seen w.1.t) w.1.seat
           (journal_base S.site.geom + (6 * x.work.count + made)) (slice_index (spelling x.work.entry) made) refl) e
-      by_stage y (Volume owner made) o w e told = write_front owner made (deciding x.work (block.Volume made) w.1.seen w.1.t) w.1.seat (slice_get x.work.writes made) refl at e
+      by_stage y (Volume owner made) o w e told = write_front owner made (deciding x.work (block.Volume made) w.1.seen w.1.t) w.1.seat
+          (slice_get x.work.writes made) refl at e
       by_stage y (Answer owner made) o w e told = absurd (told refl)
       by_stage y (Mark owner) o w e told = absurd (told refl)
       by_stage y (Collect made) o w e told = absurd (told refl)

@@ -33,7 +33,8 @@ same_by f h same =
     let e8 = same 8 (omega arith) in
     cc
 
-pub same_post : (S : WaySite) (k : ℕ) (words others : List ℕ) → ((m : ℕ) → m < 9 → slice_index others (post_word S k m) ≡ slice_index words (post_word S k m)) → post_of S others k ≡ post_of S words k
+pub same_post : (S : WaySite) (k : ℕ) (words others : List ℕ) →
+    ((m : ℕ) → m < 9 → slice_index others (post_word S k m) ≡ slice_index words (post_word S k m)) → post_of S others k ≡ post_of S words k
 same_post S k words others same = same_by (λ m. slice_index others (post_word S k m)) (λ m. slice_index words (post_word S k m)) same
 
 module _ (S : WaySite) (words : List ℕ) where
@@ -43,7 +44,8 @@ module _ (S : WaySite) (words : List ℕ) where
 
   pub others_stay : (r i v k : ℕ) → i < 9 → k ≢ r → post_of S (slice_set words (post_word S r i) v) k ≡ post_of S words k
   others_stay r i v k few ne =
-      same_post S k words (slice_set words (post_word S r i) v) (λ m h. get_or-set_other words (post_word S r i) (post_word S k m) v 0 (λ q. absurd (ne (omega arith))))
+      same_post S k words (slice_set words (post_word S r i) v)
+      (λ m h. get_or-set_other words (post_word S r i) (post_word S k m) v 0 (λ q. absurd (ne (omega arith))))
 
   -- the words of a post, one by one
   pub call_word : (k made : ℕ) → made < 5 → slice_index words (post_word S k (1 + made)) ≡ slice_index (post_of S words k).call made
@@ -62,25 +64,30 @@ module _ (S : WaySite) (words : List ℕ) where
 
   module _ (r v : ℕ) (there : r < combine_ranks S) (size : length words ≡ S.behind + 9 * combine_ranks S) where
     -- a store to one of a rank's nine words
-    changed : (i m : ℕ) → i < 9 → m < 9 → slice_index (slice_set words (post_word S r i) v) (post_word S r m) ≡ (if m == i then v else slice_index words (post_word S r m))
+    changed : (i m : ℕ) → i < 9 → m < 9 → slice_index (slice_set words (post_word S r i) v) (post_word S r m) ≡
+        (if m == i then v else slice_index words (post_word S r m))
     changed i m few low =
         ⊎_elim
         (λ (e : m ≡ i).
         let hit : (m == i) ≡ true = grind (arith, nat_tests) in
         let in_words : post_word S r i < length words = omega arith in
-        get_or-set_at words (post_word S r i) (post_word S r m) v 0 (omega arith) in_words ∙ ap (λ b. if b then v else slice_index words (post_word S r m)) (sym hit))
+        get_or-set_at words (post_word S r i) (post_word S r m) v 0 (omega arith) in_words
+        ∙ ap (λ b. if b then v else slice_index words (post_word S r m)) (sym hit))
         (λ (ne : m ≢ i).
         let miss : (m == i) ≡ false = grind (arith, nat_tests) in
-        get_or-set_other words (post_word S r i) (post_word S r m) v 0 (λ q. absurd (ne (omega arith))) ∙ ap (λ b. if b then v else slice_index words (post_word S r m)) (sym miss))
+        get_or-set_other words (post_word S r i) (post_word S r m) v 0 (λ q. absurd (ne (omega arith)))
+        ∙ ap (λ b. if b then v else slice_index words (post_word S r m)) (sym miss))
         (same_or_not m i)
 
     changes : (i : ℕ) → i < 9 → post_of S (slice_set words (post_word S r i) v) r ≡ post_by (λ m. if m == i then v else slice_index words (post_word S r m))
-    changes i few = same_by (λ m. slice_index (slice_set words (post_word S r i) v) (post_word S r m)) (λ m. if m == i then v else slice_index words (post_word S r m)) (λ m low. changed i m few low)
+    changes i few = same_by (λ m. slice_index (slice_set words (post_word S r i) v) (post_word S r m))
+        (λ m. if m == i then v else slice_index words (post_word S r m)) (λ m low. changed i m few low)
 
     pub flag_stored : post_of S (slice_set words (post_word S r 0) v) r ≡ record (post_of S words r) { flag = v }
     flag_stored = changes 0 (omega arith)
 
-    pub call_stored : (made : ℕ) → made < 5 → post_of S (slice_set words (post_word S r (1 + made)) v) r ≡ record (post_of S words r) { call = slice_set (post_of S words r).call made v }
+    pub call_stored : (made : ℕ) → made < 5 → post_of S (slice_set words (post_word S r (1 + made)) v) r ≡ record (post_of S words r)
+        { call = slice_set (post_of S words r).call made v }
     call_stored zero h = changes 1 (omega arith)
     call_stored (suc zero) h = changes 2 (omega arith)
     call_stored (suc (suc zero)) h = changes 3 (omega arith)
@@ -88,7 +95,8 @@ module _ (S : WaySite) (words : List ℕ) where
     call_stored (suc (suc (suc (suc zero)))) h = changes 5 (omega arith)
     call_stored (suc (suc (suc (suc (suc n))))) h = absurd (omega arith)
 
-    pub answer_stored : (made : ℕ) → made < 3 → post_of S (slice_set words (post_word S r (6 + made)) v) r ≡ record (post_of S words r) { answer = slice_set (post_of S words r).answer made v }
+    pub answer_stored : (made : ℕ) → made < 3 → post_of S (slice_set words (post_word S r (6 + made)) v) r ≡ record (post_of S words r)
+        { answer = slice_set (post_of S words r).answer made v }
     answer_stored zero h = changes 6 (omega arith)
     answer_stored (suc zero) h = changes 7 (omega arith)
     answer_stored (suc (suc zero)) h = changes 8 (omega arith)
@@ -109,7 +117,8 @@ pub copies_on : (xs ys : List ℕ) (made got : ℕ) → made < length xs → ys 
 copies_on xs ys made got low e same = ap (λ z. z ++ got ∷ []) e ∙ ap (λ z. take made xs ++ z ∷ []) same ∙ sym (take_more xs made 0 low)
 
 -- one word more of a list that is stored
-pub stores_on : (xs ys : List ℕ) (made : ℕ) → made < length xs → made < length ys → take made xs ≡ take made ys → take (made + 1) (slice_set xs made (slice_index ys made)) ≡ take (made + 1) ys
+pub stores_on : (xs ys : List ℕ) (made : ℕ) → made < length xs → made < length ys → take made xs ≡ take made ys →
+    take (made + 1) (slice_set xs made (slice_index ys made)) ≡ take (made + 1) ys
 stores_on xs ys made low few e = take_more_set xs made (slice_index ys made) low ∙ ap (λ z. z ++ slice_index ys made ∷ []) e ∙ sym (take_more ys made 0 few)
 
 -- a posted call is read back; a hold is one of its shard

@@ -40,7 +40,8 @@ abbrev first_seat : WaySite → RankSide → Seat
 first_seat S x = record { standing = Out; work = first_work S.site.geom x.work.kept.room }
 
 -- before the first call the rule holds
-pub begins : (S : WaySite) (node : ℕ → ℕ) → GeomFits S.site.geom → (n : ℕ) → lock_base S.site ≤ S.behind → lock_base S.site + n ≡ S.behind + 9 * combine_ranks S → (sides : List RankSide) → length sides ≡ combine_ranks S →
+pub begins : (S : WaySite) (node : ℕ → ℕ) → GeomFits S.site.geom → (n : ℕ) → lock_base S.site ≤ S.behind →
+    lock_base S.site + n ≡ S.behind + 9 * combine_ranks S → (sides : List RankSide) → length sides ≡ combine_ranks S →
     ((r : ℕ) (x : RankSide) → slice_get sides r ≡ Some x → IsFirst (combine_table S node) r x) → CombineGood S (opening_words S.site ++ replicate n 0) sides
 begins S node fits n low all sides ranks first =
     let words : List ℕ = opening_words S.site ++ replicate n 0 in
@@ -49,7 +50,8 @@ begins S node fits n low all sides ranks first =
     record {
       seats = seats;
       ranks = ranks;
-      work = subst (λ z. WorkGood S.site z seats) (sym front) (opening_good S.site fits seats (length-map sides (first_seat S) ∙ ranks) (λ k y there. first_of_seat k y there));
+      work = subst (λ z. WorkGood S.site z seats) (sym front) (opening_good S.site fits seats (length-map sides (first_seat S) ∙ ranks)
+          (λ k y there. first_of_seat k y there));
       seen_rooms = λ r x there. ap (λ (w : TheCombineSide). w.seen.room) (first r x there).work;
       own = λ r x y there seat.
           let f : IsFirst (combine_table S node) r x = first r x there in
@@ -79,11 +81,13 @@ begins S node fits n low all sides ranks first =
         let same : q.0 ≡ x = one_at sides r q.0 x q.1 there in
         let f : IsFirst (combine_table S node) r x = first r x there in
         let kept : x.work.kept ≡ record { items = []; room = f.room } = ap (λ (w : TheCombineSide). w.kept) f.work in
-        let mine : record { items = []; room = x.work.kept.room } ≡ x.work.kept = ap (λ n. record { items = []; room = n }) (ap (λ (w : TheCombineSide). w.kept.room) f.work) ∙ sym kept in
+        let mine : record { items = []; room = x.work.kept.room } ≡ x.work.kept =
+        ap (λ n. record { items = []; room = n }) (ap (λ (w : TheCombineSide). w.kept.room) f.work) ∙ sym kept in
         subst (λ (u : Seat). IsFree u x.work.kept) (ap (first_seat S) (sym same) ∙ q.2) (record { out = refl; has = mine })
 
 -- words of the lock alone change
-pub frame : (S : WaySite) (node : ℕ → ℕ) (words others : List ℕ) (sides : List RankSide) → CombineGood S words sides → IsLaid (combine_table S node) words → SameWork (combine_table S node) words others → CombineGood S others sides
+pub frame : (S : WaySite) (node : ℕ → ℕ) (words others : List ℕ) (sides : List RankSide) → CombineGood S words sides →
+    IsLaid (combine_table S node) words → SameWork (combine_table S node) words others → CombineGood S others sides
 frame S node words others sides g laid same =
     let posts : (k : ℕ) → post_of S others k ≡ post_of S words k = λ k. same_post S k words others (λ m h. same.behind (post_word S k m) (omega arith)) in
     record {
@@ -96,10 +100,12 @@ frame S node words others sides g laid same =
       held = g.held;
     }
   where
-    sweep_frame : (r : ℕ) (x : RankSide) → slice_get sides r ≡ Some x → ((k : ℕ) → post_of S others k ≡ post_of S words k) → SweepAt S others g.seats r x.work x.work.stage
+    sweep_frame : (r : ℕ) (x : RankSide) → slice_get sides r ≡ Some x → ((k : ℕ) → post_of S others k ≡ post_of S words k) →
+        SweepAt S others g.seats r x.work x.work.stage
     sweep_frame r x there posts = sweep_same S node words laid sides g others r x same.before (posts r) (λ k e. posts k) (g.sweeps r x there)
 
-module _ (S : WaySite) (node : ℕ → ℕ) (words : List ℕ) (laid : IsLaid (combine_table S node) words) (sides : List RankSide) (g : CombineGood S words sides) (r : ℕ) (x : RankSide) (has : slice_get sides r ≡ Some x) where
+module _ (S : WaySite) (node : ℕ → ℕ) (words : List ℕ) (laid : IsLaid (combine_table S node) words) (sides : List RankSide)
+    (g : CombineGood S words sides) (r : ℕ) (x : RankSide) (has : slice_get sides r ≡ Some x) where
   own_now : (y : Seat) → slice_get g.seats r ≡ Some y → OwnAt S (post_of S words r) r x y x.work.stage
   own_now y seat = g.own r x y has seat
 
@@ -123,7 +129,9 @@ module _ (S : WaySite) (node : ℕ → ℕ) (words : List ℕ) (laid : IsLaid (c
     by_stage Lower e = absurd (cc)
 
   -- a call is opened
-  pub opens : (call : Call) (seq : ℕ) → x.standing ≡ Out → combine_is_open x.work.stage ≡ false → IsOpen S.site r (call ∷ []) seq x.work.kept → Keeps S words sides g words (slice_set sides r (record { standing = Out; work = with_open x.work call seq }))
+  pub opens : (call : Call) (seq : ℕ) → x.standing ≡ Out → combine_is_open x.work.stage ≡ false →
+      IsOpen S.site r (call ∷ []) seq x.work.kept → Keeps S words sides g words
+      (slice_set sides r (record { standing = Out; work = with_open x.work call seq }))
   opens call seq out closed o =
       let rest : x.work.stage ≡ Rest = at_rest_of closed in
       own_moves S node words laid sides g r x has words (record { standing = Out; work = with_open x.work call seq }) refl (λ k ne. refl) refl
@@ -135,7 +143,8 @@ module _ (S : WaySite) (node : ℕ → ℕ) (words : List ℕ) (laid : IsLaid (c
       (λ k e. absurd (let n = ap in_hand rest in cc))
 
   -- the lock changes a standing
-  shifted : (p : ThePost) (y : Seat) (st : Standing) (es : List Event) → Shift r x.standing st es → (stage : CombineStage) → OwnAt S p r x y stage → OwnAt S p r (record { standing = st; work = x.work }) y stage
+  shifted : (p : ThePost) (y : Seat) (st : Standing) (es : List Event) → Shift r x.standing st es → (stage : CombineStage) →
+      OwnAt S p r x y stage → OwnAt S p r (record { standing = st; work = x.work }) y stage
   shifted p y st es shift Rest o = (is_done x.standing st shift o.0, o.1, o.2) where
     is_done : (a b : Standing) → Shift r a b es → IsDone a → IsDone b
     is_done Out b s i = absurd s
@@ -180,7 +189,8 @@ module _ (S : WaySite) (node : ℕ → ℕ) (words : List ℕ) (laid : IsLaid (c
       (λ k e. e)).good
 
   -- how the rank goes on, by how it stands
-  standing_goes : (p : ThePost) (y : Seat) (stage : CombineStage) → OwnAt S p r x y stage → GoesOnAt x.standing (combine_is_open stage) (combine_stage_atom S r x.work stage)
+  standing_goes : (p : ThePost) (y : Seat) (stage : CombineStage) → OwnAt S p r x y stage →
+      GoesOnAt x.standing (combine_is_open stage) (combine_stage_atom S r x.work stage)
   standing_goes p y Rest o = by_standing x.standing o.0 where
     by_standing : (st : Standing) → IsDone st → GoesOnAt st false None
     by_standing Out d = refl
@@ -236,7 +246,9 @@ module _ (S : WaySite) (node : ℕ → ℕ) (words : List ℕ) (laid : IsLaid (c
       touches_as (post_of S words r) s.0 x.work.stage (own_now s.0 s.1)
 
 -- each atom before the lock's words is told as a touch
-pub tells_at : (S : WaySite) (r : ℕ) (x : TheCombineSide) (at : Atom) (seated : Standing) (calls : List Call) → lock_base S.site ≤ S.behind → (stage : CombineStage) → combine_stage_atom S r x stage ≡ Some at → TellsTouch (lock_base S.site) at seated calls (combine_touch_at stage)
+pub tells_at : (S : WaySite) (r : ℕ) (x : TheCombineSide) (at : Atom) (seated : Standing) (calls : List Call) →
+    lock_base S.site ≤ S.behind → (stage : CombineStage) → combine_stage_atom S r x stage ≡ Some at →
+    TellsTouch (lock_base S.site) at seated calls (combine_touch_at stage)
 tells_at S r x at seated calls low stage p = by_stage stage p where
   on_load : (w : ℕ) (t : Option Bool) → (w < lock_base S.site → t ≡ Some false) → Load w ≡ at → TellsTouch (lock_base S.site) at seated calls t
   on_load w t told p = subst (λ z. TellsTouch (lock_base S.site) z seated calls t) p (λ under. inl (told under))

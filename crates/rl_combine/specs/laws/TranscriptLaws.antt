@@ -43,7 +43,8 @@ none_numbered s (e ∷ es) all =
     ]
 
 -- and behind them the call's own entry has
-one_numbered : (s : ℕ) (es : List Entry) (f : Entry) → All (λ e. e.seq < s) es → updates f ≡ true → f.seq ≡ s → filter (λ e. e.seq == s) (filter updates (es ++ f ∷ [])) ≡ f ∷ []
+one_numbered : (s : ℕ) (es : List Entry) (f : Entry) → All (λ e. e.seq < s) es → updates f ≡ true → f.seq ≡ s →
+    filter (λ e. e.seq == s) (filter updates (es ++ f ∷ [])) ≡ f ∷ []
 one_numbered s es f all update same =
     let hit : (f.seq == s) ≡ true = grind (arith, nat_tests) in
     ap (filter (λ e. e.seq == s)) (filter-append updates es (f ∷ []) ∙ ap (λ b. filter updates es ++ cond b (f ∷ []) []) update)
@@ -61,7 +62,8 @@ pub record HasOne (S : WaySite) (words : List ℕ) (k : ℕ) (x : TheCombineSide
   pub one : early S words k x ≡ entry ∷ []
   pub has : y.work.transcript ≡ more_entries x.kept (entry ∷ [])
 
-module _ (S : WaySite) (words : List ℕ) (sides : List RankSide) (g : CombineGood S words sides) (k : ℕ) (z : RankSide) (y : Seat) (seat : slice_get g.seats k ≡ Some y) where
+module _ (S : WaySite) (words : List ℕ) (sides : List RankSide) (g : CombineGood S words sides) (k : ℕ) (z : RankSide) (y : Seat)
+    (seat : slice_get g.seats k ≡ Some y) where
   -- the rank's updates in the journal, of a call by its number
   calls_in : (s : ℕ) → filter (is_call k s) (journal_by S.site words) ≡ filter (λ e. e.seq == s) (filter updates y.work.transcript.items)
   calls_in s =
@@ -70,10 +72,12 @@ module _ (S : WaySite) (words : List ℕ) (sides : List RankSide) (g : CombineGo
       ∙ ap (filter (λ e. e.seq == s)) (sym (g.work.legal.updates_are k y.work.transcript.items (get_map transcript_of g.seats k y seat)))
 
   -- a call that isn't done
-  none_by : HasOpen S k (opened_of z.work) → y.work.transcript ≡ z.work.kept → ((post_of S words k).flag ≡ 2 → ⊥) → early_by S words k z.work (is_update z.work.call) ≡ []
+  none_by : HasOpen S k (opened_of z.work) → y.work.transcript ≡ z.work.kept → ((post_of S words k).flag ≡ 2 → ⊥) →
+      early_by S words k z.work (is_update z.work.call) ≡ []
   none_by o has low =
       elim (is_update z.work.call) as (λ b. early_by S words k z.work b ≡ []) [
-        | true ↦ calls_in z.work.seq ∙ ap (λ (t : TheTranscript). filter (λ e. e.seq == z.work.seq) (filter updates t.items)) has ∙ none_numbered z.work.seq z.work.kept.items o.fresh
+        | true ↦ calls_in z.work.seq ∙ ap (λ (t : TheTranscript). filter (λ e. e.seq == z.work.seq) (filter updates t.items)) has
+            ∙ none_numbered z.work.seq z.work.kept.items o.fresh
         | false ↦
             let miss : ((post_of S words k).flag == 2) ≡ false = grind (arith, nat_tests) in
             ap (λ b. cond b (answered_entry S.site.shard k z.work.seq z.work.call (post_of S words k).answer ∷ []) []) miss
@@ -81,7 +85,9 @@ module _ (S : WaySite) (words : List ℕ) (sides : List RankSide) (g : CombineGo
 
   -- and one that is
   one_by : (e : Entry) → HasOpen S k (opened_of z.work) → y.work.transcript ≡ more_entries z.work.kept (e ∷ []) → e.call ≡ z.work.call → e.seq ≡ z.work.seq →
-      (is_update z.work.call ≡ false → ((post_of S words k).flag ≡ 2) × (answered_entry S.site.shard k z.work.seq z.work.call (post_of S words k).answer ≡ e)) → early_by S words k z.work (is_update z.work.call) ≡ e ∷ []
+      (is_update z.work.call ≡ false → ((post_of S words k).flag ≡ 2) ×
+      (answered_entry S.site.shard k z.work.seq z.work.call (post_of S words k).answer ≡ e)) → early_by S words k z.work
+      (is_update z.work.call) ≡ e ∷ []
   one_by e o has same_call same_seq read =
       elim (is_update z.work.call) as (λ b. is_update z.work.call ≡ b → early_by S words k z.work b ≡ e ∷ []) [
         | true ↦ λ is.
@@ -95,7 +101,8 @@ module _ (S : WaySite) (words : List ℕ) (sides : List RankSide) (g : CombineGo
 
   -- so it is at each stage
   abbrev Shown : CombineStage → Type 0
-  Shown st = ((early_open S words k z.work (combine_is_open st) ≡ []) × (y.work.transcript ≡ z.work.kept)) ⊎ ((e : Entry) × (early_open S words k z.work (combine_is_open st) ≡ e ∷ []) × (y.work.transcript ≡ more_entries z.work.kept (e ∷ [])))
+  Shown st = ((early_open S words k z.work (combine_is_open st) ≡ []) × (y.work.transcript ≡ z.work.kept)) ⊎
+      ((e : Entry) × (early_open S words k z.work (combine_is_open st) ≡ e ∷ []) × (y.work.transcript ≡ more_entries z.work.kept (e ∷ [])))
 
   posting : (made : ℕ) → IsPosting S (post_of S words k) k (opened_of z.work) y made → Shown (Post 0)
   posting made p = inl (none_by p.open_call p.free.has (λ two. let low = p.flag in omega arith), p.free.has)
@@ -133,13 +140,15 @@ module _ (S : WaySite) (words : List ℕ) (sides : List RankSide) (g : CombineGo
   shown there =
       ⊎_elim
       (λ (q : (early S words k z.work ≡ []) × (y.work.transcript ≡ z.work.kept)). inl (record { none = q.0; has = q.1 }))
-      (λ (q : (e : Entry) × (early S words k z.work ≡ e ∷ []) × (y.work.transcript ≡ more_entries z.work.kept (e ∷ []))). inr (record { entry = q.0; one = q.1; has = q.2 }))
+      (λ (q : (e : Entry) × (early S words k z.work ≡ e ∷ []) × (y.work.transcript ≡ more_entries z.work.kept (e ∷ []))). inr
+      (record { entry = q.0; one = q.1; has = q.2 }))
       (by_stage z.work.stage (g.own k z y there seat))
 
   -- the rank's entries by the words are its seat's
   pub transcript_is : slice_get sides k ≡ Some z → transcript S words k z.work ≡ y.work.transcript.items
   transcript_is there =
       ⊎_elim
-      (λ (n : HasNone S words k z.work y). ap (λ l. z.work.kept.items ++ l) n.none ∙ append-nil z.work.kept.items ∙ sym (ap (λ (t : TheTranscript). t.items) n.has))
+      (λ (n : HasNone S words k z.work y). ap (λ l. z.work.kept.items ++ l) n.none ∙ append-nil z.work.kept.items
+      ∙ sym (ap (λ (t : TheTranscript). t.items) n.has))
       (λ (o : HasOne S words k z.work y). ap (λ l. z.work.kept.items ++ l) o.one ∙ sym (ap (λ (t : TheTranscript). t.items) o.has))
       (shown there)

@@ -1,5 +1,5 @@
 -- The words and views of a shard before its first block, filled in one by one; and a list that is read so.
-use Rattle.std.specs.Prelude.{◌≡◌, ℕ, zero, suc, ◌+◌, ◌-◌, ◌*◌, ◌≤◌, ◌<◌, List, [], ◌∷◌, ◌++◌, length, replicate, take, slice_get, slice_index, slice_set, Some, refl}
+use Rattle.std.specs.Prelude.{◌≡◌, ℕ, zero, suc, ◌+◌, ◌-◌, ◌*◌, ◌<◌, List, [], ◌∷◌, ◌++◌, length, replicate, take, slice_get, slice_index, slice_set, Some, refl}
 use Rattle.std.proofs.Common.{◌∙◌, ap, add-one, append_assoc, arith, sym}
 use Rattle.std.proofs.lemmas.List.{take_at}
 use Rattle.std.proofs.lemmas.Option.{same_Some}

@@ -1,25 +1,23 @@
 -- What it comes to that count, volume and journal are guarded: they change only by an atom of a writer that is told; and while a rank is about
 -- to store there, no other rank's next atom names a word there, but for one of a get alone.
-use Rattle.std.specs.Prelude.{◌≡◌, ◌⊎◌, ℕ, zero, suc, ◌+◌, ◌<◌, ◌≤◌, ◌==◌, Bool, true, false, List, [], ◌∷◌, map, take, slice_get, slice_index, slice_set, if◌then◌else◌, nat_lt, Option, Some, refl}
+use Rattle.std.specs.Prelude.{◌≡◌, ◌⊎◌, ℕ, zero, suc, ◌<◌, ◌≤◌, ◌==◌, Bool, true, false, List, [], ◌∷◌, map, take, slice_get, slice_index, slice_set, if◌then◌else◌, nat_lt, Some, refl}
 use Rattle.std.proofs.Common.{sym, ◌∙◌, ap, subst, inl, inr, ⊎_elim, arith}
 use Rattle.std.proofs.lemmas.Bool.Decides.{nat_tests}
 use Rattle.rl_word.specs.laws.Places.{get_map}
-use Rattle.rl_word.specs.Acts.{Layout}
 use Rattle.rl_word.specs.declared.acts.Atom.{Atom}
 use Rattle.rl_word.specs.declared.acts.Atom.TheVariants as atom
 use Rattle.rl_model.specs.declared.call.Call.{Call}
 use Rattle.rl_step.specs.declared.events.Event.{Event}
 use Rattle.rl_step.specs.declared.events.Standing.{Standing}
 use Rattle.rl_step.specs.declared.events.Standing.TheVariants.{Out, Asking, Writer, Reader, Leaving}
-use Rattle.rl_step.specs.declared.events.Stepped.{Stepped}
-use Rattle.rl_step.specs.Lock.{Deed, IsHolder}
-use Rattle.rl_step.specs.Do.{TheWindow, do_words}
+use Rattle.rl_step.specs.Lock.{IsHolder}
 use Rattle.rl_site.specs.Site.{lock_base}
 use Rattle.rl_site.specs.Opens.{IsGetAlone}
 use Rattle.rl_core.specs.Touches.{StoresGuarded, IsGuarded, ChangesGuarded, NamesWord}
 use Rattle.rl_core.specs.Standings.{AloneIn}
-use Rattle.rl_core.specs.ShardTables.{ShardTable}
-use Rattle.rl_core.specs.ShardLaws.{IsSeated, turned_by, ShardCoreLaws}
+use Rattle.rl_core.specs.ShardTables.{turned_by}
+use Rattle.rl_core.specs.Moments.{Moment, CoreSays}
+use Rattle.rl_core.specs.ShardLaws.{IsNext, ShardCoreLaws}
 
 take_past : (n : ℕ) (l : List ℕ) (i v : ℕ) → n ≤ i → take n (slice_set l i v) ≡ take n l
 take_past zero l i v h = refl
@@ -61,15 +59,15 @@ beside sts i j Writer a p q h = a.one i j p q
 beside sts i j Reader a p q h = absurd (a.none i j p q)
 beside sts i j Leaving a p q h = absurd h
 
-module _ {V : Type 0} (T : ShardTable V) (good : TheWindow → List V → List Event → List Deed → Type 0) (cause : TheWindow → V → Option Atom → Stepped → Type 0) (further : List Event → List Deed → Type 0) (layout : Layout) (laws : ShardCoreLaws T good cause further layout) where
-  pub alone_there : (h : TheWindow) (vs : List V) (t : List Event) (ds : List Deed) (i j w n k : ℕ) (v u : V) (b : Atom) → good h vs t ds → slice_get vs i ≡ Some v → slice_get vs j ≡ Some u →
-      T.core.next v ≡ Some (atom.Store w n) → w < lock_base T.site → T.core.next u ≡ Some b → NamesWord b k → k < lock_base T.site → (i ≡ j) ⊎ IsGetAlone (T.own u).calls
-  alone_there h vs t ds i j w n k v u b g here there next under other names low =
-      let first : IsSeated T good h vs t ds i v = record { is_good = g; has = here } in
-      let second : IsSeated T good h vs t ds j u = record { is_good = g; has = there } in
-      let stores : StoresGuarded i (T.standing v) (turned_by T good h v (atom.Store w n)).events = (laws.guards h vs t ds i v (atom.Store w n) first next).0 under in
+module _ {V : Type 0} (S : CoreSays V) (laws : ShardCoreLaws S) where
+  pub alone_there : (m : Moment V) (i j w n k : ℕ) (v u : V) (b : Atom) → IsNext S m i v (atom.Store w n) → w < lock_base S.table.site → IsNext S m j u b → NamesWord b k → k < lock_base S.table.site →
+      (i ≡ j) ⊎ IsGetAlone (S.table.own u).calls
+  alone_there m i j w n k v u b first under second names low =
+      let T = S.table in
+      let stores : StoresGuarded i (T.standing v) (turned_by T m.held v (atom.Store w n)).events = (laws.guards m i v (atom.Store w n) first).0 under in
       ⊎_elim
       (λ holds.
-      inl (beside (map T.standing vs) i j (T.standing u) (laws.alone_in h vs t ds g) (get_map T.standing vs i v here ∙ ap (λ z. Some z) stores.0) (get_map T.standing vs j u there) holds))
+      inl (beside (map T.standing m.views) i j (T.standing u) (laws.alone_in m first.seated.is_good) (get_map T.standing m.views i v first.seated.has ∙ ap (λ z. Some z) stores.0)
+      (get_map T.standing m.views j u second.seated.has) holds))
       (λ alone. inr alone)
-      (holds_there (lock_base T.site) j k b (T.standing u) (T.own u).calls _ (laws.guards h vs t ds j u b second other) names low)
+      (holds_there (lock_base T.site) j k b (T.standing u) (T.own u).calls _ (laws.guards m j u b second) names low)

@@ -14,7 +14,8 @@ use Rattle.rl_counter.specs.laws.CounterKeeps.{same_good, group_same, reader_kee
 use Rattle.rl_counter.specs.CounterStatements.{IsOfGroup, ShareSame, words_after, next_of}
 
 -- a reader's act is on a word of its counter, or it is a load
-pub reader_word : (C : TheCounters) (c : ℕ) (p : Doing) (a : Act) → IsReader p → counter_act C c p ≡ Some a → ((word_of a ≡ arrive_word C c) ⊎ (word_of a ≡ depart_word C c)) ⊎ ((x : ℕ) → written a x ≡ x)
+pub reader_word : (C : TheCounters) (c : ℕ) (p : Doing) (a : Act) → IsReader p → counter_act C c p ≡ Some a →
+    ((word_of a ≡ arrive_word C c) ⊎ (word_of a ≡ depart_word C c)) ⊎ ((x : ℕ) → written a x ≡ x)
 reader_word C c Arrive a h pl = inl (inl (ap word_of (sym (same_Some _ _ pl))))
 reader_word C c (Refused x) a h pl = inl (inl (ap word_of (sym (same_Some _ _ pl))))
 reader_word C c (SeeTail x) a h pl = inr (λ y. ap (λ z. written z y) (sym (same_Some _ _ pl)))
@@ -27,21 +28,26 @@ reader_word C c _ a h pl = absurd h
 
 module _ (C : TheCounters) (n : ℕ) (mine : ℕ → ℕ → Bool) where
   -- a counter stays good where another word is written and a rank of its group keeps its share
-  pub other_counter : (g : ℕ) (ws : List ℕ) (ps : List Doing) (m : Mark) (w x r : ℕ) (p q : Doing) → w ≢ arrive_word C g → w ≢ depart_word C g → slice_get ps r ≡ Some p → (mine g r ≡ true → ShareSame p q) →
+  pub other_counter : (g : ℕ) (ws : List ℕ) (ps : List Doing) (m : Mark) (w x r : ℕ) (p q : Doing) → w ≢ arrive_word C g →
+      w ≢ depart_word C g → slice_get ps r ≡ Some p → (mine g r ≡ true → ShareSame p q) →
       GroupGood C (mine g) g ws ps m → GroupGood C (mine g) g (slice_set ws w x) (slice_set ps r q) m
   other_counter g ws ps m w x r p q na nd has same good =
       same_good (sym (get_or-set_other ws w (arrive_word C g) x 0 (λ e. na (sym e)))) (sym (get_or-set_other ws w (depart_word C g) x 0 (λ e. nd (sym e))))
-      (group_same (mine g) inside_of ps r p q has (λ e. (same e).0)) (group_same (mine g) refused_of ps r p q has (λ e. (same e).1)) (group_same (mine g) taken_of ps r p q has (λ e. (same e).2)) good
+      (group_same (mine g) inside_of ps r p q has (λ e. (same e).0)) (group_same (mine g) refused_of ps r p q has (λ e. (same e).1))
+      (group_same (mine g) taken_of ps r p q has (λ e. (same e).2)) good
 
   -- so is it where no word is
-  pub same_words_counter : (g : ℕ) (ws : List ℕ) (ps : List Doing) (m : Mark) (r : ℕ) (p q : Doing) → slice_get ps r ≡ Some p → (mine g r ≡ true → ShareSame p q) →
+  pub same_words_counter : (g : ℕ) (ws : List ℕ) (ps : List Doing) (m : Mark) (r : ℕ) (p q : Doing) → slice_get ps r ≡ Some p →
+      (mine g r ≡ true → ShareSame p q) →
       GroupGood C (mine g) g ws ps m → GroupGood C (mine g) g ws (slice_set ps r q) m
   same_words_counter g ws ps m r p q has same good =
       same_good refl refl
-      (group_same (mine g) inside_of ps r p q has (λ e. (same e).0)) (group_same (mine g) refused_of ps r p q has (λ e. (same e).1)) (group_same (mine g) taken_of ps r p q has (λ e. (same e).2)) good
+      (group_same (mine g) inside_of ps r p q has (λ e. (same e).0)) (group_same (mine g) refused_of ps r p q has (λ e. (same e).1))
+      (group_same (mine g) taken_of ps r p q has (λ e. (same e).2)) good
 
   -- Each act of a reader keeps all counters, whatever the marks are.
-  pub readers_keep : (ws : List ℕ) (ps : List Doing) (M : ℕ → Mark) (r c : ℕ) (p : Doing) (a : Act) → AreSound C n ws ps → c < n → IsOfGroup mine r c → slice_get ps r ≡ Some p → IsReader p → counter_act C c p ≡ Some a →
+  pub readers_keep : (ws : List ℕ) (ps : List Doing) (M : ℕ → Mark) (r c : ℕ) (p : Doing) (a : Act) → AreSound C n ws ps → c < n →
+      IsOfGroup mine r c → slice_get ps r ≡ Some p → IsReader p → counter_act C c p ≡ Some a →
       AllGood C n mine ws ps M → AllGood C n mine (words_after ws a) (slice_set ps r (next_of C ws p a)) M
   readers_keep ws ps M r c p a sound lc own has rd pl all g lt =
       let d = sound.counted in

@@ -24,7 +24,8 @@ zeros (suc size) zero = refl
 zeros (suc size) (suc w) = zeros size w
 
 -- ranks that do nothing have no share
-sum_none : (mine : ℕ → Bool) (share : Doing → ℕ) (from : ℕ) (ps : List Doing) → share Nothing ≡ 0 → ((r : ℕ) (p : Doing) → slice_get ps r ≡ Some p → p ≡ Nothing) → sum_at (λ k p. if_one (mine k) (share p)) from ps ≡ 0
+sum_none : (mine : ℕ → Bool) (share : Doing → ℕ) (from : ℕ) (ps : List Doing) → share Nothing ≡ 0 →
+    ((r : ℕ) (p : Doing) → slice_get ps r ≡ Some p → p ≡ Nothing) → sum_at (λ k p. if_one (mine k) (share p)) from ps ≡ 0
 sum_none mine share from [] z h = refl
 sum_none mine share from (p ∷ ps) z h =
     let one : if_one (mine from) (share p) ≡ 0 = by (mine from) (ap share (h 0 p refl) ∙ z) in
@@ -58,7 +59,8 @@ module _ (C : TheCounters) (n : ℕ) (mine : ℕ → ℕ → Bool) where
       let none : group_sum (mine g) inside_of ps ≡ 0 = at m cleared good in
       let k = sum_has (λ i x. if_one (mine g i) (inside_of x)) 0 ps r p has in
       let z : 0 + r ≡ r = omega arith in
-      let e : if_one (mine g (0 + r)) (inside_of p) ≡ inside_of p = ap (λ y. if_one (mine g y) (inside_of p)) z ∙ ap (λ y. if_one y (inside_of p)) own in omega arith where
+      let e : if_one (mine g (0 + r)) (inside_of p) ≡ inside_of p = ap (λ y. if_one (mine g y) (inside_of p)) z
+      ∙ ap (λ y. if_one y (inside_of p)) own in omega arith where
         at : (m : Mark) → IsCleared m → GroupGood C (mine g) g ws ps m → group_sum (mine g) inside_of ps ≡ 0
         at Clear h good = good.marked
         at (Taking x) h good = good.marked
@@ -70,24 +72,38 @@ module _ (C : TheCounters) (n : ℕ) (mine : ℕ → ℕ → Bool) where
   lets_in_unmarked ws ps m g sound good lt = below_down C.readers _ _ _ _ _ m good sound.few lt
 
   pub others_keep : OthersKeep C n mine
-  others_keep ws ps M w x r p q apart has same all g lt = let ne = apart g lt in other_counter C n mine g ws ps (M g) w x r p q ne.0 ne.1 has (λ e. same) (all g lt)
+  others_keep ws ps M w x r p q apart has same all g lt = let ne = apart g lt in
+      other_counter C n mine g ws ps (M g) w x r p q ne.0 ne.1 has (λ e. same) (all g lt)
 
   pub tasks_keep : TasksKeep C n mine
-  tasks_keep ws ps M r Enter p has may all g lt = same_words_counter C n mine g ws ps (M g) r p Arrive has (λ e. subst (λ z. ShareSame z Arrive) (sym may) (refl, refl, refl)) (all g lt)
-  tasks_keep ws ps M r Exit p has may all g lt = same_words_counter C n mine g ws ps (M g) r p Depart has (λ e. subst (λ z. ShareSame z Depart) (sym may) (refl, refl, refl)) (all g lt)
-  tasks_keep ws ps M r UpTask p has may all g lt = same_words_counter C n mine g ws ps (M g) r p (Put 0) has (λ e. subst (λ z. ShareSame z (Put 0)) (sym may) (refl, refl, refl)) (all g lt)
-  tasks_keep ws ps M r DownTask p has may all g lt = same_words_counter C n mine g ws ps (M g) r p (TakeOut 0) has (λ e. subst (λ z. ShareSame z (TakeOut 0)) (sym may) (refl, refl, refl)) (all g lt)
+  tasks_keep ws ps M r Enter p has may all g lt = same_words_counter C n mine g ws ps (M g) r p Arrive has
+      (λ e. subst (λ z. ShareSame z Arrive) (sym may) (refl, refl, refl)) (all g lt)
+  tasks_keep ws ps M r Exit p has may all g lt = same_words_counter C n mine g ws ps (M g) r p Depart has
+      (λ e. subst (λ z. ShareSame z Depart) (sym may) (refl, refl, refl)) (all g lt)
+  tasks_keep ws ps M r UpTask p has may all g lt = same_words_counter C n mine g ws ps (M g) r p (Put 0) has
+      (λ e. subst (λ z. ShareSame z (Put 0)) (sym may) (refl, refl, refl)) (all g lt)
+  tasks_keep ws ps M r DownTask p has may all g lt = same_words_counter C n mine g ws ps (M g) r p (TakeOut 0) has
+      (λ e. subst (λ z. ShareSame z (TakeOut 0)) (sym may) (refl, refl, refl)) (all g lt)
 
   -- an act at the marks
   abbrev Keeps : List ℕ → List Doing → ℕ → Doing → Act → Type 0
   Keeps ws ps r p a = AllGood C n mine (words_after ws a) (slice_set ps r (next_of C ws p a)) (mark_by (ends_clear p) (next_of C ws p a))
 
   pub writers_keep : WritersKeep C n mine
-  writers_keep ws ps o r c (Put i) a sound mk lt has pl all = subst (Keeps ws ps r (Put i)) (same_Some _ _ pl) (put_keeps C n sound.few mine ws ps r sound.counted sound.seats true i lt has all)
-  writers_keep ws ps o r c (Count i) a sound mk lt has pl all = subst (Keeps ws ps r (Count i)) (same_Some _ _ pl) (count_keeps C n sound.few mine ws ps r sound.counted sound.seats true i lt has all)
-  writers_keep ws ps o r c (Compare i f) a sound mk lt has pl all = subst (Keeps ws ps r (Compare i f)) (same_Some _ _ pl) (compare_keeps C n sound.few mine ws ps r sound.counted sound.seats true i f lt has all)
-  writers_keep ws ps o r c (TakeOut i) a sound mk lt has pl all = subst (Keeps ws ps r (TakeOut i)) (same_Some _ _ pl) (take_keeps C n sound.few mine ws ps r sound.counted sound.seats false i lt has all)
-  writers_keep ws ps o r c (TakeOff i x) a sound mk lt has pl all = subst (Keeps ws ps r (TakeOff i x)) (same_Some _ _ pl) (off_keeps C n sound.few mine ws ps r sound.counted sound.seats false i x lt has all)
+  writers_keep ws ps o r c (Put i) a sound mk lt has pl all = subst (Keeps ws ps r (Put i)) (same_Some _ _ pl)
+      (put_keeps C n sound.few mine ws ps r sound.counted sound.seats true i lt has all)
+  writers_keep ws ps o r c (Count i) a sound mk lt has pl all =
+      subst (Keeps ws ps r (Count i)) (same_Some _ _ pl) (count_keeps C n sound.few mine ws ps r sound.counted sound.seats true i lt has
+      all)
+  writers_keep ws ps o r c (Compare i f) a sound mk lt has pl all =
+      subst (Keeps ws ps r (Compare i f)) (same_Some _ _ pl) (compare_keeps C n sound.few mine ws ps r sound.counted sound.seats true i f lt
+      has all)
+  writers_keep ws ps o r c (TakeOut i) a sound mk lt has pl all =
+      subst (Keeps ws ps r (TakeOut i)) (same_Some _ _ pl) (take_keeps C n sound.few mine ws ps r sound.counted sound.seats false i lt has
+      all)
+  writers_keep ws ps o r c (TakeOff i x) a sound mk lt has pl all =
+      subst (Keeps ws ps r (TakeOff i x)) (same_Some _ _ pl) (off_keeps C n sound.few mine ws ps r sound.counted sound.seats false i x lt
+      has all)
   writers_keep ws ps o r c _ a sound mk lt has pl all = absurd mk
 
 pub begins_at_marks : BeginsAtMarks
@@ -106,12 +122,17 @@ module _ (C : TheCounters) where
       (λ yes e. (sym (same_Some _ _ pl), grind (arith, nat_tests))) (λ no e. cc) e
   comes_in_by_arriving g (SeeTail x) a got pl e = absurd (turn_by NotIn ((got == 0) && nat_lt x (2 ^ 32)) (to Swap) (to Round) (λ y e. cc) (λ y e. cc) e)
   comes_in_by_arriving g Round a got pl e = absurd (turn_by NotIn (nat_lt got C.readers) (to Arrive) (to (RoundTail got)) (λ y e. cc) (λ y e. cc) e)
-  comes_in_by_arriving g (RoundTail x) a got pl e = absurd (turn_by NotIn ((got == 0) && nat_lt x (2 ^ 32)) (to Arrive) (record { doing = Round; waits = true }) (λ y e. cc) (λ y e. cc) e)
-  comes_in_by_arriving g (Put i) a got pl e = absurd (turn_by NotIn (nat_lt (i + 1) (length C.arrive)) (to (Put (i + 1))) (to (Count 0)) (λ y e. cc) (λ y e. cc) e)
+  comes_in_by_arriving g (RoundTail x) a got pl e =
+      absurd (turn_by NotIn ((got == 0) && nat_lt x (2 ^ 32)) (to Arrive) (record { doing = Round; waits = true }) (λ y e. cc)
+      (λ y e. cc) e)
+  comes_in_by_arriving g (Put i) a got pl e =
+      absurd (turn_by NotIn (nat_lt (i + 1) (length C.arrive)) (to (Put (i + 1))) (to (Count 0)) (λ y e. cc) (λ y e. cc) e)
   comes_in_by_arriving g (Compare i f) a got pl e =
-      absurd (turn_by NotIn (got == f - 2 ^ 32) (if nat_lt (i + 1) (length C.arrive) then to (Count (i + 1)) else to Nothing) (record { doing = Count i; waits = true })
+      absurd (turn_by NotIn (got == f - 2 ^ 32) (if nat_lt (i + 1) (length C.arrive) then to (Count (i + 1)) else to Nothing)
+      (record { doing = Count i; waits = true })
       (λ y. turn_by NotIn (nat_lt (i + 1) (length C.arrive)) (to (Count (i + 1))) (to Nothing) (λ z e. cc) (λ z e. cc)) (λ y e. cc) e)
-  comes_in_by_arriving g (TakeOff i x) a got pl e = absurd (turn_by NotIn (nat_lt (i + 1) (length C.arrive)) (to (TakeOut (i + 1))) (to Nothing) (λ y e. cc) (λ y e. cc) e)
+  comes_in_by_arriving g (TakeOff i x) a got pl e =
+      absurd (turn_by NotIn (nat_lt (i + 1) (length C.arrive)) (to (TakeOut (i + 1))) (to Nothing) (λ y e. cc) (λ y e. cc) e)
   comes_in_by_arriving g _ a got pl e = cc
 
   -- a wait is for a load, behind a load
@@ -122,12 +143,16 @@ module _ (C : TheCounters) where
   waits_on_loads g Arrive a got pl e = turn_by (Again g a) (nat_lt got C.readers) (to Inside) (to (Refused got)) (λ y e. cc) (λ y e. cc) e
   waits_on_loads g (SeeTail x) a got pl e = turn_by (Again g a) ((got == 0) && nat_lt x (2 ^ 32)) (to Swap) (to Round) (λ y e. cc) (λ y e. cc) e
   waits_on_loads g Round a got pl e = turn_by (Again g a) (nat_lt got C.readers) (to Arrive) (to (RoundTail got)) (λ y e. cc) (λ y e. cc) e
-  waits_on_loads g (RoundTail x) a got pl e = turn_by (Again g a) ((got == 0) && nat_lt x (2 ^ 32)) (to Arrive) (record { doing = Round; waits = true }) (λ y e. cc) (λ y e. (subst IsLoad (same_Some _ _ pl) tt, tt)) e
+  waits_on_loads g (RoundTail x) a got pl e = turn_by (Again g a) ((got == 0) && nat_lt x (2 ^ 32)) (to Arrive)
+      (record { doing = Round; waits = true }) (λ y e. cc) (λ y e. (subst IsLoad (same_Some _ _ pl) tt, tt)) e
   waits_on_loads g (Put i) a got pl e = turn_by (Again g a) (nat_lt (i + 1) (length C.arrive)) (to (Put (i + 1))) (to (Count 0)) (λ y e. cc) (λ y e. cc) e
   waits_on_loads g (Compare i f) a got pl e =
-      turn_by (Again g a) (got == f - 2 ^ 32) (if nat_lt (i + 1) (length C.arrive) then to (Count (i + 1)) else to Nothing) (record { doing = Count i; waits = true })
-      (λ y. turn_by (Again g a) (nat_lt (i + 1) (length C.arrive)) (to (Count (i + 1))) (to Nothing) (λ z e. cc) (λ z e. cc)) (λ y e. (subst IsLoad (same_Some _ _ pl) tt, tt)) e
-  waits_on_loads g (TakeOff i x) a got pl e = turn_by (Again g a) (nat_lt (i + 1) (length C.arrive)) (to (TakeOut (i + 1))) (to Nothing) (λ y e. cc) (λ y e. cc) e
+      turn_by (Again g a) (got == f - 2 ^ 32) (if nat_lt (i + 1) (length C.arrive) then to (Count (i + 1)) else to Nothing)
+      (record { doing = Count i; waits = true })
+      (λ y. turn_by (Again g a) (nat_lt (i + 1) (length C.arrive)) (to (Count (i + 1))) (to Nothing) (λ z e. cc) (λ z e. cc))
+      (λ y e. (subst IsLoad (same_Some _ _ pl) tt, tt)) e
+  waits_on_loads g (TakeOff i x) a got pl e = turn_by (Again g a) (nat_lt (i + 1) (length C.arrive)) (to (TakeOut (i + 1))) (to Nothing)
+      (λ y e. cc) (λ y e. cc) e
   waits_on_loads g _ a got pl e = cc
 
   abbrev Tells : ℕ → Act → Type 0

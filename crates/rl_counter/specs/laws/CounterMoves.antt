@@ -63,7 +63,12 @@ gives_back T a d i r t m g few low =
 -- a reset takes out what departed
 pub takes_out : (T a d i r t : ℕ) (m : Mark) → CounterGood T a d i r t m → CounterGood T a 0 i r (t + d) m
 takes_out T a d i r t m g =
-    let b = g.balance in let c = g.ceiling in record { balance = omega arith; ceiling = omega arith; marked = marked_less m i d i 0 (omega arith) (omega arith) g.marked }
+    let b = g.balance in let c = g.ceiling in record {
+      balance = omega arith;
+      ceiling = omega arith;
+      marked =
+          marked_less m i d i 0 (omega arith) (omega arith) g.marked;
+    }
 
 -- and takes it off arrive
 pub resets : (T a d i r t x : ℕ) (m : Mark) → CounterGood T a d i r (t + x) m → T ≤ 1000 → r ≤ 32 → CounterGood T ((a + off x) % 2 ^ 64) d i r t m
@@ -83,7 +88,8 @@ goes_out T a d i r t m g few =
 -- The mark: it is put up, what has come is loaded, what has gone is loaded and is as much, or isn't; what has gone is taken out, and
 -- the mark is taken off with it.
 pub puts : (T a d i r t : ℕ) → CounterGood T a d i r t Down → T ≤ 1000 → r ≤ 32 → CounterGood T ((a + 2 ^ 32) % 2 ^ 64) d i r t Up
-puts T a d i r t g few low = let k = counter_small T a d i r t Down g few low in let b = g.balance in record { balance = omega arith; ceiling = g.ceiling; marked = tt }
+puts T a d i r t g few low = let k = counter_small T a d i r t Down g few low in let b = g.balance in
+    record { balance = omega arith; ceiling = g.ceiling; marked = tt }
 
 pub counts : (T a d i r t : ℕ) → CounterGood T a d i r t Up → CounterGood T a d i r t (Loaded a)
 counts T a d i r t g = let b = g.balance in record { balance = g.balance; ceiling = g.ceiling; marked = omega arith }
@@ -97,7 +103,8 @@ looks_again T a d i r t f g = record { balance = g.balance; ceiling = g.ceiling;
 pub mark_takes : (T a d i r t : ℕ) → CounterGood T a d i r t Clear → CounterGood T a 0 i r t (Taking d)
 mark_takes T a d i r t g = let b = g.balance in let c = g.ceiling in record { balance = omega arith; ceiling = omega arith; marked = g.marked }
 
-pub mark_off : (T a d i r t x : ℕ) → CounterGood T a d i r t (Taking x) → T ≤ 1000 → r ≤ 32 → CounterGood T ((a + off ((2 ^ 32 + x) % 2 ^ 64)) % 2 ^ 64) d i r t Down
+pub mark_off : (T a d i r t x : ℕ) → CounterGood T a d i r t (Taking x) → T ≤ 1000 → r ≤ 32 →
+    CounterGood T ((a + off ((2 ^ 32 + x) % 2 ^ 64)) % 2 ^ 64) d i r t Down
 mark_off T a d i r t x g few low =
     let k = counter_small T a d i r t (Taking x) g few low in
     let b = g.balance in let c = g.ceiling in
@@ -105,7 +112,8 @@ mark_off T a d i r t x g few low =
     record { balance = omega arith; ceiling = omega arith; marked = tt }
 
 -- how a sum changes where one item does
-pub sum_set : {X : Type 0} (f : ℕ → X → ℕ) (from : ℕ) (xs : List X) (r : ℕ) (p q : X) → slice_get xs r ≡ Some p → sum_at f from (slice_set xs r q) + f (from + r) p ≡ sum_at f from xs + f (from + r) q
+pub sum_set : {X : Type 0} (f : ℕ → X → ℕ) (from : ℕ) (xs : List X) (r : ℕ) (p q : X) → slice_get xs r ≡ Some p →
+    sum_at f from (slice_set xs r q) + f (from + r) p ≡ sum_at f from xs + f (from + r) q
 sum_set f from [] r p q h = cc
 sum_set f from (x ∷ xs) zero p q h =
     let e : x ≡ p = same_Some _ _ h in

@@ -15,7 +15,8 @@ use Rattle.rl_machine.specs.GoesNext.{GoesNext}
 use Rattle.rl_finish.specs.WayOn.{IsWayOn, HasSteps, AreWhole, HaveOneMore}
 
 -- a way on goes on by whoever goes next at its end
-pub way_more : {C V : Type 0} (urgent : UrgentOf C V) (cores : List C) (m : Running V) (ranks : List ℕ) (rank : ℕ) → IsWayOn urgent cores m ranks → GoesNext urgent cores (run_of m ranks) rank → IsWayOn urgent cores m (ranks ++ rank ∷ [])
+pub way_more : {C V : Type 0} (urgent : UrgentOf C V) (cores : List C) (m : Running V) (ranks : List ℕ) (rank : ℕ) → IsWayOn urgent cores m ranks →
+    GoesNext urgent cores (run_of m ranks) rank → IsWayOn urgent cores m (ranks ++ rank ∷ [])
 way_more urgent cores m [] rank way next = (next, tt)
 way_more urgent cores m (k ∷ ks) rank way next = (way.0, way_more urgent cores (stepped m k) ks rank way.1 next)
 
@@ -31,7 +32,8 @@ module _ (rank count : ℕ) where
   grown_ranks : (ts : List Turn) (i : ℕ) → i + 1 ≡ length ts → slice_get ts i ≡ Some (Steps rank count) → ranks_of_turns (slice_set ts i longer) ≡ ranks_of_turns ts ++ rank ∷ []
   grown_ranks [] i l e = cc
   grown_ranks (t ∷ []) zero l e =
-      append-nil (replicate (count + 1) rank) ∙ replicate-end count rank ∙ sym (ap (λ z. (turn_ranks z ++ []) ++ rank ∷ []) (same_Some _ _ e) ∙ ap (λ z. z ++ rank ∷ []) (append-nil (replicate count rank)))
+      append-nil (replicate (count + 1) rank) ∙ replicate-end count rank
+      ∙ sym (ap (λ z. (turn_ranks z ++ []) ++ rank ∷ []) (same_Some _ _ e) ∙ ap (λ z. z ++ rank ∷ []) (append-nil (replicate count rank)))
   grown_ranks (t ∷ u ∷ ts) zero l e = absurd (omega arith)
   grown_ranks (t ∷ ts) (suc i) l e = ap (λ z. turn_ranks t ++ z) (grown_ranks ts i (omega arith) e) ∙ sym (append_assoc (turn_ranks t) (ranks_of_turns ts) (rank ∷ []))
 
@@ -107,7 +109,8 @@ another : (rank : ℕ) (t : Turn) → HasSteps t → ((last count : ℕ) → t �
 another rank (Steps last count) has apart = apart last count refl
 another rank (Stop last) has apart = absurd has
 
-pub ends_apart : (rank : ℕ) (ts : List Turn) (n : ℕ) (t : Turn) → AreWhole ts → n ≡ length ts → slice_get ts (n - 1) ≡ Some t → ((last count : ℕ) → t ≡ Steps last count → last ≢ rank) → EndsApart rank ts
+pub ends_apart : (rank : ℕ) (ts : List Turn) (n : ℕ) (t : Turn) → AreWhole ts → n ≡ length ts → slice_get ts (n - 1) ≡ Some t →
+    ((last count : ℕ) → t ≡ Steps last count → last ≢ rank) → EndsApart rank ts
 ends_apart rank ts n t w all has apart =
     λ i u l e.
     let at : n - 1 ≡ i = omega arith in

@@ -23,7 +23,8 @@ first_begins batch part (call ∷ calls) (zero ∷ sizes) (suc n) a some get is 
 first_begins batch part (call ∷ calls) (suc size ∷ sizes) zero a some get is = (size, refl)
 first_begins batch part (call ∷ calls) (suc size ∷ sizes) (suc n) a some get is = first_begins (batch_number (suc size)) 1 calls sizes n a (omega arith) get is
 
-begins_in : (block calls : List Call) (sizes : List ℕ) (n : ℕ) (a : Asked) → 1 ≤ length block → slice_get (asked_of (block ++ calls) (sizes_of block ++ sizes)) n ≡ Some a → a.part ≡ 0 → BeginsBlock (sizes_of block ++ sizes) n
+begins_in : (block calls : List Call) (sizes : List ℕ) (n : ℕ) (a : Asked) → 1 ≤ length block →
+    slice_get (asked_of (block ++ calls) (sizes_of block ++ sizes)) n ≡ Some a → a.part ≡ 0 → BeginsBlock (sizes_of block ++ sizes) n
 begins_in [] calls sizes n a some get is = absurd (omega arith)
 begins_in (c ∷ cs) calls sizes zero a some get is = (length cs, refl)
 begins_in (c ∷ cs) calls sizes (suc n) a some get is = first_begins (batch_number (suc (length cs))) 1 (cs ++ calls) (map (λ _. 0) cs ++ sizes) n a (omega arith) get is
@@ -55,7 +56,9 @@ rest_begins geom calls sizes n low rest =
     (begins_left geom (drop n calls) (drop n sizes) rest)
 
 -- where a block is asked for next, its first call stands where one begins; and an empty one leaves what is left behind it
-pub work_begins : (geom : Geom) (calls : List Call) (sizes : List ℕ) (n opened : ℕ) (block : List Call) → AreBlocks geom calls sizes → n + length block ≡ opened → (n ≡ opened → BeginsAt calls sizes n) →
+pub work_begins : (geom : Geom) (calls : List Call) (sizes : List ℕ) (n opened : ℕ) (block : List Call) → AreBlocks geom calls sizes →
+    n + length block ≡ opened → (n ≡ opened → BeginsAt calls sizes n) →
     AsksNext (batch_number (length block)) 0 (asked_of calls sizes) n block → BeginsAt calls sizes n
 work_begins geom calls sizes n opened [] blocks ends settled next = settled (omega arith)
-work_begins geom calls sizes n opened (call ∷ block) blocks ends settled next = inr (part_begins geom calls sizes n (record { call = call; batch = batch_number (length (call ∷ block)); part = 0 }) blocks next.0 refl)
+work_begins geom calls sizes n opened (call ∷ block) blocks ends settled next =
+    inr (part_begins geom calls sizes n (record { call = call; batch = batch_number (length (call ∷ block)); part = 0 }) blocks next.0 refl)

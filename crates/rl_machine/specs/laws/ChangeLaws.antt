@@ -91,7 +91,8 @@ module _ {V : Type 0} where
       c
 
   -- a step of rank k, where each shard is sound once its block is opened
-  pub step_comes : (m : Running V) (k s : ℕ) (S N : ShardRun V) → ((T : ShardRun V) → slice_get (block_opened m k).shards s ≡ Some T → IsShardSound (block_opened m k).geom T) → slice_get m.shards s ≡ Some S →
+  pub step_comes : (m : Running V) (k s : ℕ) (S N : ShardRun V) →
+      ((T : ShardRun V) → slice_get (block_opened m k).shards s ≡ Some T → IsShardSound (block_opened m k).geom T) → slice_get m.shards s ≡ Some S →
       slice_get (stepped m k).shards s ≡ Some N → Comes k S N
   step_comes m k s S N sound has there =
       let m1 : Running V = block_opened m k in

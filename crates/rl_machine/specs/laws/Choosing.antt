@@ -44,14 +44,16 @@ module _ {V : Type 0} (urgent : V → Option ℕ) (vs : List V) where
         first = b.first;
       }
 
-  takes : (n k : ℕ) (u : V) → slice_get vs n ≡ Some u → urgent u ≡ Some k → ((i : ℕ) (v : V) (q : ℕ) → i < n → slice_get vs i ≡ Some v → urgent v ≡ Some q → k < q) → IsBest (n + 1) (record { rank = n; urgency = k })
+  takes : (n k : ℕ) (u : V) → slice_get vs n ≡ Some u → urgent u ≡ Some k →
+      ((i : ℕ) (v : V) (q : ℕ) → i < n → slice_get vs i ≡ Some v → urgent v ≡ Some q → k < q) → IsBest (n + 1) (record { rank = n; urgency = k })
   takes n k u there is less =
       record {
         below = omega arith;
         view = u;
         has = there;
         is_urgent = is;
-        least = λ i v q below has e. or_next n i v u (λ z. (p : ℕ) → urgent z ≡ Some p → k ≤ p) (λ lt p f. let l = less i v p lt has f in omega arith) has there (λ p f. let same = same_Some _ _ (sym is ∙ f) in omega arith) below q e;
+        least = λ i v q below has e. or_next n i v u (λ z. (p : ℕ) → urgent z ≡ Some p → k ≤ p) (λ lt p f. let l = less i v p lt has f in omega arith) has there
+            (λ p f. let same = same_Some _ _ (sym is ∙ f) in omega arith) below q e;
         first = λ i v q has e low. less i v q low has e;
       }
 

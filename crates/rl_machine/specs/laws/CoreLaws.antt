@@ -1,5 +1,5 @@
 -- The cores of a machine that was just made, and what their locks say further of every run.
-use Rattle.std.specs.Prelude.{◌≡◌, ℕ, zero, suc, ◌+◌, ◌≤◌, ◌<◌, false, List, [], ◌∷◌, ◌++◌, length, replicate, slice_get, slice_index, get_or, Some, refl}
+use Rattle.std.specs.Prelude.{◌≡◌, ℕ, zero, suc, ◌+◌, ◌≤◌, ◌<◌, List, [], ◌∷◌, ◌++◌, length, replicate, slice_get, get_or, Some, refl}
 use Rattle.std.specs.List.{AllByRecursion}
 use Rattle.std.proofs.Common.{sym, ◌∙◌, ap, subst, ⊎_elim, arith}
 use Rattle.std.proofs.lemmas.List.{length-map}
@@ -18,13 +18,13 @@ use Rattle.rl_step.specs.Transitions.{Transition}
 use Rattle.rl_step.specs.Batches.{AreShown, HandsOn}
 use Rattle.rl_ops.specs.Ops.{total_calls}
 use Rattle.rl_site.specs.Site.{Site}
-use Rattle.rl_core.specs.laws.OpsBridge.{CanBegin}
 use Rattle.rl_core.specs.ShardTables.{ShardTable}
-use Rattle.rl_core.specs.ShardLaws.{GoodOf, CauseOf, FurtherOf, LawsOf, IsLaidAtSite}
-use Rattle.rl_machine.specs.Running.{ShardRun, Running, TheShard, TheMachine, shard_run, running, cores_of}
+use Rattle.rl_core.specs.ShardLaws.{LawsOf}
+use Rattle.rl_core.specs.Moments.{CoreSays}
+use Rattle.rl_machine.specs.Running.{ShardRun, Running, TheShard, TheMachine, shard_run, running, cores_of, moment_of}
 use Rattle.rl_step.specs.Traces.{events_of}
-use Rattle.rl_machine.specs.Start.{site_of, first_shards, start}
-use Rattle.rl_machine.specs.laws.StartLaws.{shard_first, shards_length, AreCores, start_good}
+use Rattle.rl_machine.specs.Start.{site_of, start}
+use Rattle.rl_machine.specs.laws.StartLaws.{shard_first, shards_length, MayStart, AreCores, start_good}
 use Rattle.rl_machine.specs.Run.{on_shard, run_of, trace_of, AreThere}
 use Rattle.rl_machine.specs.RunTransitions.{transitions_on, SaysOn}
 use Rattle.rl_machine.specs.laws.RunActs.{run_acts}
@@ -33,11 +33,11 @@ use Rattle.rl_machine.specs.Promises.{IsSound, KeepsQueues}
 use Rattle.rl_machine.specs.laws.SoundLaws.{is_sound}
 use Rattle.rl_machine.specs.laws.MachineLaws.{Found, found_at, laws_of, run_good}
 use Rattle.rl_machine.specs.laws.TransitionLaws.{run_shown}
-use Rattle.rl_machine.specs.Cores.{EachCore}
+use Rattle.rl_machine.specs.Cores.{EachCore, EachSits}
 
 -- one core more
-pub core_more : {C : Type 0} (P : ℕ → C → Type 0) (homes : List ℕ) (cores : List C) (home : ℕ) (core : C) → EachCore P homes cores → slice_get homes (length cores) ≡ Some home → P home core →
-    EachCore P homes (cores ++ core ∷ [])
+pub core_more : {C : Type 0} (P : ℕ → C → Type 0) (homes : List ℕ) (cores : List C) (home : ℕ) (core : C) → EachCore P homes cores →
+    slice_get homes (length cores) ≡ Some home → P home core → EachCore P homes (cores ++ core ∷ [])
 core_more P homes cores home core each at is =
     λ s h c getH getC. ⊎_elim
     (λ q. each s h c getH q.1)
@@ -56,93 +56,91 @@ home_there P [] i d all h = absurd (omega arith)
 home_there P (home ∷ homes) zero d all h = all.0
 home_there P (home ∷ homes) (suc i) d all h = home_there P homes i d all.1 (omega arith)
 
-module _ (C V : Type 0) (table : C → ShardTable V) (good : GoodOf C V) (cause : CauseOf C V) (further : FurtherOf C) (layout : C → Layout) (laws : LawsOf C V table good cause further layout) where
-  -- a machine that is the start has the cores of one
-  pub are_cores : (tables : ℕ → Site → ShardTable V) (is : Layout) (geom : Geom) (homes : List ℕ) (calls : List (List Call)) (sizes : List (List ℕ)) (m : TheMachine C V) → running table m ≡ start tables is.nodes geom homes calls sizes →
-      EachCore (λ home core. layout core ≡ is) homes (cores_of m) → AreCores C V table good cause further layout laws tables is geom homes calls (cores_of m)
-  are_cores tables is geom homes calls sizes m made lay =
+-- a machine that was just made: it is the start, and by each of its cores the ranks sit so
+module _ {C V : Type 0} (says : C → CoreSays V) (laws : LawsOf says) (tables : ℕ → Site → ShardTable V) (is : Layout) (geom : Geom) (homes : List ℕ)
+    (calls : List (List Call)) (sizes : List (List ℕ)) (may : MayStart tables is geom homes calls sizes)
+    (m : TheMachine C V) (made : running says m ≡ start tables is.nodes geom homes calls sizes) (sits : EachSits says is homes (cores_of m)) where
+  abbrev first : Running V
+  first = start tables is.nodes geom homes calls sizes
+
+  abbrev cores : List C
+  cores = cores_of m
+
+  are_cores : AreCores says tables is geom homes calls cores
+  are_cores =
       λ s home core getH getC.
       let at = get_map_back (λ (x : TheShard C V). x.core) m.shards s core getC in
-      let S : ShardRun V = shard_run table at.0 in
-      let has : slice_get (first_shards tables is.nodes geom calls 0 homes) s ≡ Some S = ap (λ (z : Running V). slice_get z.shards s) (sym made) ∙ get_map (shard_run table) m.shards s at.0 at.1 in
-      let first = shard_first tables is.nodes geom calls 0 homes s S has in
-      let same : first.0 ≡ home = one_at homes s first.0 home first.1 getH in
+      let S : ShardRun V = shard_run says at.0 in
+      let has : slice_get first.shards s ≡ Some S = ap (λ (z : Running V). slice_get z.shards s) (sym made) ∙ get_map (shard_run says) m.shards s at.0 at.1 in
+      let q = shard_first tables is.nodes geom calls 0 homes s S has in
+      let same : q.0 ≡ home = one_at homes s q.0 home q.1 getH in
       let nth : 0 + s ≡ s = omega arith in (
-        ap table (sym at.2) ∙ ap (λ (z : ShardRun V). z.table) first.2 ∙ ap (λ n. tables first.0 (site_of geom calls n)) nth ∙ ap (λ h. tables h (site_of geom calls s)) same,
-        lay s home core getH getC,
+        ap (λ c. (says c).table) (sym at.2) ∙ ap (λ (z : ShardRun V). z.table) q.2 ∙ ap (λ n. tables q.0 (site_of geom calls n)) nth ∙ ap (λ h. tables h (site_of geom calls s)) same,
+        sits s home core getH getC,
       )
 
-  pub all_cores : (tables : ℕ → Site → ShardTable V) (nodes : ℕ) (geom : Geom) (homes : List ℕ) (calls : List (List Call)) (sizes : List (List ℕ)) (m : TheMachine C V) → running table m ≡ start tables nodes geom homes calls sizes → length (cores_of m) ≡ length homes
-  all_cores tables nodes geom homes calls sizes m made =
-      length-map m.shards (λ (x : TheShard C V). x.core) ∙ sym (length-map m.shards (shard_run table)) ∙ ap (λ (z : Running V). length z.shards) made ∙ shards_length tables nodes geom calls 0 homes
+  all_cores : length cores ≡ length homes
+  all_cores =
+      length-map m.shards (λ (x : TheShard C V). x.core) ∙ sym (length-map m.shards (shard_run says)) ∙ ap (λ (z : Running V). length z.shards) made
+      ∙ shards_length tables is.nodes geom calls 0 homes
 
-  module _ (tables : ℕ → Site → ShardTable V) (laid : (home : ℕ) (site : Site) → IsLaidAtSite (tables home site) site) (is : Layout) (geom : Geom) (homes : List ℕ) (calls : List (List Call)) (sizes : List (List ℕ)) (cores : List C)
-      (are : AreCores C V table good cause further layout laws tables is geom homes calls cores)
-      (all : length cores ≡ length homes) (fits : GeomFits geom) (many : length homes ≡ geom.shards) (ranks : length calls ≡ length is.node_of) (few_ranks : length is.node_of ≤ 32) (can : CanBegin geom calls sizes)
-      (takes : (home : ℕ) (site : Site) → (tables home site).batches ≡ false → (k i : ℕ) → slice_index (get_or sizes k []) i ≤ 1) where
-    -- all is true of the start
-    pub begins : MachineGood C V table good cores (replicate (length cores) []) (start tables is.nodes geom homes calls sizes)
-    begins = start_good C V table good cause further layout laws tables laid is geom homes calls sizes cores are fits all many ranks few_ranks can.blocks can.few can.room takes
+  -- all is true of the start
+  begins : MachineGood says cores (replicate (length cores) []) first
+  begins = start_good says laws tables is geom homes calls sizes may cores are_cores all_cores
 
-    -- every run from the start, on each shard
-    module _ (ks : List ℕ) (there : AreThere (length calls) ks) (s home : ℕ) (getH : slice_get homes s ≡ Some home) where
-      abbrev first : Running V
-      first = start tables is.nodes geom homes calls sizes
-
-      abbrev acts : List (List Deed)
-      acts = run_acts (replicate (length cores) []) first ks
-
-      after_good : MachineGood C V table good cores acts (run_of first ks)
-      after_good = run_good C V table good cause further layout laws cores (replicate (length cores) []) first ks begins there
-
-      found : Found C V table good cause further layout laws cores acts (run_of first ks) s
-      found = found_at C V table good cause further layout laws cores acts (run_of first ks) s after_good (let a = after_good.all in let h = slice_get_within homes s home getH in omega arith)
-
-      trace_is : trace_of (run_of first ks) s ≡ found.shard.trace
-      trace_is = ap (on_shard [] (λ (S : ShardRun V). S.trace)) found.has
-
-      -- the atoms show the acts
-      shown : AreShown found.deeds (transitions_on first ks s)
-      shown =
-          let none : get_or (replicate (length cores) []) s [] ≡ [] = nothing_at (length cores) s in
-          subst (λ ds. AreShown ds (transitions_on first ks s)) (get_or_from_slice_get acts s found.deeds [] found.has_acts)
-          (run_shown C V table good cause further layout laws cores (replicate (length cores) []) first ks s [] begins there (subst (λ ds. AreShown ds []) (sym none) AreShown.none))
-
-    -- what the locks promise holds of it
-    pub says_on : (promised : ℕ → List Event → List Transition → Type 0) → EachCore (λ home core. HandsOn (further core) (promised home)) homes cores → (ks : List ℕ) → AreThere (length calls) ks →
-        (s home : ℕ) → slice_get homes s ≡ Some home → SaysOn (promised home) (start tables is.nodes geom homes calls sizes) ks s
-    says_on promised hands ks there s home getH =
-        let f = found ks there s home getH in
-        let lawful = laws_of C V table good cause further layout laws cores f.core f.shard.table f.is.table_is in
-        let said : further f.core (events_of f.shard.trace) f.deeds = lawful.says f.shard.held f.shard.views (events_of f.shard.trace) f.deeds f.is.is_good in
-        subst (λ t. promised home (events_of t) (transitions_on (start tables is.nodes geom homes calls sizes) ks s)) (sym (trace_is ks there s home getH))
-        (hands s home f.core getH f.has_core (events_of f.shard.trace) f.deeds (transitions_on (start tables is.nodes geom homes calls sizes) ks s) (shown ks there s home getH) said)
-
-    -- and so do the queues that the locks have by their kind
-    pub queues_on : (queues : ℕ → List QueueOf) → ((home : ℕ) (site : Site) → (tables home site).queues ≡ queues home) → (ks : List ℕ) → AreThere (length calls) ks → (s home : ℕ) → slice_get homes s ≡ Some home →
-        KeepsQueues (queues home) (run_of (start tables is.nodes geom homes calls sizes) ks) s
-    queues_on queues same ks there s home getH =
-        let f = found ks there s home getH in
-        let trace = sym (trace_is ks there s home getH) in
-        let sound : IsSound (run_of (start tables is.nodes geom homes calls sizes) ks) = is_sound C V table good cause further layout laws cores _ _ (after_good ks there s home getH) in
-        let own : f.shard.table.queues ≡ queues home = ap (λ (z : ShardTable V). z.queues) (f.is.table_is ∙ (are s home f.core getH f.has_core).0) ∙ same home (site_of geom calls s) in
-        record {
-          keep = subst (λ t. KeepQueues (queues home) (events_of t)) trace (subst (λ q. KeepQueues q (events_of f.shard.trace)) own (sound.shards s f.shard f.has).queues);
-          count = λ shut. subst (λ t. CountTenures (queues home) (events_of t)) trace (subst (λ q. CountTenures q (events_of f.shard.trace)) own (sound.counted s f.shard f.has (shut f.shard f.has)));
-        }
-
-  -- a machine that is the start keeps all that is true of a machine
-  pub is_machine : (tables : ℕ → Site → ShardTable V) → ((home : ℕ) (site : Site) → IsLaidAtSite (tables home site) site) → (is : Layout) (geom : Geom) (homes : List ℕ) (calls : List (List Call)) (sizes : List (List ℕ)) (m : TheMachine C V) →
-      running table m ≡ start tables is.nodes geom homes calls sizes →
-      EachCore (λ home core. layout core ≡ is) homes (cores_of m) → GeomFits geom → length homes ≡ geom.shards → length calls ≡ length is.node_of → length is.node_of ≤ 32 → CanBegin geom calls sizes → ((home : ℕ) (site : Site) → (tables home site).batches ≡ false → (k i : ℕ) → slice_index (get_or sizes k []) i ≤ 1) → total_calls calls ≤ 20000 →
-      IsMachine C V table good m
-  is_machine tables laid is geom homes calls sizes m made lay fits many ranks few_ranks can takes few =
-      let cores : List C = cores_of m in
-      let all : length cores ≡ length homes = all_cores tables is.nodes geom homes calls sizes m made in
+  -- so it keeps all that is true of a machine
+  pub is_machine : total_calls calls ≤ 20000 → IsMachine says m
+  is_machine few =
       record {
         acts = replicate (length cores) [];
-        is_good = subst (MachineGood C V table good cores (replicate (length cores) [])) (sym made)
-            (begins tables laid is geom homes calls sizes cores (are_cores tables is geom homes calls sizes m made lay) all fits many ranks few_ranks can takes);
-        fits = subst GeomFits (sym (ap (λ (z : Running V). z.geom) made)) fits;
+        is_good = subst (MachineGood says cores (replicate (length cores) [])) (sym made) begins;
+        fits = subst GeomFits (sym (ap (λ (z : Running V). z.geom) made)) may.fits;
         few = subst (λ c. total_calls c ≤ 20000) (sym (ap (λ (z : Running V). z.calls) made)) few;
       }
+
+  -- every run from the start, on each shard
+  module _ (ks : List ℕ) (there : AreThere (length calls) ks) (s home : ℕ) (getH : slice_get homes s ≡ Some home) where
+    abbrev acts : List (List Deed)
+    acts = run_acts (replicate (length cores) []) first ks
+
+    after_good : MachineGood says cores acts (run_of first ks)
+    after_good = run_good says laws cores (replicate (length cores) []) first ks begins there
+
+    found : Found says laws cores acts (run_of first ks) s
+    found = found_at says laws cores acts (run_of first ks) s after_good (let a = after_good.all in let b = all_cores in let h = slice_get_within homes s home getH in omega arith)
+
+    trace_is : trace_of (run_of first ks) s ≡ found.shard.trace
+    trace_is = ap (on_shard [] (λ (S : ShardRun V). S.trace)) found.has
+
+    -- the atoms show the acts
+    shown : AreShown found.deeds (transitions_on first ks s)
+    shown =
+        let none : get_or (replicate (length cores) []) s [] ≡ [] = nothing_at (length cores) s in
+        subst (λ ds. AreShown ds (transitions_on first ks s)) (get_or_from_slice_get acts s found.deeds [] found.has_acts)
+        (run_shown says laws cores (replicate (length cores) []) first ks s [] begins there (subst (λ ds. AreShown ds []) (sym none) AreShown.none))
+
+  -- what the locks promise holds of it
+  pub says_on : (promised : ℕ → List Event → List Transition → Type 0) → EachCore (λ home core. HandsOn (says core).further (promised home)) homes cores →
+      (ks : List ℕ) → AreThere (length calls) ks → (s home : ℕ) → slice_get homes s ≡ Some home → SaysOn (promised home) (running says m) ks s
+  says_on promised hands ks there s home getH =
+      let f = found ks there s home getH in
+      let lawful = laws_of says laws cores f.core f.shard.table f.is.table_is in
+      let said : (says f.core).further (events_of f.shard.trace) f.deeds = lawful.says (moment_of f.shard f.deeds) f.is.is_good in
+      subst (λ z. SaysOn (promised home) z ks s) (sym made)
+      (subst (λ t. promised home (events_of t) (transitions_on first ks s)) (sym (trace_is ks there s home getH))
+      (hands s home f.core getH f.has_core (events_of f.shard.trace) f.deeds (transitions_on first ks s) (shown ks there s home getH) said))
+
+  -- and so do the queues that the locks have by their kind
+  pub queues_on : (queues : ℕ → List QueueOf) → ((home : ℕ) (site : Site) → (tables home site).queues ≡ queues home) →
+      (ks : List ℕ) → AreThere (length calls) ks → (s home : ℕ) → slice_get homes s ≡ Some home → KeepsQueues (queues home) (run_of (running says m) ks) s
+  queues_on queues same ks there s home getH =
+      let f = found ks there s home getH in
+      let trace = sym (trace_is ks there s home getH) in
+      let sound : IsSound (run_of first ks) = is_sound says laws cores _ _ (after_good ks there s home getH) in
+      let own : f.shard.table.queues ≡ queues home = ap (λ (z : ShardTable V). z.queues) (f.is.table_is ∙ (are_cores s home f.core getH f.has_core).0) ∙ same home (site_of geom calls s) in
+      subst (λ z. KeepsQueues (queues home) (run_of z ks) s) (sym made)
+      (record {
+        keep = subst (λ t. KeepQueues (queues home) (events_of t)) trace (subst (λ q. KeepQueues q (events_of f.shard.trace)) own (sound.shards s f.shard f.has).queues);
+        count = λ shut. subst (λ t. CountTenures (queues home) (events_of t)) trace
+            (subst (λ q. CountTenures q (events_of f.shard.trace)) own (sound.counted s f.shard f.has (shut f.shard f.has)));
+      })

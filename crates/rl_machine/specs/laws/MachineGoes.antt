@@ -2,7 +2,6 @@
 use Rattle.std.specs.Prelude.{◌≡◌, ◌⊎◌, ◌↔◌, ℕ, ◌+◌, ◌*◌, ◌<◌, ◌≤◌, Bool, true, false, nat_lt, List, length, slice_get, slice_index, slice_set, sum_by, Option, Some, None, refl}
 use Rattle.std.proofs.Common.{sym, ◌∙◌, ap, subst, inl, inr, ⊎_elim, arith}
 use Rattle.std.proofs.lemmas.Option.{slice_get_within}
-use Rattle.rl_word.specs.Acts.{Layout}
 use Rattle.rl_word.specs.laws.Places.{get_set_cases, get_set_same, some_at}
 use Rattle.rl_word.specs.declared.acts.Atom.{Atom}
 use Rattle.rl_model.specs.declared.call.Call.{Call}
@@ -10,14 +9,14 @@ use Rattle.rl_step.specs.declared.events.Stepped.{Stepped}
 use Rattle.rl_step.specs.Answers.{counted, steps_made}
 use Rattle.rl_step.specs.Lock.{Deed}
 use Rattle.rl_core.specs.laws.AskLaws.{inside}
-use Rattle.rl_core.specs.ShardTables.{ShardTable}
-use Rattle.rl_core.specs.ShardLaws.{GoodOf, CauseOf, FurtherOf, LawsOf, IsSeated, AllShut, ShardCoreLaws}
-use Rattle.rl_machine.specs.Running.{ShardRun, Running}
+use Rattle.rl_core.specs.ShardTables.{ShardTable, AllShut}
+use Rattle.rl_core.specs.ShardLaws.{LawsOf, IsSeated, ShardCoreLaws}
+use Rattle.rl_core.specs.Moments.{CoreSays}
+use Rattle.rl_machine.specs.Running.{ShardRun, Running, moment_of}
 use Rattle.rl_machine.specs.ShardSteps.{opened_at, opened_on, makes, made_at, atom_on, answer_on, open_at, open_on}
-use Rattle.rl_step.specs.Traces.{events_of}
 use Rattle.rl_machine.specs.Run.{changed, changed_if, on_shard, calls_by, sizes_by, place_of, has_open_call, opens, opened_if, atom_made, stepped, IsAllClosed}
 use Rattle.rl_machine.specs.MachineGood.{MachineGood}
-use Rattle.rl_machine.specs.laws.MachineLaws.{Found, found_at, laws_of, seated, OpensAt, opens_at}
+use Rattle.rl_machine.specs.laws.MachineLaws.{Found, found_at, laws_of, OpensAt, opens_at, said_by}
 use Rattle.rl_machine.specs.laws.MachineSteps.{machine_with, step_is}
 use Rattle.rl_machine.specs.laws.RuledLaws.{are_ruled}
 use Rattle.rl_machine.specs.laws.RestLaws.{open_shuts}
@@ -33,18 +32,18 @@ open_by : {X : Type 0} (o : Option X) (x : X) (b : Bool) → (o ≡ None) ↔ (b
 open_by o x true way e = refl
 open_by o x false way e = let bad : None ≡ Some x = sym (way.1 refl) ∙ e in cc
 
-module _ (C V : Type 0) (table : C → ShardTable V) (good : GoodOf C V) (cause : CauseOf C V) (further : FurtherOf C) (layout : C → Layout) (laws : LawsOf C V table good cause further layout)
-    (left : LeftOf C V) (most : C → ℕ) (ends : EndsOf C V table good left most) (cores : List C) where
+module _ {C V : Type 0} (says : C → CoreSays V) (laws : LawsOf says)
+    (left : LeftOf C V) (most : C → ℕ) (ends : EndsOf says left most) (cores : List C) where
   abbrev pub left_of : Running V → ℕ
   left_of m = machine_left left most cores m
 
   -- the laws of its ending, for a shard's table
-  ends_of : (core : C) (T : ShardTable V) → T ≡ table core → ShardEnds T (left core) (good core) (most core)
-  ends_of core T is = subst (λ z. ShardEnds z (left core) (good core) (most core)) (sym is) (ends core)
+  ends_of : (core : C) (T : ShardTable V) → T ≡ (says core).table → ShardEnds (said_by (says core) T) (left core) (most core)
+  ends_of core T is = subst (λ z. ShardEnds (said_by (says core) z) (left core) (most core)) (sym is) (ends core)
 
-  module _ (acts : List (List Deed)) (m : Running V) (g : MachineGood C V table good cores acts m) where
+  module _ (acts : List (List Deed)) (m : Running V) (g : MachineGood says cores acts m) where
     abbrev pub FoundAt : ℕ → Type 0
-    FoundAt s = Found C V table good cause further layout laws cores acts m s
+    FoundAt s = Found says laws cores acts m s
 
     abbrev pub GoesNearer : Type 0
     GoesNearer = Nearer stepped (λ j. j < length m.calls) left_of m
@@ -62,10 +61,10 @@ module _ (C V : Type 0) (table : C → ShardTable V) (good : GoodOf C V) (cause 
     atom_leads s f r v has goes =
         let S : ShardRun V = f.shard in
         let at : Atom = goes.atom in
-        let law = laws_of C V table good cause further layout laws cores f.core S.table f.is.table_is in
-        let here : IsSeated S.table (good f.core) S.held S.views (events_of S.trace) f.deeds r v = seated C V table good cause further layout laws cores f.core f.deeds S r v f.is.is_good has in
-        let in_call : (S.table.own v).is_open ≡ true = open_by (S.table.core.next v) at (S.table.own v).is_open (law.open_is S.held S.views (events_of S.trace) f.deeds r v here) goes.next in
-        let stands : place_of m r ≡ s = (are_ruled C V table good cause further layout laws cores acts m g).stands s r S v f.has has in_call in
+        let law = laws_of says laws cores f.core S.table f.is.table_is in
+        let here : IsSeated (said_by (says f.core) S.table) (moment_of S f.deeds) r v = record { is_good = f.is.is_good; has = has } in
+        let in_call : (S.table.own v).is_open ≡ true = open_by (S.table.core.next v) at (S.table.own v).is_open (law.open_is (moment_of S f.deeds) r v here) goes.next in
+        let stands : place_of m r ≡ s = (are_ruled says laws cores acts m g).stands s r S v f.has has in_call in
         let low : r < length m.calls = let a = f.is.ranks in let b = slice_get_within S.views r v has in omega arith in
         let at_place : slice_get m.shards (place_of m r) ≡ Some S = ap (slice_get m.shards) stands ∙ f.has in
         let is_in : has_open_call m r ≡ true = ap (on_shard false (open_on r)) at_place ∙ ap (open_at S.table) has ∙ in_call in
@@ -87,7 +86,7 @@ module _ (C V : Type 0) (table : C → ShardTable V) (good : GoodOf C V) (cause 
         }
 
     -- a call is open somewhere: its shard isn't shut
-    pub isnt_shut : (k : ℕ) → k < length m.calls → has_open_call m k ≡ true → (f : FoundAt (place_of m k)) → AllShut f.shard.table (good f.core) f.shard.views → ⊥
+    pub isnt_shut : (k : ℕ) → k < length m.calls → has_open_call m k ≡ true → (f : FoundAt (place_of m k)) → AllShut f.shard.table f.shard.views → ⊥
     isnt_shut k low in_call f shut =
         let S : ShardRun V = f.shard in
         let x = some_at S.views k (let a = f.is.ranks in omega arith) in
@@ -98,16 +97,16 @@ module _ (C V : Type 0) (table : C → ShardTable V) (good : GoodOf C V) (cause 
     open_goes : (k : ℕ) → k < length m.calls → has_open_call m k ≡ true → GoesNearer
     open_goes k low in_call =
         let s : ℕ = place_of m k in
-        let f : FoundAt s = found_at C V table good cause further layout laws cores acts m s g (g.stands k low) in
+        let f : FoundAt s = found_at says laws cores acts m s g (g.stands k low) in
         ⊎_elim
         (λ shut. absurd (isnt_shut k low in_call f shut))
         (λ n. so_nearer n.rank (atom_leads s f n.rank n.view n.has n.goes))
-        ((ends_of f.core f.shard.table f.is.table_is).somebody f.shard.held f.shard.views (events_of f.shard.trace) f.deeds f.is.is_good)
+        ((ends_of f.core f.shard.table f.is.table_is).somebody (moment_of f.shard f.deeds) f.is.is_good)
 
     -- none is open, and rank k opens its next block: its shard was shut, so it is this rank whose atom leaves less
     module _ (closed : IsAllClosed m) (k : ℕ) (low : k < length m.calls) (e : opens m k ≡ true) where
-      abbrev o : OpensAt C V table good cause further layout laws cores acts m k
-      o = opens_at C V table good cause further layout laws cores acts m k g low e
+      abbrev o : OpensAt says laws cores acts m k
+      o = opens_at says laws cores acts m k g low e
 
       abbrev S : ShardRun V
       S = o.found.shard
@@ -131,28 +130,28 @@ module _ (C V : Type 0) (table : C → ShardTable V) (good : GoodOf C V) (cause 
       abbrev S1 : ShardRun V
       S1 = opened_at S k block n (Some o.view)
 
-      law : ShardCoreLaws S.table (good core) (cause core) (further core) (layout core)
-      law = laws_of C V table good cause further layout laws cores core S.table o.found.is.table_is
+      law : ShardCoreLaws (said_by (says core) S.table)
+      law = laws_of says laws cores core S.table o.found.is.table_is
 
-      here : IsSeated S.table (good core) S.held S.views (events_of S.trace) o.found.deeds k o.view
-      here = seated C V table good cause further layout laws cores core o.found.deeds S k o.view o.found.is.is_good o.has_view
+      here : IsSeated (said_by (says core) S.table) (moment_of S o.found.deeds) k o.view
+      here = record { is_good = o.found.is.is_good; has = o.has_view }
 
-      shut : AllShut S.table (good core) S.views
+      shut : AllShut S.table S.views
       shut r v has =
           sym (ap (open_at S.table) has)
-          ∙ (is_sound C V table good cause further layout laws cores acts m g).shut closed place S o.found.has r (slice_get_within S.views r v has)
+          ∙ (is_sound says laws cores acts m g).shut closed place S o.found.has r (slice_get_within S.views r v has)
 
       adds : left core S1.held S1.views ≤ left core S.held S.views + most core
-      adds = (ends_of core S.table o.found.is.table_is).open_adds S.held S.views (events_of S.trace) o.found.deeds k o.view block n here shut o.fits
+      adds = (ends_of core S.table o.found.is.table_is).open_adds (moment_of S o.found.deeds) k o.view block n here shut o.fits
 
       has_y : slice_get S1.views k ≡ Some y
       has_y = get_set_same S.views k o.view y o.has_view
 
       open_y : (S.table.own y).is_open ≡ true
-      open_y = (law.opens_own S.held S.views (events_of S.trace) o.found.deeds k o.view block n here o.fits).is_open
+      open_y = (law.opens_own (moment_of S o.found.deeds) k o.view block n here o.fits).is_open
 
-      good_then : good core S1.held S1.views (events_of S1.trace) o.found.deeds
-      good_then = law.open_keeps S.held S.views (events_of S.trace) o.found.deeds k o.view block n here o.fits
+      good_then : (says core).good (moment_of S1 o.found.deeds)
+      good_then = law.open_keeps (moment_of S o.found.deeds) k o.view block n here o.fits
 
       -- its step: the block, and the atom
       step_leads : Lessens S.table (left core) S1.held S1.views k y → Leads k
@@ -164,12 +163,13 @@ module _ (C V : Type 0) (table : C → ShardTable V) (good : GoodOf C V) (cause 
           let answer : Stepped = answer_on k (opened_on k block n S) in
           let opened : List ℕ = slice_set m.opened k (n + length block) in
           let same : machine_with m (slice_set m.shards place S2) opened (counted answer m.steps) ≡ stepped m k =
-          (step_is C V table good cause further layout laws cores acts m k g low e S2 answer made refl).0 in
+          (step_is says laws cores acts m k g low e S2 answer made refl).0 in
           let all = g.all_opened in
           record {
             there = low;
             less = subst (λ z. left_of z < left_of m) same
-                (block_less (sum_by most cores) (unopened m.calls m.opened) (unopened m.calls opened) (length block) (shards_left left cores m.shards) (shards_left left cores (slice_set m.shards place S2))
+                (block_less (sum_by most cores) (unopened m.calls m.opened) (unopened m.calls opened) (length block)
+                (shards_left left cores m.shards) (shards_left left cores (slice_set m.shards place S2))
                 (left core S.held S.views) (left core S1.held S1.views) (left core S2.held S2.views) (most core)
                 (unopened_turned m.calls m.opened k (length block) low (omega arith) (inside m.geom (calls_by m k) (sizes_by m k) n o.next))
                 o.next.is_block.is_asked.some
@@ -182,8 +182,8 @@ module _ (C V : Type 0) (table : C → ShardTable V) (good : GoodOf C V) (cause 
       -- nobody else has a block open there
       this_rank : (r : ℕ) (v : V) → slice_get S1.views r ≡ Some v → Lessens S.table (left core) S1.held S1.views r v → Lessens S.table (left core) S1.held S1.views k y
       this_rank r v has l =
-          let seat_then : IsSeated S.table (good core) S1.held S1.views (events_of S1.trace) o.found.deeds r v = record { is_good = good_then; has = has } in
-          let in_call : (S.table.own v).is_open ≡ true = open_by (S.table.core.next v) l.atom (S.table.own v).is_open (law.open_is S1.held S1.views (events_of S1.trace) o.found.deeds r v seat_then) l.next in
+          let seat_then : IsSeated (said_by (says core) S.table) (moment_of S1 o.found.deeds) r v = record { is_good = good_then; has = has } in
+          let in_call : (S.table.own v).is_open ≡ true = open_by (S.table.core.next v) l.atom (S.table.own v).is_open (law.open_is (moment_of S1 o.found.deeds) r v seat_then) l.next in
           ⊎_elim
           (λ q. subst (λ z. Lessens S.table (left core) S1.held S1.views z y) q.0 (subst (λ z. Lessens S.table (left core) S1.held S1.views r z) q.1 l))
           (λ q. let bad : true ≡ false = sym in_call ∙ shut r v q.1 in cc)
@@ -195,7 +195,7 @@ module _ (C V : Type 0) (table : C → ShardTable V) (good : GoodOf C V) (cause 
           ⊎_elim
           (λ all_shut. let bad : true ≡ false = sym open_y ∙ all_shut k y has_y in cc)
           (λ go. this_rank go.rank go.view go.has go.goes)
-          ((ends_of core S.table o.found.is.table_is).somebody S1.held S1.views (events_of S1.trace) o.found.deeds good_then)
+          ((ends_of core S.table o.found.is.table_is).somebody (moment_of S1 o.found.deeds) good_then)
 
       pub next_leads : Leads k
       next_leads = step_leads lessens
@@ -206,7 +206,7 @@ module _ (C V : Type 0) (table : C → ShardTable V) (good : GoodOf C V) (cause 
         let few : length (calls_by m k) ≤ slice_index m.opened k = none_left (has_open_call m k) (slice_index m.opened k) (length (calls_by m k)) (closed k low) (none k low) in
         let no_more : slice_index m.opened k ≤ length (calls_by m k) = (g.ranks k low).low in
         let all : slice_index m.opened k ≡ length (calls_by m k) = omega arith in
-        ((closed k low, few), shut_done C V table good cause further layout laws cores acts m k g low (closed k low) ∙ all)
+        ((closed k low, few), shut_done says laws cores acts m k g low (closed k low) ∙ all)
 
     pub machine_goes : AllDone m ⊎ Nearer stepped (λ j. j < length m.calls) (machine_left left most cores) m
     machine_goes =

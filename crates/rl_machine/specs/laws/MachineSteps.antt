@@ -3,15 +3,14 @@ use Rattle.std.specs.Prelude.{◌≡◌, ℕ, ◌+◌, ◌<◌, true, List, leng
 use Rattle.std.proofs.Common.{sym, ◌∙◌, ap, arith, get_or-set_same}
 use Rattle.std.proofs.lemmas.List.{set-set}
 use Rattle.rl_word.specs.laws.Places.{get_set_same}
-use Rattle.rl_word.specs.Acts.{Layout}
 use Rattle.rl_model.specs.declared.call.Call.{Call}
 use Rattle.rl_step.specs.declared.events.Stepped.{Stepped}
 use Rattle.rl_step.specs.declared.events.Stepped.TheVariants.{Finished}
 use Rattle.rl_step.specs.declared.tallies.Steps.{Steps}
 use Rattle.rl_step.specs.Answers.{counted, steps_made}
 use Rattle.rl_step.specs.Lock.{Deed}
-use Rattle.rl_core.specs.ShardLaws.{GoodOf, CauseOf, FurtherOf, LawsOf}
-use Rattle.rl_core.specs.ShardTables.{ShardTable}
+use Rattle.rl_core.specs.ShardLaws.{LawsOf}
+use Rattle.rl_core.specs.Moments.{CoreSays}
 use Rattle.rl_machine.specs.Running.{ShardRun, Running}
 use Rattle.rl_machine.specs.ShardSteps.{opened_on, atom_on, answer_on}
 use Rattle.rl_core.specs.Asks.{block_shard, place_after}
@@ -25,20 +24,22 @@ abbrev pub machine_with : {V : Type 0} → Running V → List (ShardRun V) → L
 machine_with m shards opened steps = record { shards = shards; geom = m.geom; calls = m.calls; sizes = m.sizes; opened = opened; steps = steps }
 
 -- the atom was made on the shard where the rank stands
-pub atom_is : {V : Type 0} (m : Running V) (k : ℕ) (S S' : ShardRun V) (answer : Stepped) → slice_get m.shards (place_of m k) ≡ Some S → S' ≡ atom_on k (steps_made m.steps) S → answer ≡ answer_on k S →
+pub atom_is : {V : Type 0} (m : Running V) (k : ℕ) (S S' : ShardRun V) (answer : Stepped) → slice_get m.shards (place_of m k) ≡ Some S →
+    S' ≡ atom_on k (steps_made m.steps) S → answer ≡ answer_on k S →
     (machine_with m (slice_set m.shards (place_of m k) S') m.opened (counted answer m.steps) ≡ atom_made m k) × (answer ≡ atom_answer m k)
 atom_is m k S S' answer has made is =
     let s : ℕ = place_of m k in
     let told : answer ≡ atom_answer m k = is ∙ sym (ap (on_shard Finished (answer_on k)) has) in
-    let now : slice_set m.shards s S' ≡ changed m.shards s (atom_on k (steps_made m.steps)) = ap (slice_set m.shards s) made ∙ sym (ap (changed_if m.shards s (atom_on k (steps_made m.steps))) has) in (
+    let now : slice_set m.shards s S' ≡ changed m.shards s (atom_on k (steps_made m.steps)) = ap (slice_set m.shards s) made
+    ∙ sym (ap (changed_if m.shards s (atom_on k (steps_made m.steps))) has) in (
       ap (λ l. machine_with m l m.opened (counted answer m.steps)) now ∙ ap (λ a. machine_with m (changed m.shards s (atom_on k (steps_made m.steps))) m.opened (counted a m.steps)) told,
       told,
     )
 
-module _ (C V : Type 0) (table : C → ShardTable V) (good : GoodOf C V) (cause : CauseOf C V) (further : FurtherOf C) (layout : C → Layout) (laws : LawsOf C V table good cause further layout) (cores : List C)
-    (acts : List (List Deed)) (m : Running V) (k : ℕ) (g : MachineGood C V table good cores acts m) (h : k < length m.calls) (e : opens m k ≡ true) where
-  abbrev o : OpensAt C V table good cause further layout laws cores acts m k
-  o = opens_at C V table good cause further layout laws cores acts m k g h e
+module _ {C V : Type 0} (says : C → CoreSays V) (laws : LawsOf says) (cores : List C)
+    (acts : List (List Deed)) (m : Running V) (k : ℕ) (g : MachineGood says cores acts m) (h : k < length m.calls) (e : opens m k ≡ true) where
+  abbrev o : OpensAt says laws cores acts m k
+  o = opens_at says laws cores acts m k g h e
 
   abbrev n : ℕ
   n = slice_index m.opened k

@@ -1,10 +1,9 @@
 -- From each state of a machine that meets its rules some steps lead to the end of all calls.
 use Rattle.std.specs.Prelude.{◌≡◌, ◌⊎◌, ℕ, ◌<◌, List, [], ◌∷◌, length, refl}
 use Rattle.std.proofs.Common.{◌∙◌, ap, subst, arith}
-use Rattle.rl_word.specs.Acts.{Layout}
 use Rattle.rl_step.specs.Lock.{Deed}
-use Rattle.rl_core.specs.ShardTables.{ShardTable}
-use Rattle.rl_core.specs.ShardLaws.{GoodOf, CauseOf, FurtherOf, LawsOf}
+use Rattle.rl_core.specs.ShardLaws.{LawsOf}
+use Rattle.rl_core.specs.Moments.{CoreSays}
 use Rattle.rl_machine.specs.Running.{Running}
 use Rattle.rl_machine.specs.Run.{stepped, run_of, AreThere}
 use Rattle.rl_machine.specs.laws.RunActs.{step_acts, run_acts}
@@ -24,12 +23,12 @@ all_there : (n : ℕ) (ks : List ℕ) → reach.AreThere (λ j. j < n) ks → Ar
 all_there n [] there = tt
 all_there n (k ∷ ks) there = (there.0, all_there n ks there.1)
 
-module _ (C V : Type 0) (table : C → ShardTable V) (good : GoodOf C V) (cause : CauseOf C V) (further : FurtherOf C) (layout : C → Layout) (laws : LawsOf C V table good cause further layout)
-    (left : LeftOf C V) (most : C → ℕ) (ends : EndsOf C V table good left most) (cores : List C) where
+module _ {C V : Type 0} (says : C → CoreSays V) (laws : LawsOf says)
+    (left : LeftOf C V) (most : C → ℕ) (ends : EndsOf says left most) (cores : List C) where
   -- a machine of so many ranks that meets its rules
   record IsRunning (n : ℕ) (m : Running V) : Type 0 where
     acts : List (List Deed)
-    is_good : MachineGood C V table good cores acts m
+    is_good : MachineGood says cores acts m
     ranks : length m.calls ≡ n
 
   keeps : (n : ℕ) (m : Running V) (k : ℕ) → IsRunning n m → k < n → IsRunning n (stepped m k)
@@ -37,26 +36,26 @@ module _ (C V : Type 0) (table : C → ShardTable V) (good : GoodOf C V) (cause 
       let ranks = is.ranks in
       record {
         acts = step_acts is.acts m k;
-        is_good = stepped_good C V table good cause further layout laws cores is.acts m k is.is_good (omega arith);
-        ranks = ap length (stepped_calls C V table good cause further layout laws cores m k) ∙ ranks;
+        is_good = stepped_good says laws cores is.acts m k is.is_good (omega arith);
+        ranks = ap length (stepped_calls says laws cores m k) ∙ ranks;
       }
 
   goes : (n : ℕ) (m : Running V) → IsRunning n m → AllDone m ⊎ reach.Nearer stepped (λ j. j < n) (machine_left left most cores) m
   goes n m is =
       subst (λ z. AllDone m ⊎ reach.Nearer stepped (λ j. j < z) (machine_left left most cores) m) is.ranks
-      (machine_goes C V table good cause further layout laws left most ends cores is.acts m is.is_good)
+      (machine_goes says laws left most ends cores is.acts m is.is_good)
 
-  pub can_finish_in : (acts : List (List Deed)) (m : Running V) → MachineGood C V table good cores acts m → CanFinishIn (machine_left left most cores m) m
+  pub can_finish_in : (acts : List (List Deed)) (m : Running V) → MachineGood says cores acts m → CanFinishIn (machine_left left most cores m) m
   can_finish_in acts m g =
       let n : ℕ = length m.calls in
       let c = reach.can_end stepped (λ j. j < n) (IsRunning n) AllDone (machine_left left most cores) (keeps n) (goes n) m (record { acts = acts; is_good = g; ranks = refl }) in
       record { ranks = c.ranks; there = all_there n c.ranks c.all; few = c.few; done = subst AllDone (steps_are m c.ranks) c.ends }
 
   -- and so from each that comes after
-  pub still_can : (acts : List (List Deed)) (m : Running V) (ks : List ℕ) → MachineGood C V table good cores acts m → AreThere (length m.calls) ks → CanFinish (run_of m ks)
+  pub still_can : (acts : List (List Deed)) (m : Running V) (ks : List ℕ) → MachineGood says cores acts m → AreThere (length m.calls) ks → CanFinish (run_of m ks)
   still_can acts m ks g there =
-      let c = can_finish_in (run_acts acts m ks) (run_of m ks) (run_good C V table good cause further layout laws cores acts m ks g there) in
+      let c = can_finish_in (run_acts acts m ks) (run_of m ks) (run_good says laws cores acts m ks g there) in
       record { ranks = c.ranks; there = c.there; done = c.done }
 
-  pub can_finish : (acts : List (List Deed)) (m : Running V) → MachineGood C V table good cores acts m → CanFinish m
+  pub can_finish : (acts : List (List Deed)) (m : Running V) → MachineGood says cores acts m → CanFinish m
   can_finish acts m g = still_can acts m [] g tt

@@ -1,30 +1,69 @@
 -- A rank that opens its next block: the block in the code's lists, its shard, and the step.
-use Rattle.std.specs.Prelude.{◌≡◌, ℕ, ◌+◌, ◌≤◌, ◌<◌, true, false, List, [], length, get_or, slice_get, slice_index, slice_set, Some}
+use Rattle.std.specs.Prelude.{◌≡◌, ℕ, ◌+◌, ◌≤◌, ◌<◌, true, false, List, [], length, get_or, slice_get, slice_index, slice_set, Some, refl}
 use Rattle.std.proofs.Common.{sym, ◌∙◌, ap, subst, get_or-set_same, arith}
-use Rattle.rl_word.specs.Acts.{Layout}
+use Rattle.std.proofs.lemmas.Option.{slice_get-get_or}
 use Rattle.rl_word.specs.laws.Places.{one_at}
 use Rattle.rl_model.specs.declared.call.Call.{Call}
 use Rattle.rl_step.specs.declared.events.Stepped.{Stepped}
+use Rattle.rl_step.specs.declared.tallies.Steps.{Steps}
 use Rattle.rl_step.specs.Answers.{counted, steps_made}
-use Rattle.rl_core.specs.ShardLaws.{MayOpen, GoodOf, CauseOf, FurtherOf, LawsOf}
-use Rattle.rl_core.specs.ShardTables.{ShardTable}
+use Rattle.rl_core.specs.ShardLaws.{MayOpen, LawsOf}
+use Rattle.rl_core.specs.Moments.{CoreSays}
 use Rattle.rl_machine.specs.declared.shard.ShardState.{ShardState}
 use Rattle.rl_machine.specs.declared.state.MachineState.{MachineState}
-use Rattle.rl_machine.specs.Running.{ShardRun, Running, shard_run, running, cores_of}
+use Rattle.rl_machine.specs.Running.{ShardRun, Running, cores_of}
 use Rattle.rl_core.specs.Asks.{block_from, block_shard, place_after}
 use Rattle.rl_core.specs.laws.AskLaws.{size_is, block_is, block_at, stands_at, inside, is_begun, few_calls}
-use Rattle.rl_machine.specs.ShardSteps.{opened_on, atom_on, answer_on}
+use Rattle.rl_machine.specs.ShardSteps.{opened_on, block_on, answer_on}
 use Rattle.rl_machine.specs.Run.{changed_if, calls_by, sizes_by, opens, opened_if, next_block, stepped, answer_of_step}
 use Rattle.rl_machine.specs.laws.MachineLaws.{OpensAt, opens_at}
 use Rattle.rl_machine.specs.laws.MachineSteps.{machine_with, step_is}
 use Rattle.rl_machine.specs.MachineGood.{IsMachine}
-use Rattle.rl_machine.specs.State.{shard_view, machine_view, IsGood}
-use Rattle.rl_machine.specs.laws.StateLaws.{is_there, many, is_listed}
+use Rattle.rl_machine.specs.State.{machine_view, IsGood, OfView, running_shard, running_shards, running_machine}
+use Rattle.rl_machine.specs.laws.StateLaws.{is_there, many, is_listed, shard_set}
 
-module _ (C V : Type 0) (table : C → ShardTable V) (good : GoodOf C V) (cause : CauseOf C V) (further : FurtherOf C) (layout : C → Layout) (laws : LawsOf C V table good cause further layout)
-    (m : MachineState C V) (is : IsMachine C V table good (machine_view m)) (k : ℕ) (h : k < length m.ops.by_rank) (e : opens (running table (machine_view m)) k ≡ true) where
+module _ {C V : Type 0} (says : C → CoreSays V) (m : MachineState C V) (k : ℕ) where
+  -- the machine with this shard in that place, the block that begins with the rank's call of this number opened, and these counts
+  abbrev pub with_block : ℕ → ℕ → List Call → ShardState C V → Steps → Running V
+  with_block first place block new counts =
+      machine_with (running_machine says m) (running_shards says (slice_set m.shards.items place new)) (slice_set m.opened.items k (first + length block)) counts
+
+  -- The rank's next block may be opened on its shard: by the number of its first call, the place of the shard, the block, and the shard, as the
+  -- code has them. With the block opened there the machine is the one with the block opened, and with its first atom made the one after the step.
+  pub record CanOpen (first place : ℕ) (block : List Call) (item : ShardState C V) : Type 0 where
+    pub has : slice_get m.shards.items place ≡ Some item
+    pub ranks : k < length item.flat.views.items
+    pub is_good : IsGood says item
+    pub few : length block ≤ 8
+    pub behind : first + length block ≤ 20000
+    pub closed : OfView item.flat.views.items k (λ x. ((says item.core).table.own x).is_open ≡ false)
+    pub fits : OfView item.flat.views.items k (λ x. MayOpen (says item.core).table k x block first)
+    pub opened : (new : ShardState C V) → running_shard says new ≡ opened_on k block first (running_shard says item) →
+        with_block first place block new m.steps ≡ opened_if (running_machine says m) k true
+    pub made : (new : ShardState C V) (step : ℕ) (answer : Stepped) (counts : Steps) → step ≡ steps_made m.steps →
+        running_shard says new ≡ block_on k step block first (running_shard says item) → answer ≡ answer_on k (opened_on k block first (running_shard says item)) →
+        counts ≡ counted answer m.steps → with_block first place block new counts ≡ stepped (running_machine says m) k
+    pub told : (answer : Stepped) → answer ≡ answer_on k (opened_on k block first (running_shard says item)) → answer ≡ answer_of_step (running_machine says m) k
+    pub stands : place_after m.geom (get_or m.ops.by_rank k []) (slice_index (slice_set m.opened.items k (first + length block)) k) ≡ place
+
+  -- so its shard is there, and each value that the code reads in that place is such a shard
+  pub record CanOpenAt (first place : ℕ) (block : List Call) : Type 0 where
+    pub there : place < length m.shards.items
+    pub on : (item : ShardState C V) → item ≡ get_or m.shards.items place item → CanOpen first place block item
+
+  -- the block stands in the code's lists, and whatever the code reads of it is so
+  pub record IsBlockThere : Type 0 where
+    pub sized : k < length m.ops.sizes
+    pub begins : slice_index m.opened.items k < length (get_or m.ops.sizes k [])
+    pub within : slice_index m.opened.items k + slice_index (get_or m.ops.sizes k []) (slice_index m.opened.items k) ≤ length (get_or m.ops.by_rank k [])
+    pub opened : k < length m.opened.items
+    pub goes : (first place : ℕ) (block : List Call) → first ≡ slice_index m.opened.items k → block ≡ block_from (get_or m.ops.by_rank k []) (get_or m.ops.sizes k []) first →
+        place ≡ block_shard m.geom block → CanOpenAt first place block
+
+module _ {C V : Type 0} (says : C → CoreSays V) (laws : LawsOf says)
+    (m : MachineState C V) (is : IsMachine says (machine_view m)) (k : ℕ) (h : k < length m.ops.by_rank) (e : opens (running_machine says m) k ≡ true) where
   abbrev run : Running V
-  run = running table (machine_view m)
+  run = running_machine says m
 
   abbrev n : ℕ
   n = slice_index m.opened.items k
@@ -32,27 +71,33 @@ module _ (C V : Type 0) (table : C → ShardTable V) (good : GoodOf C V) (cause 
   abbrev block : List Call
   block = next_block run k
 
-  o : OpensAt C V table good cause further layout laws (cores_of (machine_view m)) is.acts run k
-  o = opens_at C V table good cause further layout laws (cores_of (machine_view m)) is.acts run k is.is_good h e
+  abbrev place : ℕ
+  place = block_shard m.geom block
 
-  -- the block stands in the code's lists
-  pub record IsBlockThere : Type 0 where
-    pub sized : k < length m.ops.sizes
-    pub begins : n < length (get_or m.ops.sizes k [])
-    pub within : n + slice_index (get_or m.ops.sizes k []) n ≤ length (get_or m.ops.by_rank k [])
-    pub few : length block ≤ 8
-    pub behind : n + length block ≤ 20000
-    pub there : block_shard m.geom block < length m.shards.items
-    pub opened : k < length m.opened.items
+  -- the calls opened then
+  abbrev opened_then : List ℕ
+  opened_then = slice_set m.opened.items k (n + length block)
+
+  o : OpensAt says laws (cores_of (machine_view m)) is.acts run k
+  o = opens_at says laws (cores_of (machine_view m)) is.acts run k is.is_good h e
 
   block_same : block ≡ o.next.block
   block_same = block_is m.geom (calls_by run k) (sizes_by run k) n o.next
 
-  place_same : block_shard m.geom block ≡ o.next.is_block.shard
+  place_same : place ≡ o.next.is_block.shard
   place_same = ap (block_shard m.geom) block_same ∙ block_at m.geom (calls_by run k) (sizes_by run k) n o.next
 
-  pub block_there : IsBlockThere
-  block_there =
+  record IsListed : Type 0 where
+    sized : k < length m.ops.sizes
+    begins : n < length (get_or m.ops.sizes k [])
+    within : n + slice_index (get_or m.ops.sizes k []) n ≤ length (get_or m.ops.by_rank k [])
+    few : length block ≤ 8
+    behind : n + length block ≤ 20000
+    there : place < length m.shards.items
+    opened : k < length m.opened.items
+
+  listed : IsListed
+  listed =
       let calls = calls_by run k in
       let sizes = sizes_by run k in
       let asked = o.next.is_block.is_asked in
@@ -69,84 +114,77 @@ module _ (C V : Type 0) (table : C → ShardTable V) (good : GoodOf C V) (cause 
         within = omega arith;
         few = omega arith;
         behind = omega arith;
-        there = let at = place_same in let t = o.next.is_block.there in let a = many C V table good m is in omega arith;
+        there = let at = place_same in let t = o.next.is_block.there in let a = many says m is in omega arith;
         opened = let a = is.is_good.all_opened in omega arith;
       }
 
-  -- its shard is ready for it, and what is made there is the step; for the number of its first call, its shard and itself, as the code
-  -- has them
-  pub record CanOpen (first place : ℕ) (blk : List Call) (item : ShardState C V) : Type 0 where
-    pub ranks : k < length item.flat.views.items
-    pub is_good : IsGood good item
-    pub few : length blk ≤ 8
-    pub behind : first + length blk ≤ 20000
-    pub closed : (x : V) → slice_get item.flat.views.items k ≡ Some x → ((table item.core).own x).is_open ≡ false
-    pub fits : (x : V) → slice_get item.flat.views.items k ≡ Some x → MayOpen (table item.core) k x blk first
-    pub step : (S' : ShardRun V) (answer : Stepped) → S' ≡ atom_on k (steps_made m.steps) (opened_on k blk first (shard_run table (shard_view item))) → answer ≡ answer_on k (opened_on k blk first (shard_run table (shard_view item))) →
-        (machine_with run (slice_set run.shards place S') (slice_set m.opened.items k (first + length blk)) (counted answer m.steps) ≡ stepped run k) × (answer ≡ answer_of_step run k)
-    pub stands : place_after m.geom (calls_by run k) (slice_index (slice_set m.opened.items k (first + length blk)) k) ≡ place
+  module _ (item : ShardState C V) (has : slice_get m.shards.items place ≡ Some item) where
+    abbrev S : ShardRun V
+    S = running_shard says item
 
-  can_open_there : (item : ShardState C V) → slice_get m.shards.items (block_shard m.geom block) ≡ Some item → CanOpen n (block_shard m.geom block) block item
-  unfolding o
-  can_open_there item has =
-      let t = is_there C V table good m is (block_shard m.geom block) item has in
-      let place : ℕ = o.next.is_block.shard in
-      let S : ShardRun V = shard_run table (shard_view item) in
-      let same : o.found.shard ≡ S = one_at run.shards place o.found.shard S o.found.has (ap (slice_get run.shards) (sym place_same) ∙ t.has) in
-      let view : (x : V) → slice_get item.flat.views.items k ≡ Some x → o.view ≡ x =
-      λ x hx. one_at o.found.shard.views k o.view x o.has_view (ap (λ (z : ShardRun V). slice_get z.views k) same ∙ hx) in
-      record {
-        ranks = let all = t.ranks in omega arith;
-        is_good = t.is_good;
-        few = block_there.few;
-        behind = block_there.behind;
-        closed = λ x hx. subst (λ (z : ShardRun V). (z.table.own x).is_open ≡ false) same (subst (λ y. (o.found.shard.table.own y).is_open ≡ false) (view x hx) o.shut);
-        fits = λ x hx. subst (λ b. MayOpen S.table k x b n) (sym block_same)
-            (subst (λ (z : ShardRun V). MayOpen z.table k x o.next.block n) same (subst (λ (y : V). MayOpen o.found.shard.table k y o.next.block n) (view x hx) o.fits));
-        step = λ S' answer made told.
-            let step : ℕ = steps_made m.steps in
-            let q = step_is C V table good cause further layout laws (cores_of (machine_view m)) is.acts run k is.is_good h e S' answer
-            (made ∙ ap (λ b. atom_on k step (opened_on k b n S)) block_same ∙ ap (λ z. atom_on k step (opened_on k o.next.block n z)) (sym same))
-            (told ∙ ap (λ b. answer_on k (opened_on k b n S)) block_same ∙ ap (λ z. answer_on k (opened_on k o.next.block n z)) (sym same)) in (
-              ap (λ s. machine_with run (slice_set run.shards s S') (slice_set m.opened.items k (n + length block)) (counted answer m.steps)) place_same
-                  ∙ ap (λ (b : List Call). machine_with run (slice_set run.shards place S') (slice_set m.opened.items k (n + length b)) (counted answer m.steps)) block_same ∙ q.0,
-              q.1,
-            );
-        stands =
-            let at_k : slice_index (slice_set m.opened.items k (n + length block)) k ≡ n + length block = get_or-set_same m.opened.items k (n + length block) 0 block_there.opened in
-            ap (place_after m.geom (calls_by run k)) (at_k ∙ ap (λ (b : List Call). n + length b) block_same) ∙ stands_at m.geom (calls_by run k) (sizes_by run k) n o.next ∙ sym place_same;
-      }
+    same_shard : o.found.shard ≡ S
+    same_shard = one_at run.shards o.next.is_block.shard o.found.shard S o.found.has (ap (slice_get run.shards) (sym place_same) ∙ (is_there says m is place item has).has)
 
-  pub can_open : (first place : ℕ) (blk : List Call) (item : ShardState C V) → first ≡ n → blk ≡ block_from (get_or m.ops.by_rank k []) (get_or m.ops.sizes k []) first → place ≡ block_shard m.geom blk →
-      slice_get m.shards.items place ≡ Some item → CanOpen first place blk item
-  can_open first place blk item e1 e2 e3 has =
-      let same : blk ≡ block = e2 ∙ ap (block_from (get_or m.ops.by_rank k []) (get_or m.ops.sizes k [])) e1 in
-      let at : place ≡ block_shard m.geom block = e3 ∙ ap (block_shard m.geom) same in
-      subst (λ f. CanOpen f place blk item) (sym e1) (subst (λ b. CanOpen n place b item) (sym same) (subst (λ p. CanOpen n p block item) (sym at) (can_open_there item (ap (slice_get m.shards.items) (sym at) ∙ has))))
+    same_view : (x : V) → slice_get item.flat.views.items k ≡ Some x → o.view ≡ x
+    same_view x hx = one_at o.found.shard.views k o.view x o.has_view (ap (λ (z : ShardRun V). slice_get z.views k) same_shard ∙ hx)
 
-  pub place_there : (first place : ℕ) (blk : List Call) → first ≡ n → blk ≡ block_from (get_or m.ops.by_rank k []) (get_or m.ops.sizes k []) first → place ≡ block_shard m.geom blk → place < length m.shards.items
-  place_there first place blk e1 e2 e3 =
-      let same : blk ≡ block = e2 ∙ ap (block_from (get_or m.ops.by_rank k []) (get_or m.ops.sizes k [])) e1 in
-      let at : place ≡ block_shard m.geom block = e3 ∙ ap (block_shard m.geom) same in
-      subst (λ p. p < length m.shards.items) (sym at) block_there.there
+    -- the machine with the block opened there
+    opened_is : (S' : ShardRun V) → S' ≡ opened_on k block n S → machine_with run (slice_set run.shards place S') opened_then m.steps ≡ opened_if run k true
+    opened_is S' made =
+        ap (λ z. machine_with run (slice_set run.shards place z) opened_then m.steps) made
+        ∙ sym (ap (λ z. machine_with run (changed_if run.shards place (opened_on k block n) z) opened_then m.steps) (is_there says m is place item has).has)
 
-  -- and the machine with the block opened there
-  open_is_there : (item : ShardState C V) → slice_get m.shards.items (block_shard m.geom block) ≡ Some item → (S' : ShardRun V) → S' ≡ opened_on k block n (shard_run table (shard_view item)) →
-      machine_with run (slice_set run.shards (block_shard m.geom block) S') (slice_set m.opened.items k (n + length block)) m.steps ≡ opened_if run k true
-  open_is_there item has S' made =
-      let place : ℕ = block_shard m.geom block in
-      let opened : List ℕ = slice_set m.opened.items k (n + length block) in
-      ap (λ z. machine_with run (slice_set run.shards place z) opened m.steps) made
-      ∙ sym (ap (λ z. machine_with run (changed_if run.shards place (opened_on k block n) z) opened m.steps) (is_there C V table good m is place item has).has)
+    -- and with the atom made too
+    stepped_is : (S' : ShardRun V) (answer : Stepped) → S' ≡ block_on k (steps_made m.steps) block n S → answer ≡ answer_on k (opened_on k block n S) →
+        (machine_with run (slice_set run.shards place S') opened_then (counted answer m.steps) ≡ stepped run k) × (answer ≡ answer_of_step run k)
+    unfolding o
+    stepped_is S' answer made told =
+        let step : ℕ = steps_made m.steps in
+        let there : ℕ = o.next.is_block.shard in
+        let q = step_is says laws (cores_of (machine_view m)) is.acts run k is.is_good h e S' answer
+        (made ∙ ap (λ b. block_on k step b n S) block_same ∙ ap (block_on k step o.next.block n) (sym same_shard))
+        (told ∙ ap (λ b. answer_on k (opened_on k b n S)) block_same ∙ ap (λ z. answer_on k (opened_on k o.next.block n z)) (sym same_shard)) in (
+          ap (λ s. machine_with run (slice_set run.shards s S') opened_then (counted answer m.steps)) place_same
+              ∙ ap (λ (b : List Call). machine_with run (slice_set run.shards there S') (slice_set m.opened.items k (n + length b)) (counted answer m.steps)) block_same ∙ q.0,
+          q.1,
+        )
 
-  pub open_is : (first place : ℕ) (blk : List Call) (item : ShardState C V) → first ≡ n → blk ≡ block_from (get_or m.ops.by_rank k []) (get_or m.ops.sizes k []) first → place ≡ block_shard m.geom blk →
-      slice_get m.shards.items place ≡ Some item → (S' : ShardRun V) → S' ≡ opened_on k blk first (shard_run table (shard_view item)) →
-      machine_with run (slice_set run.shards place S') (slice_set m.opened.items k (first + length blk)) m.steps ≡ opened_if run k true
-  open_is first place blk item e1 e2 e3 has S' made =
-      let same : blk ≡ block = e2 ∙ ap (block_from (get_or m.ops.by_rank k []) (get_or m.ops.sizes k [])) e1 in
-      let at : place ≡ block_shard m.geom block = e3 ∙ ap (block_shard m.geom) same in
-      let S : ShardRun V = shard_run table (shard_view item) in
-      ap (λ p. machine_with run (slice_set run.shards p S') (slice_set m.opened.items k (first + length blk)) m.steps) at
-      ∙ ap (λ f. machine_with run (slice_set run.shards (block_shard m.geom block) S') (slice_set m.opened.items k (f + length blk)) m.steps) e1
-      ∙ ap (λ (b : List Call). machine_with run (slice_set run.shards (block_shard m.geom block) S') (slice_set m.opened.items k (n + length b)) m.steps) same
-      ∙ open_is_there item (ap (slice_get m.shards.items) (sym at) ∙ has) S' (made ∙ ap (λ b. opened_on k b first S) same ∙ ap (λ f. opened_on k block f S) e1)
+    set_is : (new : ShardState C V) (counts : Steps) → with_block says m k n place block new counts ≡ machine_with run (slice_set run.shards place (running_shard says new)) opened_then counts
+    set_is new counts = ap (λ z. machine_with run z opened_then counts) (shard_set says m.shards.items place new)
+
+    stands_then : place_after m.geom (get_or m.ops.by_rank k []) (slice_index opened_then k) ≡ place
+    stands_then =
+        let at_k : slice_index opened_then k ≡ n + length block = get_or-set_same m.opened.items k (n + length block) 0 listed.opened in
+        ap (place_after m.geom (calls_by run k)) (at_k ∙ ap (λ (b : List Call). n + length b) block_same) ∙ stands_at m.geom (calls_by run k) (sizes_by run k) n o.next ∙ sym place_same
+
+    can_open_there : CanOpen says m k n place block item
+    can_open_there =
+        let t = is_there says m is place item has in
+        record {
+          has = has;
+          ranks = let all = t.ranks in omega arith;
+          is_good = t.is_good;
+          few = listed.few;
+          behind = listed.behind;
+          closed = λ x hx. subst (λ (z : ShardRun V). (z.table.own x).is_open ≡ false) same_shard (subst (λ y. (o.found.shard.table.own y).is_open ≡ false) (same_view x hx) o.shut);
+          fits = λ x hx. subst (λ b. MayOpen S.table k x b n) (sym block_same)
+              (subst (λ (z : ShardRun V). MayOpen z.table k x o.next.block n) same_shard (subst (λ (y : V). MayOpen o.found.shard.table k y o.next.block n) (same_view x hx) o.fits));
+          opened = λ new is_new. set_is new m.steps ∙ opened_is (running_shard says new) is_new;
+          made = λ new step answer counts now is_new told is_count.
+              set_is new counts ∙ ap (machine_with run (slice_set run.shards place (running_shard says new)) opened_then) is_count
+              ∙ (stepped_is (running_shard says new) answer (is_new ∙ ap (λ i. block_on k i block n S) now) told).0;
+          told = λ answer told. (stepped_is (block_on k (steps_made m.steps) block n S) answer refl told).1;
+          stands = stands_then;
+        }
+
+  -- the same of what the code has
+  can_open : (first at : ℕ) (b : List Call) → first ≡ n → b ≡ block_from (get_or m.ops.by_rank k []) (get_or m.ops.sizes k []) first → at ≡ block_shard m.geom b → CanOpenAt says m k first at b
+  can_open first at b e1 e2 e3 =
+      let same : b ≡ block = e2 ∙ ap (block_from (get_or m.ops.by_rank k []) (get_or m.ops.sizes k [])) e1 in
+      let same_place : at ≡ place = e3 ∙ ap (block_shard m.geom) same in
+      let here : CanOpenAt says m k n place block =
+      record { there = listed.there; on = λ item value. can_open_there item (slice_get-get_or m.shards.items place item listed.there ∙ ap Some (sym value)) } in
+      subst (λ f. CanOpenAt says m k f at b) (sym e1) (subst (λ c. CanOpenAt says m k n at c) (sym same) (subst (λ p. CanOpenAt says m k n p block) (sym same_place) here))
+
+  pub block_there : IsBlockThere says m k
+  block_there = record { sized = listed.sized; begins = listed.begins; within = listed.within; opened = listed.opened; goes = can_open }

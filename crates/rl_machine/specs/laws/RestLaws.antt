@@ -10,8 +10,7 @@ use Rattle.rl_step.specs.declared.tallies.Steps.{Steps}
 use Rattle.rl_step.specs.Answers.{counted, steps_made}
 use Rattle.rl_step.specs.Do.{do_got}
 use Rattle.rl_step.specs.Lock.{Deed}
-use Rattle.rl_core.specs.ShardLaws.{GoodOf}
-use Rattle.rl_core.specs.ShardTables.{ShardTable}
+use Rattle.rl_core.specs.Moments.{CoreSays}
 use Rattle.rl_machine.specs.Running.{ShardRun, Running, TheMachine}
 use Rattle.rl_machine.specs.ShardSteps.{numbered, makes, made_at, atom_on, answer_to, answer_at, answer_on}
 use Rattle.rl_machine.specs.Run.{changed, changed_if, on_shard, place_of, opens, opened_if, atom_answer, atom_made, run_of}
@@ -89,9 +88,10 @@ counts_more (Lost guess seen) n s = omega arith
 counts_more (Busy node holder) n s = omega arith
 counts_more Finished n s = omega arith
 
-module _ (C V : Type 0) (table : C → ShardTable V) (good : GoodOf C V) where
+module _ {C V : Type 0} (says : C → CoreSays V) where
   -- what is true of a machine stays so with more steps counted
-  pub good_with : (cores : List C) (acts : List (List Deed)) (m : Running V) (counts : Steps) → steps_made m.steps ≤ steps_made counts → MachineGood C V table good cores acts m → MachineGood C V table good cores acts (with_steps m counts)
+  pub good_with : (cores : List C) (acts : List (List Deed)) (m : Running V) (counts : Steps) → steps_made m.steps ≤ steps_made counts →
+      MachineGood says cores acts m → MachineGood says cores acts (with_steps m counts)
   good_with cores acts m counts later g =
       record {
         all = g.all;
@@ -111,5 +111,5 @@ module _ (C V : Type 0) (table : C → ShardTable V) (good : GoodOf C V) where
   abbrev pub machine_steps : TheMachine C V → Steps → TheMachine C V
   machine_steps m counts = record { shards = m.shards; geom = m.geom; calls = m.calls; sizes = m.sizes; opened = m.opened; steps = counts }
 
-  pub machine_with_steps : (m : TheMachine C V) (counts : Steps) → steps_made m.steps ≤ steps_made counts → IsMachine C V table good m → IsMachine C V table good (machine_steps m counts)
+  pub machine_with_steps : (m : TheMachine C V) (counts : Steps) → steps_made m.steps ≤ steps_made counts → IsMachine says m → IsMachine says (machine_steps m counts)
   machine_with_steps m counts later is = record { acts = is.acts; is_good = good_with _ is.acts _ counts later is.is_good; fits = is.fits; few = is.few }

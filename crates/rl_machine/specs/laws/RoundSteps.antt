@@ -12,11 +12,10 @@ use Rattle.rl_step.specs.Do.{do_got}
 use Rattle.rl_core.specs.declared.round.Leg.{Leg}
 use Rattle.rl_core.specs.declared.round.Round.{Round}
 use Rattle.rl_core.specs.Rounds.{leg_answer, turned_round, Makes, GoesBy}
-use Rattle.rl_core.specs.ShardLaws.{GoodOf}
-use Rattle.rl_core.specs.ShardTables.{ShardTable}
+use Rattle.rl_core.specs.Moments.{CoreSays}
 use Rattle.rl_machine.specs.declared.shard.ShardState.{ShardState}
 use Rattle.rl_machine.specs.declared.state.MachineState.{MachineState}
-use Rattle.rl_machine.specs.Running.{ShardRun, Running, shard_run, running, viewed}
+use Rattle.rl_machine.specs.Running.{ShardRun, Running, shard_run, viewed}
 use Rattle.rl_machine.specs.ShardSteps.{numbered, makes, made_at, atom_on, answer_to, answer_at, answer_on, open_at, open_on}
 use Rattle.rl_machine.specs.Run.{changed, changed_if, on_shard, calls_by, place_of, has_open_call, opens, opened_if, atom_answer, atom_made, stepped}
 use Rattle.rl_machine.specs.MachineGood.{IsMachine}
@@ -24,7 +23,7 @@ use Rattle.rl_machine.specs.laws.MachineSteps.{machine_with}
 use Rattle.rl_machine.specs.Rest.{with_steps}
 use Rattle.rl_machine.specs.laws.RestLaws.{open_shuts}
 use Rattle.rl_machine.specs.Rested.{IsInRound}
-use Rattle.rl_machine.specs.State.{shard_view, machine_view}
+use Rattle.rl_machine.specs.State.{shard_view, machine_view, running_shard, running_machine}
 use Rattle.rl_machine.specs.laws.StateLaws.{is_there, shard_set}
 
 module _ {V : Type 0} where
@@ -92,9 +91,11 @@ module _ {V Sight : Type 0} (seeing : V → Sight → V) (m : Running V) (k s : 
       leg_step seeing m k r.shard r.view round.here (ap (slice_get m.shards) r.stands ∙ r.has) r.seen r.is_round.in_call (r.is_round.first r.shard.held shows)
       ∙ ap (λ p. viewed_on m p k r.shard next (counted (leg_answer round.here) m.steps)) r.stands
 
-module _ {V Sight : Type 0} (seeing : V → Sight → V) (m : Running V) (k s : ℕ) (round : Round Sight) (r : IsInRound seeing m k s round) (here : slice_index r.shard.held.words round.here.word ≡ round.here.value) where
+module _ {V Sight : Type 0} (seeing : V → Sight → V) (m : Running V) (k s : ℕ) (round : Round Sight) (r : IsInRound seeing m k s round)
+    (here : slice_index r.shard.held.words round.here.word ≡ round.here.value) where
   -- both steps count their answers and change nothing else
-  pub both_legs : slice_index r.shard.held.words round.there.word ≡ round.there.value → stepped (stepped m k) k ≡ with_steps m (counted (leg_answer round.there) (counted (leg_answer round.here) m.steps))
+  pub both_legs : slice_index r.shard.held.words round.there.word ≡ round.there.value →
+      stepped (stepped m k) k ≡ with_steps m (counted (leg_answer round.there) (counted (leg_answer round.here) m.steps))
   unfolding turned_in
   both_legs there =
       let S : ShardRun V = r.shard in
@@ -113,19 +114,20 @@ module _ {V Sight : Type 0} (seeing : V → Sight → V) (m : Running V) (k s : 
       ∙ ap (λ z. with_steps (machine_with m z m.opened m.steps) twice) shards
 
 -- in the code's lists
-module _ {C V Sight : Type 0} (table : C → ShardTable V) (good : GoodOf C V) (seeing : V → Sight → V) (m : MachineState C V) (is : IsMachine C V table good (machine_view m)) (k s : ℕ) (round : Round Sight) (r : IsInRound seeing (running table (machine_view m)) k s round) where
+module _ {C V Sight : Type 0} (says : C → CoreSays V) (seeing : V → Sight → V) (m : MachineState C V) (is : IsMachine says (machine_view m)) (k s : ℕ)
+    (round : Round Sight) (r : IsInRound seeing (running_machine says m) k s round) where
   abbrev run : Running V
-  run = running table (machine_view m)
+  run = running_machine says m
 
   pub round_there : s < length m.shards.items
   round_there =
-      let all : length run.shards ≡ length m.shards.items = length-map (map shard_view m.shards.items) (shard_run table) ∙ length-map m.shards.items shard_view in
+      let all : length run.shards ≡ length m.shards.items = length-map (map shard_view m.shards.items) (shard_run says) ∙ length-map m.shards.items shard_view in
       let within : s < length run.shards = slice_get_within run.shards s r.shard r.has in
       omega arith
 
   module _ (item : ShardState C V) (has : slice_get m.shards.items s ≡ Some item) where
-    round_shard : r.shard ≡ shard_run table (shard_view item)
-    round_shard = one_at run.shards s r.shard (shard_run table (shard_view item)) r.has (is_there C V table good m is s item has).has
+    round_shard : r.shard ≡ running_shard says item
+    round_shard = one_at run.shards s r.shard (running_shard says item) r.has (is_there says m is s item has).has
 
     pub round_seen : slice_get item.flat.views.items k ≡ Some r.view
     round_seen = subst (λ (S : ShardRun V). slice_get S.views k ≡ Some r.view) round_shard r.seen
@@ -133,14 +135,15 @@ module _ {C V Sight : Type 0} (table : C → ShardTable V) (good : GoodOf C V) (
     pub round_rank : k < length item.flat.views.items
     round_rank = slice_get_within item.flat.views.items k r.view round_seen
 
-    module _ (new : ShardState C V) (made : shard_run table (shard_view new) ≡ viewed (shard_run table (shard_view item)) k (seeing r.view round.here.sight)) where
+    module _ (new : ShardState C V) (made : running_shard says new ≡ viewed (running_shard says item) k (seeing r.view round.here.sight)) where
       abbrev after : List (ShardRun V)
-      after = map (shard_run table) (map shard_view (slice_set m.shards.items s new))
+      after = map (shard_run says) (map shard_view (slice_set m.shards.items s new))
 
       after_is : after ≡ slice_set run.shards s (viewed r.shard k (seeing r.view round.here.sight))
-      after_is = shard_set table m.shards.items s new ∙ ap (slice_set run.shards s) (made ∙ ap (λ S. viewed S k (seeing r.view round.here.sight)) (sym round_shard))
+      after_is = shard_set says m.shards.items s new ∙ ap (slice_set run.shards s) (made ∙ ap (λ S. viewed S k (seeing r.view round.here.sight)) (sym round_shard))
 
-      pub leg_made : slice_index r.shard.held.words round.here.word ≡ round.here.value → (counts : Steps) → counts ≡ counted (leg_answer round.here) m.steps → machine_with run after run.opened counts ≡ stepped run k
+      pub leg_made : slice_index r.shard.held.words round.here.word ≡ round.here.value → (counts : Steps) →
+          counts ≡ counted (leg_answer round.here) m.steps → machine_with run after run.opened counts ≡ stepped run k
       leg_made shows counts e =
           ap (λ z. machine_with run z run.opened counts) after_is
           ∙ ap (λ z. viewed_on run s k r.shard (seeing r.view round.here.sight) z) e

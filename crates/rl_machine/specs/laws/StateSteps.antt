@@ -1,15 +1,14 @@
 -- A step keeps all that is true of a machine, and its answer has its cause.
 use Rattle.std.specs.Prelude.{◌≡◌, ◌↔◌, ℕ, ◌+◌, ◌≤◌, ◌<◌, Bool, true, false, List, length, refl}
 use Rattle.std.proofs.Common.{sym, ◌∙◌, ap, subst}
-use Rattle.rl_word.specs.Acts.{Layout}
 use Rattle.rl_model.specs.Geom.{GeomFits}
 use Rattle.rl_step.specs.declared.events.Stepped.{Stepped}
 use Rattle.rl_step.specs.declared.events.Stepped.TheVariants.{Busy, Finished}
 use Rattle.rl_step.specs.Answers.{steps_made}
 use Rattle.rl_step.specs.Lock.{Deed}
 use Rattle.rl_ops.specs.Ops.{total_calls}
-use Rattle.rl_core.specs.ShardLaws.{GoodOf, CauseOf, FurtherOf, LawsOf}
-use Rattle.rl_core.specs.ShardTables.{ShardTable}
+use Rattle.rl_core.specs.ShardLaws.{LawsOf}
+use Rattle.rl_core.specs.Moments.{CoreSays}
 use Rattle.rl_machine.specs.Running.{Running, TheMachine, running, cores_of}
 use Rattle.rl_machine.specs.Causes.{StepCause, StepTells, IsFinished, OnlyCountsBusy}
 use Rattle.rl_machine.specs.Run.{opens, opened_if, block_opened, only_counted, atom_answer, atom_made, stepped, answer_of_step}
@@ -34,98 +33,99 @@ module _ {V : Type 0} where
   pub stepped_shape : (m : Running V) (k : ℕ) → ((stepped m k).geom ≡ m.geom) × ((stepped m k).calls ≡ m.calls)
   stepped_shape m k = opened_shape m k (opens m k)
 
-module _ (C V : Type 0) (table : C → ShardTable V) (good : GoodOf C V) (cause : CauseOf C V) (further : FurtherOf C) (layout : C → Layout) (laws : LawsOf C V table good cause further layout) where
-  pub step_keeps : (m n : TheMachine C V) (k : ℕ) → IsMachine C V table good m → k < length m.calls → running table n ≡ stepped (running table m) k → cores_of n ≡ cores_of m → IsMachine C V table good n
+module _ {C V : Type 0} (says : C → CoreSays V) (laws : LawsOf says) where
+  pub step_keeps : (m n : TheMachine C V) (k : ℕ) → IsMachine says m → k < length m.calls → running says n ≡ stepped (running says m) k → cores_of n ≡ cores_of m → IsMachine says n
   step_keeps m n k is h made cores =
-      let shape = stepped_shape (running table m) k in
-      let acts : List (List Deed) = step_acts is.acts (running table m) k in
-      let step : MachineGood C V table good (cores_of m) acts (stepped (running table m) k) = stepped_good C V table good cause further layout laws (cores_of m) is.acts (running table m) k is.is_good h in
+      let shape = stepped_shape (running says m) k in
+      let acts : List (List Deed) = step_acts is.acts (running says m) k in
+      let step : MachineGood says (cores_of m) acts (stepped (running says m) k) = stepped_good says laws (cores_of m) is.acts (running says m) k is.is_good h in
       record {
         acts = acts;
-        is_good = subst (λ c. MachineGood C V table good c acts (running table n)) (sym cores) (subst (MachineGood C V table good (cores_of m) acts) (sym made) step);
+        is_good = subst (λ c. MachineGood says c acts (running says n)) (sym cores) (subst (MachineGood says (cores_of m) acts) (sym made) step);
         fits = subst GeomFits (sym (ap (λ z. z.geom) made ∙ shape.0)) is.fits;
         few = subst (λ c. total_calls c ≤ 20000) (sym (ap (λ z. z.calls) made ∙ shape.1)) is.few;
       }
 
   -- a block that is opened keeps all that is true of a machine
-  pub open_keeps : (m n : TheMachine C V) (k : ℕ) → IsMachine C V table good m → k < length m.calls → running table n ≡ block_opened (running table m) k → cores_of n ≡ cores_of m → IsMachine C V table good n
+  pub open_keeps : (m n : TheMachine C V) (k : ℕ) → IsMachine says m → k < length m.calls → running says n ≡ block_opened (running says m) k → cores_of n ≡ cores_of m → IsMachine says n
   open_keeps m n k is h made cores =
-      let shape = opened_shape (running table m) k (opens (running table m) k) in
-      let block : MachineGood C V table good (cores_of m) is.acts (block_opened (running table m) k) = block_good C V table good cause further layout laws (cores_of m) is.acts (running table m) k is.is_good h in
+      let shape = opened_shape (running says m) k (opens (running says m) k) in
+      let block : MachineGood says (cores_of m) is.acts (block_opened (running says m) k) = block_good says laws (cores_of m) is.acts (running says m) k is.is_good h in
       record {
         acts = is.acts;
-        is_good = subst (λ c. MachineGood C V table good c is.acts (running table n)) (sym cores) (subst (MachineGood C V table good (cores_of m) is.acts) (sym made) block);
+        is_good = subst (λ c. MachineGood says c is.acts (running says n)) (sym cores) (subst (MachineGood says (cores_of m) is.acts) (sym made) block);
         fits = subst GeomFits (sym (ap (λ z. z.geom) made ∙ shape.0)) is.fits;
         few = subst (λ c. total_calls c ≤ 20000) (sym (ap (λ z. z.calls) made ∙ shape.1)) is.few;
       }
 
   -- the machine after it, where the value before it is n: its rank's next step is the one that it was
-  module _ (m n : TheMachine C V) (value : m ≡ n) (k : ℕ) (is : IsMachine C V table good m) (low : k < length n.calls) (after : TheMachine C V) (made : running table after ≡ block_opened (running table m) k) where
-    opened_there : running table after ≡ block_opened (running table n) k
-    opened_there = made ∙ ap (λ z. block_opened (running table z) k) value
+  module _ (m n : TheMachine C V) (value : m ≡ n) (k : ℕ) (is : IsMachine says m) (low : k < length n.calls) (after : TheMachine C V)
+      (made : running says after ≡ block_opened (running says m) k) where
+    opened_there : running says after ≡ block_opened (running says n) k
+    opened_there = made ∙ ap (λ z. block_opened (running says z) k) value
 
-    opens_none : opens (running table after) k ≡ false
+    opens_none : opens (running says after) k ≡ false
     opens_none =
         subst (λ z. opens z k ≡ false) (sym opened_there)
-        (let is_n = subst (IsMachine C V table good) value is in opens_once C V table good cause further layout laws (cores_of n) is_n.acts (running table n) k is_n.is_good low)
+        (let is_n = subst (IsMachine says) value is in opens_once says laws (cores_of n) is_n.acts (running says n) k is_n.is_good low)
 
-    still_opened : block_opened (running table after) k ≡ block_opened (running table n) k
-    still_opened = ap (opened_if (running table after) k) opens_none ∙ opened_there
+    still_opened : block_opened (running says after) k ≡ block_opened (running says n) k
+    still_opened = ap (opened_if (running says after) k) opens_none ∙ opened_there
 
-    pub same_step_told : stepped (running table after) k ≡ stepped (running table n) k
+    pub same_step_told : stepped (running says after) k ≡ stepped (running says n) k
     same_step_told = ap (λ z. atom_made z k) still_opened
 
-    pub same_answer_told : answer_of_step (running table after) k ≡ answer_of_step (running table n) k
+    pub same_answer_told : answer_of_step (running says after) k ≡ answer_of_step (running says n) k
     same_answer_told = ap (λ z. atom_answer z k) still_opened
 
-    pub opened_told : running table after ≡ block_opened (running table n) k
+    pub opened_told : running says after ≡ block_opened (running says n) k
     opened_told = opened_there
 
     pub opened_calls_told : after.calls ≡ n.calls
-    opened_calls_told = ap (λ z. z.calls) opened_there ∙ (opened_shape (running table n) k (opens (running table n) k)).1
+    opened_calls_told = ap (λ z. z.calls) opened_there ∙ (opened_shape (running says n) k (opens (running says n) k)).1
 
     pub opened_steps_told : after.steps ≡ n.steps
-    opened_steps_told = ap (λ z. z.steps) opened_there ∙ opened_steps (running table n) k (opens (running table n) k)
+    opened_steps_told = ap (λ z. z.steps) opened_there ∙ opened_steps (running says n) k (opens (running says n) k)
 
   -- what a step's answer tells of the machine before it, whose value is n
-  module _ (m n : TheMachine C V) (value : m ≡ n) (k : ℕ) (answer : Stepped) (is : IsMachine C V table good m) (low : k < length n.calls) (told : answer ≡ answer_of_step (running table m) k) where
-    before : IsMachine C V table good n
-    before = subst (IsMachine C V table good) value is
+  module _ (m n : TheMachine C V) (value : m ≡ n) (k : ℕ) (answer : Stepped) (is : IsMachine says m) (low : k < length n.calls) (told : answer ≡ answer_of_step (running says m) k) where
+    before : IsMachine says n
+    before = subst (IsMachine says) value is
 
-    told_there : answer ≡ answer_of_step (running table n) k
-    told_there = told ∙ ap (λ z. answer_of_step (running table z) k) value
+    told_there : answer ≡ answer_of_step (running says n) k
+    told_there = told ∙ ap (λ z. answer_of_step (running says z) k) value
 
-    pub cause_told : StepCause cause (cores_of n) (running table n) k answer
-    cause_told = subst (StepCause cause (cores_of n) (running table n) k) (sym told_there) (step_cause C V table good cause further layout laws (cores_of n) before.acts (running table n) k before.is_good low)
+    pub cause_told : StepCause says (cores_of n) (running says n) k answer
+    cause_told = subst (StepCause says (cores_of n) (running says n) k) (sym told_there) (step_cause says laws (cores_of n) before.acts (running says n) k before.is_good low)
 
-    pub tells_told : StepTells (cores_of n) (running table n) k answer
-    tells_told = subst (StepTells (cores_of n) (running table n) k) (sym told_there) (step_tells C V table good cause further layout laws (cores_of n) before.acts (running table n) k before.is_good low)
+    pub tells_told : StepTells (cores_of n) (running says n) k answer
+    tells_told = subst (StepTells (cores_of n) (running says n) k) (sym told_there) (step_tells says laws (cores_of n) before.acts (running says n) k before.is_good low)
 
-    pub finished_told : (answer ≡ Finished) ↔ IsFinished (running table n) k
-    finished_told = subst (λ a. (a ≡ Finished) ↔ IsFinished (running table n) k) (sym told_there) (step_finished C V table good cause further layout laws (cores_of n) before.acts (running table n) k before.is_good low)
+    pub finished_told : (answer ≡ Finished) ↔ IsFinished (running says n) k
+    finished_told = subst (λ a. (a ≡ Finished) ↔ IsFinished (running says n) k) (sym told_there) (step_finished says laws (cores_of n) before.acts (running says n) k before.is_good low)
 
-    pub busy_told : (after : Running V) → after ≡ stepped (running table m) k → OnlyCountsBusy (running table n) k after answer
+    pub busy_told : (after : Running V) → after ≡ stepped (running says m) k → OnlyCountsBusy (running says n) k after answer
     busy_told after made node holder q =
-        made ∙ ap (λ z. stepped (running table z) k) value
-        ∙ step_busy C V table good cause further layout laws (cores_of n) before.acts (running table n) k before.is_good low node holder (sym told_there ∙ q)
-        ∙ ap (only_counted (block_opened (running table n) k)) (sym q)
+        made ∙ ap (λ z. stepped (running says z) k) value
+        ∙ step_busy says laws (cores_of n) before.acts (running says n) k before.is_good low node holder (sym told_there ∙ q)
+        ∙ ap (only_counted (block_opened (running says n) k)) (sym q)
 
     -- it rests so then
-    pub held_told : (after : Running V) → after ≡ stepped (running table m) k → (node holder : ℕ) → answer ≡ Busy node holder → RestsWith after k answer
+    pub held_told : (after : Running V) → after ≡ stepped (running says m) k → (node holder : ℕ) → answer ≡ Busy node holder → RestsWith after k answer
     held_told after made node holder q =
         subst (RestsWith after k) (sym q)
-        (subst (λ u. RestsWith u k (Busy node holder)) (sym (made ∙ ap (λ z. stepped (running table z) k) value))
-        (busy_rests C V table good cause further layout laws (cores_of n) before.acts (running table n) k before.is_good low node holder (sym told_there ∙ q)))
+        (subst (λ u. RestsWith u k (Busy node holder)) (sym (made ∙ ap (λ z. stepped (running says z) k) value))
+        (busy_rests says laws (cores_of n) before.acts (running says n) k before.is_good low node holder (sym told_there ∙ q)))
 
-    pub over_told : (after : Running V) → after ≡ stepped (running table m) k → answer ≡ Finished → RestsWith after k answer
+    pub over_told : (after : Running V) → after ≡ stepped (running says m) k → answer ≡ Finished → RestsWith after k answer
     over_told after made q =
         subst (RestsWith after k) (sym q)
-        (subst (λ u. RestsWith u k Finished) (sym (made ∙ ap (λ z. stepped (running table z) k) value))
-        (over_rests C V table good cause further layout laws (cores_of n) before.acts (running table n) k before.is_good low (sym told_there ∙ q)))
+        (subst (λ u. RestsWith u k Finished) (sym (made ∙ ap (λ z. stepped (running says z) k) value))
+        (over_rests says laws (cores_of n) before.acts (running says n) k before.is_good low (sym told_there ∙ q)))
 
     -- it counts one answer, and leaves the calls
-    pub counted_told : (after : Running V) → after ≡ stepped (running table m) k → steps_made after.steps ≡ steps_made n.steps + 1
-    counted_told after made = ap (λ z. steps_made z.steps) made ∙ (stepped_one (running table m) k).0 ∙ ap (λ z. steps_made z.steps + 1) value
+    pub counted_told : (after : Running V) → after ≡ stepped (running says m) k → steps_made after.steps ≡ steps_made n.steps + 1
+    counted_told after made = ap (λ z. steps_made z.steps) made ∙ (stepped_one (running says m) k).0 ∙ ap (λ z. steps_made z.steps + 1) value
 
-    pub calls_told : (after : Running V) → after ≡ stepped (running table m) k → after.calls ≡ n.calls
-    calls_told after made = ap (λ z. z.calls) made ∙ (stepped_one (running table m) k).1 ∙ ap (λ z. z.calls) value
+    pub calls_told : (after : Running V) → after ≡ stepped (running says m) k → after.calls ≡ n.calls
+    calls_told after made = ap (λ z. z.calls) made ∙ (stepped_one (running says m) k).1 ∙ ap (λ z. z.calls) value

@@ -1,13 +1,14 @@
 -- The causes of a step's answer, and a Take that finds the card held changes nothing.
-use Rattle.std.specs.Prelude.{◌≡◌, ◌↔◌, ℕ, ◌+◌, ◌-◌, ◌<◌, ◌≤◌, ◌==◌, Bool, true, false, not, ◌&&◌, nat_lt, if◌then◌else◌, List, drop, length, map, slice_get, slice_index, slice_set, Option, Some, None, refl}
+use Rattle.std.specs.Prelude.{◌≡◌, ◌↔◌, ℕ, ◌+◌, ◌-◌, ◌<◌, ◌≤◌, ◌==◌, Bool, true, false, not, ◌&&◌}
+use Rattle.std.specs.Prelude.{nat_lt, if◌then◌else◌, List, drop, length, map, slice_get, slice_index, slice_set, Option, Some, None, refl}
 use Rattle.std.proofs.Common.{sym, ◌∙◌, ap, subst, ⊎_elim, arith, get_or-set_same}
 use Rattle.std.proofs.lemmas.List.{length-drop}
 use Rattle.std.proofs.lemmas.Bool.Decides.{nat_tests, eqb_tells}
 use Rattle.rl_word.specs.laws.Places.{some_at, get_map, get_set_same, map_set, one_at, set_same_get}
-use Rattle.rl_word.specs.Acts.{Layout}
 use Rattle.rl_word.specs.declared.acts.Atom.{Atom}
 use Rattle.rl_word.specs.declared.acts.Atom.TheVariants as atom
 use Rattle.rl_model.specs.declared.call.Call.{Call}
+use Rattle.rl_step.specs.declared.events.Stepped.{Stepped}
 use Rattle.rl_step.specs.declared.events.Stepped.TheVariants.{Busy, Finished}
 use Rattle.rl_step.specs.Answers.{counted, steps_made}
 use Rattle.rl_step.specs.Lock.{Deed}
@@ -17,20 +18,20 @@ use Rattle.rl_core.specs.laws.AskLaws.{NextBlock, next_of_blocks, block_is, bloc
 use Rattle.rl_core.specs.Desks.{Desk, desk_entries}
 use Rattle.rl_core.specs.RankGood.{RankGood, entries_in}
 use Rattle.rl_core.specs.laws.RankLaws.{all_done}
-use Rattle.rl_core.specs.ShardTables.{ShardTable}
-use Rattle.rl_core.specs.ShardLaws.{GoodOf, CauseOf, FurtherOf, LawsOf, MayOpen, IsSeated, ShardCoreLaws}
-use Rattle.rl_machine.specs.Running.{ShardRun, Running}
+use Rattle.rl_core.specs.ShardLaws.{LawsOf, MayOpen, IsSeated, ShardCoreLaws}
+use Rattle.rl_core.specs.Moments.{CoreSays, Moment}
+use Rattle.rl_machine.specs.Running.{ShardRun, Running, moment_of}
 use Rattle.rl_machine.specs.ShardSteps.{opened_at, opened_on, makes, made_at, atom_on, answer_to, answer_at, answer_on, desk_at, desk_on, open_at, open_on, kept_on}
-use Rattle.rl_step.specs.Traces.{events_of}
-use Rattle.rl_machine.specs.Run.{desks_by, changed, changed_if, on_shard, calls_by, sizes_by, place_of, has_open_call, opens, next_block, opened_if, block_opened, atom_answer, only_counted, atom_made, stepped, answer_of_step}
+use Rattle.rl_machine.specs.Run.{desks_by, changed, changed_if, on_shard, calls_by, sizes_by, place_of, has_open_call}
+use Rattle.rl_machine.specs.Run.{opens, next_block, opened_if, block_opened, atom_answer, only_counted, atom_made, stepped, answer_of_step}
 use Rattle.rl_machine.specs.MachineGood.{MachineGood}
-use Rattle.rl_machine.specs.laws.MachineLaws.{Found, found_at, laws_of, seated, not_open, OpensAt, opens_at, block_good, opened_calls}
+use Rattle.rl_machine.specs.laws.MachineLaws.{Found, found_at, laws_of, not_open, OpensAt, opens_at, block_good, opened_calls, said_by}
 use Rattle.rl_machine.specs.laws.SoundLaws.{kept_desks}
 use Rattle.rl_core.specs.Answering.{AnswersNext}
 use Rattle.rl_core.specs.Idle.{IsIdle}
 use Rattle.rl_machine.specs.Rest.{RestsWith}
 use Rattle.rl_machine.specs.laws.RestLaws.{idle_makes, idle_rests}
-use Rattle.rl_machine.specs.Causes.{cause_at, cause_on, AtomCause, StepCause, StepTells, IsFinished}
+use Rattle.rl_machine.specs.Causes.{tells_at, tells_on, AtomTells, StepCause, StepTells, IsFinished}
 
 -- a card that is held isn't free
 pub held_not_free : (n holder : ℕ) → n ≡ holder + 1 → (n == 0) ≡ false
@@ -39,7 +40,8 @@ held_not_free n holder e = ⊎_elim (λ q. let bad : n ≡ 0 = q.1 in absurd (om
 module _ {V : Type 0} where
   -- a block that is opened leaves all entries as they are, where it does so at the rank's desk
   kept_opened : (S : ShardRun V) (k : ℕ) (block : List Call) (seq : ℕ) (o : Option V) → slice_get S.views k ≡ o →
-      ((x : V) → slice_get S.views k ≡ Some x → desk_entries (S.table.desk S.held.words k (S.table.opened block seq x)) ≡ desk_entries (S.table.desk S.held.words k x)) → kept_on k (opened_at S k block seq o) ≡ kept_on k S
+      ((x : V) → slice_get S.views k ≡ Some x → desk_entries (S.table.desk S.held.words k (S.table.opened block seq x)) ≡ desk_entries (S.table.desk S.held.words k x)) →
+      kept_on k (opened_at S k block seq o) ≡ kept_on k S
   kept_opened S k block seq None e same = refl
   kept_opened S k block seq (Some x) e same =
       ap (λ o. desk_entries (desk_at S.table S.held.words k o)) (get_set_same S.views k x (S.table.opened block seq x) e) ∙ same x e ∙ sym (ap (λ o. desk_entries (desk_at S.table S.held.words k o)) e)
@@ -58,27 +60,31 @@ one_left b n m e q =
     let t : nat_lt n m ≡ true = sym (opens_not b (nat_lt n m) e) ∙ q in
     grind (arith, nat_tests)
 
-module _ (C V : Type 0) (table : C → ShardTable V) (good : GoodOf C V) (cause : CauseOf C V) (further : FurtherOf C) (layout : C → Layout) (laws : LawsOf C V table good cause further layout) (cores : List C) where
+module _ {C V : Type 0} (says : C → CoreSays V) (laws : LawsOf says) (cores : List C) where
   abbrev Fine : List (List Deed) → Running V → Type 0
-  Fine acts m = MachineGood C V table good cores acts m
+  Fine acts m = MachineGood says cores acts m
 
   -- a rank that is there, where it stands
   pub record Stands (acts : List (List Deed)) (m : Running V) (k : ℕ) : Type 0 where
-    pub found : Found C V table good cause further layout laws cores acts m (place_of m k)
+    pub found : Found says laws cores acts m (place_of m k)
     pub view : V
     pub has_view : slice_get found.shard.views k ≡ Some view
 
   pub stands_there : (acts : List (List Deed)) (m : Running V) (k : ℕ) → Fine acts m → k < length m.calls → Stands acts m k
   stands_there acts m k g h =
-      let f = found_at C V table good cause further layout laws cores acts m (place_of m k) g (g.stands k h) in
+      let f = found_at says laws cores acts m (place_of m k) g (g.stands k h) in
       let x = some_at f.shard.views k (let a = f.is.ranks in omega arith) in
       record { found = f; view = x.0; has_view = x.1 }
 
   module _ (acts : List (List Deed)) (m : Running V) (k : ℕ) (g : Fine acts m) (h : k < length m.calls) (t : Stands acts m k) where
-    pub lawful : ShardCoreLaws t.found.shard.table (good t.found.core) (cause t.found.core) (further t.found.core) (layout t.found.core)
-    lawful = laws_of C V table good cause further layout laws cores t.found.core t.found.shard.table t.found.is.table_is
+    pub lawful : ShardCoreLaws (said_by (says t.found.core) t.found.shard.table)
+    lawful = laws_of says laws cores t.found.core t.found.shard.table t.found.is.table_is
 
-    pub seat : IsSeated t.found.shard.table (good t.found.core) t.found.shard.held t.found.shard.views (events_of t.found.shard.trace) t.found.deeds k t.view
+    -- the moment of its shard
+    abbrev pub moment : Moment V
+    moment = moment_of t.found.shard t.found.deeds
+
+    pub seat : IsSeated (said_by (says t.found.core) t.found.shard.table) moment k t.view
     seat = record { is_good = t.found.is.is_good; has = t.has_view }
 
     -- what is said of the machine there is said of the view
@@ -90,43 +96,44 @@ module _ (C V : Type 0) (table : C → ShardTable V) (good : GoodOf C V) (cause 
 
     -- it has no next atom exactly where no call is open
     pub next_shut : (t.found.shard.table.core.next t.view ≡ None) ↔ ((t.found.shard.table.own t.view).is_open ≡ false)
-    next_shut = lawful.open_is t.found.shard.held t.found.shard.views (events_of t.found.shard.trace) t.found.deeds k t.view seat
+    next_shut = lawful.open_is moment k t.view seat
 
     -- an answer of an atom, and Finished where there is none, has its cause
-    to_cause : (o : Option Atom) → t.found.shard.table.core.next t.view ≡ o → cause t.found.core t.found.shard.held t.view o (answer_to t.found.shard.table t.found.shard.held t.view o)
+    to_cause : (o : Option Atom) → t.found.shard.table.core.next t.view ≡ o → (says t.found.core).cause t.found.shard.held t.view o (answer_to t.found.shard.table t.found.shard.held t.view o)
     to_cause None e = lawful.rests t.found.shard.held t.view
-    to_cause (Some at) e = lawful.causes t.found.shard.held t.found.shard.views (events_of t.found.shard.trace) t.found.deeds k t.view at seat e
+    to_cause (Some at) e = lawful.causes moment k t.view at (record { seated = seat; next = e })
 
     -- and what it has to say
     to_answer : (o : Option Atom) → t.found.shard.table.core.next t.view ≡ o → AnswersNext t.found.shard.held o (answer_to t.found.shard.table t.found.shard.held t.view o)
     to_answer None e = refl
-    to_answer (Some at) e = lawful.answers t.found.shard.held t.found.shard.views (events_of t.found.shard.trace) t.found.deeds k t.view at seat e
+    to_answer (Some at) e = lawful.answers moment k t.view at (record { seated = seat; next = e })
 
     -- what is said of the view's next atom and its answer is said of the machine's
-    said_there : (says : CauseOf C V) → says t.found.core t.found.shard.held t.view (t.found.shard.table.core.next t.view) (answer_to t.found.shard.table t.found.shard.held t.view (t.found.shard.table.core.next t.view)) →
-        AtomCause says cores m k (atom_answer m k)
-    said_there says said =
-        subst (AtomCause says cores m k) (sym answer_there)
-        (subst (λ o. cause_on says k (answer_to t.found.shard.table t.found.shard.held t.view (t.found.shard.table.core.next t.view)) o (slice_get m.shards (place_of m k))) (sym t.found.has_core)
-        (subst (cause_on says k (answer_to t.found.shard.table t.found.shard.held t.view (t.found.shard.table.core.next t.view)) (Some t.found.core)) (sym t.found.has)
-        (subst (λ o. cause_at says t.found.core t.found.shard o (answer_to t.found.shard.table t.found.shard.held t.view (t.found.shard.table.core.next t.view))) (sym t.has_view) said)))
+    said_there : (tells : C → TheWindow → V → Option Atom → Stepped → Type 0) →
+        tells t.found.core t.found.shard.held t.view (t.found.shard.table.core.next t.view) (answer_to t.found.shard.table t.found.shard.held t.view (t.found.shard.table.core.next t.view)) →
+        AtomTells tells cores m k (atom_answer m k)
+    said_there tells said =
+        subst (AtomTells tells cores m k) (sym answer_there)
+        (subst (λ o. tells_on tells k (answer_to t.found.shard.table t.found.shard.held t.view (t.found.shard.table.core.next t.view)) o (slice_get m.shards (place_of m k))) (sym t.found.has_core)
+        (subst (tells_on tells k (answer_to t.found.shard.table t.found.shard.held t.view (t.found.shard.table.core.next t.view)) (Some t.found.core)) (sym t.found.has)
+        (subst (λ o. tells_at tells t.found.core t.found.shard o (answer_to t.found.shard.table t.found.shard.held t.view (t.found.shard.table.core.next t.view))) (sym t.has_view) said)))
 
-    cause_there : AtomCause cause cores m k (atom_answer m k)
-    cause_there = said_there cause (to_cause (t.found.shard.table.core.next t.view) refl)
+    cause_there : AtomTells (λ core. (says core).cause) cores m k (atom_answer m k)
+    cause_there = said_there (λ core. (says core).cause) (to_cause (t.found.shard.table.core.next t.view) refl)
 
-    answers_there : AtomCause (λ core h x next a. AnswersNext h next a) cores m k (atom_answer m k)
+    answers_there : AtomTells (λ core h x next a. AnswersNext h next a) cores m k (atom_answer m k)
     answers_there = said_there (λ core h x next a. AnswersNext h next a) (to_answer (t.found.shard.table.core.next t.view) refl)
 
     -- no answer but Finished where there is no atom
     finished_to : (o : Option Atom) → t.found.shard.table.core.next t.view ≡ o → answer_to t.found.shard.table t.found.shard.held t.view o ≡ Finished → o ≡ None
     finished_to None e q = refl
-    finished_to (Some at) e q = absurd (lawful.goes_on t.found.shard.held t.found.shard.views (events_of t.found.shard.trace) t.found.deeds k t.view at seat e q)
+    finished_to (Some at) e q = absurd (lawful.goes_on moment k t.view at (record { seated = seat; next = e }) q)
 
     -- a rank that takes a card that is held, on these words and cards, is idle
     pub held_idle : (node : ℕ) (w : TheWindow) → t.found.shard.table.core.next t.view ≡ Some (atom.Take node) → (slice_index w.cards node == 0) ≡ false →
         IsIdle t.found.shard.table w k t.view (t.found.shard.table.core.next t.view) (Busy node (slice_index w.cards node - 1))
     held_idle node w e held =
-        let q = lawful.held t.found.shard.held t.found.shard.views (events_of t.found.shard.trace) t.found.deeds k t.view node w seat e held in
+        let q = lawful.held moment k t.view node w (record { seated = seat; next = e }) held in
         subst (λ o. IsIdle t.found.shard.table w k t.view o (Busy node (slice_index w.cards node - 1))) (sym e)
         (ap (λ b. record { words = w.words; cards = if b then slice_set w.cards node (k + 1) else w.cards }) held, q.0, q.1, q.2)
 
@@ -135,13 +142,15 @@ module _ (C V : Type 0) (table : C → ShardTable V) (good : GoodOf C V) (cause 
       pub next : t.found.shard.table.core.next t.view ≡ Some (atom.Take node)
       pub held : slice_index t.found.shard.held.cards node ≡ holder + 1
 
-    pub busy_takes : (node holder : ℕ) (o : Option Atom) → t.found.shard.table.core.next t.view ≡ o → answer_to t.found.shard.table t.found.shard.held t.view o ≡ Busy node holder → TakesHeld node holder
+    pub busy_takes : (node holder : ℕ) (o : Option Atom) → t.found.shard.table.core.next t.view ≡ o →
+        answer_to t.found.shard.table t.found.shard.held t.view o ≡ Busy node holder → TakesHeld node holder
     busy_takes node holder None e b = let bad : Finished ≡ Busy node holder = b in cc
     busy_takes node holder (Some at) e b =
-        let q = lawful.busy t.found.shard.held t.found.shard.views (events_of t.found.shard.trace) t.found.deeds k t.view at node holder seat e b in record { next = e ∙ ap (λ z. Some z) q.0; held = q.1 }
+        let q = lawful.busy moment k t.view at node holder (record { seated = seat; next = e }) b in record { next = e ∙ ap (λ z. Some z) q.0; held = q.1 }
 
     -- and leaves the shard as it was
-    busy_to : (step node holder : ℕ) (o : Option Atom) → t.found.shard.table.core.next t.view ≡ o → answer_to t.found.shard.table t.found.shard.held t.view o ≡ Busy node holder → makes t.found.shard k step t.view o ≡ t.found.shard
+    busy_to : (step node holder : ℕ) (o : Option Atom) → t.found.shard.table.core.next t.view ≡ o →
+        answer_to t.found.shard.table t.found.shard.held t.view o ≡ Busy node holder → makes t.found.shard k step t.view o ≡ t.found.shard
     busy_to step node holder o e b =
         let q = busy_takes node holder o e b in
         let idle = held_idle node t.found.shard.held q.next (held_not_free (slice_index t.found.shard.held.cards node) holder q.held) in
@@ -175,7 +184,7 @@ module _ (C V : Type 0) (table : C → ShardTable V) (good : GoodOf C V) (cause 
         let r : RankGood m.geom (calls_by m k) (sizes_by m k) (slice_index m.opened k) (desks_by m k) k = g.ranks k h in
         let desk : slice_get (desks_by m k) (place_of m k) ≡ Some (desk_on k t.found.shard) = get_map (desk_on k) m.shards (place_of m k) t.found.shard t.found.has in
         let shut_desk : (desk_on k t.found.shard).is_open ≡ false =
-        ap (λ o. (desk_at t.found.shard.table t.found.shard.held.words k o).is_open) t.has_view ∙ lawful.knows_open t.found.shard.held t.found.shard.views (events_of t.found.shard.trace) t.found.deeds k t.view seat ∙ sym open_there ∙ shut in
+        ap (λ o. (desk_at t.found.shard.table t.found.shard.held.words k o).is_open) t.has_view ∙ lawful.knows_open moment k t.view seat ∙ sym open_there ∙ shut in
         let closed : (d : Desk) → slice_get (desks_by m k) (place_of m k) ≡ Some d → d.is_open ≡ false =
         λ d e. ap (λ (z : Desk). z.is_open) (one_at (desks_by m k) (place_of m k) d (desk_on k t.found.shard) e desk) ∙ shut_desk in
         ap entries_in (sym (kept_desks k m.shards)) ∙ r.total ∙ all_done m.geom (calls_by m k) (sizes_by m k) k (slice_index m.opened k) (desks_by m k) r closed (desk_on k t.found.shard) desk
@@ -196,18 +205,19 @@ module _ (C V : Type 0) (table : C → ShardTable V) (good : GoodOf C V) (cause 
   kept_block acts m k g h o =
       let block : List Call = next_block m k in
       let n : ℕ = slice_index m.opened k in
-      let at : OpensAt C V table good cause further layout laws cores acts m k = opens_at C V table good cause further layout laws cores acts m k g h o in
+      let at : OpensAt says laws cores acts m k = opens_at says laws cores acts m k g h o in
       let S : ShardRun V = at.found.shard in
       let same_block : block ≡ at.next.block = block_is m.geom (calls_by m k) (sizes_by m k) n at.next in
       let place : block_shard m.geom block ≡ at.next.is_block.shard = ap (block_shard m.geom) same_block ∙ block_at m.geom (calls_by m k) (sizes_by m k) n at.next in
       let has : slice_get m.shards (block_shard m.geom block) ≡ Some S = ap (slice_get m.shards) place ∙ at.found.has in
-      let law = laws_of C V table good cause further layout laws cores at.found.core S.table at.found.is.table_is in
-      let seat = seated C V table good cause further layout laws cores at.found.core at.found.deeds S k at.view at.found.is.is_good at.has_view in
-      let opens_desk = law.opens_told S.held S.views (events_of S.trace) at.found.deeds k at.view block n seat (subst (λ b. MayOpen S.table k at.view b n) (sym same_block) at.fits) in
+      let law = laws_of says laws cores at.found.core S.table at.found.is.table_is in
+      let seat : IsSeated (said_by (says at.found.core) S.table) (moment_of S at.found.deeds) k at.view = record { is_good = at.found.is.is_good; has = at.has_view } in
+      let opens_desk = law.opens_told (moment_of S at.found.deeds) k at.view block n seat (subst (λ b. MayOpen S.table k at.view b n) (sym same_block) at.fits) in
       let same : kept_on k (opened_on k block n S) ≡ kept_on k S =
       kept_opened S k block n (slice_get S.views k) refl
       (λ x e.
-      subst (λ z. desk_entries (S.table.desk S.held.words k (S.table.opened block n z)) ≡ desk_entries (S.table.desk S.held.words k z)) (one_at S.views k at.view x at.has_view e) (ap (λ z. z.items) opens_desk.same_kept)) in
+      subst (λ z. desk_entries (S.table.desk S.held.words k (S.table.opened block n z)) ≡ desk_entries (S.table.desk S.held.words k z))
+      (one_at S.views k at.view x at.has_view e) (ap (λ z. z.items) opens_desk.same_kept)) in
       ap (λ s. map (kept_on k) (changed_if m.shards (block_shard m.geom block) (opened_on k block n) s)) has ∙ map_set (kept_on k) m.shards (block_shard m.geom block) (opened_on k block n S)
       ∙ ap (slice_set (map (kept_on k) m.shards) (block_shard m.geom block)) same
       ∙ set_same_get (map (kept_on k) m.shards) (block_shard m.geom block) (kept_on k S) (get_map (kept_on k) m.shards (block_shard m.geom block) S has)
@@ -220,7 +230,7 @@ module _ (C V : Type 0) (table : C → ShardTable V) (good : GoodOf C V) (cause 
       let was : has_open_call m k ≡ false = not_open (has_open_call m k) (nat_lt n (length (calls_by m k))) o in
       let some : 1 ≤ length block = some_next acts m k g h (one_left (has_open_call m k) n (length (calls_by m k)) was o) in
       let old : entries_in (map (kept_on k) m.shards) ≡ n = shut_done acts m k g h was in
-      let fine : Fine acts (opened_if m k true) = subst (λ b. Fine acts (opened_if m k b)) o (block_good C V table good cause further layout laws cores acts m k g h) in
+      let fine : Fine acts (opened_if m k true) = subst (λ b. Fine acts (opened_if m k b)) o (block_good says laws cores acts m k g h) in
       let new : entries_in (map (kept_on k) (opened_if m k true).shards) ≡ slice_index (opened_if m k true).opened k = shut_done acts (opened_if m k true) k fine h shut in
       let same : map (kept_on k) (opened_if m k true).shards ≡ map (kept_on k) m.shards = kept_block acts m k g h o in
       let now : slice_index (slice_set m.opened k (n + length block)) k ≡ n + length block = get_or-set_same m.opened k (n + length block) 0 (let a = g.all_opened in omega arith) in
@@ -243,13 +253,13 @@ module _ (C V : Type 0) (table : C → ShardTable V) (good : GoodOf C V) (cause 
 
   module _ (acts : List (List Deed)) (m : Running V) (k : ℕ) (g : Fine acts m) (h : k < length m.calls) where
     pub fine_opened : Fine acts (block_opened m k)
-    fine_opened = block_good C V table good cause further layout laws cores acts m k g h
+    fine_opened = block_good says laws cores acts m k g h
 
     pub still_there : k < length (block_opened m k).calls
-    still_there = subst (λ c. k < length c) (sym (opened_calls C V table good cause further layout laws cores m k (opens m k))) h
+    still_there = subst (λ c. k < length c) (sym (opened_calls says laws cores m k (opens m k))) h
 
     -- each answer of a step has its cause
-    pub step_cause : StepCause cause cores m k (answer_of_step m k)
+    pub step_cause : StepCause says cores m k (answer_of_step m k)
     step_cause = cause_there acts (block_opened m k) k fine_opened still_there (stands_there acts (block_opened m k) k fine_opened still_there)
 
     -- and says what it has to say

@@ -37,7 +37,8 @@ module _ {V : Type 0} (S : ShardRun V) (k step : ℕ) (h : TheWindow) (vs : List
   by_next a x (Some at) has e =
       let m = a.made x at has e in
       let after = S.table.core.after x (do_got at S.held.words S.held.cards) in (
-        same_shard S h (do_atom k at S.held) vs (slice_set S.views k after.view) (S.trace ++ numbered step es) (S.trace ++ numbered step after.events) m.0 m.1 (ap (λ z. S.trace ++ numbered step z) m.2),
+        same_shard S h (do_atom k at S.held) vs (slice_set S.views k after.view) (S.trace ++ numbered step es)
+            (S.trace ++ numbered step after.events) m.0 m.1 (ap (λ z. S.trace ++ numbered step z) m.2),
         m.3,
       )
 

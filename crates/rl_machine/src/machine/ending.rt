@@ -1,6 +1,6 @@
 //! Where no shard has a dead end, no machine has one.
 
-ghost use Rattle.rl_machine.specs.MachineEnding.{CanFinish, CanAlwaysFinish, CanFinishIn, machine_left};
+ghost use Rattle.rl_machine.specs.MachineEnding.{CanFinish, CanAlwaysFinish, CanFinishSoon};
 ghost use Rattle.rl_machine.specs.Running.{running, cores_of};
 
 use crate::machine::Machine;
@@ -11,9 +11,9 @@ use rl_core::ShardEnding;
 ///
 /// It says nothing of fairness, nor of time: which steps these are the schedule must choose.
 pub fn no_dead_end<C: ShardEnding>(machine: &Machine<C>)
-    ensures now { CanFinish (running C.shard_table machine.now) }
-    ensures soon { CanFinishIn (machine_left C.left C.most (cores_of machine.now) (running C.shard_table machine.now)) (running C.shard_table machine.now) }
-    ensures later { CanAlwaysFinish (running C.shard_table machine.now) }
+    ensures now { CanFinish (running C.says machine.now) }
+    ensures soon { CanFinishSoon C.left C.most (cores_of machine.now) (running C.says machine.now) }
+    ensures later { CanAlwaysFinish (running C.says machine.now) }
 {
     let _ = &machine.state;
 }

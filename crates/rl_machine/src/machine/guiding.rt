@@ -4,11 +4,11 @@ ghost use Rattle.std.specs.Prelude.{◌≡◌, ◌↔◌, ◌<◌, None, length,
 ghost use Rattle.rl_ending.specs.Guiding.{IsChosen, NoneUrgent};
 ghost use Rattle.rl_machine.specs.Choosing.{sooner};
 ghost use Rattle.rl_machine.specs.GoesNext.{GoesNext, IsFirst, NoneHas};
-ghost use Rattle.rl_machine.specs.MachineEnding.{AllDone, machine_left};
+ghost use Rattle.rl_machine.specs.MachineEnding.{AllDone, LeavesLess};
 ghost use Rattle.rl_machine.specs.MachineGood.{IsMachine};
-ghost use Rattle.rl_machine.specs.Run.{has_open_call, opens, stepped, IsAllClosed};
+ghost use Rattle.rl_machine.specs.Run.{has_open_call, opens, IsAllClosed};
 ghost use Rattle.rl_machine.specs.Running.{running, cores_of};
-ghost use Rattle.rl_machine.specs.State.{machine_view, IsGood};
+ghost use Rattle.rl_machine.specs.State.{machine_view, IsGood, running_machine};
 
 use crate::machine::Machine;
 use crate::shard::ShardState;
@@ -37,7 +37,7 @@ fn sooner(chosen: Option<Urgent>, rank: u32, urgency: Option<u32>) -> Option<Urg
 
 /// The chosen one of the ranks of a shard, so many, if one of them is urgent.
 fn chosen_on<C: ShardGuiding>(shard: &ShardState<C>, ranks: u32) -> Option<u32>
-    requires good { IsGood C.good shard.now }
+    requires good { IsGood C.says shard.now }
     requires ranks { length shard.now.flat.views.items ≡ ranks }
     ensures chosen { IfSome result (IsChosen (C.urgent shard.now.core shard.now.flat.words.words) shard.now.flat.views.items) }
     ensures none { result ≡ None → NoneUrgent (C.urgent shard.now.core shard.now.flat.words.words) shard.now.flat.views.items }
@@ -58,7 +58,7 @@ fn chosen_on<C: ShardGuiding>(shard: &ShardState<C>, ranks: u32) -> Option<u32>
 impl<C: ShardCore> MachineState<C> {
     /// How many ranks there are.
     fn ranks(&self) -> u32
-        requires good { IsMachine C C.View C.shard_table C.good (machine_view self.now) }
+        requires good { IsMachine C.says (machine_view self.now) }
         ensures { result ≡ length self.now.ops.by_rank }
     {
         self.ops.by_rank.as_slice().len() as u32
@@ -66,9 +66,9 @@ impl<C: ShardCore> MachineState<C> {
 
     /// The first rank that has a call open.
     fn first_open(&self) -> Option<u32>
-        requires good { IsMachine C C.View C.shard_table C.good (machine_view self.now) }
-        ensures first { IfSome result (IsFirst (has_open_call (running C.shard_table (machine_view self.now))) (length self.now.ops.by_rank)) }
-        ensures none { result ≡ None → IsAllClosed (running C.shard_table (machine_view self.now)) }
+        requires good { IsMachine C.says (machine_view self.now) }
+        ensures first { IfSome result (IsFirst (has_open_call (running_machine C.says self.now)) (length self.now.ops.by_rank)) }
+        ensures none { result ≡ None → IsAllClosed (running_machine C.says self.now) }
     {
         for rank in 0..self.ranks() {
             if self.is_open(rank) {
@@ -80,9 +80,9 @@ impl<C: ShardCore> MachineState<C> {
 
     /// The first rank whose next step opens a block.
     fn first_to_open(&self) -> Option<u32>
-        requires good { IsMachine C C.View C.shard_table C.good (machine_view self.now) }
-        ensures first { IfSome result (IsFirst (opens (running C.shard_table (machine_view self.now))) (length self.now.ops.by_rank)) }
-        ensures none { result ≡ None → NoneHas (opens (running C.shard_table (machine_view self.now))) (length self.now.ops.by_rank) }
+        requires good { IsMachine C.says (machine_view self.now) }
+        ensures first { IfSome result (IsFirst (opens (running_machine C.says self.now)) (length self.now.ops.by_rank)) }
+        ensures none { result ≡ None → NoneHas (opens (running_machine C.says self.now)) (length self.now.ops.by_rank) }
     {
         for rank in 0..self.ranks() {
             if self.opens(rank) {
@@ -95,9 +95,9 @@ impl<C: ShardCore> MachineState<C> {
 
 /// The rank that goes next.
 fn who<C: ShardGuiding>(state: &MachineState<C>) -> Option<u32>
-    requires good { IsMachine C C.View C.shard_table C.good (machine_view state.now) }
-    ensures next { IfSome result (GoesNext C.urgent (cores_of (machine_view state.now)) (running C.shard_table (machine_view state.now))) }
-    ensures over { result ≡ None → AllDone (running C.shard_table (machine_view state.now)) }
+    requires good { IsMachine C.says (machine_view state.now) }
+    ensures next { IfSome result (GoesNext C.urgent (cores_of (machine_view state.now)) (running_machine C.says state.now)) }
+    ensures over { result ≡ None → AllDone (running_machine C.says state.now) }
 {
     match state.first_open() {
         Some(rank) => chosen_on(state.shard_of_rank(rank), state.ranks()),
@@ -112,10 +112,10 @@ impl<C: ShardGuiding> Machine<C> {
     ///
     /// Who steps whom this names, again and again, comes to that end: each such step leaves less to do.
     pub fn who(&self) -> Option<u32>
-        ensures next { IfSome result (GoesNext C.urgent (cores_of self.now) (running C.shard_table self.now)) }
+        ensures next { IfSome result (GoesNext C.urgent (cores_of self.now) (running C.says self.now)) }
         ensures there { IfSome result (λ rank. rank < length self.now.calls) }
-        ensures less { IfSome result (λ rank. machine_left C.left C.most (cores_of self.now) (stepped (running C.shard_table self.now) rank) < machine_left C.left C.most (cores_of self.now) (running C.shard_table self.now)) }
-        ensures over { (result ≡ None) ↔ AllDone (running C.shard_table self.now) }
+        ensures less { IfSome result (LeavesLess C.left C.most (cores_of self.now) (running C.says self.now)) }
+        ensures over { (result ≡ None) ↔ AllDone (running C.says self.now) }
     {
         who(&self.state)
     }

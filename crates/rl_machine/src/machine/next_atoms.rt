@@ -5,7 +5,7 @@ ghost use Rattle.rl_step.specs.Do.{do_got, CanDo};
 ghost use Rattle.rl_site.specs.Site.{lock_base};
 ghost use Rattle.rl_machine.specs.Running.{running, cores_of};
 ghost use Rattle.rl_machine.specs.Run.{opens, opened_if, block_opened, stepped, answer_of_step};
-ghost use Rattle.rl_machine.specs.State.{running_shard, machine_view, IsGood};
+ghost use Rattle.rl_machine.specs.State.{running_shard, machine_view, IsGood, running_machine};
 ghost use Rattle.rl_machine.specs.MachineGood.{IsMachine};
 ghost use Rattle.rl_machine.specs.NextAtoms.{next_on, next_by, behind_journal};
 
@@ -43,8 +43,8 @@ fn found(words: &Words, rank: u32, atom: Atom) -> u64
 /// The rank's next atom on a shard.
 fn next_on<C: ShardCore>(shard: &ShardState<C>, rank: u32) -> Option<NextAtom>
     requires there { rank < length shard.now.flat.views.items }
-    requires good { IsGood C.good shard.now }
-    ensures { result ≡ next_on rank (running_shard C.shard_table shard.now) }
+    requires good { IsGood C.says shard.now }
+    ensures { result ≡ next_on rank (running_shard C.says shard.now) }
 {
     match shard.core.next(shard.flat.view(rank)) {
         None => None,
@@ -57,9 +57,9 @@ fn next_on<C: ShardCore>(shard: &ShardState<C>, rank: u32) -> Option<NextAtom>
 
 /// The number of the first word behind a shard's journal.
 fn behind_on<C: ShardCore>(shard: &ShardState<C>) -> u32
-    requires good { IsGood C.good shard.now }
-    requires few { sum (C.shard_table shard.now.core).site.rooms ≤ 20000 }
-    ensures { result ≡ lock_base (C.shard_table shard.now.core).site }
+    requires good { IsGood C.says shard.now }
+    requires few { sum (C.says shard.now.core).table.site.rooms ≤ 20000 }
+    ensures { result ≡ lock_base (C.says shard.now.core).table.site }
 {
     lock_base(&shard.core)
 }
@@ -67,9 +67,9 @@ fn behind_on<C: ShardCore>(shard: &ShardState<C>) -> u32
 /// Opens the rank's next block, on the shard of its calls.
 fn open_there<C: ShardCore>(state: &mut MachineState<C>, rank: u32)
     requires there { rank < length state.old.ops.by_rank }
-    requires good { IsMachine C C.View C.shard_table C.good (machine_view state.old) }
-    requires opens { opens (running C.shard_table (machine_view state.old)) rank ≡ true }
-    ensures made { running C.shard_table (machine_view state.new) ≡ opened_if (running C.shard_table (machine_view state.old)) rank true }
+    requires good { IsMachine C.says (machine_view state.old) }
+    requires opens { opens (running_machine C.says state.old) rank ≡ true }
+    ensures made { running_machine C.says state.new ≡ opened_if (running_machine C.says state.old) rank true }
     ensures cores { cores_of (machine_view state.new) ≡ cores_of (machine_view state.old) }
 {
     let at = rank as usize;
@@ -86,8 +86,8 @@ impl<C: ShardCore> MachineState<C> {
     /// The rank's next atom, where it stands.
     fn next_atom(&self, rank: u32) -> Option<NextAtom>
         requires there { rank < length self.now.ops.by_rank }
-        requires good { IsMachine C C.View C.shard_table C.good (machine_view self.now) }
-        ensures { result ≡ next_by (running C.shard_table (machine_view self.now)) rank }
+        requires good { IsMachine C.says (machine_view self.now) }
+        ensures { result ≡ next_by (running_machine C.says self.now) rank }
     {
         next_on(self.shard_of_rank(rank), rank)
     }
@@ -95,8 +95,8 @@ impl<C: ShardCore> MachineState<C> {
     /// The number of the first word behind a shard's journal.
     fn behind_journal(&self, shard: u32) -> u32
         requires there { shard < length self.now.shards.items }
-        requires good { IsMachine C C.View C.shard_table C.good (machine_view self.now) }
-        ensures { result ≡ behind_journal (running C.shard_table (machine_view self.now)) shard }
+        requires good { IsMachine C.says (machine_view self.now) }
+        ensures { result ≡ behind_journal (running_machine C.says self.now) shard }
     {
         behind_on(&self.shards[shard as usize])
     }
@@ -105,8 +105,8 @@ impl<C: ShardCore> MachineState<C> {
 /// Opens the rank's next block, where no call of it is open and one is left.
 fn open_next<C: ShardCore>(state: &mut MachineState<C>, rank: u32)
     requires there { rank < length state.old.ops.by_rank }
-    requires good { IsMachine C C.View C.shard_table C.good (machine_view state.old) }
-    ensures made { running C.shard_table (machine_view state.new) ≡ block_opened (running C.shard_table (machine_view state.old)) rank }
+    requires good { IsMachine C.says (machine_view state.old) }
+    ensures made { running_machine C.says state.new ≡ block_opened (running_machine C.says state.old) rank }
     ensures cores { cores_of (machine_view state.new) ≡ cores_of (machine_view state.old) }
 {
     if state.opens(rank) {
@@ -119,12 +119,12 @@ impl<C: ShardCore> Machine<C> {
     /// step is the one that it was. So its atom can be looked at before it is made.
     pub fn open_next(&mut self, rank: u32)
         requires there { rank < length self.old.calls }
-        ensures opened { running C.shard_table self.new ≡ block_opened (running C.shard_table self.old) rank }
+        ensures opened { running C.says self.new ≡ block_opened (running C.says self.old) rank }
         ensures cores { cores_of self.new ≡ cores_of self.old }
         ensures calls { self.new.calls ≡ self.old.calls }
         ensures no_step { self.new.steps ≡ self.old.steps }
-        ensures same_step { stepped (running C.shard_table self.new) rank ≡ stepped (running C.shard_table self.old) rank }
-        ensures same_answer { answer_of_step (running C.shard_table self.new) rank ≡ answer_of_step (running C.shard_table self.old) rank }
+        ensures same_step { stepped (running C.says self.new) rank ≡ stepped (running C.says self.old) rank }
+        ensures same_answer { answer_of_step (running C.says self.new) rank ≡ answer_of_step (running C.says self.old) rank }
     {
         open_next(&mut self.state, rank);
     }
@@ -133,7 +133,7 @@ impl<C: ShardCore> Machine<C> {
     /// has to be opened before ([`Machine::open_next`]).
     pub fn next_atom(&self, rank: u32) -> Option<NextAtom>
         requires { rank < length self.now.calls }
-        ensures { result ≡ next_by (running C.shard_table self.now) rank }
+        ensures { result ≡ next_by (running C.says self.now) rank }
     {
         self.state.next_atom(rank)
     }
@@ -141,7 +141,7 @@ impl<C: ShardCore> Machine<C> {
     /// The number of the first word behind a shard's journal: the lock's words begin there.
     pub fn behind_journal(&self, shard: u32) -> u32
         requires { shard < length self.now.shards }
-        ensures { result ≡ behind_journal (running C.shard_table self.now) shard }
+        ensures { result ≡ behind_journal (running C.says self.now) shard }
     {
         self.state.behind_journal(shard)
     }

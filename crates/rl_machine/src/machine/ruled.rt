@@ -1,7 +1,7 @@
 //! The rules of a machine's cores, which hold at every moment.
 
-ghost use Rattle.std.specs.Prelude.{ℕ, List, length};
-ghost use Rattle.rl_machine.specs.Run.{run_of, AreThere};
+ghost use Rattle.std.specs.Prelude.{length};
+ghost use Rattle.rl_machine.specs.Run.{EverAfter};
 ghost use Rattle.rl_machine.specs.Ruled.{AreRuled};
 ghost use Rattle.rl_machine.specs.Running.{running, cores_of};
 
@@ -11,8 +11,8 @@ use rl_core::ShardCore;
 /// At every moment each shard meets the rule of its core, and a rank whose block is open on a shard stands there. What holds of all
 /// states under the rule of one kind of cores so holds of each machine of that kind. There is nothing to run.
 pub fn rules<C: ShardCore>(machine: &Machine<C>)
-    ensures now { AreRuled C C.View C.shard_table C.good (cores_of machine.now) (running C.shard_table machine.now) }
-    ensures stays { (ks : List ℕ) → AreThere (length machine.now.calls) ks → AreRuled C C.View C.shard_table C.good (cores_of machine.now) (run_of (running C.shard_table machine.now) ks) }
+    ensures now { AreRuled C.says (cores_of machine.now) (running C.says machine.now) }
+    ensures stays { EverAfter (length machine.now.calls) (running C.says machine.now) (AreRuled C.says (cores_of machine.now)) }
 {
     let _ = &machine.state;
 }

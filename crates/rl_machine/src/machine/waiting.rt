@@ -1,11 +1,11 @@
 //! Whether a rank is seen to wait: at a load that leaves it where it is, or in a round of two loads; and the steps of such a round.
 
-ghost use Rattle.std.specs.Prelude.{◌≡◌, ◌-◌, ◌<◌, ◌^◌, length, slice_set, IfSome};
+ghost use Rattle.std.specs.Prelude.{◌≡◌, ◌-◌, ◌<◌, ◌^◌, length, IfSome};
 ghost use Rattle.rl_step.specs.Answers.{steps_made};
 ghost use Rattle.rl_core.specs.Rounds.{turned_round};
-ghost use Rattle.rl_machine.specs.Running.{running, cores_of, viewed};
+ghost use Rattle.rl_machine.specs.Running.{running, cores_of};
 ghost use Rattle.rl_machine.specs.Run.{stepped};
-ghost use Rattle.rl_machine.specs.State.{running_shard, machine_view, OfView};
+ghost use Rattle.rl_machine.specs.State.{running_shard, machine_view, running_machine, ViewBecomes, OnlyViewBecomes};
 ghost use Rattle.rl_machine.specs.MachineGood.{IsMachine};
 ghost use Rattle.rl_machine.specs.Rested.{RestsAt, IsInRound, GoesRound};
 
@@ -38,8 +38,8 @@ impl<C: Resting> MachineState<C> {
     #[inline(always)]
     fn waits(&self, rank: u32) -> Option<RestAt>
         requires there { rank < length self.now.ops.by_rank }
-        requires good { IsMachine C C.View C.shard_table C.good (machine_view self.now) }
-        ensures { IfSome result (λ at. RestsAt (running C.shard_table (machine_view self.now)) rank at.shard at.answer) }
+        requires good { IsMachine C.says (machine_view self.now) }
+        ensures { IfSome result (λ at. RestsAt (running_machine C.says self.now) rank at.shard at.answer) }
     {
         let place = self.seen_place(rank)?;
         let shard = self.shard(place);
@@ -54,8 +54,8 @@ impl<C: Resting> MachineState<C> {
     #[inline(always)]
     fn round(&self, rank: u32) -> Option<RoundAt<C::Sight>>
         requires there { rank < length self.now.ops.by_rank }
-        requires good { IsMachine C C.View C.shard_table C.good (machine_view self.now) }
-        ensures { IfSome result (λ at. IsInRound C.with_sight (running C.shard_table (machine_view self.now)) rank at.shard at.round) }
+        requires good { IsMachine C.says (machine_view self.now) }
+        ensures { IfSome result (λ at. IsInRound C.with_sight (running_machine C.says self.now) rank at.shard at.round) }
     {
         let place = self.seen_place(rank)?;
         let shard = self.shard(place);
@@ -72,7 +72,7 @@ impl<C: Resting> MachineState<C> {
 fn set_view<C: Resting>(flat: &mut Flat<C>, rank: u32, sight: C::Sight)
     requires there { rank < length flat.old.views.items }
     ensures words { flat.new.words ≡ flat.old.words }
-    ensures views { OfView flat.old.views.items rank (λ x. flat.new.views.items ≡ slice_set flat.old.views.items rank (C.with_sight x sight)) }
+    ensures views { ViewBecomes flat.old flat.new rank (λ x. C.with_sight x sight) }
 {
     C::set_sight(flat.view_mut(rank), sight);
 }
@@ -81,7 +81,7 @@ fn set_view<C: Resting>(flat: &mut Flat<C>, rank: u32, sight: C::Sight)
 #[inline(always)]
 fn set_on<C: Resting>(shard: &mut ShardState<C>, rank: u32, sight: C::Sight)
     requires there { rank < length shard.old.flat.views.items }
-    ensures made { OfView shard.old.flat.views.items rank (λ x. running_shard C.shard_table shard.new ≡ viewed (running_shard C.shard_table shard.old) rank (C.with_sight x sight)) }
+    ensures made { OnlyViewBecomes (running_shard C.says shard.old) (running_shard C.says shard.new) rank (λ x. C.with_sight x sight) }
     ensures core { shard.new.core ≡ shard.old.core }
 {
     set_view(&mut shard.flat, rank, sight);
@@ -90,11 +90,11 @@ fn set_on<C: Resting>(shard: &mut ShardState<C>, rank: u32, sight: C::Sight)
 /// A step of a rank in a round, whose next word has the value that it had: the round goes on with its other load.
 #[inline(always)]
 fn make_leg<C: Resting>(state: &mut MachineState<C>, rank: u32, shard: u32, round: Round<C::Sight>)
-    requires good { IsMachine C C.View C.shard_table C.good (machine_view state.old) }
+    requires good { IsMachine C.says (machine_view state.old) }
     requires few { steps_made state.old.steps < 2 ^ 32 - 1 }
-    requires shows { GoesRound C.with_sight (running C.shard_table (machine_view state.old)) rank shard round 1 }
-    ensures made { running C.shard_table (machine_view state.new) ≡ stepped (running C.shard_table (machine_view state.old)) rank }
-    ensures in_round { IsInRound C.with_sight (running C.shard_table (machine_view state.new)) rank shard (turned_round round) }
+    requires shows { GoesRound C.with_sight (running_machine C.says state.old) rank shard round 1 }
+    ensures made { running_machine C.says state.new ≡ stepped (running_machine C.says state.old) rank }
+    ensures in_round { IsInRound C.with_sight (running_machine C.says state.new) rank shard (turned_round round) }
     ensures cores { cores_of (machine_view state.new) ≡ cores_of (machine_view state.old) }
 {
     state.steps.count(round.here.answer());
@@ -107,7 +107,7 @@ impl<C: Resting> Machine<C> {
     #[inline(always)]
     pub fn waits(&self, rank: u32) -> Option<RestAt>
         requires { rank < length self.now.calls }
-        ensures { IfSome result (λ at. RestsAt (running C.shard_table self.now) rank at.shard at.answer) }
+        ensures { IfSome result (λ at. RestsAt (running C.says self.now) rank at.shard at.answer) }
     {
         self.state.waits(rank)
     }
@@ -117,7 +117,7 @@ impl<C: Resting> Machine<C> {
     #[inline(always)]
     pub fn round(&self, rank: u32) -> Option<RoundAt<C::Sight>>
         requires { rank < length self.now.calls }
-        ensures { IfSome result (λ at. IsInRound C.with_sight (running C.shard_table self.now) rank at.shard at.round) }
+        ensures { IfSome result (λ at. IsInRound C.with_sight (running C.says self.now) rank at.shard at.round) }
     {
         self.state.round(rank)
     }
@@ -127,10 +127,10 @@ impl<C: Resting> Machine<C> {
     pub fn make_leg(&mut self, rank: u32, shard: u32, round: Round<C::Sight>)
         requires there { rank < length self.old.calls }
         requires few { steps_made self.old.steps < 2 ^ 32 - 1 }
-        requires shows { GoesRound C.with_sight (running C.shard_table self.old) rank shard round 1 }
+        requires shows { GoesRound C.with_sight (running C.says self.old) rank shard round 1 }
         ensures cores { cores_of self.new ≡ cores_of self.old }
-        ensures made { running C.shard_table self.new ≡ stepped (running C.shard_table self.old) rank }
-        ensures in_round { IsInRound C.with_sight (running C.shard_table self.new) rank shard (turned_round round) }
+        ensures made { running C.says self.new ≡ stepped (running C.says self.old) rank }
+        ensures in_round { IsInRound C.with_sight (running C.says self.new) rank shard (turned_round round) }
     {
         make_leg(&mut self.state, rank, shard, round);
     }

@@ -19,7 +19,8 @@ use Rattle.rl_tree.specs.Tree.{is_none, path, works_for, at_level, hook_by, at_h
 use Rattle.rl_tree.specs.laws.Cases.{standing_by}
 use Rattle.rl_tree.specs.Elements.{ranks_in, names_in, tree_of}
 use Rattle.rl_tree.specs.TreeShape.{IsWellShaped}
-use Rattle.rl_tree.specs.laws.TreeHolders.{at_root}
+use Rattle.rl_tree.specs.laws.TreePaths.{el_top}
+use Rattle.rl_tree.specs.laws.RanksInTree.{stands_of}
 use Rattle.rl_mcs.specs.Mcs.{mcs_table, mcs_learn, past_hook, McsGood}
 use Rattle.rl_ending.specs.Ending.{LockEnds, CanGoOn}
 use Rattle.rl_ending.specs.laws.EndingLaws.{all_out_or_not}
@@ -55,13 +56,15 @@ module _ (K : Rooted) (n : ℕ) (S : IsWellShaped K n) where
         low = λ e. ⊎_elim (λ lt. lt)
             (λ ge.
             let top : v.level ≡ n = omega arith in
-            let root : path (tree_of K) v.leaf v.level ≡ 0 = ap (path (tree_of K) v.leaf) top ∙ at_root K n S s.words s.views s.trace g.tree.tree g.all_views r v has in
-            let none : is_none ((tree_of K).parent (path (tree_of K) v.leaf v.level)) ≡ true = ap (λ z. is_none ((tree_of K).parent z)) root ∙ ap is_none S.root_free in
+            let none : is_none ((tree_of K).parent (path (tree_of K) v.leaf v.level)) ≡ true =
+            ap (λ z. is_none ((tree_of K).parent (path (tree_of K) v.leaf z))) top
+            ∙ ap is_none (el_top (stands_of S g.tree.tree g.all_views r v has).on) in
             let bad : true ≡ false = sym none ∙ e in cc) (cases_lt v.level n);
       }
 
   -- an act that brings its rank nearer
-  by_act : (s : LockState TreeView) (m : ℕ) (v : TreeView) (a : Act) → slice_get s.views m ≡ Some v → tree_plan (tree_of K) v ≡ Some a → far_of n (mcs_learn K v (told a (slice_index s.words (word_of a)))).view < far_of n v → CanGoOn T (mcs_left K n) s m
+  by_act : (s : LockState TreeView) (m : ℕ) (v : TreeView) (a : Act) → slice_get s.views m ≡ Some v → tree_plan (tree_of K) v ≡ Some a →
+      far_of n (mcs_learn K v (told a (slice_index s.words (word_of a)))).view < far_of n v → CanGoOn T (mcs_left K n) s m
   by_act s m v a has pl lt =
       let ws : List ℕ = slice_set s.words (word_of a) (written a (slice_index s.words (word_of a))) in
       record {
@@ -70,7 +73,9 @@ module _ (K : Rooted) (n : ℕ) (S : IsWellShaped K n) where
         way = inr (record {
           act = a;
           planned = pl;
-          less = nearer 1 (far_of n) (near_of K s.words) (near_of K ws) (λ x. near_few x.query (slice_index ws (path (tree_of K) x.leaf x.level)) x.phase) s.views m v (mcs_learn K v (told a (slice_index s.words (word_of a)))).view has lt;
+          less = nearer 1 (far_of n) (near_of K s.words) (near_of K ws)
+              (λ x. near_few x.query (slice_index ws (path (tree_of K) x.leaf x.level)) x.phase) s.views m v
+              (mcs_learn K v (told a (slice_index s.words (word_of a)))).view has lt;
         });
       }
 
@@ -81,11 +86,13 @@ module _ (K : Rooted) (n : ℕ) (S : IsWellShaped K n) where
       let w : Told TreeView = walk_turn (tree_of K) (at_level u u.level p) u.level (turn_at (names_in K (Q u)) (M u) p got) in
       let a : far_of n w.view ≤ cap n u.level tu.phase = walk_cap n (tree_of K) (at_level u u.level p) u.level tu.phase tu.events tu.waits at.within at.low in
       let b : far_of n (past_hook (tree_of K) (at_hook w.view) w).view ≤ far_of n w.view = hook_cap n (tree_of K) w (at_hook w.view) refl in
-      let c : cap n u.level tu.phase < far_by n false u.level p = turn_falls (far_by n false u.level) (cap n u.level) (far_falls n u.level at.within) (names_in K (Q u)) (M u) p got gets in
+      let c : cap n u.level tu.phase < far_by n false u.level p =
+      turn_falls (far_by n false u.level) (cap n u.level) (far_falls n u.level at.within) (names_in K (Q u)) (M u) p got gets in
       omega arith
 
   -- a swing that is lost learns the tail
-  by_loss : (s : LockState TreeView) (m g : ℕ) (u : TreeView) → slice_get s.views m ≡ Some (at_level u u.level (Swing g)) → (slice_index s.words (Q u) == g) ≡ false → CanGoOn T (mcs_left K n) s m
+  by_loss : (s : LockState TreeView) (m g : ℕ) (u : TreeView) → slice_get s.views m ≡ Some (at_level u u.level (Swing g)) →
+      (slice_index s.words (Q u) == g) ≡ false → CanGoOn T (mcs_left K n) s m
   by_loss s m g u has test =
       let t : ℕ = slice_index s.words (Q u) in
       let words : slice_set s.words (Q u) (if slice_index s.words (Q u) == g then M u + 1 else slice_index s.words (Q u)) ≡ s.words =
@@ -93,23 +100,29 @@ module _ (K : Rooted) (n : ℕ) (S : IsWellShaped K n) where
       let turn : turn_at (names_in K (Q u)) (M u) (Swing g) (slice_index s.words (Q u)) ≡ moves_to (Swing (slice_index s.words (Q u))) =
       ap (λ b. if b then moves_with (joined_at g) (event.Join (Q u) (M u)) else moves_to (Swing (slice_index s.words (Q u)))) test in
       let view : (mcs_learn K (at_level u u.level (Swing g)) (slice_index s.words (Q u))).view ≡ at_level u u.level (Swing (slice_index s.words (Q u))) =
-      ap (λ z. (past_hook (tree_of K) (at_hook (walk_turn (tree_of K) (at_level u u.level (Swing g)) u.level z).view) (walk_turn (tree_of K) (at_level u u.level (Swing g)) u.level z)).view) turn in
+      ap (λ z. (past_hook (tree_of K) (at_hook (walk_turn (tree_of K) (at_level u u.level (Swing g)) u.level z).view)
+      (walk_turn (tree_of K) (at_level u u.level (Swing g)) u.level z)).view) turn in
       let old : near_of K s.words (at_level u u.level (Swing g)) ≡ 1 = ap (λ b. if b then 0 else 1) test in
-      let new : near_of K s.words (at_level u u.level (Swing (slice_index s.words (Q u)))) ≡ 0 = ap (λ b. if b then 0 else 1) (same_test (slice_index s.words (Q u))) in
+      let new : near_of K s.words (at_level u u.level (Swing (slice_index s.words (Q u)))) ≡ 0 =
+      ap (λ b. if b then 0 else 1) (same_test (slice_index s.words (Q u))) in
       record {
         view = at_level u u.level (Swing g);
         has = has;
         way = inr (record {
           act = CardCas (Q u) g (M u + 1);
           planned = refl;
-          less = subst (λ ws. mcs_left K n ws (slice_set s.views m (mcs_learn K (at_level u u.level (Swing g)) (slice_index s.words (Q u))).view) < mcs_left K n s.words s.views) (sym words)
+          less = subst (λ ws. mcs_left K n ws (slice_set s.views m
+              (mcs_learn K (at_level u u.level (Swing g)) (slice_index s.words (Q u))).view) < mcs_left K n s.words s.views) (sym words)
               (subst (λ z. mcs_left K n s.words (slice_set s.views m z) < mcs_left K n s.words s.views) (sym view)
-              (less_change 1 (far_of n) (near_of K s.words) s.views m (at_level u u.level (Swing g)) (at_level u u.level (Swing (slice_index s.words (Q u)))) has refl (omega (arith, old, new))));
+              (less_change 1 (far_of n) (near_of K s.words) s.views m (at_level u u.level (Swing g))
+              (at_level u u.level (Swing (slice_index s.words (Q u)))) has refl (omega (arith, old, new))));
         });
       }
 
   -- a rank at its queue in a phase
-  pub phase_goes : (s : LockState TreeView) (m : ℕ) (u : TreeView) (p : Phase) → Placed u → slice_get s.views m ≡ Some (at_level u u.level p) → Busy p → IsFree K s.words (Q u) (M u) p → hook_by false p ≡ false → CanGoOn T (mcs_left K n) s m
+  pub phase_goes : (s : LockState TreeView) (m : ℕ) (u : TreeView) (p : Phase) → Placed u →
+      slice_get s.views m ≡ Some (at_level u u.level p) → Busy p → IsFree K s.words (Q u) (M u) p → hook_by false p ≡ false →
+      CanGoOn T (mcs_left K n) s m
   phase_goes s m u Idle at has busy free hook = absurd busy
   phase_goes s m u Clear at has busy free hook = by_act s m (at_level u u.level Clear) _ has refl (turn_far u Clear 0 at tt)
   phase_goes s m u Reset at has busy free hook = by_act s m (at_level u u.level Reset) _ has refl (turn_far u Reset 0 at tt)
@@ -119,11 +132,13 @@ module _ (K : Rooted) (n : ℕ) (S : IsWellShaped K n) where
       (λ q. by_loss s m g u has q.0)
       (eqb_tells (slice_index s.words (Q u)) g)
   phase_goes s m u (Link g) at has busy free hook = by_act s m (at_level u u.level (Link g)) _ has refl (turn_far u (Link g) 0 at tt)
-  phase_goes s m u Wait at has busy free hook = by_act s m (at_level u u.level Wait) _ has refl (turn_far u Wait (slice_index s.words (status_word (names_in K (Q u)) (M u))) at free)
+  phase_goes s m u Wait at has busy free hook = by_act s m (at_level u u.level Wait) _ has refl
+      (turn_far u Wait (slice_index s.words (status_word (names_in K (Q u)) (M u))) at free)
   phase_goes s m u Settle at has busy free hook = cc
   phase_goes s m u (Granted left) at has busy free hook = record { view = at_level u u.level (Granted left); has = has; way = inl tt }
   phase_goes s m u (Look left up) at has busy free hook =
-      by_act s m (at_level u u.level (Look left up)) _ has refl (turn_far u (Look left up) (slice_index s.words (queue_next_word (names_in K (Q u)) (M u))) at tt)
+      by_act s m (at_level u u.level (Look left up)) _ has refl
+      (turn_far u (Look left up) (slice_index s.words (queue_next_word (names_in K (Q u)) (M u))) at tt)
   phase_goes s m u (Close left) at has busy free hook =
       by_act s m (at_level u u.level (Close left)) (CardCas (Q u) (M u + 1) 0) has refl (turn_far u (Close left) (slice_index s.words (Q u)) at tt)
   phase_goes s m u (Await left) at has busy free hook =
@@ -183,8 +198,10 @@ module _ (K : Rooted) (n : ℕ) (S : IsWellShaped K n) where
   mcs_ends =
       record {
         somebody = λ s g. somebody_goes s g;
-        ask_adds = λ s r v m g has out. grows 1 (far_of n) (near_of K s.words) s.views (ranks_in K) r (7 * n + 6) v (at_level v 0 Clear) g.all_views has (omega arith) (omega arith);
+        ask_adds = λ s r v m g has out. grows 1 (far_of n) (near_of K s.words) s.views (ranks_in K) r (7 * n + 6) v
+            (at_level v 0 Clear) g.all_views has (omega arith) (omega arith);
         leave_adds = λ s r v g has holds.
-            grows 1 (far_of n) (near_of K s.words) s.views (ranks_in K) r (7 * n + 6) v (at_level v 0 (leave_at v.phase true)) g.all_views has (leaves_far v.phase)
+            grows 1 (far_of n) (near_of K s.words) s.views (ranks_in K) r (7 * n + 6) v
+            (at_level v 0 (leave_at v.phase true)) g.all_views has (leaves_far v.phase)
             (leaves_near v.query (slice_index s.words (path (tree_of K) v.leaf 0)) v.phase holds);
       }

@@ -29,7 +29,8 @@ up_cap : (n w : ℕ) (b : Bool) (v : TreeView) (es : List Event) → (b ≡ fals
 up_cap n w true v es low = omega arith
 up_cap n w false v es low = let lt = low refl in omega arith
 
-away_cap : (n w : ℕ) (b : Bool) (v : TreeView) (s : Option ℕ) (es : List Event) → w ≤ n → (b ≡ false → w < n) → far_of n (gives_up b v w s es).view ≤ 4 * n + 2 * (n - w) + 4
+away_cap : (n w : ℕ) (b : Bool) (v : TreeView) (s : Option ℕ) (es : List Event) → w ≤ n → (b ≡ false → w < n) →
+    far_of n (gives_up b v w s es).view ≤ 4 * n + 2 * (n - w) + 4
 away_cap n w true v s es le low = omega arith
 away_cap n w false v s es le low = let lt = low refl in omega arith
 
@@ -41,7 +42,8 @@ down_cap : (n w : ℕ) (v : TreeView) (es : List Event) → far_of n (goes_down 
 down_cap n zero v es = omega arith
 down_cap n (suc j) v es = let k = resumed n j (behind_at v.behind j) in omega arith
 
-pub walk_cap : (n : ℕ) (T : TheTree) (v : TreeView) (w : ℕ) (p : Phase) (es : List Event) (b : Bool) → w ≤ n → (is_none (T.parent (path T v.leaf w)) ≡ false → w < n) → far_of n (tree_walk T v w p es b).view ≤ cap n w p
+pub walk_cap : (n : ℕ) (T : TheTree) (v : TreeView) (w : ℕ) (p : Phase) (es : List Event) (b : Bool) → w ≤ n →
+    (is_none (T.parent (path T v.leaf w)) ≡ false → w < n) → far_of n (tree_walk T v w p es b).view ≤ cap n w p
 walk_cap n T v w Settle es b le low = up_cap n w (is_none (T.parent (path T v.leaf w))) v es low
 walk_cap n T v w (Granted left) es b le low = inside_zero n T v w left
 walk_cap n T v w (Above s) es b le low = away_cap n w (is_none (T.parent (path T v.leaf w))) v s es le low
@@ -57,7 +59,8 @@ walk_cap n T v w (Await left) es b le low = omega arith
 walk_cap n T v w (Hand s left) es b le low = omega arith
 
 -- going on from the hook brings nobody farther
-resume_cap : (n : ℕ) (T : TheTree) (v : TreeView) (p : Phase) (es : List Event) → hook_by false p ≡ true → far_of n (resume_by T v p es).view ≤ far_by n false v.level p
+resume_cap : (n : ℕ) (T : TheTree) (v : TreeView) (p : Phase) (es : List Event) → hook_by false p ≡ true →
+    far_of n (resume_by T v p es).view ≤ far_by n false v.level p
 resume_cap n T v Settle es h = let k = inside_zero n T v v.level (full_budget (T.names (path T v.leaf v.level)).budget) in omega arith
 resume_cap n T v (Above s) es h = let k = resumed n v.level s in omega arith
 resume_cap n T v Idle es h = cc

@@ -40,9 +40,11 @@ module _ (K : Rooted) (n : ℕ) (S : IsWellShaped K n) where
         let v = c.view in
         let q : ℕ = path (tree_of K) v.leaf v.level in
         let m : ℕ = works_for (tree_of K) v v.level in
-        let urgent : urgent_at v.phase (loaded s.words (plan_at (names_in K (path (tree_of K) v.leaf v.level)) (works_for (tree_of K) v v.level) v.phase)) ≡ Some c.urgency =
+        let urgent : urgent_at v.phase (loaded s.words (plan_at (names_in K (path (tree_of K) v.leaf v.level))
+        (works_for (tree_of K) v v.level) v.phase)) ≡ Some c.urgency =
         subst (λ b. urgent_there s.words v b ≡ Some c.urgency) e c.is_urgent in
-        phase_goes K n S s r v v.phase (placed K n S s r v g c.has) (c.has ∙ ap Some (level_view K n S v e)) (urgent_busy (names_in K q) s.words m v.phase c.urgency urgent)
+        phase_goes K n S s r v v.phase (placed K n S s r v g c.has) (c.has ∙ ap Some (level_view K n S v e))
+        (urgent_busy (names_in K q) s.words m v.phase c.urgency urgent)
         (urgent_free (names_in K q) s.words m v.phase c.urgency urgent) (sym (ap (λ b. hook_by b v.phase) e) ∙ g.unhooked r v c.has)
 
   pub mcs_guides : LockGuides (mcs_table K) (mcs_left K n) (McsGood K n) (mcs_urgent K)

@@ -35,7 +35,8 @@ set_again (x ∷ vs) zero v w = refl
 set_again (x ∷ vs) (suc r) v w = ap (λ z. x ∷ z) (set_again vs r v w)
 
 -- what goes on from the hook stands behind what was told before
-pub resume_after : (T : TheTree) (v : TreeView) (p : Phase) (es : List Event) → resume_by T v p es ≡ record { view = (resume_by T v p []).view; events = es ++ (resume_by T v p []).events; waits = false }
+pub resume_after : (T : TheTree) (v : TreeView) (p : Phase) (es : List Event) →
+    resume_by T v p es ≡ record { view = (resume_by T v p []).view; events = es ++ (resume_by T v p []).events; waits = false }
 resume_after T v Settle es = ap (λ z. record { view = (resume_by T v Settle []).view; events = z; waits = false }) (append_assoc es _ _)
 resume_after T v p es = ap (λ z. record { view = (resume_by T v p []).view; events = z; waits = false }) (sym (append-nil es))
 
@@ -54,13 +55,17 @@ still_asks r Reader es h = absurd h
 still_asks r Leaving es h = absurd h
 
 -- and so what is told of both fits
-both : (K : Rooted) (r q m : ℕ) (s s' : Standing) (es : List Event) (e : Event) (fs : List Event) → JoinsAtMost es → Named K es → Shift r s s' (holds_only (e ∷ fs)) → InOrder (e ∷ fs) → length (e ∷ fs) ≤ 5 → Named K (e ∷ fs) → e ≡ event.Settle q m →
+both : (K : Rooted) (r q m : ℕ) (s s' : Standing) (es : List Event) (e : Event) (fs : List Event) → JoinsAtMost es → Named K es →
+    Shift r s s' (holds_only (e ∷ fs)) → InOrder (e ∷ fs) → length (e ∷ fs) ≤ 5 → Named K (e ∷ fs) → e ≡ event.Settle q m →
     Shift r s s' (holds_only (es ++ e ∷ fs)) × InOrder (es ++ e ∷ fs) × (length (es ++ e ∷ fs) ≤ 8) × Named K (es ++ e ∷ fs)
 both K r q m s s' es e fs joins named shift order few names is = (
-  ⊎_elim (λ z. subst (λ y. Shift r s s' (holds_only (y ++ e ∷ fs))) (sym z) shift) (λ z. subst (λ y. Shift r s s' (holds_only (y ++ e ∷ fs))) (sym z.2) shift) joins,
+  ⊎_elim (λ z. subst (λ y. Shift r s s' (holds_only (y ++ e ∷ fs))) (sym z) shift)
+      (λ z. subst (λ y. Shift r s s' (holds_only (y ++ e ∷ fs))) (sym z.2) shift) joins,
   ⊎_elim (λ z. subst (λ y. InOrder (y ++ e ∷ fs)) (sym z) order)
-      (λ z. subst (λ y. InOrder (y ++ e ∷ fs)) (sym z.2) (subst (λ y. InOrder (event.Join z.0 z.1 ∷ y ∷ fs)) (sym is) (omega arith, subst (λ y. InOrder (y ∷ fs)) is order))) joins,
-  (let n = append_length es (e ∷ fs) in let l : length es ≤ 1 = ⊎_elim (λ z. let k : length es ≡ 0 = ap length z in omega arith) (λ z. let k : length es ≡ 1 = ap length z.2 in omega arith) joins in omega arith),
+      (λ z. subst (λ y. InOrder (y ++ e ∷ fs)) (sym z.2) (subst (λ y. InOrder (event.Join z.0 z.1 ∷ y ∷ fs)) (sym is)
+      (omega arith, subst (λ y. InOrder (y ∷ fs)) is order))) joins,
+  (let n = append_length es (e ∷ fs) in let l : length es ≤ 1 = ⊎_elim (λ z. let k : length es ≡ 0 = ap length z in omega arith)
+      (λ z. let k : length es ≡ 1 = ap length z.2 in omega arith) joins in omega arith),
   named_append K es (e ∷ fs) named names,
 )
 
@@ -72,7 +77,8 @@ module _ (K : Rooted) (levels : ℕ) (S : IsWellShaped K levels) (F : TreeFacts 
     pub unhooked : at_hook u.view ≡ false
     pub fits : TurnFits K r v u
 
-  module _ (inside : Bool) (ws : List ℕ) (vs : List TreeView) (t : List Event) (r : ℕ) (v : TreeView) (a : Act) (x : PlansAct K levels inside ws vs t r v a) where
+  module _ (inside : Bool) (ws : List ℕ) (vs : List TreeView) (t : List Event) (r : ℕ) (v : TreeView) (a : Act)
+      (x : PlansAct K levels inside ws vs t r v a) where
     abbrev us : List ℕ
     us = slice_set ws (word_of a) (written a (slice_index ws (word_of a)))
 
@@ -116,7 +122,8 @@ module _ (K : Rooted) (levels : ℕ) (S : IsWellShaped K levels) (F : TreeFacts 
 
       -- what the tree told before it comes to the hook
       told_first : all_events turn ≡ turn.events
-      told_first = ap (λ z. turn.events ++ z) (ap (λ z. entry_if z turn.view.phase turn.view.rank) unasked ∙ ap (λ z. entry_if false z turn.view.rank) must) ∙ append-nil turn.events
+      told_first = ap (λ z. turn.events ++ z) (ap (λ z. entry_if z turn.view.phase turn.view.rank) unasked ∙ ap
+          (λ z. entry_if false z turn.view.rank) must) ∙ append-nil turn.events
 
       -- and what is told as it goes on: first that the root is settled
       told_then : all_events w ≡ all_events (resume_by (tree_of K) turn.view Settle [])
@@ -126,11 +133,15 @@ module _ (K : Rooted) (levels : ℕ) (S : IsWellShaped K levels) (F : TreeFacts 
       fits =
           let k = F.learns inside ws vs t r v a x in
           let n = F.goes_on now us (slice_set vs r turn.view) (t ++ turn.events) r turn.view after on in
-          let asked : tree_standing v ≡ Asking = still_asks r (tree_standing v) (holds_only (all_events turn)) (subst (λ z. Shift r (tree_standing v) z (holds_only (all_events turn))) asks k.shift) in
-          let all : (turn.events ++ w.events) ++ entry_if w.view.query w.view.phase w.view.rank ≡ turn.events ++ all_events (resume_by (tree_of K) turn.view Settle []) =
+          let asked : tree_standing v ≡ Asking = still_asks r (tree_standing v) (holds_only (all_events turn))
+          (subst (λ z. Shift r (tree_standing v) z (holds_only (all_events turn))) asks k.shift) in
+          let all : (turn.events ++ w.events) ++ entry_if w.view.query w.view.phase w.view.rank ≡ turn.events ++ all_events
+          (resume_by (tree_of K) turn.view Settle []) =
           append_assoc turn.events w.events (entry_if w.view.query w.view.phase w.view.rank) ∙ ap (λ z. turn.events ++ z) told_then in
-          let f = both K r _ _ (tree_standing v) (tree_standing w.view) turn.events _ _ (F.joins v (told a (slice_index ws (word_of a))) on) (subst (Named K) told_first k.names)
-          (subst (λ z. Shift r z (tree_standing w.view) (holds_only (all_events (resume_by (tree_of K) turn.view Settle [])))) (asks ∙ sym asked) (subst (λ z. Shift r (tree_standing turn.view) (tree_standing w.view) (holds_only z)) told_then n.shift))
+          let f = both K r _ _ (tree_standing v) (tree_standing w.view) turn.events _ _ (F.joins v (told a (slice_index ws (word_of a))) on)
+          (subst (Named K) told_first k.names)
+          (subst (λ z. Shift r z (tree_standing w.view) (holds_only (all_events (resume_by (tree_of K) turn.view Settle []))))
+          (asks ∙ sym asked) (subst (λ z. Shift r (tree_standing turn.view) (tree_standing w.view) (holds_only z)) told_then n.shift))
           (subst InOrder told_then n.order) (subst (λ z. length z ≤ 5) told_then n.few) (subst (Named K) told_then n.names) refl in
           record {
             shift = subst (λ z. Shift r (tree_standing v) (tree_standing w.view) (holds_only z)) (sym all) f.0;
@@ -145,7 +156,9 @@ module _ (K : Rooted) (levels : ℕ) (S : IsWellShaped K levels) (F : TreeFacts 
           (record {
             inside = opens turn.view.phase;
             is_good = subst (λ z. GoodAt K levels (opens turn.view.phase) us (slice_set vs r w.view) z) (append_assoc t turn.events w.events)
-                (subst (λ z. GoodAt K levels (opens turn.view.phase) us z ((t ++ turn.events) ++ w.events)) (set_again vs r turn.view w.view) (F.resumes now us (slice_set vs r turn.view) (t ++ turn.events) r turn.view after on));
+                (subst (λ z. GoodAt K levels (opens turn.view.phase) us z ((t ++ turn.events) ++ w.events))
+                (set_again vs r turn.view w.view) (F.resumes now us (slice_set vs r turn.view) (t ++ turn.events) r turn.view after
+                on));
             unhooked = F.unhooks turn.view on;
             fits = fits;
           })

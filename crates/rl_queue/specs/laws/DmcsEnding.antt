@@ -72,11 +72,13 @@ module _ (home : ℕ) (node_of : List ℕ) where
   N = dmcs_names (length node_of)
 
   -- an act that gets its member on brings it nearer
-  by_act : (s : LockState QueueView) (m : ℕ) (p : Phase) (a : Act) → slice_get s.views m ≡ Some (at_phase m p) → plan_at N m p ≡ Some a → GetsOn p (told a (slice_index s.words (word_of a))) → CanGoOn T dmcs_left s m
+  by_act : (s : LockState QueueView) (m : ℕ) (p : Phase) (a : Act) → slice_get s.views m ≡ Some (at_phase m p) → plan_at N m p ≡ Some a →
+      GetsOn p (told a (slice_index s.words (word_of a))) → CanGoOn T dmcs_left s m
   by_act s m p a has pl gets =
       let got : ℕ = told a (slice_index s.words (word_of a)) in
       let t : QueueTurn = turn_at N m p (told a (slice_index s.words (word_of a))) in
-      let falls : far (turn_at N m p (told a (slice_index s.words (word_of a)))).phase < far p = turn_falls far far far_falls N m p (told a (slice_index s.words (word_of a))) gets in
+      let falls : far (turn_at N m p (told a (slice_index s.words (word_of a)))).phase < far p =
+      turn_falls far far far_falls N m p (told a (slice_index s.words (word_of a))) gets in
       let enters = enter_far m t.phase t.events t.waits in
       let words : List ℕ = slice_set s.words (word_of a) (written a (slice_index s.words (word_of a))) in
       record {
@@ -85,12 +87,14 @@ module _ (home : ℕ) (node_of : List ℕ) where
         way = inr (record {
           act = a;
           planned = pl;
-          less = nearer 1 far_of (near_of s.words) (near_of words) (λ v. near_few (slice_index words 0) v.phase) s.views m (at_phase m p) (dmcs_turn m t).view has (omega arith);
+          less = nearer 1 far_of (near_of s.words) (near_of words) (λ v. near_few (slice_index words 0) v.phase) s.views m (at_phase m p)
+              (dmcs_turn m t).view has (omega arith);
         });
       }
 
   -- a swing that is lost learns the tail
-  by_loss : (s : LockState QueueView) (m g : ℕ) → slice_get s.views m ≡ Some (at_phase m (Swing g)) → (slice_index s.words 0 == g) ≡ false → CanGoOn T dmcs_left s m
+  by_loss : (s : LockState QueueView) (m g : ℕ) → slice_get s.views m ≡ Some (at_phase m (Swing g)) → (slice_index s.words 0 == g) ≡ false →
+      CanGoOn T dmcs_left s m
   by_loss s m g has lost =
       let words : slice_set s.words 0 (if slice_index s.words 0 == g then m + 1 else slice_index s.words 0) ≡ s.words =
       ap (λ b. slice_set s.words 0 (if b then m + 1 else slice_index s.words 0)) lost ∙ set-get_or s.words 0 0 in
@@ -104,14 +108,17 @@ module _ (home : ℕ) (node_of : List ℕ) where
         way = inr (record {
           act = CardCas 0 g (m + 1);
           planned = refl;
-          less = subst (λ ws. dmcs_left ws (slice_set s.views m (dmcs_learn (length node_of) m (Swing g) (slice_index s.words 0)).view) < dmcs_left s.words s.views) (sym words)
+          less = subst (λ ws. dmcs_left ws (slice_set s.views m (dmcs_learn (length node_of) m (Swing g) (slice_index s.words 0)).view) <
+              dmcs_left s.words s.views) (sym words)
               (subst (λ u. dmcs_left s.words (slice_set s.views m u) < dmcs_left s.words s.views) (sym view)
-              (less_change 1 far_of (near_of s.words) s.views m (at_phase m (Swing g)) (at_phase m (Swing (slice_index s.words 0))) has refl (omega (arith, old, new))));
+              (less_change 1 far_of (near_of s.words) s.views m (at_phase m (Swing g)) (at_phase m (Swing (slice_index s.words 0))) has refl
+              (omega (arith, old, new))));
         });
       }
 
   -- who uses the queue, isn't stuck and is calm goes on
-  pub goes_by : (s : LockState QueueView) (m : ℕ) (p : Phase) → slice_get s.views m ≡ Some (at_phase m p) → Busy p → Calm p → (Stuck p (slice_index s.words (queue_next_word N m)) (slice_index s.words (status_word N m)) → ⊥) → CanGoOn T dmcs_left s m
+  pub goes_by : (s : LockState QueueView) (m : ℕ) (p : Phase) → slice_get s.views m ≡ Some (at_phase m p) → Busy p → Calm p →
+      (Stuck p (slice_index s.words (queue_next_word N m)) (slice_index s.words (status_word N m)) → ⊥) → CanGoOn T dmcs_left s m
   goes_by s m Idle has busy calm free = absurd busy
   goes_by s m Clear has busy calm free = by_act s m Clear _ has refl tt
   goes_by s m Reset has busy calm free = by_act s m Reset _ has refl tt
@@ -145,7 +152,8 @@ module _ (home : ℕ) (node_of : List ℕ) where
       ⊎_elim inl
       (λ b.
       let busy : Busy b.1.view.phase = not_out_busy b.1.view.phase b.1.busy in
-      let k = busy_goes None (Below (length node_of)) (lane_of N s.words (phase_in s.views)) g.line b.0 b.1.view.phase g.queue.inv g.queue.awaited (phase_get s.views b.0 b.1.view b.1.has) busy in
+      let k = busy_goes None (Below (length node_of)) (lane_of N s.words (phase_in s.views)) g.line b.0 b.1.view.phase g.queue.inv
+      g.queue.awaited (phase_get s.views b.0 b.1.view b.1.has) busy in
       inr (k.0, goes_on s k.0 g k.1))
       (all_out_or_not (λ (v : QueueView). standing_of v.phase) s.views)
 
@@ -161,7 +169,9 @@ module _ (home : ℕ) (node_of : List ℕ) where
   dmcs_ends =
       record {
         somebody = λ s g. somebody_goes s g;
-        ask_adds = λ s r v m g has out. grows 1 far_of (near_of s.words) s.views (length node_of) r 6 v (at_phase v.member Clear) g.all_views has (omega arith) (omega arith);
+        ask_adds = λ s r v m g has out. grows 1 far_of (near_of s.words) s.views (length node_of) r 6 v
+            (at_phase v.member Clear) g.all_views has (omega arith) (omega arith);
         leave_adds = λ s r v g has holds.
-            grows 1 far_of (near_of s.words) s.views (length node_of) r 6 v (at_phase v.member (leave_at v.phase false)) g.all_views has (leaves_far v.phase holds) (leaves_near (slice_index s.words 0) v.phase holds);
+            grows 1 far_of (near_of s.words) s.views (length node_of) r 6 v (at_phase v.member (leave_at v.phase false)) g.all_views has
+            (leaves_far v.phase holds) (leaves_near (slice_index s.words 0) v.phase holds);
       }

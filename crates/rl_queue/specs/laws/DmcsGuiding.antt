@@ -23,7 +23,8 @@ use Rattle.rl_ending.specs.Guiding.{IsChosen, LockGuides, NoneUrgent}
 
 module _ (home : ℕ) (node_of : List ℕ) where
   -- the rank that is chosen goes on, as all do that are urgent
-  chosen_goes : (s : LockState QueueView) (r : ℕ) → DmcsGood (length node_of) s → IsChosen (dmcs_urgent (length node_of) s.words) s.views r → CanGoOn (dmcs_table home node_of) dmcs_left s r
+  chosen_goes : (s : LockState QueueView) (r : ℕ) → DmcsGood (length node_of) s →
+      IsChosen (dmcs_urgent (length node_of) s.words) s.views r → CanGoOn (dmcs_table home node_of) dmcs_left s r
   chosen_goes s r g c =
       let v = c.view in
       let same : v.member ≡ r = g.named r v c.has in
@@ -34,7 +35,9 @@ module _ (home : ℕ) (node_of : List ℕ) where
       (urgent_free (dmcs_names (length node_of)) s.words r v.phase c.urgency urgent)
 
   -- a member that goes on is an urgent rank
-  not_urgent : (s : LockState QueueView) (m : ℕ) → DmcsGood (length node_of) s → Goes (lane_of (dmcs_names (length node_of)) s.words (phase_in s.views)) m → NoneUrgent (dmcs_urgent (length node_of) s.words) s.views → ⊥
+  not_urgent : (s : LockState QueueView) (m : ℕ) → DmcsGood (length node_of) s →
+      Goes (lane_of (dmcs_names (length node_of)) s.words (phase_in s.views)) m →
+      NoneUrgent (dmcs_urgent (length node_of) s.words) s.views → ⊥
   not_urgent s m g k none =
       let lt : m < length node_of = g.queue.inv.inside m k.busy in
       let all : length s.views ≡ length node_of = g.all_views in
@@ -42,15 +45,18 @@ module _ (home : ℕ) (node_of : List ℕ) where
       let v = some_at s.views m there in
       let at : phase_in s.views m ≡ v.0.phase = phase_get s.views m v.0 v.1 in
       free_urgent (dmcs_names (length node_of)) s.words m v.0.phase (subst Busy at k.busy)
-      (λ z. k.goes (subst (λ p. Stuck p (slice_index s.words (queue_next_word (dmcs_names (length node_of)) m)) (slice_index s.words (status_word (dmcs_names (length node_of)) m))) (sym at) z))
+      (λ z. k.goes (subst (λ p. Stuck p (slice_index s.words (queue_next_word (dmcs_names (length node_of)) m))
+      (slice_index s.words (status_word (dmcs_names (length node_of)) m))) (sym at) z))
       (subst (λ i. urgent_at v.0.phase (loaded s.words (plan_at (dmcs_names (length node_of)) i v.0.phase)) ≡ None) (g.named m v.0 v.1) (none m v.0 v.1))
 
-  all_rest : (s : LockState QueueView) → DmcsGood (length node_of) s → NoneUrgent (dmcs_urgent (length node_of) s.words) s.views → AllOut (dmcs_table home node_of) s
+  all_rest : (s : LockState QueueView) → DmcsGood (length node_of) s → NoneUrgent (dmcs_urgent (length node_of) s.words) s.views →
+      AllOut (dmcs_table home node_of) s
   all_rest s g none =
       ⊎_elim (λ out. out)
       (λ b.
       let busy : Busy b.1.view.phase = not_out_busy b.1.view.phase b.1.busy in
-      let k = busy_goes None (Below (length node_of)) (lane_of (dmcs_names (length node_of)) s.words (phase_in s.views)) g.line b.0 b.1.view.phase g.queue.inv g.queue.awaited (phase_get s.views b.0 b.1.view b.1.has) busy in
+      let k = busy_goes None (Below (length node_of)) (lane_of (dmcs_names (length node_of)) s.words (phase_in s.views)) g.line b.0
+      b.1.view.phase g.queue.inv g.queue.awaited (phase_get s.views b.0 b.1.view b.1.has) busy in
       absurd (not_urgent s k.0 g k.1 none))
       (all_out_or_not (λ (v : QueueView). standing_of v.phase) s.views)
 

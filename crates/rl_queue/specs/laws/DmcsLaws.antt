@@ -54,7 +54,9 @@ begins_at home node_of =
           listed = λ m h. subst Listed (idle m) h;
           only = λ m h. absurd h;
           line = all_zero (1 + 2 * length node_of) 0;
-          own = λ m. subst (λ z. Own None (Below (length node_of)) z (slice_index (replicate (1 + 2 * length node_of) 0) (queue_next_word (dmcs_names (length node_of)) m)) (slice_index (replicate (1 + 2 * length node_of) 0) (status_word (dmcs_names (length node_of)) m))) (sym (idle m)) tt;
+          own = λ m. subst (λ z. Own None (Below (length node_of)) z
+              (slice_index (replicate (1 + 2 * length node_of) 0) (queue_next_word (dmcs_names (length node_of)) m))
+              (slice_index (replicate (1 + 2 * length node_of) 0) (status_word (dmcs_names (length node_of)) m))) (sym (idle m)) tt;
           inside = λ m b. absurd (subst Busy (idle m) b);
         };
         alone = λ m h. subst SuitsAlone (sym (idle m)) tt;
@@ -64,11 +66,16 @@ begins_at home node_of =
     }
 
 -- asking keeps a state good
-ask_keeps_at : (home : ℕ) (node_of : List ℕ) (s : LockState QueueView) (r k : ℕ) (p : Phase) (m : Mode) → DmcsGood (length node_of) s → slice_get s.views r ≡ Some (at_phase k p) → standing_of p ≡ standing.Out →
+ask_keeps_at : (home : ℕ) (node_of : List ℕ) (s : LockState QueueView) (r k : ℕ) (p : Phase) (m : Mode) → DmcsGood (length node_of) s →
+    slice_get s.views r ≡ Some (at_phase k p) → standing_of p ≡ standing.Out →
     DmcsGood (length node_of) (asked (dmcs_table home node_of) s r (at_phase k p) m)
 ask_keeps_at home node_of s r k Idle m g has st =
-    stays_good (length node_of) s _ r (at_phase k Idle) (at_phase k Clear) g has refl refl (length-set s.modes r m) (g.named r _ has) tt
-    (g.line, join_keeps (dmcs_names (length node_of)) (Below (length node_of)) s.words (phase_in s.views) _ g.line s.trace (tenures (dmcs_queue (length node_of)) s.trace) r g.queue (rank_below (length node_of) s r _ g has) (moves_in s.views r k Idle Clear has))
+    stays_good (length node_of) s _ r (at_phase k Idle) (at_phase k Clear) g has refl refl (length-set s.modes r m) (g.named r _ has) tt (
+      g.line,
+      join_keeps (dmcs_names (length node_of)) (Below (length node_of)) s.words (phase_in s.views) _ g.line s.trace
+          (tenures (dmcs_queue (length node_of)) s.trace) r g.queue (rank_below (length node_of) s r _ g has)
+          (moves_in s.views r k Idle Clear has),
+    )
 ask_keeps_at home node_of s r k _ m g has st = cc
 
 -- a rank's departure ends one tenure
@@ -79,14 +86,18 @@ ends_one n r t h =
     omega arith
 
 -- so does leaving, with the leave event
-leave_keeps_at : (home : ℕ) (node_of : List ℕ) (s : LockState QueueView) (r k : ℕ) (p : Phase) → DmcsGood (length node_of) s → slice_get s.views r ≡ Some (at_phase k p) → standing_of p ≡ standing.Writer →
+leave_keeps_at : (home : ℕ) (node_of : List ℕ) (s : LockState QueueView) (r k : ℕ) (p : Phase) → DmcsGood (length node_of) s →
+    slice_get s.views r ≡ Some (at_phase k p) → standing_of p ≡ standing.Writer →
     DmcsGood (length node_of) (left_state (dmcs_table home node_of) s r (at_phase k p) (event.LeaveW r))
 leave_keeps_at home node_of s r k (Granted left) g has st =
-    let q = leave_keeps (dmcs_names (length node_of)) (Below (length node_of)) s.words (phase_in s.views) (phase_in (slice_set s.views r (at_phase k (Look left false)))) g.line s.trace (tenures (dmcs_queue (length node_of)) s.trace) r left false (event.LeaveW r) g.queue tt
+    let q = leave_keeps (dmcs_names (length node_of)) (Below (length node_of)) s.words (phase_in s.views)
+    (phase_in (slice_set s.views r (at_phase k (Look left false)))) g.line s.trace
+    (tenures (dmcs_queue (length node_of)) s.trace) r left false (event.LeaveW r) g.queue tt
     (moves_in s.views r k (Granted left) (Look left false) has) in
     stays_good (length node_of) s _ r (at_phase k (Granted left)) (at_phase k (Look left false)) g has refl refl refl (g.named r _ has) tt (
       g.line,
-      subst (λ z. QueueGood (dmcs_names (length node_of)) (Below (length node_of)) s.words (phase_in (slice_set s.views r (at_phase k (Look left false)))) g.line (s.trace ++ event.LeaveW r ∷ []) z)
+      subst (λ z. QueueGood (dmcs_names (length node_of)) (Below (length node_of)) s.words
+          (phase_in (slice_set s.views r (at_phase k (Look left false)))) g.line (s.trace ++ event.LeaveW r ∷ []) z)
           (ends_one (length node_of) r s.trace (rank_below (length node_of) s r _ g has)) q,
     )
 leave_keeps_at home node_of s r k _ g has st = cc
@@ -125,14 +136,17 @@ fits_at n s r k p g has =
     let same : k ≡ r = g.named r (at_phase k p) has in
     let a : length (every_second 2 n) ≡ length (every_second 1 n) = length-every_second 2 n ∙ sym (length-every_second 1 n) in
     subst (λ z. PlanFits (dmcs_names n) z p) (sym same)
-    (plan_fits (dmcs_names n) (Below n) s.words (phase_in s.views) g.line s.trace (tenures (dmcs_queue n) s.trace) r p g.queue (phase_get s.views r (at_phase k p) has) (rank_below n s r _ g has) a
+    (plan_fits (dmcs_names n) (Below n) s.words (phase_in s.views) g.line s.trace (tenures (dmcs_queue n) s.trace) r p g.queue
+    (phase_get s.views r (at_phase k p) has) (rank_below n s r _ g has) a
     (λ x i. subst (λ z. x < z) (sym (length-every_second 1 n)) i))
 
 -- and what its act finds that of queue_learn
-pub got_fits_at : (n : ℕ) (s : LockState QueueView) (r k : ℕ) (p : Phase) (a : Act) → n ≤ 32 → DmcsGood n s → slice_get s.views r ≡ Some (at_phase k p) → plan_at (dmcs_names n) k p ≡ Some a → GotFits p (told a (slice_index s.words (word_of a)))
+pub got_fits_at : (n : ℕ) (s : LockState QueueView) (r k : ℕ) (p : Phase) (a : Act) → n ≤ 32 → DmcsGood n s →
+    slice_get s.views r ≡ Some (at_phase k p) → plan_at (dmcs_names n) k p ≡ Some a → GotFits p (told a (slice_index s.words (word_of a)))
 got_fits_at n s r k p a few g has pl =
     let same : k ≡ r = g.named r (at_phase k p) has in
-    learn_fits (dmcs_names n) (Below n) s.words (phase_in s.views) g.line s.trace (tenures (dmcs_queue n) s.trace) r p a g.queue (phase_get s.views r (at_phase k p) has) (subst (λ z. plan_at (dmcs_names n) z p ≡ Some a) same pl)
+    learn_fits (dmcs_names n) (Below n) s.words (phase_in s.views) g.line s.trace (tenures (dmcs_queue n) s.trace) r p a g.queue
+    (phase_get s.views r (at_phase k p) has) (subst (λ z. plan_at (dmcs_names n) z p ≡ Some a) same pl)
     (λ x i. omega arith) (λ b e. cc)
 
 -- a rank waits on after a load alone, and stands at a load again
@@ -144,11 +158,13 @@ waits_on_at n m p a got pl e =
     (subst PlansLoad pl k.1, enter_loads (dmcs_names n) m t.phase t.events t.waits (subst (λ z. PlansLoad (plan_at (dmcs_names n) m z)) (sym k.0) k.1))
 
 -- all laws of a lock
-pub dmcs_laws : (home : ℕ) (layout : Layout) → Seated layout → home < layout.nodes → LockLaws (dmcs_table home layout.node_of) (DmcsGood (length layout.node_of)) no_more layout
+pub dmcs_laws : (home : ℕ) (layout : Layout) → Seated layout → home < layout.nodes →
+    LockLaws (dmcs_table home layout.node_of) (DmcsGood (length layout.node_of)) no_more layout
 dmcs_laws home layout seated homed =
     let n : ℕ = length layout.node_of in
     let T : LockTable QueueView = dmcs_table home layout.node_of in
-    let at : (s : LockState QueueView) (r : ℕ) (v : QueueView) → DmcsGood (length layout.node_of) s → slice_get s.views r ≡ Some v → slice_get s.views v.member ≡ Some v =
+    let at : (s : LockState QueueView) (r : ℕ) (v : QueueView) → DmcsGood
+    (length layout.node_of) s → slice_get s.views r ≡ Some v → slice_get s.views v.member ≡ Some v =
     λ s r v g has. subst (λ z. slice_get s.views z ≡ Some v) (sym (g.named r v has)) has in
     record {
       begins = begins_at home layout.node_of;
@@ -168,41 +184,52 @@ dmcs_laws home layout seated homed =
       leave_keeps_reader = λ s r v g has st. absurd (no_reader v.phase st);
       touch_keeps = λ s r w g. touch_keeps_at (length layout.node_of) s r w g;
       excludes = λ s i j v w g hi hj wv hw.
-          one_first (dmcs_names (length layout.node_of)) (Below (length layout.node_of)) s.words (phase_in s.views) g.line s.trace (tenures (dmcs_queue (length layout.node_of)) s.trace) i j g.queue
-          (subst (λ z. IsFirst z (slice_index s.words (status_word (dmcs_names (length layout.node_of)) i))) (sym (phase_get s.views i v hi)) (writer_first v.phase _ wv))
-          (subst (λ z. IsFirst z (slice_index s.words (status_word (dmcs_names (length layout.node_of)) j))) (sym (phase_get s.views j w hj)) (holder_first w.phase _ hw));
+          one_first (dmcs_names (length layout.node_of)) (Below (length layout.node_of)) s.words (phase_in s.views) g.line s.trace
+          (tenures (dmcs_queue (length layout.node_of)) s.trace) i j g.queue
+          (subst (λ z. IsFirst z (slice_index s.words (status_word (dmcs_names (length layout.node_of)) i)))
+          (sym (phase_get s.views i v hi)) (writer_first v.phase _ wv))
+          (subst (λ z. IsFirst z (slice_index s.words (status_word (dmcs_names (length layout.node_of)) j)))
+          (sym (phase_get s.views j w hj)) (holder_first w.phase _ hw));
       suits = λ s r v m g has asked. suits_at m v.phase;
       first_out = λ r. refl;
       ask_asks = λ v m out. refl;
       leave_leaves = λ v h. leaving_at v.phase h;
       rests = λ s r v g has. rests_at (length layout.node_of) v.member v.phase (g.calm r v has);
       shifts = λ s r v a h.
-          subst (λ z. Shift z (standing_of v.phase) (standing_of (dmcs_learn (length layout.node_of) v.member v.phase (told a (found s a))).view.phase) (holds_only (dmcs_learn (length layout.node_of) v.member v.phase (told a (found s a))).events)) (h.is_good.named r v h.has)
+          subst (λ z. Shift z (standing_of v.phase) (standing_of
+          (dmcs_learn (length layout.node_of) v.member v.phase (told a (found s a))).view.phase)
+          (holds_only (dmcs_learn (length layout.node_of) v.member v.phase (told a (found s a))).events)) (h.is_good.named r v h.has)
           (act_fits home (length layout.node_of) s v.member v.phase a (told a (found s a)) h.is_good (at s r v h.is_good h.has) h.planned).shift;
       waits_on_loads = λ s r v a h e. waits_on_at (length layout.node_of) v.member v.phase a (told a (found s a)) h.planned e;
       orders = λ s r v a h.
-          let ok = act_fits home (length layout.node_of) s v.member v.phase a (told a (found s a)) h.is_good (at s r v h.is_good h.has) h.planned in (ok.order, ok.few);
-      names = λ s r v a h. (act_fits home (length layout.node_of) s v.member v.phase a (told a (found s a)) h.is_good (at s r v h.is_good h.has) h.planned).names;
+          let ok = act_fits home (length layout.node_of) s v.member v.phase a (told a (found s a)) h.is_good
+          (at s r v h.is_good h.has) h.planned in (ok.order, ok.few);
+      names = λ s r v a h. (act_fits home (length layout.node_of) s v.member v.phase a (told a (found s a)) h.is_good
+          (at s r v h.is_good h.has) h.planned).names;
       within = λ s q B d g has eb.
           let o = only_queue (dmcs_queue (length layout.node_of)) d q has in
           let z : None ≡ Some B = sym (ap (λ y. y.budget) o.1) ∙ eb in cc;
       fifo = λ s q d g has.
           subst (IsFifo s.trace) (sym (only_queue (dmcs_queue (length layout.node_of)) d q has).0)
-          (queue_fifo (dmcs_names (length layout.node_of)) (Below (length layout.node_of)) s.words (phase_in s.views) g.line s.trace (tenures (dmcs_queue (length layout.node_of)) s.trace) g.queue);
+          (queue_fifo (dmcs_names (length layout.node_of)) (Below (length layout.node_of)) s.words (phase_in s.views) g.line s.trace
+          (tenures (dmcs_queue (length layout.node_of)) s.trace) g.queue);
       counted = λ s q d g out has.
           let o = only_queue (dmcs_queue (length layout.node_of)) d q has in
-          let k = queue_counted (dmcs_names (length layout.node_of)) (Below (length layout.node_of)) s.words (phase_in s.views) g.line s.trace (tenures (dmcs_queue (length layout.node_of)) s.trace) g.queue
+          let k = queue_counted (dmcs_names (length layout.node_of)) (Below (length layout.node_of)) s.words
+          (phase_in s.views) g.line s.trace (tenures (dmcs_queue (length layout.node_of)) s.trace) g.queue
           (all_idle s.views (λ r v h. out_idle v.phase (out r v h))) in
           subst (λ z. settled z s.trace + passed z s.trace ≡ tenures d s.trace) (sym o.0)
           (subst (λ z. settled 0 s.trace + passed 0 s.trace ≡ tenures z s.trace) (sym o.1) k);
       goes_further = λ s g. tt;
       finds = λ s r v a one h.
-          alone_finds (dmcs_names (length layout.node_of)) (Below (length layout.node_of)) s.words (phase_in s.views) h.is_good.line s.trace (tenures (dmcs_queue (length layout.node_of)) s.trace) v.member v.phase a h.is_good.queue
+          alone_finds (dmcs_names (length layout.node_of)) (Below (length layout.node_of)) s.words (phase_in s.views) h.is_good.line s.trace
+          (tenures (dmcs_queue (length layout.node_of)) s.trace) v.member v.phase a h.is_good.queue
           (λ x i. let b = rank_below (length layout.node_of) s v.member v h.is_good (at s r v h.is_good h.has) in omega arith)
           (phase_get s.views v.member v (at s r v h.is_good h.has)) h.planned;
       moves_on = λ s r v a one h.
           enter_waits v.member _ _ _ ∙
           alone_moves_on (dmcs_names (length layout.node_of)) (Below (length layout.node_of)) v.member v.phase (told a (found s a))
           (subst SuitsAlone (phase_get s.views v.member v (at s r v h.is_good h.has))
-          (h.is_good.queue.alone v.member (λ x i. let b = rank_below (length layout.node_of) s v.member v h.is_good (at s r v h.is_good h.has) in omega arith)));
+          (h.is_good.queue.alone v.member (λ x i. let b = rank_below (length layout.node_of) s v.member v h.is_good
+          (at s r v h.is_good h.has) in omega arith)));
     }

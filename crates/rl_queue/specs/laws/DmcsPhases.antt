@@ -23,7 +23,8 @@ view_moves vs r v w h =
       others = λ i ne. read_set_other {V = QueueView} (λ v. v.phase) Idle vs r w i ne;
     }
 
-pub moves_in : (vs : List QueueView) (r k : ℕ) (p p' : Phase) → slice_get vs r ≡ Some (at_phase k p) → Moves (phase_in vs) (phase_in (slice_set vs r (at_phase k p'))) r p p'
+pub moves_in : (vs : List QueueView) (r k : ℕ) (p p' : Phase) → slice_get vs r ≡ Some (at_phase k p) →
+    Moves (phase_in vs) (phase_in (slice_set vs r (at_phase k p'))) r p p'
 moves_in vs r k p p' h = view_moves vs r (at_phase k p) (at_phase k p') h
 
 -- at first all ranks are idle

@@ -29,13 +29,23 @@ pub record TurnFits (n k : ℕ) (p : Phase) (u : Told QueueView) : Type 0 where
   pub calm : Calm u.view.phase
 
 -- it is so in each phase that plans an act
-pub turn_fits : (n k : ℕ) (p : Phase) (a : Act) (got : ℕ) → plan_at (dmcs_names n) k p ≡ Some a → Calm p → k < n → ((s left : ℕ) → p ≡ Hand s left → s < n) → TurnFits n k p (dmcs_learn n k p got)
+pub turn_fits : (n k : ℕ) (p : Phase) (a : Act) (got : ℕ) → plan_at (dmcs_names n) k p ≡ Some a → Calm p → k < n →
+    ((s left : ℕ) → p ≡ Hand s left → s < n) → TurnFits n k p (dmcs_learn n k p got)
 turn_fits n k Clear a got pl calm lt hs = record { member = refl; shift = refl; order = tt; few = omega arith; names = tt; ends = refl; calm = tt }
 turn_fits n k Reset a got pl calm lt hs = record { member = refl; shift = refl; order = tt; few = omega arith; names = tt; ends = refl; calm = tt }
 turn_fits n k (Swing guess) a got pl calm lt hs =
     choose (λ u. TurnFits n k (Swing guess) (dmcs_turn k u)) (got == guess) (moves_with (joined_at guess) (event.Join 0 k)) (moves_to (Swing got))
     (choose (λ q. TurnFits n k (Swing guess) (dmcs_turn k (moves_with q (event.Join 0 k)))) (guess == 0) Settle (Link guess)
-    (record { member = refl; shift = refl; order = (omega arith, (omega arith, tt)); few = omega arith; names = (is_member n k lt, (is_member n k lt, (tt, tt))); ends = refl; calm = tt })
+    (record {
+      member = refl;
+      shift = refl;
+      order = (omega arith, (omega arith, tt));
+      few = omega arith;
+      names =
+          (is_member n k lt, (is_member n k lt, (tt, tt)));
+      ends = refl;
+      calm = tt;
+    })
     (record { member = refl; shift = refl; order = tt; few = omega arith; names = (is_member n k lt, tt); ends = refl; calm = tt }))
     (record { member = refl; shift = refl; order = tt; few = omega arith; names = tt; ends = refl; calm = tt })
 turn_fits n k (Link guess) a got pl calm lt hs = record { member = refl; shift = refl; order = tt; few = omega arith; names = tt; ends = refl; calm = tt }
@@ -64,7 +74,8 @@ turn_fits n k (Above s) a got pl calm lt hs = absurd calm
 turn_fits n k _ a got pl calm lt hs = cc
 
 -- entering changes nothing of whether a load has to be made again
-pub enter_loads : (n : TheNames) (m : ℕ) (p : Phase) (es : List Event) (w : Bool) → PlansLoad (plan_at n m p) → PlansLoad (plan_at n (dmcs_enter m p es w).view.member (dmcs_enter m p es w).view.phase)
+pub enter_loads : (n : TheNames) (m : ℕ) (p : Phase) (es : List Event) (w : Bool) → PlansLoad (plan_at n m p) →
+    PlansLoad (plan_at n (dmcs_enter m p es w).view.member (dmcs_enter m p es w).view.phase)
 enter_loads n m Settle es w h = absurd h
 enter_loads n m _ es w h = h
 

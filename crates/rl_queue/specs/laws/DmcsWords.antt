@@ -44,7 +44,8 @@ word_class : (home : ℕ) (node_of : List ℕ) (w : ℕ) → w ≢ 0 → (dmcs_s
 word_class home node_of w ne = rw (other_test w 0 ne)
 
 -- each word lives on a node that is there
-pub word_home : (home : ℕ) (layout : Layout) (w : ℕ) → Seated layout → home < layout.nodes → w < 1 + 2 * length layout.node_of → (dmcs_spot home layout.node_of w).home < layout.nodes
+pub word_home : (home : ℕ) (layout : Layout) (w : ℕ) → Seated layout → home < layout.nodes → w < 1 + 2 * length layout.node_of →
+    (dmcs_spot home layout.node_of w).home < layout.nodes
 word_home home layout zero seated homed lt = homed
 word_home home layout (suc w) seated homed lt =
     let k : (suc w - 1) / 2 < length layout.node_of = omega arith in
@@ -60,21 +61,28 @@ MayMake home layout r a = IsLawful (1 + 2 * length layout.node_of) (dmcs_spot ho
 lawful_load : (home : ℕ) (layout : Layout) (r w : ℕ) → Seated layout → home < layout.nodes → w < 1 + 2 * length layout.node_of → MayMake home layout r (Load w)
 lawful_load home layout r w seated homed lt = (record { there = lt; homed = word_home home layout w seated homed lt; allowed = tt }, refl)
 
-lawful_store : (home : ℕ) (layout : Layout) (r w x : ℕ) → Seated layout → home < layout.nodes → w < 1 + 2 * length layout.node_of → w ≢ 0 → MayMake home layout r (Store w x)
-lawful_store home layout r w x seated homed lt ne = (record { there = lt; homed = word_home home layout w seated homed lt; allowed = word_class home layout.node_of w ne }, refl)
+lawful_store : (home : ℕ) (layout : Layout) (r w x : ℕ) → Seated layout → home < layout.nodes → w < 1 + 2 * length layout.node_of → w ≢ 0 →
+    MayMake home layout r (Store w x)
+lawful_store home layout r w x seated homed lt ne =
+    (record { there = lt; homed = word_home home layout w seated homed lt; allowed = word_class home layout.node_of w ne }, refl)
 
 -- each planned act is lawful
-pub lawful_at : (home : ℕ) (layout : Layout) (r k : ℕ) (p : Phase) (a : Act) → Seated layout → home < layout.nodes → PlanFits (dmcs_names (length layout.node_of)) k p → k < length layout.node_of →
-    ((guess : ℕ) → p ≡ Link guess → guess - 1 < length layout.node_of) → ((s left : ℕ) → p ≡ Hand s left → s < length layout.node_of) → plan_at (dmcs_names (length layout.node_of)) k p ≡ Some a →
+pub lawful_at : (home : ℕ) (layout : Layout) (r k : ℕ) (p : Phase) (a : Act) → Seated layout → home < layout.nodes →
+    PlanFits (dmcs_names (length layout.node_of)) k p → k < length layout.node_of →
+    ((guess : ℕ) → p ≡ Link guess → guess - 1 < length layout.node_of) →
+    ((s left : ℕ) → p ≡ Hand s left → s < length layout.node_of) → plan_at (dmcs_names (length layout.node_of)) k p ≡ Some a →
     MayMake home layout r a
 lawful_at home layout r k Clear a seated homed fits lt gs hs pl =
-    subst (MayMake home layout r) (same_Some _ _ pl) (let e = next_is (length layout.node_of) k lt in lawful_store home layout r _ _ seated homed (omega arith) (λ z. absurd (omega arith)))
+    subst (MayMake home layout r) (same_Some _ _ pl) (let e = next_is (length layout.node_of) k lt in lawful_store home layout r _ _ seated
+    homed (omega arith) (λ z. absurd (omega arith)))
 lawful_at home layout r k Reset a seated homed fits lt gs hs pl =
-    subst (MayMake home layout r) (same_Some _ _ pl) (let e = status_is (length layout.node_of) k lt in lawful_store home layout r _ _ seated homed (omega arith) (λ z. absurd (omega arith)))
+    subst (MayMake home layout r) (same_Some _ _ pl) (let e = status_is (length layout.node_of) k lt in lawful_store home layout r _ _
+    seated homed (omega arith) (λ z. absurd (omega arith)))
 lawful_at home layout r k (Swing guess) a seated homed fits lt gs hs pl =
     subst (MayMake home layout r) (same_Some _ _ pl) (record { there = omega arith; homed = homed; allowed = refl }, refl)
 lawful_at home layout r k (Link guess) a seated homed fits lt gs hs pl =
-    subst (MayMake home layout r) (same_Some _ _ pl) (let e = next_is (length layout.node_of) (guess - 1) (gs guess refl) in let h = gs guess refl in lawful_store home layout r _ _ seated homed (omega arith) (λ z. absurd (omega arith)))
+    subst (MayMake home layout r) (same_Some _ _ pl) (let e = next_is (length layout.node_of) (guess - 1) (gs guess refl) in let h = gs
+    guess refl in lawful_store home layout r _ _ seated homed (omega arith) (λ z. absurd (omega arith)))
 lawful_at home layout r k Wait a seated homed fits lt gs hs pl =
     subst (MayMake home layout r) (same_Some _ _ pl) (let e = status_is (length layout.node_of) k lt in lawful_load home layout r _ seated homed (omega arith))
 lawful_at home layout r k (Look left upper) a seated homed fits lt gs hs pl =
@@ -84,5 +92,6 @@ lawful_at home layout r k (Close left) a seated homed fits lt gs hs pl =
 lawful_at home layout r k (Await left) a seated homed fits lt gs hs pl =
     subst (MayMake home layout r) (same_Some _ _ pl) (let e = next_is (length layout.node_of) k lt in lawful_load home layout r _ seated homed (omega arith))
 lawful_at home layout r k (Hand succ left) a seated homed fits lt gs hs pl =
-    subst (MayMake home layout r) (same_Some _ _ pl) (let e = status_is (length layout.node_of) succ (hs succ left refl) in let h = hs succ left refl in lawful_store home layout r _ _ seated homed (omega arith) (λ z. absurd (omega arith)))
+    subst (MayMake home layout r) (same_Some _ _ pl) (let e = status_is (length layout.node_of) succ (hs succ left refl) in let h = hs succ
+    left refl in lawful_store home layout r _ _ seated homed (omega arith) (λ z. absurd (omega arith)))
 lawful_at home layout r k _ a seated homed fits lt gs hs pl = cc

@@ -75,7 +75,8 @@ module _ (B : Option ℕ) (In : ℕ → Type 0) where
   -- a lane M with the line k, after a move of member m alone
   pub rebuild : (L M : Lane) (l k : List ℕ) (m : ℕ) → QueueInvariant B In L l → ((x : ℕ) → x ≢ m → M.phase x ≡ L.phase x) → Distinct k →
       ((x : ℕ) → x ≢ m → Has x l → Has x k) → ((x : ℕ) → x ≢ m → Has x k → Has x l) → (Listed (M.phase m) → Has m k) → (Has m k → Listed (M.phase m)) →
-      Line B M k → ((x : ℕ) → x ≢ m → Own B In (M.phase x) (M.next x) (M.status x)) → Own B In (M.phase m) (M.next m) (M.status m) → (Busy (M.phase m) → In m) → QueueInvariant B In M k
+      Line B M k → ((x : ℕ) → x ≢ m → Own B In (M.phase x) (M.next x) (M.status x)) → Own B In (M.phase m) (M.next m) (M.status m) →
+      (Busy (M.phase m) → In m) → QueueInvariant B In M k
   rebuild L M l k m g ph d into back mine listed line others own inside =
       record {
         distinct = d;
@@ -93,7 +94,8 @@ module _ (B : Option ℕ) (In : ℕ → Type 0) where
       }
 
   -- a line whose members and words stay
-  pub line_frame : (L M : Lane) (l : List ℕ) → M.tail ≡ L.tail → ((x : ℕ) → Has x l → (M.next x ≡ L.next x) × (M.status x ≡ L.status x) × (M.phase x ≡ L.phase x)) → Line B L l → Line B M l
+  pub line_frame : (L M : Lane) (l : List ℕ) → M.tail ≡ L.tail →
+      ((x : ℕ) → Has x l → (M.next x ≡ L.next x) × (M.status x ≡ L.status x) × (M.phase x ≡ L.phase x)) → Line B L l → Line B M l
   line_frame L M [] t f c = t ∙ c
   line_frame L M (h ∷ r) t f c =
       let s = f h (inl refl) in (
@@ -118,7 +120,8 @@ module _ (B : Option ℕ) (In : ℕ → Type 0) where
   pub first_moves : (L M : Lane) (h : ℕ) (r : List ℕ) → QueueInvariant B In L (h ∷ r) → M.tail ≡ L.tail → M.next h ≡ L.next h → M.status h ≡ L.status h →
       ((x : ℕ) → x ≢ h → Stays In L M x) → Leads B (M.phase h) (M.status h) → Own B In (M.phase h) (M.next h) (M.status h) → QueueInvariant B In M (h ∷ r)
   first_moves L M h r g t en es s leads own =
-      rebuild L M (h ∷ r) (h ∷ r) h g (λ x ne. (s x ne).phase) g.distinct (λ x ne k. k) (λ x ne k. k) (λ k. inl refl) (λ k. leads_listed B (M.phase h) (M.status h) leads) (
+      rebuild L M (h ∷ r) (h ∷ r) h g (λ x ne. (s x ne).phase) g.distinct (λ x ne k. k) (λ x ne k. k) (λ k. inl refl)
+      (λ k. leads_listed B (M.phase h) (M.status h) leads) (
         leads,
         chain_frame L M h r en
             (λ x k.
@@ -140,7 +143,8 @@ module _ (B : Option ℕ) (In : ℕ → Type 0) where
         (λ k. let b = chain_behind L x r m line.1 k in absurd (first_behind (L.phase m) (L.status m) f b.0 b.1)) h
 
   -- a swing from 0 on an empty queue
-  pub swing_first : (L M : Lane) (l : List ℕ) (m : ℕ) → QueueInvariant B In L l → L.tail ≡ 0 → In m → M.tail ≡ m + 1 → M.next m ≡ 0 → M.status m ≡ 0 → M.phase m ≡ Settle →
+  pub swing_first : (L M : Lane) (l : List ℕ) (m : ℕ) → QueueInvariant B In L l → L.tail ≡ 0 → In m → M.tail ≡ m + 1 → M.next m ≡ 0 →
+      M.status m ≡ 0 → M.phase m ≡ Settle →
       ((x : ℕ) → x ≢ m → Stays In L M x) → (l ≡ []) × QueueInvariant B In M (m ∷ [])
   swing_first L M [] m g z i t nx st ph s = (
     refl,
@@ -153,7 +157,8 @@ module _ (B : Option ℕ) (In : ℕ → Type 0) where
   swing_first L M (h ∷ r) m g z i t nx st ph s = let k : L.tail ≡ last_of h r + 1 = g.line.2 in absurd (omega arith)
 
   -- a swing behind the last
-  pub swing_next : (L M : Lane) (l : List ℕ) (m g : ℕ) → QueueInvariant B In L l → (Listed (L.phase m) → ⊥) → L.tail ≡ g → 0 < g → In m → M.tail ≡ m + 1 → M.next m ≡ 0 → M.status m ≡ 0 → M.phase m ≡ Link g →
+  pub swing_next : (L M : Lane) (l : List ℕ) (m g : ℕ) → QueueInvariant B In L l → (Listed (L.phase m) → ⊥) → L.tail ≡ g → 0 < g → In m →
+      M.tail ≡ m + 1 → M.next m ≡ 0 → M.status m ≡ 0 → M.phase m ≡ Link g →
       ((x : ℕ) → x ≢ m → Stays In L M x) → (h : ℕ) × (r : List ℕ) × (l ≡ h ∷ r) × QueueInvariant B In M (h ∷ (r ++ m ∷ []))
   swing_next L M [] m g q was e pos i t nx st ph s = let k : L.tail ≡ 0 = q.line in absurd (omega arith)
   swing_next L M (h ∷ r) m g q was e pos i t nx st ph s =

@@ -44,8 +44,10 @@ module _ (B : Option ℕ) (In : ℕ → Type 0) where
         (λ k. chain_guess L x r m g line.1 k e) h
 
   -- a member that links itself to the one before it waits from then on, in the same line
-  pub link_moves : (L M : Lane) (l : List ℕ) (m g : ℕ) → QueueInvariant B In L l → L.phase m ≡ Link g → M.phase m ≡ Wait → M.tail ≡ L.tail → (In (g - 1) → M.next (g - 1) ≡ m + 1) →
-      ((x : ℕ) → In x → x ≢ g - 1 → M.next x ≡ L.next x) → ((x : ℕ) → In x → M.status x ≡ L.status x) → ((x : ℕ) → x ≢ m → M.phase x ≡ L.phase x) → QueueInvariant B In M l
+  pub link_moves : (L M : Lane) (l : List ℕ) (m g : ℕ) → QueueInvariant B In L l → L.phase m ≡ Link g → M.phase m ≡ Wait → M.tail ≡ L.tail →
+      (In (g - 1) → M.next (g - 1) ≡ m + 1) →
+      ((x : ℕ) → In x → x ≢ g - 1 → M.next x ≡ L.next x) → ((x : ℕ) → In x → M.status x ≡ L.status x) →
+      ((x : ℕ) → x ≢ m → M.phase x ≡ L.phase x) → QueueInvariant B In M l
   link_moves L M l m g q e pm t nm ns ss ps =
       let guess = link_guess L l m g q e in
       let i : In (g - 1) = in_line B In L l (g - 1) q guess.0 in
@@ -67,16 +69,19 @@ module _ (B : Option ℕ) (In : ℕ → Type 0) where
         at : (k : List ℕ) → Distinct k → ((x : ℕ) → Has x k → In x) → Has m k → M.next (g - 1) ≡ m + 1 → Line B L k → Line B M k
         at [] d ins h nx line = absurd h
         at (x ∷ r) d ins h nx line =
-            let not_x : m ≢ x = λ k. let no_lead : Leads B (Link g) (L.status x) = subst (λ z. Leads B z (L.status x)) (subst (λ z. L.phase z ≡ Link g) k e) line.0 in no_lead in
+            let not_x : m ≢ x = λ k. let no_lead : Leads B (Link g) (L.status x) =
+            subst (λ z. Leads B z (L.status x)) (subst (λ z. L.phase z ≡ Link g) k e) line.0 in no_lead in
             let hm : Has m r = ⊎_elim (λ k. absurd (not_x k)) (λ k. k) h in
-            let c = chain_link L M x r m g d hm e line.1 pm (ss m (ins m h)) nx (λ y hy ne. ns y (ins y hy) ne) (λ y hy ne. (ss y (ins y (inr hy)), ps y ne)) in (
+            let c = chain_link L M x r m g d hm e line.1 pm (ss m (ins m h)) nx (λ y hy ne. ns y (ins y hy) ne)
+            (λ y hy ne. (ss y (ins y (inr hy)), ps y ne)) in (
               subst (λ z. Leads B z (M.status x)) (sym (ps x (λ k. not_x (sym k)))) (subst (λ z. Leads B (L.phase x) z) (sym (ss x (ins x (inl refl)))) line.0),
               c.1,
               t ∙ line.2,
             )
 
   -- the last one empties the line
-  pub close_moves : (L M : Lane) (l : List ℕ) (m : ℕ) → QueueInvariant B In L l → IsFirst (L.phase m) (L.status m) → L.tail ≡ m + 1 → M.tail ≡ 0 → M.phase m ≡ Idle →
+  pub close_moves : (L M : Lane) (l : List ℕ) (m : ℕ) → QueueInvariant B In L l → IsFirst (L.phase m) (L.status m) → L.tail ≡ m + 1 →
+      M.tail ≡ 0 → M.phase m ≡ Idle →
       ((x : ℕ) → x ≢ m → Stays In L M x) → (l ≡ m ∷ []) × QueueInvariant B In M []
   close_moves L M l m q f tail t pm s =
       let a = is_first B In L l m q f in
@@ -93,7 +98,8 @@ module _ (B : Option ℕ) (In : ℕ → Type 0) where
       )
 
   -- the first hands the queue to the next
-  pub hand_moves : (L M : Lane) (l : List ℕ) (m s left code : ℕ) → QueueInvariant B In L l → L.phase m ≡ Hand s left → IsCode B code → M.phase m ≡ Idle → M.tail ≡ L.tail →
+  pub hand_moves : (L M : Lane) (l : List ℕ) (m s left code : ℕ) → QueueInvariant B In L l → L.phase m ≡ Hand s left → IsCode B code →
+      M.phase m ≡ Idle → M.tail ≡ L.tail →
       (In s → M.status s ≡ code) → ((x : ℕ) → In x → x ≢ s → M.status x ≡ L.status x) → ((x : ℕ) → In x → M.next x ≡ L.next x) → ((x : ℕ) → x ≢ m → M.phase x ≡ L.phase x) →
       (r : List ℕ) × (l ≡ m ∷ s ∷ r) × (L.phase s ≡ Wait) × (L.status s ≡ 0) × (M.phase s ≡ Wait) × (M.status s ≡ code) × QueueInvariant B In M (s ∷ r)
   hand_moves L M l m s left code q e good pm t sm ss ns ps =

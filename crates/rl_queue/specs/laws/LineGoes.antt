@@ -56,7 +56,8 @@ module _ (B : Option ℕ) (In : ℕ → Type 0) (L : Lane) where
   line_goes [] m has line more = absurd has
   line_goes (h ∷ r) m has line more = first_goes h r (L.phase h) refl line (more h)
 
-  pub busy_goes : (l : List ℕ) (m : ℕ) (p : Phase) → QueueInvariant B In L l → ((k : ℕ) → Awaits (L.phase k) → L.tail ≢ k + 1) → L.phase m ≡ p → Busy p → (k : ℕ) × Goes L k
+  pub busy_goes : (l : List ℕ) (m : ℕ) (p : Phase) → QueueInvariant B In L l → ((k : ℕ) → Awaits (L.phase k) → L.tail ≢ k + 1) →
+      L.phase m ≡ p → Busy p → (k : ℕ) × Goes L k
   busy_goes l m Idle g more e busy = absurd busy
   busy_goes l m Clear g more e busy = (m, goes_at m Clear e tt (λ k. k))
   busy_goes l m Reset g more e busy = (m, goes_at m Reset e tt (λ k. k))

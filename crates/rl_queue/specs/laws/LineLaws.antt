@@ -54,7 +54,8 @@ chain_frame L M p (m ∷ r) e f c =
     )
 
 -- one more at the end
-pub chain_append : (L : Lane) (p : ℕ) (l : List ℕ) (x : ℕ) → Chain L p l → L.status x ≡ 0 → L.phase x ≡ Link (last_of p l + 1) → L.next x ≡ 0 → Chain L p (l ++ x ∷ [])
+pub chain_append : (L : Lane) (p : ℕ) (l : List ℕ) (x : ℕ) → Chain L p l → L.status x ≡ 0 → L.phase x ≡ Link (last_of p l + 1) →
+    L.next x ≡ 0 → Chain L p (l ++ x ∷ [])
 chain_append L p [] x c s e n = (s, subst (λ z. Follows z p (L.next p) x) (sym e) (refl, c), n)
 chain_append L p (m ∷ r) x c s e n = (c.0, c.1, chain_append L m r x c.2 s e n)
 
@@ -75,11 +76,13 @@ pub chain_behind : (L : Lane) (p : ℕ) (l : List ℕ) (m : ℕ) → Chain L p l
 chain_behind L p [] m c h = absurd h
 chain_behind L p (x ∷ r) m c h =
     ⊎_elim
-    (λ e. let k : (L.status x ≡ 0) × Behind (L.phase x) = (c.0, follows_behind (L.phase x) p (L.next p) x c.1) in subst (λ z. (L.status z ≡ 0) × Behind (L.phase z)) (sym e) k)
+    (λ e. let k : (L.status x ≡ 0) × Behind (L.phase x) = (c.0, follows_behind (L.phase x) p (L.next p) x c.1) in
+    subst (λ z. (L.status z ≡ 0) × Behind (L.phase z)) (sym e) k)
     (λ k. chain_behind L x r m c.2 k) h
 
 -- a next word that isn't 0 names the next in the chain, which waits
-pub chain_next : (L : Lane) (p s : ℕ) (l : List ℕ) → Chain L p l → L.next p ≡ s + 1 → (r : List ℕ) × (l ≡ s ∷ r) × (L.phase s ≡ Wait) × (L.status s ≡ 0) × Chain L s r
+pub chain_next : (L : Lane) (p s : ℕ) (l : List ℕ) → Chain L p l → L.next p ≡ s + 1 →
+    (r : List ℕ) × (l ≡ s ∷ r) × (L.phase s ≡ Wait) × (L.status s ≡ 0) × Chain L s r
 chain_next L p s [] c e = absurd (omega arith)
 chain_next L p s (m ∷ r) c e = by_phase (L.phase m) refl c.1 where
   by_phase : (ph : Phase) → L.phase m ≡ ph → Follows ph p (L.next p) m → (t : List ℕ) × (m ∷ r ≡ s ∷ t) × (L.phase s ≡ Wait) × (L.status s ≡ 0) × Chain L s t

@@ -88,10 +88,13 @@ module _ (n : TheNames) (In : ℕ → Type 0) where
   turn_spends m _ got s b x y eb es = λ f. same_spends x y f
 
   -- each planned act of a queue with a budget takes its passes off the head's credit: settling alone gives new credit
-  pub act_spends : (ws : List ℕ) (ph ph' : ℕ → Phase) (l k : List ℕ) (t : List Event) (e m b : ℕ) (p : Phase) (a : Act) → IsNaming n In (length ws) → QueueGood n In ws ph l t e → ph m ≡ p → plan_at n m p ≡ Some a → n.budget ≡ Some b →
+  pub act_spends : (ws : List ℕ) (ph ph' : ℕ → Phase) (l k : List ℕ) (t : List Event) (e m b : ℕ) (p : Phase) (a : Act) →
+      IsNaming n In (length ws) → QueueGood n In ws ph l t e → ph m ≡ p → plan_at n m p ≡ Some a → n.budget ≡ Some b →
       ActMoves n In ws ph ph' m p a → LineStep m p (turn_at n m p (told a (slice_index ws (word_of a)))).phase l k →
-      Spends (passed n.queue (turn_at n m p (told a (slice_index ws (word_of a)))).events) (head_in (lane_of n ws ph) l) (head_in (lane_of n (slice_set ws (word_of a) (written a (slice_index ws (word_of a)))) ph') k)
+      Spends (passed n.queue (turn_at n m p (told a (slice_index ws (word_of a)))).events) (head_in (lane_of n ws ph) l)
+      (head_in (lane_of n (slice_set ws (word_of a) (written a (slice_index ws (word_of a)))) ph') k)
   act_spends ws ph ph' l k t e m b p a d g q pl eb mv step =
-      turn_spends m p (told a (slice_index ws (word_of a))) (slice_index ws (status_word n m)) b (head_in (lane_of n ws ph) l) (head_in (lane_of n (slice_set ws (word_of a) (written a (slice_index ws (word_of a)))) ph') k) eb
+      turn_spends m p (told a (slice_index ws (word_of a))) (slice_index ws (status_word n m)) b (head_in (lane_of n ws ph) l)
+      (head_in (lane_of n (slice_set ws (word_of a) (written a (slice_index ws (word_of a)))) ph') k) eb
       (λ w. wait_found n In ws m p a pl w)
       (head_act n In ws ph ph' l k t e m p a d g q pl mv step)

@@ -49,7 +49,8 @@ awaits_listed (Swing g) a = absurd a
 awaits_listed _ a = tt
 
 -- what the trace says of a line rests on the first's phase and status alone
-pub says_same : (q : ℕ) (B : Option ℕ) (L M : Lane) (l : List ℕ) (t : List Event) (e : ℕ) → ((x : ℕ) → Has x l → (M.status x ≡ L.status x) × (M.phase x ≡ L.phase x)) →
+pub says_same : (q : ℕ) (B : Option ℕ) (L M : Lane) (l : List ℕ) (t : List Event) (e : ℕ) →
+    ((x : ℕ) → Has x l → (M.status x ≡ L.status x) × (M.phase x ≡ L.phase x)) →
     QueueTrace q B t e (waits_in L l) (credit_in L l) (held_in L l) → QueueTrace q B t e (waits_in M l) (credit_in M l) (held_in M l)
 says_same q B L M [] t e f s = s
 says_same q B L M (h ∷ r) t e f s =
@@ -59,21 +60,24 @@ says_same q B L M (h ∷ r) t e f s =
 
 -- what the trace says of a line, by the first's phase and status: from these
 pub says_first : (q : ℕ) (B : Option ℕ) (L : Lane) (h : ℕ) (r : List ℕ) (t : List Event) (e : ℕ) (p : Phase) (st : ℕ) → L.phase h ≡ p → L.status h ≡ st →
-    QueueTrace q B t e (rest_if (served p st) h r) (credit p st) (count (holds p st)) → QueueTrace q B t e (waits_in L (h ∷ r)) (credit_in L (h ∷ r)) (held_in L (h ∷ r))
+    QueueTrace q B t e (rest_if (served p st) h r) (credit p st) (count (holds p st)) → QueueTrace q B t e (waits_in L (h ∷ r))
+    (credit_in L (h ∷ r)) (held_in L (h ∷ r))
 says_first q B L h r t e p st ep es s =
     let P : Phase → ℕ → Type 0 = λ p st. QueueTrace q B t e (rest_if (served p st) h r) (credit p st) (count (holds p st)) in
     subst (λ z. P z (L.status h)) (sym ep) (subst (λ z. P p z) (sym es) s)
 
 -- and to these
 pub first_says : (q : ℕ) (B : Option ℕ) (L : Lane) (h : ℕ) (r : List ℕ) (t : List Event) (e : ℕ) (p : Phase) (st : ℕ) → L.phase h ≡ p → L.status h ≡ st →
-    QueueTrace q B t e (waits_in L (h ∷ r)) (credit_in L (h ∷ r)) (held_in L (h ∷ r)) → QueueTrace q B t e (rest_if (served p st) h r) (credit p st) (count (holds p st))
+    QueueTrace q B t e (waits_in L (h ∷ r)) (credit_in L (h ∷ r)) (held_in L (h ∷ r)) → QueueTrace q B t e (rest_if (served p st) h r)
+    (credit p st) (count (holds p st))
 first_says q B L h r t e p st ep es s =
     let P : Phase → ℕ → Type 0 = λ p st. QueueTrace q B t e (rest_if (served p st) h r) (credit p st) (count (holds p st)) in
     subst (λ z. P p z) es (subst (λ z. P z (L.status h)) ep s)
 
 module _ (n : TheNames) (In : ℕ → Type 0) where
   -- a write to the tail, to a next word and to a status word changes no other word of the queue
-  pub tail_write : (ws : List ℕ) (ph ph' : ℕ → Phase) (v : ℕ) → IsNaming n In (length ws) → TailWrite In (lane_of n ws ph) (lane_of n (slice_set ws n.tail v) ph') v
+  pub tail_write : (ws : List ℕ) (ph ph' : ℕ → Phase) (v : ℕ) → IsNaming n In (length ws) →
+      TailWrite In (lane_of n ws ph) (lane_of n (slice_set ws n.tail v) ph') v
   tail_write ws ph ph' v d =
       record {
         tail = get_or-set_same ws n.tail v 0 d.tail_there;
@@ -81,7 +85,8 @@ module _ (n : TheNames) (In : ℕ → Type 0) where
         status = λ x i. get_or-set_other ws n.tail (status_word n x) v 0 (d.status_tail x i);
       }
 
-  pub next_write : (ws : List ℕ) (ph ph' : ℕ → Phase) (k v : ℕ) → IsNaming n In (length ws) → In k → NextWrite In (lane_of n ws ph) (lane_of n (slice_set ws (queue_next_word n k) v) ph') k v
+  pub next_write : (ws : List ℕ) (ph ph' : ℕ → Phase) (k v : ℕ) → IsNaming n In (length ws) → In k →
+      NextWrite In (lane_of n ws ph) (lane_of n (slice_set ws (queue_next_word n k) v) ph') k v
   next_write ws ph ph' k v d i =
       record {
         tail = get_or-set_other ws (queue_next_word n k) n.tail v 0 (λ e. d.next_tail k i (sym e));
@@ -90,7 +95,8 @@ module _ (n : TheNames) (In : ℕ → Type 0) where
         status = λ x j. get_or-set_other ws (queue_next_word n k) (status_word n x) v 0 (λ e. d.next_status k x i j (sym e));
       }
 
-  pub status_write : (ws : List ℕ) (ph ph' : ℕ → Phase) (k v : ℕ) → IsNaming n In (length ws) → In k → StatusWrite In (lane_of n ws ph) (lane_of n (slice_set ws (status_word n k) v) ph') k v
+  pub status_write : (ws : List ℕ) (ph ph' : ℕ → Phase) (k v : ℕ) → IsNaming n In (length ws) → In k →
+      StatusWrite In (lane_of n ws ph) (lane_of n (slice_set ws (status_word n k) v) ph') k v
   status_write ws ph ph' k v d i =
       record {
         tail = get_or-set_other ws (status_word n k) n.tail v 0 (λ e. d.status_tail k i (sym e));
@@ -100,15 +106,18 @@ module _ (n : TheNames) (In : ℕ → Type 0) where
       }
 
   -- a move that suits a member that is alone leaves all such members so
-  pub alone_moves : (ph ph' : ℕ → Phase) (m : ℕ) (p p' : Phase) → Moves ph ph' m p p' → ((x : ℕ) → IsAlone In x → SuitsAlone (ph x)) → (IsAlone In m → SuitsAlone p → SuitsAlone p') → (x : ℕ) → IsAlone In x → SuitsAlone (ph' x)
+  pub alone_moves : (ph ph' : ℕ → Phase) (m : ℕ) (p p' : Phase) → Moves ph ph' m p p' → ((x : ℕ) → IsAlone In x → SuitsAlone (ph x)) →
+      (IsAlone In m → SuitsAlone p → SuitsAlone p') → (x : ℕ) → IsAlone In x → SuitsAlone (ph' x)
   alone_moves ph ph' m p p' mv old new x s =
       ⊎_elim
-      (λ q. subst (λ z. SuitsAlone (ph' z)) (sym q) (subst SuitsAlone (sym mv.now) (new (subst (IsAlone In) q s) (subst SuitsAlone mv.was (old m (subst (IsAlone In) q s))))))
+      (λ q. subst (λ z. SuitsAlone (ph' z)) (sym q) (subst SuitsAlone (sym mv.now)
+      (new (subst (IsAlone In) q s) (subst SuitsAlone mv.was (old m (subst (IsAlone In) q s))))))
       (λ q. subst SuitsAlone (sym (mv.others x q)) (old x s))
       (same_or_not x m)
 
   -- who awaits its follower is still not the last, where one member moves
-  pub awaited_moves : (ws us : List ℕ) (ph ph' : ℕ → Phase) (m : ℕ) (p p' : Phase) → Moves ph ph' m p p' → ((x : ℕ) → Awaits (ph x) → slice_index ws n.tail ≢ x + 1) → (Awaits p' → slice_index us n.tail ≢ m + 1) →
+  pub awaited_moves : (ws us : List ℕ) (ph ph' : ℕ → Phase) (m : ℕ) (p p' : Phase) → Moves ph ph' m p p' →
+      ((x : ℕ) → Awaits (ph x) → slice_index ws n.tail ≢ x + 1) → (Awaits p' → slice_index us n.tail ≢ m + 1) →
       ((x : ℕ) → x ≢ m → slice_index ws n.tail ≢ x + 1 → slice_index us n.tail ≢ x + 1) → (x : ℕ) → Awaits (ph' x) → slice_index us n.tail ≢ x + 1
   awaited_moves ws us ph ph' m p p' mv old own others x a =
       ⊎_elim
@@ -117,13 +126,16 @@ module _ (n : TheNames) (In : ℕ → Type 0) where
       (same_or_not x m)
 
   -- and where the tail stays
-  pub awaited_stays : (ws us : List ℕ) (ph ph' : ℕ → Phase) (m : ℕ) (p p' : Phase) → Moves ph ph' m p p' → ((x : ℕ) → Awaits (ph x) → slice_index ws n.tail ≢ x + 1) → slice_index us n.tail ≡ slice_index ws n.tail →
+  pub awaited_stays : (ws us : List ℕ) (ph ph' : ℕ → Phase) (m : ℕ) (p p' : Phase) → Moves ph ph' m p p' →
+      ((x : ℕ) → Awaits (ph x) → slice_index ws n.tail ≢ x + 1) → slice_index us n.tail ≡ slice_index ws n.tail →
       (Awaits p' → slice_index ws n.tail ≢ m + 1) → (x : ℕ) → Awaits (ph' x) → slice_index us n.tail ≢ x + 1
   awaited_stays ws us ph ph' m p p' mv old same own = awaited_moves ws us ph ph' m p p' mv old (λ a e. own a (sym same ∙ e)) (λ x ne k e. k (sym same ∙ e))
 
   -- a queue stays good where none of its words and phases changes
-  pub still_keeps : (ws us : List ℕ) (ph ph' : ℕ → Phase) (l : List ℕ) (t : List Event) (e : ℕ) → QueueGood n In ws ph l t e → ((x : ℕ) → ph' x ≡ ph x) → slice_index us n.tail ≡ slice_index ws n.tail →
-      ((x : ℕ) → In x → slice_index us (queue_next_word n x) ≡ slice_index ws (queue_next_word n x)) → ((x : ℕ) → In x → slice_index us (status_word n x) ≡ slice_index ws (status_word n x)) → QueueGood n In us ph' l t e
+  pub still_keeps : (ws us : List ℕ) (ph ph' : ℕ → Phase) (l : List ℕ) (t : List Event) (e : ℕ) → QueueGood n In ws ph l t e →
+      ((x : ℕ) → ph' x ≡ ph x) → slice_index us n.tail ≡ slice_index ws n.tail →
+      ((x : ℕ) → In x → slice_index us (queue_next_word n x) ≡ slice_index ws (queue_next_word n x)) →
+      ((x : ℕ) → In x → slice_index us (status_word n x) ≡ slice_index ws (status_word n x)) → QueueGood n In us ph' l t e
   still_keeps ws us ph ph' l t e g same tl nx st =
       let ins : (x : ℕ) → Has x l → In x = λ x h. in_line n.budget In (lane_of n ws ph) l x g.inv h in
       record {
@@ -143,10 +155,13 @@ module _ (n : TheNames) (In : ℕ → Type 0) where
       }
 
   -- a member outside the line moves, and stays outside
-  pub outside_keeps : (ws us : List ℕ) (ph ph' : ℕ → Phase) (l : List ℕ) (t : List Event) (e m : ℕ) (p p' : Phase) → QueueGood n In ws ph l t e → Moves ph ph' m p p' → (Listed p → ⊥) → (Listed p' → ⊥) →
+  pub outside_keeps : (ws us : List ℕ) (ph ph' : ℕ → Phase) (l : List ℕ) (t : List Event) (e m : ℕ) (p p' : Phase) →
+      QueueGood n In ws ph l t e → Moves ph ph' m p p' → (Listed p → ⊥) → (Listed p' → ⊥) →
       slice_index us n.tail ≡ slice_index ws n.tail →
-      ((x : ℕ) → x ≢ m → In x → slice_index us (queue_next_word n x) ≡ slice_index ws (queue_next_word n x)) → ((x : ℕ) → x ≢ m → In x → slice_index us (status_word n x) ≡ slice_index ws (status_word n x)) →
-      Own n.budget In p' (slice_index us (queue_next_word n m)) (slice_index us (status_word n m)) → (Busy p' → In m) → (IsAlone In m → SuitsAlone p → SuitsAlone p') → QueueGood n In us ph' l t e
+      ((x : ℕ) → x ≢ m → In x → slice_index us (queue_next_word n x) ≡ slice_index ws (queue_next_word n x)) →
+      ((x : ℕ) → x ≢ m → In x → slice_index us (status_word n x) ≡ slice_index ws (status_word n x)) →
+      Own n.budget In p' (slice_index us (queue_next_word n m)) (slice_index us (status_word n m)) → (Busy p' → In m) →
+      (IsAlone In m → SuitsAlone p → SuitsAlone p') → QueueGood n In us ph' l t e
   outside_keeps ws us ph ph' l t e m p p' g mv was now tl nx st own ins alone =
       let L : Lane = lane_of n ws ph in
       let M : Lane = lane_of n us ph' in
@@ -165,12 +180,16 @@ module _ (n : TheNames) (In : ℕ → Type 0) where
       }
 
   -- the head moves and stays the head, and no word changes
-  pub first_keeps : (ws : List ℕ) (ph ph' : ℕ → Phase) (l : List ℕ) (t t' : List Event) (e e' m : ℕ) (p p' : Phase) → QueueGood n In ws ph l t e → Moves ph ph' m p p' →
+  pub first_keeps : (ws : List ℕ) (ph ph' : ℕ → Phase) (l : List ℕ) (t t' : List Event) (e e' m : ℕ) (p p' : Phase) →
+      QueueGood n In ws ph l t e → Moves ph ph' m p p' →
       IsFirst p (slice_index ws (status_word n m)) → Leads n.budget p' (slice_index ws (status_word n m)) →
-      Own n.budget In p' (slice_index ws (queue_next_word n m)) (slice_index ws (status_word n m)) → (IsAlone In m → SuitsAlone p → SuitsAlone p') → (Awaits p' → slice_index ws n.tail ≢ m + 1) →
+      Own n.budget In p' (slice_index ws (queue_next_word n m)) (slice_index ws (status_word n m)) →
+      (IsAlone In m → SuitsAlone p → SuitsAlone p') → (Awaits p' → slice_index ws n.tail ≢ m + 1) →
       ((r : List ℕ) →
-      QueueTrace n.queue n.budget t e (rest_if (served p (slice_index ws (status_word n m))) m r) (credit p (slice_index ws (status_word n m))) (count (holds p (slice_index ws (status_word n m)))) →
-      QueueTrace n.queue n.budget t' e' (rest_if (served p' (slice_index ws (status_word n m))) m r) (credit p' (slice_index ws (status_word n m))) (count (holds p' (slice_index ws (status_word n m))))) →
+      QueueTrace n.queue n.budget t e (rest_if (served p (slice_index ws (status_word n m))) m r)
+      (credit p (slice_index ws (status_word n m))) (count (holds p (slice_index ws (status_word n m)))) →
+      QueueTrace n.queue n.budget t' e' (rest_if (served p' (slice_index ws (status_word n m))) m r)
+      (credit p' (slice_index ws (status_word n m))) (count (holds p' (slice_index ws (status_word n m))))) →
       QueueGood n In ws ph' l t' e'
   first_keeps ws ph ph' l t t' e e' m p p' g mv first leads own alone waits says =
       let L : Lane = lane_of n ws ph in

@@ -35,15 +35,18 @@ served_first _ s h = cc
 
 module _ (n : TheNames) (In : ℕ → Type 0) where
   -- one that is served is the first
-  pub served_head : (ws : List ℕ) (ph : ℕ → Phase) (l : List ℕ) (t : List Event) (e i : ℕ) → QueueGood n In ws ph l t e → served (ph i) (slice_index ws (status_word n i)) ≡ true → is_served (head_in (lane_of n ws ph) l) ≡ true
+  pub served_head : (ws : List ℕ) (ph : ℕ → Phase) (l : List ℕ) (t : List Event) (e i : ℕ) → QueueGood n In ws ph l t e →
+      served (ph i) (slice_index ws (status_word n i)) ≡ true → is_served (head_in (lane_of n ws ph) l) ≡ true
   served_head ws ph l t e i g h =
       let a = is_first n.budget In (lane_of n ws ph) l i g.inv (served_first (ph i) _ h) in
       ap (λ z. is_served (head_in (lane_of n ws ph) z)) a.1 ∙ h
 
   -- and where the head is served a member is
-  pub head_served : (ws : List ℕ) (ph : ℕ → Phase) (l : List ℕ) (t : List Event) (e : ℕ) → QueueGood n In ws ph l t e → is_served (head_in (lane_of n ws ph) l) ≡ true → (h : ℕ) × (In h × (served (ph h) (slice_index ws (status_word n h)) ≡ true))
+  pub head_served : (ws : List ℕ) (ph : ℕ → Phase) (l : List ℕ) (t : List Event) (e : ℕ) → QueueGood n In ws ph l t e →
+      is_served (head_in (lane_of n ws ph) l) ≡ true → (h : ℕ) × (In h × (served (ph h) (slice_index ws (status_word n h)) ≡ true))
   head_served ws ph l t e g h = at l (λ x k. in_line n.budget In (lane_of n ws ph) l x g.inv k) h where
-    at : (k : List ℕ) → ((x : ℕ) → Has x k → In x) → is_served (head_in (lane_of n ws ph) k) ≡ true → (h : ℕ) × (In h × (served (ph h) (slice_index ws (status_word n h)) ≡ true))
+    at : (k : List ℕ) → ((x : ℕ) → Has x k → In x) → is_served (head_in (lane_of n ws ph) k) ≡ true →
+        (h : ℕ) × (In h × (served (ph h) (slice_index ws (status_word n h)) ≡ true))
     at [] f h = cc
     at (x ∷ r) f h = (x, (f x (inl refl), h))
 
@@ -63,21 +66,26 @@ module _ (n : TheNames) (In : ℕ → Type 0) where
   turn_may_go m _ got = tt
 
   -- what a waiting member finds is its status
-  pub wait_found : (ws : List ℕ) (m : ℕ) (p : Phase) (a : Act) → plan_at n m p ≡ Some a → p ≡ Wait → told a (slice_index ws (word_of a)) ≡ slice_index ws (status_word n m)
+  pub wait_found : (ws : List ℕ) (m : ℕ) (p : Phase) (a : Act) → plan_at n m p ≡ Some a → p ≡ Wait →
+      told a (slice_index ws (word_of a)) ≡ slice_index ws (status_word n m)
   wait_found ws m p a pl e =
       let same : Load (status_word n m) ≡ a = same_Some _ _ (sym (ap (plan_at n m) e) ∙ pl) in
       ap (λ b. told b (slice_index ws (word_of b))) (sym same)
 
   -- no act gives the queue to a member where none had it: settling alone does
-  pub served_back : (ws : List ℕ) (ph ph' : ℕ → Phase) (l k : List ℕ) (t t' : List Event) (e e' m : ℕ) (p : Phase) (a : Act) → IsNaming n In (length ws) → QueueGood n In ws ph l t e → plan_at n m p ≡ Some a →
-      (mv : Moves ph ph' m p (turn_at n m p (told a (slice_index ws (word_of a)))).phase) → LineStep m p (turn_at n m p (told a (slice_index ws (word_of a)))).phase l k →
-      QueueGood n In (slice_set ws (word_of a) (written a (slice_index ws (word_of a)))) ph' k t' e' → (i : ℕ) → served (ph' i) (slice_index (slice_set ws (word_of a) (written a (slice_index ws (word_of a)))) (status_word n i)) ≡ true →
+  pub served_back : (ws : List ℕ) (ph ph' : ℕ → Phase) (l k : List ℕ) (t t' : List Event) (e e' m : ℕ) (p : Phase) (a : Act) →
+      IsNaming n In (length ws) → QueueGood n In ws ph l t e → plan_at n m p ≡ Some a →
+      (mv : Moves ph ph' m p (turn_at n m p (told a (slice_index ws (word_of a)))).phase) → LineStep m p
+      (turn_at n m p (told a (slice_index ws (word_of a)))).phase l k →
+      QueueGood n In (slice_set ws (word_of a) (written a (slice_index ws (word_of a)))) ph' k t' e' → (i : ℕ) →
+      served (ph' i) (slice_index (slice_set ws (word_of a) (written a (slice_index ws (word_of a)))) (status_word n i)) ≡ true →
       (h : ℕ) × (In h × (served (ph h) (slice_index ws (status_word n h)) ≡ true))
   served_back ws ph ph' l k t t' e e' m p a d g pl mv step new i h =
       let q : Phase = (turn_at n m p (told a (slice_index ws (word_of a)))).phase in
       let f = head_act n In ws ph ph' l k t e m p a d g mv.was pl mv step in
       head_served ws ph l t e g
-      (served_before n.budget m p q (slice_index ws (status_word n m)) (head_in (lane_of n ws ph) l) (head_in (lane_of n (slice_set ws (word_of a) (written a (slice_index ws (word_of a)))) ph') k) f
+      (served_before n.budget m p q (slice_index ws (status_word n m)) (head_in (lane_of n ws ph) l)
+      (head_in (lane_of n (slice_set ws (word_of a) (written a (slice_index ws (word_of a)))) ph') k) f
       (λ w left eq.
       let found : told a (slice_index ws (word_of a)) ≡ slice_index ws (status_word n m) = wait_found ws m p a pl w in
       wait_passes m _ left (sym (ap (λ z. (turn_at n m z (told a (slice_index ws (word_of a)))).phase) w ∙ ap (λ z. (turn_at n m Wait z).phase) found) ∙ eq))
@@ -85,7 +93,8 @@ module _ (n : TheNames) (In : ℕ → Type 0) where
       (served_head (slice_set ws (word_of a) (written a (slice_index ws (word_of a)))) ph' k t' e' i new h))
 
   -- while a member must settle nobody has been given the queue
-  pub settle_unserved : (ws : List ℕ) (ph : ℕ → Phase) (l : List ℕ) (t : List Event) (e m i : ℕ) → QueueGood n In ws ph l t e → ph m ≡ Settle → served (ph i) (slice_index ws (status_word n i)) ≡ true → ⊥
+  pub settle_unserved : (ws : List ℕ) (ph : ℕ → Phase) (l : List ℕ) (t : List Event) (e m i : ℕ) → QueueGood n In ws ph l t e →
+      ph m ≡ Settle → served (ph i) (slice_index ws (status_word n i)) ≡ true → ⊥
   settle_unserved ws ph l t e m i g q h =
       let same : m ≡ i = one_first n In ws ph l t e m i g (subst (λ z. IsFirst z (slice_index ws (status_word n m))) (sym q) tt) (served_first (ph i) _ h) in
       let no : served (ph i) (slice_index ws (status_word n i)) ≡ false = ap (λ z. served z (slice_index ws (status_word n i))) (ap ph (sym same) ∙ q) in

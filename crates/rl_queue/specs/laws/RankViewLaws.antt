@@ -7,7 +7,8 @@ use Rattle.rl_step.specs.Lock.{first_views}
 use Rattle.rl_queue.specs.RankViews.{of_rank}
 
 -- where rank r's view changes, what holds of its new one, and of each other, holds of all
-pub each_set : {V : Type 0} (P : ℕ → V → Type 0) (vs us : List V) (r : ℕ) (w : V) → us ≡ slice_set vs r w → P r w → ((i : ℕ) (u : V) → i ≢ r → slice_get vs i ≡ Some u → P i u) → (i : ℕ) (u : V) → slice_get us i ≡ Some u → P i u
+pub each_set : {V : Type 0} (P : ℕ → V → Type 0) (vs us : List V) (r : ℕ) (w : V) → us ≡ slice_set vs r w → P r w →
+    ((i : ℕ) (u : V) → i ≢ r → slice_get vs i ≡ Some u → P i u) → (i : ℕ) (u : V) → slice_get us i ≡ Some u → P i u
 each_set P vs us r w e here there i u h =
     ⊎_elim
     (λ p. subst (λ z. P z u) (sym p.0) (subst (P r) (sym p.1) here))

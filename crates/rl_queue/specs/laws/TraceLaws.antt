@@ -38,12 +38,14 @@ module _ (q : ℕ) (B : Option ℕ) where
       trace_more t [] e e c c' h h w w s (append-nil w) (omega arith) (λ b room eb k. (tt, omega arith))
 
   -- a member joins: it waits behind all others
-  pub trace_join : (t : List Event) (e c c' h : ℕ) (w : List ℕ) (m : ℕ) → QueueTrace q B t e w c h → c' ≤ c → QueueTrace q B (t ++ Join q m ∷ []) e (w ++ m ∷ []) c' h
+  pub trace_join : (t : List Event) (e c c' h : ℕ) (w : List ℕ) (m : ℕ) → QueueTrace q B t e w c h → c' ≤ c →
+      QueueTrace q B (t ++ Join q m ∷ []) e (w ++ m ∷ []) c' h
   trace_join t e c c' h w m s le =
       trace_more t (Join q m ∷ []) e e c c' h h w (w ++ m ∷ []) s (rw (same_test q)) (omega arith) (λ b room eb k. ((tt, tt), omega arith))
 
   -- the first that waits settles: it has the queue, with the whole budget
-  pub trace_settle : (t : List Event) (e c c' : ℕ) (w : List ℕ) (m : ℕ) → QueueTrace q B t e (m ∷ w) c 0 → c' ≤ full_budget B → QueueTrace q B (t ++ Settle q m ∷ []) e w c' 1
+  pub trace_settle : (t : List Event) (e c c' : ℕ) (w : List ℕ) (m : ℕ) → QueueTrace q B t e (m ∷ w) c 0 → c' ≤ full_budget B →
+      QueueTrace q B (t ++ Settle q m ∷ []) e w c' 1
   trace_settle t e c c' w m s le =
       let one : settled q (Settle q m ∷ []) ≡ 1 = rw (same_test q) in
       trace_more t (Settle q m ∷ []) e e c c' 0 1 (m ∷ w) w s (rw (same_test q) (append-nil (m ∷ w))) (omega arith)
@@ -54,7 +56,8 @@ module _ (q : ℕ) (B : Option ℕ) where
         after b room = rw (same_test q)
 
   -- the first that waits is passed to: it has the queue, with one pass less than there was credit
-  pub trace_pass : (t : List Event) (e c c' : ℕ) (w : List ℕ) (m : ℕ) → QueueTrace q B t e (m ∷ w) c 0 → ((b : ℕ) → B ≡ Some b → c' + 1 ≤ c) → QueueTrace q B (t ++ Pass q m ∷ []) e w c' 1
+  pub trace_pass : (t : List Event) (e c c' : ℕ) (w : List ℕ) (m : ℕ) → QueueTrace q B t e (m ∷ w) c 0 →
+      ((b : ℕ) → B ≡ Some b → c' + 1 ≤ c) → QueueTrace q B (t ++ Pass q m ∷ []) e w c' 1
   trace_pass t e c c' w m s le =
       let one : passed q (Pass q m ∷ []) ≡ 1 = rw (same_test q) in
       trace_more t (Pass q m ∷ []) e e c c' 0 1 (m ∷ w) w s (rw (same_test q) (append-nil (m ∷ w))) (omega arith)
@@ -80,10 +83,26 @@ module _ (q : ℕ) (B : Option ℕ) where
   apart_nothing (Announce c) ne = record { no_join = refl; no_gift = refl; no_settle = refl; no_pass = refl; no_room = λ b room. refl; fits = λ room. tt }
   apart_nothing (Pass k m) ne =
       let f : (k == q) ≡ false = other_test k q ne in
-      record { no_join = refl; no_gift = ap (λ z. alone_if z m) f; no_settle = refl; no_pass = ap count f; no_room = λ b room. ap (λ z. if z then room - 1 else room) f; fits = λ room same. absurd (ne same) }
+      record {
+        no_join = refl;
+        no_gift = ap (λ z. alone_if z m) f;
+        no_settle = refl;
+        no_pass = ap count f;
+        no_room =
+            λ b room. ap (λ z. if z then room - 1 else room) f;
+        fits = λ room same. absurd (ne same);
+      }
   apart_nothing (Settle k m) ne =
       let f : (k == q) ≡ false = other_test k q ne in
-      record { no_join = refl; no_gift = ap (λ z. alone_if z m) f; no_settle = ap count f; no_pass = refl; no_room = λ b room. ap (λ z. if z then b else room) f; fits = λ room. tt }
+      record {
+        no_join = refl;
+        no_gift = ap (λ z. alone_if z m) f;
+        no_settle = ap count f;
+        no_pass = refl;
+        no_room =
+            λ b room. ap (λ z. if z then b else room) f;
+        fits = λ room. tt;
+      }
   apart_nothing (Touch k x) ne = record { no_join = refl; no_gift = refl; no_settle = refl; no_pass = refl; no_room = λ b room. refl; fits = λ room. tt }
   apart_nothing (EnterW k) ne = record { no_join = refl; no_gift = refl; no_settle = refl; no_pass = refl; no_room = λ b room. refl; fits = λ room. tt }
   apart_nothing (EnterR k) ne = record { no_join = refl; no_gift = refl; no_settle = refl; no_pass = refl; no_room = λ b room. refl; fits = λ room. tt }
@@ -91,7 +110,8 @@ module _ (q : ℕ) (B : Option ℕ) where
   apart_nothing (LeaveR k) ne = record { no_join = refl; no_gift = refl; no_settle = refl; no_pass = refl; no_room = λ b room. refl; fits = λ room. tt }
 
   -- such an event, with which a tenure may end
-  trace_beside : (t : List Event) (ev : Event) (e e' c h h' : ℕ) (w : List ℕ) → Apart q B ev → e + h ≡ e' + h' → QueueTrace q B t e w c h → QueueTrace q B (t ++ ev ∷ []) e' w c h'
+  trace_beside : (t : List Event) (ev : Event) (e e' c h h' : ℕ) (w : List ℕ) → Apart q B ev → e + h ≡ e' + h' → QueueTrace q B t e w c h →
+      QueueTrace q B (t ++ ev ∷ []) e' w c h'
   trace_beside t ev e e' c h h' w ap_ev sum s =
       let n = apart_nothing ev ap_ev in
       let a : settles q ev ≡ 0 = n.no_settle in

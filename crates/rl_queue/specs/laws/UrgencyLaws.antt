@@ -40,13 +40,15 @@ module _ (N : TheNames) (ws : List ℕ) (m : ℕ) where
   urgent_busy Idle n e = cc
   urgent_busy _ n e = tt
 
-  pub urgent_free : (p : Phase) (n : ℕ) → urgent_at p (loaded ws (plan_at N m p)) ≡ Some n → Stuck p (slice_index ws (queue_next_word N m)) (slice_index ws (status_word N m)) → ⊥
+  pub urgent_free : (p : Phase) (n : ℕ) → urgent_at p (loaded ws (plan_at N m p)) ≡ Some n →
+      Stuck p (slice_index ws (queue_next_word N m)) (slice_index ws (status_word N m)) → ⊥
   urgent_free Wait n e k = waits_none (slice_index ws (status_word N m)) n e k
   urgent_free (Await left) n e k = waits_none (slice_index ws (queue_next_word N m)) n e k
   urgent_free _ n e k = k
 
   -- and who uses it and isn't stuck is urgent
-  pub free_urgent : (p : Phase) → Busy p → (Stuck p (slice_index ws (queue_next_word N m)) (slice_index ws (status_word N m)) → ⊥) → urgent_at p (loaded ws (plan_at N m p)) ≡ None → ⊥
+  pub free_urgent : (p : Phase) → Busy p → (Stuck p (slice_index ws (queue_next_word N m)) (slice_index ws (status_word N m)) → ⊥) →
+      urgent_at p (loaded ws (plan_at N m p)) ≡ None → ⊥
   free_urgent Idle busy free e = absurd busy
   free_urgent Wait busy free e = waits_some (slice_index ws (status_word N m)) free e
   free_urgent (Await left) busy free e = waits_some (slice_index ws (queue_next_word N m)) free e
@@ -59,7 +61,8 @@ loaded_in n ws (Some (Load w)) low = sym (get_or-take n ws w 0 (low (Load w) ref
 loaded_in n ws (Some _) low = refl
 
 -- the planned act of a lock is made on one of its words
-module _ {V : Type 0} (T : LockTable V) (good : LockState V → Type 0) (further : List Event → List Deed → Type 0) (layout : Layout) (laws : LockLaws T good further layout) (v : V) (may : MayStep good v) where
+module _ {V : Type 0} (T : LockTable V) (good : LockState V → Type 0) (further : List Event → List Deed → Type 0) (layout : Layout)
+    (laws : LockLaws T good further layout) (v : V) (may : MayStep good v) where
   pub aims : (a : Act) → T.plan v ≡ Some a → word_of a < T.size
   aims a pl = (laws.lawful may.state may.rank v a (record { is_good = may.is_good; has = may.has; planned = pl })).0.there
 

@@ -27,7 +27,7 @@ use Rattle.rl_rank.specs.declared.effect.Effect.{Effect}
 use Rattle.rl_rank.specs.declared.effect.Effect.TheVariants.{Work, Stay, Learn}
 use Rattle.rl_rank.specs.declared.whole.WholeView.{WholeView}
 use Rattle.rl_rank.specs.Running.{LockAt, Goods, BothLaws}
-use Rattle.rl_rank.specs.Split.{SplitState, LockGood, StandsStill, lock_of, home_of, card_atom, side_atom, skips, atom_at, effect_at, plan_home, deed_of, turned_by}
+use Rattle.rl_rank.specs.Split.{SplitState, LockGood, StandsStill, lock_of, home_of, card_atom, side_atom, skips, atom_at, effect_at, plan_home, deed_of, turned_side}
 use Rattle.rl_rank.specs.laws.SplitActs.{plain_words, skipped_words}
 use Rattle.rl_rank.specs.laws.SplitLaws.{lawful_act}
 use Rattle.rl_rank.specs.laws.LearnLaws.{learns_at, first_learns, load_learns}
@@ -52,7 +52,7 @@ work_quiet mine r None st follow = departs_quiet mine r st follow
 work_quiet mine r (Some w) st follow = let quiet : reader_entries mine (departure_by r st follow) ≡ 0 = departs_quiet mine r st follow in omega arith
 
 -- and it decides no act of the lock
-none_decided : {V : Type 0} (T : LockTable V) (r : ℕ) (v : V) (home : ℕ) (p : Option Act) (c : CardState) (got : ℕ) → atom_at home p c ≡ None → (turned_by T r v p (effect_at home p c got)).deeds ≡ []
+none_decided : {V : Type 0} (T : LockTable V) (r : ℕ) (v : V) (home : ℕ) (p : Option Act) (c : CardState) (got : ℕ) → atom_at home p c ≡ None → (turned_side T r v p (effect_at home p c got)).deeds ≡ []
 none_decided T r v home p (ToLeave n) got e = cc
 none_decided T r v home None Free got e = refl
 none_decided T r v home None InCard got e = refl
@@ -102,7 +102,7 @@ module _ (V K : Type 0) (L : LockAt V K) (good : Goods V K) (further : List Even
     -- an atom of the lock
     lock_shows : (b : Atom) → side_atom L.table x.side ≡ Some b → (w : Worked K) (t : Effect) →
         effect_at (plan_home L.table (L.table.plan x.side.view)) (L.table.plan x.side.view) x.side.card (do_got (shifted L.base b) h.words h.cards) ≡ t → is_work t ≡ false →
-        AreActsOf (turned_by L.table x.rank x.side.view (L.table.plan x.side.view) t).deeds (seen (shifted L.base b) (effect_turned L x w t).events)
+        AreActsOf (turned_side L.table x.rank x.side.view (L.table.plan x.side.view) t).deeds (seen (shifted L.base b) (effect_turned L x w t).events)
     lock_shows b e w Work is calm = absurd (cc)
     lock_shows b e w (Stay hand answer) is calm = shows_none (seen (shifted L.base b) []) (λ mine. refl)
     lock_shows b e w (Learn hand told' lost) is calm =

@@ -17,7 +17,7 @@ use Rattle.rl_rank.specs.declared.card_state.CardState.{CardState}
 use Rattle.rl_rank.specs.declared.card_state.CardState.TheVariants.{Free, InCard, Loaded, ToLeave}
 use Rattle.rl_rank.specs.declared.effect.Effect.TheVariants.{Stay, Learn}
 use Rattle.rl_rank.specs.declared.side.Side.{Side}
-use Rattle.rl_rank.specs.Split.{SplitState, LockGood, StandsStill, Leads, card_atom, card_after, card_in, card_of, first_atom, home_of, lock_of, moved, skips, turned_by, view_of}
+use Rattle.rl_rank.specs.Split.{SplitState, LockGood, StandsStill, Leads, card_atom, card_after, card_in, card_of, first_atom, home_of, lock_of, moved, skips, turned_side, view_of}
 use Rattle.rl_rank.specs.laws.SplitActs.{bool_cases, first_card, plain_words, plain_got, skipped_words, told_card, after_plain, after_take, after_load, after_skip}
 use Rattle.rl_ending.specs.Ending.{LockEnds, Nears, left_in}
 use Rattle.rl_ending.specs.laws.Sums.{sum_falls, sum_turned}
@@ -72,7 +72,7 @@ module _ (V : Type 0) (T : LockTable V) (good : LockState V → Type 0) (further
       let tc : told a k ≡ k = told_card V T a k bc in
       let b : begun_of T (sight_of T s) r x ≡ made T (sight_of T s) r v a = ap (λ q. begun_by T (sight_of T s) r v q InCard) pl in
       ⊎_elim
-      (λ sk. let ha : card_after T r v (Some a) InCard k ≡ turned_by T r v (Some a) (Learn (ToLeave n) k true) = after_skip V T r v a k sk in
+      (λ sk. let ha : card_after T r v (Some a) InCard k ≡ turned_side T r v (Some a) (Learn (ToLeave n) k true) = after_skip V T r v a k sk in
       let y : Side V = record { view = (T.learn v k).view; card = ToLeave n } in
       let es : t.sides ≡ slice_set s.sides r y = l.sides ∙ ap (λ z. slice_set s.sides r z.side) ha in
       let e : made T (sight_of T s) r v a ≡ sight_of T t =
@@ -80,7 +80,7 @@ module _ (V : Type 0) (T : LockTable V) (good : LockState V → Type 0) (further
       (ap (slice_set s.words (word_of a)) (skipped_words V T a k bc sk) ∙ set-get_or s.words (word_of a) 0 ∙ sym l.words)
       (ap (λ q. slice_set (map view_of s.sides) r (T.learn v q).view) tc ∙ sym (views_after s t r y es)) in
       goes_in s t r x y has before es (b ∙ e ∙ sym (leaves_by (sight_of T t) r n y.view (T.plan y.view))) (omega arith))
-      (λ sk. let ha : card_after T r v (Some a) InCard k ≡ turned_by T r v (Some a) (Stay (Loaded k) Moved) = after_load V T r v a k sk in
+      (λ sk. let ha : card_after T r v (Some a) InCard k ≡ turned_side T r v (Some a) (Stay (Loaded k) Moved) = after_load V T r v a k sk in
       let y : Side V = record { view = v; card = Loaded k } in
       let es : t.sides ≡ slice_set s.sides r y = l.sides ∙ ap (λ z. slice_set s.sides r z.side) ha in
       let e : sight_of T s ≡ sight_of T t = same_sight (sight_of T s) (sight_of T t) (sym l.words) (same_views s t r x y has es refl) in
@@ -155,7 +155,7 @@ module _ (V : Type 0) (T : LockTable V) (good : LockState V → Type 0) (further
       (λ bc.
       let fa : first_atom T a ≡ atom.Take n = first_card V T a bc in
       let none : slice_index s.cards n ≡ 0 = free_card s n (slice_index s.cards n) g free refl in
-      let ha : card_after T r v (Some a) Free (do_got (first_atom T a) s.words s.cards) ≡ turned_by T r v (Some a) (Stay InCard Moved) =
+      let ha : card_after T r v (Some a) Free (do_got (first_atom T a) s.words s.cards) ≡ turned_side T r v (Some a) (Stay InCard Moved) =
       ap (λ z. card_after T r v (Some a) Free (do_got z s.words s.cards)) fa ∙ after_take V T r v a (slice_index s.cards n) bc (ap (λ q. q == 0) none) in
       let y : Side V = record { view = v; card = InCard } in
       let es : t.sides ≡ slice_set s.sides r y = l.sides ∙ ap (λ z. slice_set s.sides r z.side) ha in
@@ -166,8 +166,8 @@ module _ (V : Type 0) (T : LockTable V) (good : LockState V → Type 0) (further
       ∙ ap (λ q. begun_by T (sight_of T t) r v q InCard) pl ∙ ap (λ z. made T z r v a) e in
       nearer t y b before (subst (λ zs. sum_by atoms_of zs ≡ sum_by atoms_of (slice_set s.sides r y)) (sym es) refl) (sum_turned atoms_of s.sides r x y has) (omega arith))
       (λ bc.
-      let ha : card_after T r v (Some a) Free (do_got (first_atom T a) s.words s.cards) ≡ turned_by T r v (Some a) (Learn Free (told a (slice_index s.words w)) (skips a (told a (slice_index s.words w)))) =
-      after_plain V T r v a (do_got (first_atom T a) s.words s.cards) bc ∙ ap (λ z. turned_by T r v (Some a) (Learn Free z (skips a z))) (plain_got V T a s.words s.cards bc) in
+      let ha : card_after T r v (Some a) Free (do_got (first_atom T a) s.words s.cards) ≡ turned_side T r v (Some a) (Learn Free (told a (slice_index s.words w)) (skips a (told a (slice_index s.words w)))) =
+      after_plain V T r v a (do_got (first_atom T a) s.words s.cards) bc ∙ ap (λ z. turned_side T r v (Some a) (Learn Free z (skips a z))) (plain_got V T a s.words s.cards bc) in
       let y : Side V = record { view = (T.learn v (told a (slice_index s.words w))).view; card = Free } in
       let es : t.sides ≡ slice_set s.sides r y = l.sides ∙ ap (λ z. slice_set s.sides r z.side) ha in
       let ew : t.words ≡ slice_set s.words w (written a (slice_index s.words w)) = l.words ∙ plain_words V T a s.words bc in

@@ -21,7 +21,7 @@ use Rattle.rl_rank.specs.declared.card_state.CardState.{CardState}
 use Rattle.rl_rank.specs.declared.card_state.CardState.TheVariants.{Free, InCard, Loaded, ToLeave}
 use Rattle.rl_rank.specs.declared.effect.Effect.TheVariants.{Learn}
 use Rattle.rl_rank.specs.declared.whole.WholeView.{WholeView}
-use Rattle.rl_rank.specs.Split.{SplitState, lock_of, view_of, home_of, plan_home, first_atom, card_atom, side_atom, skips, guess_of, answer_of, effect_at, turned_by, card_after, StandsStill}
+use Rattle.rl_rank.specs.Split.{SplitState, lock_of, view_of, home_of, plan_home, first_atom, card_atom, side_atom, skips, guess_of, answer_of, effect_at, turned_side, card_after, StandsStill}
 use Rattle.rl_rank.specs.laws.SplitActs.{bool_cases, card_cases, plain_cases, first_card, plain_got, after_plain, after_take, after_busy, after_load, after_skip}
 use Rattle.rl_rank.specs.laws.SplitLaws.{none_at}
 use Rattle.rl_rank.specs.Whole.{side_of, work_side, split_of, lock_words, shifted, shifted_answer, next_of, after_of, Good}
@@ -176,7 +176,7 @@ module _ (V K : Type 0) (L : LockAt V K) (h : TheWindow) (v : V) (rounds : Begin
 
   -- the one atom of a plain act
   plain_cause : (r : ℕ) (a : Act) (got : ℕ) → L.table.plan v ≡ Some a → by_card a ≡ false → got ≡ do_got (first_atom L.table a) (drop L.base h.words) h.cards →
-      CauseOf (shifted L.base (first_atom L.table a)) (turned_by L.table r v (Some a) (Learn Free got (skips a got))).stepped
+      CauseOf (shifted L.base (first_atom L.table a)) (turned_side L.table r v (Some a) (Learn Free got (skips a got))).stepped
   plain_cause r a got pl bc eg =
       let tells : got ≡ told a (slice_index h.words (L.base + word_of a)) = eg ∙ plain_got V L.table a (drop L.base h.words) h.cards bc ∙ ap (told a) (in_window (word_of a)) in
       ⊎_elim

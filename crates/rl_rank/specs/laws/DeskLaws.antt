@@ -142,21 +142,21 @@ module _ (V K : Type 0) (L : LockAt V K) (good : Goods V K) (further : List Even
           (o.0, o.1, o.2)
 
       abbrev SeenOpen : ℕ → Type 0
-      SeenOpen n = is_open L (record { side = y.side; rank = x.rank; work = L.work.opens n x.work calls seq }) ≡ true
+      SeenOpen n = is_open L (record { side = y.side; kept = x.kept; rank = x.rank; work = L.work.opens n x.work calls seq }) ≡ true
 
       is_opened : (n : ℕ) → L.work.is_open (L.work.opens n x.work calls seq) ≡ true → SeenOpen n
       is_opened n e = or_true (is_at_work (L.table.standing y.side.view) y.side.card) (L.work.is_open (L.work.opens n x.work calls seq)) e
 
       pub told_opens : OpensBlock calls seq (told_desk L h.words r x) (told_desk L h.words r y)
       told_opens =
-          subst (λ n. OpensBlock calls seq (told_desk L h.words r x) (told_desk L h.words r (record { side = y.side; rank = x.rank; work = L.work.opens n x.work calls seq }))) (sym (g.own r x has))
-          (opened_by (is_open L x) (is_open L (record { side = y.side; rank = x.rank; work = L.work.opens r x.work calls seq })) (look L.work h.words r x.work) (look L.work h.words r (L.work.opens r x.work calls seq)) calls seq
+          subst (λ n. OpensBlock calls seq (told_desk L h.words r x) (told_desk L h.words r (record { side = y.side; kept = x.kept; rank = x.rank; work = L.work.opens n x.work calls seq }))) (sym (g.own r x has))
+          (opened_by (is_open L x) (is_open L (record { side = y.side; kept = x.kept; rank = x.rank; work = L.work.opens r x.work calls seq })) (look L.work h.words r x.work) (look L.work h.words r (L.work.opens r x.work calls seq)) calls seq
           opens_looks.0 (is_opened r opens_looks.2))
 
       pub own_opens : OpensBlock calls seq (own_desk L x) (own_desk L y)
       own_opens =
-          subst (λ n. OpensBlock calls seq (own_desk L x) (own_desk L (record { side = y.side; rank = x.rank; work = L.work.opens n x.work calls seq }))) (sym (g.own r x has))
-          (opened_by (is_open L x) (is_open L (record { side = y.side; rank = x.rank; work = L.work.opens r x.work calls seq })) (own_look L.work x.work) (own_look L.work (L.work.opens r x.work calls seq)) calls seq
+          subst (λ n. OpensBlock calls seq (own_desk L x) (own_desk L (record { side = y.side; kept = x.kept; rank = x.rank; work = L.work.opens n x.work calls seq }))) (sym (g.own r x has))
+          (opened_by (is_open L x) (is_open L (record { side = y.side; kept = x.kept; rank = x.rank; work = L.work.opens r x.work calls seq })) (own_look L.work x.work) (own_look L.work (L.work.opens r x.work calls seq)) calls seq
           opens_looks.1 (is_opened r opens_looks.2))
 
     -- the rank makes an atom

@@ -60,7 +60,7 @@ module _ {V K : Type 0} (L : LockAt V K) (x : WholeView V K) (a : Act) (planned 
       let turned : after_of L x got ≡ effect_turned L x (L.work.after x.rank x.work got) (Stay Free (Busy node (got - 1))) = after_effect L x got (Stay Free (Busy node (got - 1))) means in
       subst (λ o. IsIdle (whole_shard L home) h k x o (Busy node (got - 1))) (sym take_next) (
         ap (λ b. record { words = h.words; cards = if b then slice_set h.cards node (k + 1) else h.cards }) held,
-        ap (λ z. z.view) turned ∙ ap (λ c. record { side = record { view = x.side.view; card = c }; rank = x.rank; work = x.work }) (sym free),
+        ap (λ z. z.view) turned ∙ ap (λ c. record { side = record { view = x.side.view; card = c }; kept = x.kept; rank = x.rank; work = x.work }) (sym free),
         ap (λ z. z.events) turned,
         ap (λ z. z.stepped) turned,
       )
@@ -86,8 +86,8 @@ module _ {V K : Type 0} (L : LockAt V K) (x : WholeView V K) (w : ℕ) (planned 
   load_idle home h k got is same none waits =
       let turned : after_of L x got ≡ effect_turned L x (L.work.after x.rank x.work got) (Learn Free got false) = after_effect L x got (Learn Free got false) (load_means got) in
       let view : (after_of L x got).view ≡ x =
-      ap (λ z. z.view) turned ∙ ap (λ v. record { side = record { view = v; card = Free }; rank = x.rank; work = x.work }) same
-      ∙ ap (λ c. record { side = record { view = x.side.view; card = c }; rank = x.rank; work = x.work }) (sym free) in
+      ap (λ z. z.view) turned ∙ ap (λ v. record { side = record { view = v; card = Free }; kept = x.kept; rank = x.rank; work = x.work }) same
+      ∙ ap (λ c. record { side = record { view = x.side.view; card = c }; kept = x.kept; rank = x.rank; work = x.work }) (sym free) in
       let answer : (after_of L x got).stepped ≡ Waiting (L.base + w) got =
       ap (λ z. z.stepped) turned ∙ ap (λ q. shifted_answer L.base (answer_of q got false (L.table.learn x.side.view got).waits)) planned
       ∙ ap (λ b. shifted_answer L.base (answer_of (Some (act.Load w)) got false b)) waits in
@@ -135,7 +135,7 @@ module _ {V K : Type 0} (L : LockAt V K) (x : WholeView V K) (w : ℕ) (loads : 
   own_idle planned free home h k got is waits =
       let turned : after_of L x got ≡ work_turned L x (record { work = x.work; follow = On; stepped = Waiting w got }) = after_effect L x got effect.Work (own_means planned free got) ∙ ap (work_turned L x) waits.0 in
       let view : (after_of L x got).view ≡ x =
-      ap (λ z. z.view) turned ∙ ap (λ c. record { side = record { view = x.side.view; card = c }; rank = x.rank; work = x.work }) (sym free) in
+      ap (λ z. z.view) turned ∙ ap (λ c. record { side = record { view = x.side.view; card = c }; kept = x.kept; rank = x.rank; work = x.work }) (sym free) in
       let events : (after_of L x got).events ≡ [] = ap (λ z. z.events) turned ∙ ap (λ t. touch_by x.rank t ++ []) waits.1 in
       subst (λ o. IsIdle (whole_shard L home) h k x o (Waiting w got)) (sym loads) (
         refl,

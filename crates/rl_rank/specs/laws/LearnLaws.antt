@@ -14,7 +14,7 @@ use Rattle.rl_rank.specs.declared.card_state.CardState.TheVariants.{Free, InCard
 use Rattle.rl_rank.specs.declared.card_state.CardState.{CardState}
 use Rattle.rl_rank.specs.declared.effect.Effect.{Effect}
 use Rattle.rl_rank.specs.declared.effect.Effect.TheVariants.{Work, Stay, Learn}
-use Rattle.rl_rank.specs.Split.{SplitState, LockGood, StandsStill, lock_of, view_of, home_of, first_atom, card_atom, skips, effect_at, plan_home, turned_by}
+use Rattle.rl_rank.specs.Split.{SplitState, LockGood, StandsStill, lock_of, view_of, home_of, first_atom, card_atom, skips, effect_at, plan_home, turned_side}
 use Rattle.rl_rank.specs.laws.SplitActs.{plain_got, told_card}
 use Rattle.rl_rank.specs.laws.Bridge.{Moves, is_work}
 
@@ -54,7 +54,7 @@ module _ (V : Type 0) (T : LockTable V) (good : LockState V → Type 0) (further
   -- what an atom of the lock does to its rank's standing
   pub moves_by : (s : SplitState V) (r : ℕ) (v : V) (c : CardState) (got : ℕ) (e : Effect) → LockGood T good layout s → slice_get s.sides r ≡ Some (record { view = v; card = c }) →
       effect_at (plan_home T (T.plan v)) (T.plan v) c got ≡ e → is_work e ≡ false → ((at : Atom) → card_atom T (T.plan v) c ≡ Some at → got ≡ do_got at s.words s.cards) →
-      Moves r (T.standing v) (T.standing (turned_by T r v (T.plan v) e).side.view) (turned_by T r v (T.plan v) e).events
+      Moves r (T.standing v) (T.standing (turned_side T r v (T.plan v) e).side.view) (turned_side T r v (T.plan v) e).events
   moves_by s r v c got Work g has is calm k = absurd (cc)
   moves_by s r v c got (Stay d answer) g has is calm k = inl (refl, refl)
   moves_by s r v c got (Learn d t lost) g has is calm k =

@@ -28,9 +28,10 @@ use Rattle.rl_rank.specs.Opening.{opened_in, asked_if}
 use Rattle.rl_core.specs.ShardTables.{opening_held}
 use Rattle.rl_rank.specs.declared.whole.WholeView.{WholeView}
 use Rattle.rl_rank.specs.Split.{SplitState, LockGood, card_atom, side_atom, lock_of, view_of}
+use Rattle.rl_rank.specs.laws.KeptLaws.{kept_after, kept_free}
 use Rattle.rl_rank.specs.laws.SplitLaws.{split_at, none_at}
 use Rattle.rl_rank.specs.laws.CallLaws.{opening_good, ask_keeps}
-use Rattle.rl_rank.specs.Whole.{side_of, work_side, split_of, lock_words, next_of, lock_or_work, work_plan, is_at_work, is_open, counts, leaves, Good}
+use Rattle.rl_rank.specs.Whole.{side_of, work_side, split_of, lock_words, next_of, lock_or_work, work_plan, is_at_work, is_open, planned_in, counts, leaves, Good}
 use Rattle.rl_rank.specs.laws.WholeLaws.{own_after, laid_by, work_at}
 
 none_is : (o : Option Atom) → is_some o ≡ false → o ≡ None
@@ -124,6 +125,7 @@ module _ (V K : Type 0) (L : LockAt V K) (good : Goods V K) (further : List Even
               let none : L.work.ended x.work ≡ [] =
               (laws.work.closed words (map (work_side L.table) vs) r (work_side L.table x) side shut).1 ∙ ap (λ z. (L.work.kept z).items) f.work ∙ ap (λ (z : TheTranscript). z.items) (laws.work.first r f.room).0 in
               ap (count_by (counts L)) (sym none);
+          keeps = λ r x h. kept_free x.side.card (planned_in L.table x) x.kept (first r x h).free;
           own = λ r x h. (first r x h).rank;
           base_is = is;
           behind_is = behind;
@@ -171,7 +173,7 @@ module _ (V K : Type 0) (L : LockAt V K) (good : Goods V K) (further : List Even
       opens = L.work.opens x.rank x.work c seq
 
       abbrev opened_by : Option Mode → WholeView V K
-      opened_by m = record { side = record { view = asked_if L.table x.side.view m; card = x.side.card }; rank = x.rank; work = opens }
+      opened_by m = record { side = record { view = asked_if L.table x.side.view m; card = x.side.card }; kept = x.kept; rank = x.rank; work = opens }
 
       asked_part : (m : Option Mode) → LockGood L.table good.lock layout (split_of L h (slice_set vs r (opened_by m)) (asked_modes g.modes r m) g.past)
       asked_part None =
@@ -210,6 +212,7 @@ module _ (V K : Type 0) (L : LockAt V K) (good : Goods V K) (further : List Even
                   (λ p. ap (λ z. leaves z g.past.trace) p.0 ∙ g.left_as r x has ∙ ap (count_by (counts L)) (sym opened.3) ∙ ap (λ z. count_by (counts L) (L.work.ended z)) same ∙ ap (λ z. count_by (counts L) (L.work.ended z.work)) (sym p.1))
                   (λ p. g.left_as i u p.1)
                   (get_set_cases vs r i y u q);
+              keeps = kept_after L.table vs r y g.keeps (kept_free x.side.card (planned_in L.table y) x.kept parts.1);
               own = own_after vs r x y g.own has refl;
               base_is = g.base_is;
               behind_is = g.behind_is;

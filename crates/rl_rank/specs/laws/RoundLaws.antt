@@ -48,8 +48,8 @@ module _ {V K : Type 0} (L : LockAt V K) (home : ℕ) (h : TheWindow) (x : Whole
       let is : got ≡ slice_index w.words (L.base + s.load) = sym shows ∙ ap (slice_index w.words) s.word in
       let turned : after_of L x got ≡ effect_turned L x (L.work.after x.rank x.work got) (Learn Free got false) = after_effect L x got (Learn Free got false) (load_means L x s.load s.planned free got) in
       let view : (after_of L x got).view ≡ with_lock x leg.sight =
-      ap (λ z. z.view) turned ∙ ap (λ v. record { side = record { view = v; card = Free }; rank = x.rank; work = x.work }) s.view
-      ∙ ap (λ c. record { side = record { view = leg.sight; card = c }; rank = x.rank; work = x.work }) (sym free) in
+      ap (λ z. z.view) turned ∙ ap (λ v. record { side = record { view = v; card = Free }; kept = x.kept; rank = x.rank; work = x.work }) s.view
+      ∙ ap (λ c. record { side = record { view = leg.sight; card = c }; kept = x.kept; rank = x.rank; work = x.work }) (sym free) in
       let answer : (after_of L x got).stepped ≡ leg_answer leg =
       ap (λ z. z.stepped) turned ∙ ap (λ q. shifted_answer L.base (answer_of q got false (L.table.learn x.side.view got).waits)) s.planned
       ∙ ap (λ b. shifted_answer L.base (answer_of (Some (act.Load s.load)) got false b)) s.waits ∙ answered leg.waits ∙ ap (λ n. load_answer n got leg.waits) (sym s.word) in

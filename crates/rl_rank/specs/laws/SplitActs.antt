@@ -16,7 +16,7 @@ use Rattle.rl_step.specs.Do.{do_words, do_cards, do_got}
 use Rattle.rl_rank.specs.declared.card_state.CardState.{CardState}
 use Rattle.rl_rank.specs.declared.card_state.CardState.TheVariants.{Free, InCard, Loaded, ToLeave}
 use Rattle.rl_rank.specs.declared.effect.Effect.TheVariants.{Stay, Learn}
-use Rattle.rl_rank.specs.Split.{card_after, StandsStill, skips, home_of, turned_by, first_at, first_atom}
+use Rattle.rl_rank.specs.Split.{card_after, StandsStill, skips, home_of, turned_side, first_at, first_atom}
 
 pub plain_not_card : class.Plain ≡ class.Card → ⊥
 plain_not_card e = cc
@@ -111,18 +111,18 @@ module _ (V : Type 0) (T : LockTable V) where
       (λ w k. inl (λ g. refl)) (λ w v k. inr (λ c. plain_not_card (sym k ∙ c))) (λ w old new k. inr (λ c. local_not_card (sym k.0 ∙ c))) a e l
 
   -- what an atom leaves, by cases
-  pub after_plain : (r : ℕ) (v : V) (a : Act) (got : ℕ) → by_card a ≡ false → card_after T r v (Some a) Free got ≡ turned_by T r v (Some a) (Learn Free got (skips a got))
+  pub after_plain : (r : ℕ) (v : V) (a : Act) (got : ℕ) → by_card a ≡ false → card_after T r v (Some a) Free got ≡ turned_side T r v (Some a) (Learn Free got (skips a got))
   after_plain r v a got e = rw e
 
-  pub after_take : (r : ℕ) (v : V) (a : Act) (got : ℕ) → by_card a ≡ true → (got == 0) ≡ true → card_after T r v (Some a) Free got ≡ turned_by T r v (Some a) (Stay InCard Moved)
+  pub after_take : (r : ℕ) (v : V) (a : Act) (got : ℕ) → by_card a ≡ true → (got == 0) ≡ true → card_after T r v (Some a) Free got ≡ turned_side T r v (Some a) (Stay InCard Moved)
   after_take r v a got e z = rw (e, z)
 
   pub after_busy : (r : ℕ) (v : V) (a : Act) (got : ℕ) → by_card a ≡ true → (got == 0) ≡ false →
-      card_after T r v (Some a) Free got ≡ turned_by T r v (Some a) (Stay Free (Busy (home_of T (word_of a)) (got - 1)))
+      card_after T r v (Some a) Free got ≡ turned_side T r v (Some a) (Stay Free (Busy (home_of T (word_of a)) (got - 1)))
   after_busy r v a got e z = rw (e, z)
 
-  pub after_load : (r : ℕ) (v : V) (a : Act) (got : ℕ) → skips a got ≡ false → card_after T r v (Some a) InCard got ≡ turned_by T r v (Some a) (Stay (Loaded got) Moved)
+  pub after_load : (r : ℕ) (v : V) (a : Act) (got : ℕ) → skips a got ≡ false → card_after T r v (Some a) InCard got ≡ turned_side T r v (Some a) (Stay (Loaded got) Moved)
   after_load r v a got e = rw e
 
-  pub after_skip : (r : ℕ) (v : V) (a : Act) (got : ℕ) → skips a got ≡ true → card_after T r v (Some a) InCard got ≡ turned_by T r v (Some a) (Learn (ToLeave (home_of T (word_of a))) got true)
+  pub after_skip : (r : ℕ) (v : V) (a : Act) (got : ℕ) → skips a got ≡ true → card_after T r v (Some a) InCard got ≡ turned_side T r v (Some a) (Learn (ToLeave (home_of T (word_of a))) got true)
   after_skip r v a got e = rw e

@@ -21,7 +21,7 @@ use Rattle.rl_rank.specs.declared.card_state.CardState.TheVariants.{Free, InCard
 use Rattle.rl_rank.specs.declared.effect.Effect.TheVariants.{Stay, Learn}
 use Rattle.rl_rank.specs.declared.side.Side.{Side}
 use Rattle.rl_core.specs.Domains.{UsesCards}
-use Rattle.rl_rank.specs.Split.{SplitState, LockGood, side_atom, card_atom, card_after, lock_of, view_of, card_of, card_in, StandsStill, moved, skips, home_of, turned_by, first_atom, Leads, Past, grown, deed_of}
+use Rattle.rl_rank.specs.Split.{SplitState, LockGood, side_atom, card_atom, card_after, lock_of, view_of, card_of, card_in, StandsStill, moved, skips, home_of, turned_side, first_atom, Leads, Past, grown, deed_of}
 use Rattle.rl_rank.specs.laws.SplitActs.{bool_cases, in_range, still_after_write, first_card, plain_words, plain_cards, plain_got, skipped_words, told_card, card_class, plain_class, after_plain, after_take, after_busy, after_load, after_skip}
 
 module _ (V : Type 0) (T : LockTable V) (good : LockState V → Type 0) (further : List Event → List Deed → Type 0) (layout : Layout) (laws : LockLaws T good further layout) where
@@ -244,11 +244,11 @@ module _ (V : Type 0) (T : LockTable V) (good : LockState V → Type 0) (further
       let eg : card_after T r v (Some a) Free (do_got (first_atom T a) s.words s.cards) ≡ card_after T r v (Some a) Free (slice_index s.cards n) =
       ap (λ z. card_after T r v (Some a) Free (do_got z s.words s.cards)) fa in
       ⊎_elim
-      (λ q. let ha : card_after T r v (Some a) Free (do_got (first_atom T a) s.words s.cards) ≡ turned_by T r v (Some a) (Stay InCard Moved) = eg ∙ after_take V T r v a (slice_index s.cards n) bc q.0 in
+      (λ q. let ha : card_after T r v (Some a) Free (do_got (first_atom T a) s.words s.cards) ≡ turned_side T r v (Some a) (Stay InCard Moved) = eg ∙ after_take V T r v a (slice_index s.cards n) bc q.0 in
       take_keeps s t r v a n g has pl bc (laws.lawful (lock_of s) r v a (record { is_good = g.lock; has = get_map view_of s.sides r x has; planned = pl })).1 refl (subst (λ k. n < k) (sym g.all_cards) law.homed) q.1 ew
       (ec ∙ ap (λ b. if b then slice_set s.cards n (r + 1) else s.cards) q.0)
       (l.sides ∙ ap (λ z. slice_set s.sides r z.side) ha) l.modes (l.past ∙ ap (λ z. grown s.past z.events z.deeds) ha ∙ grown_nil s.past))
-      (λ q. let ha : card_after T r v (Some a) Free (do_got (first_atom T a) s.words s.cards) ≡ turned_by T r v (Some a) (Stay Free (Busy n (slice_index s.cards n - 1))) = eg ∙ after_busy V T r v a (slice_index s.cards n) bc q.0 in
+      (λ q. let ha : card_after T r v (Some a) Free (do_got (first_atom T a) s.words s.cards) ≡ turned_side T r v (Some a) (Stay Free (Busy n (slice_index s.cards n - 1))) = eg ∙ after_busy V T r v a (slice_index s.cards n) bc q.0 in
       busy_keeps s t r x g has ew
       (ec ∙ ap (λ b. if b then slice_set s.cards n (r + 1) else s.cards) q.0)
       (l.sides ∙ ap (λ z. slice_set s.sides r z.side) ha) l.modes (l.past ∙ ap (λ z. grown s.past z.events z.deeds) ha ∙ grown_nil s.past))
@@ -256,8 +256,8 @@ module _ (V : Type 0) (T : LockTable V) (good : LockState V → Type 0) (further
       (λ bc.
       let ew : t.words ≡ slice_set s.words w (written a (slice_index s.words w)) = l.words ∙ plain_words V T a s.words bc in
       let ec : t.cards ≡ s.cards = l.cards ∙ plain_cards V T a r s.cards bc in
-      let ha : card_after T r v (Some a) Free (do_got (first_atom T a) s.words s.cards) ≡ turned_by T r v (Some a) (Learn Free (told a (slice_index s.words w)) (skips a (told a (slice_index s.words w)))) =
-      after_plain V T r v a (do_got (first_atom T a) s.words s.cards) bc ∙ ap (λ z. turned_by T r v (Some a) (Learn Free z (skips a z))) (plain_got V T a s.words s.cards bc) in
+      let ha : card_after T r v (Some a) Free (do_got (first_atom T a) s.words s.cards) ≡ turned_side T r v (Some a) (Learn Free (told a (slice_index s.words w)) (skips a (told a (slice_index s.words w)))) =
+      after_plain V T r v a (do_got (first_atom T a) s.words s.cards) bc ∙ ap (λ z. turned_side T r v (Some a) (Learn Free z (skips a z))) (plain_got V T a s.words s.cards bc) in
       let y : Side V = record { view = (T.learn v (told a (slice_index s.words w))).view; card = Free } in
       ⊎_elim
       (λ q. learnt_reads s t r x y a g has pl (q (slice_index s.words w)) (ew ∙ ap (slice_set s.words w) (q (slice_index s.words w)) ∙ set-get_or s.words w 0) ec
@@ -276,13 +276,13 @@ module _ (V : Type 0) (T : LockTable V) (good : LockState V → Type 0) (further
       let bc : by_card a ≡ true = subst (λ q. StandsStill s.words q InCard) pl (g.still r x has) in
       let tc : told a k ≡ k = told_card V T a k bc in
       ⊎_elim
-      (λ sk. let ha : card_after T r v (Some a) InCard k ≡ turned_by T r v (Some a) (Learn (ToLeave n) k true) = after_skip V T r v a k sk in
+      (λ sk. let ha : card_after T r v (Some a) InCard k ≡ turned_side T r v (Some a) (Learn (ToLeave n) k true) = after_skip V T r v a k sk in
       let y : Side V = record { view = (T.learn v k).view; card = ToLeave n } in
       learnt_reads s t r x y a g has pl (skipped_words V T a k bc sk) l.words l.cards
       (l.sides ∙ ap (λ z. slice_set s.sides r z.side) ha) (ap (λ z. (T.learn v z).view) (sym tc)) l.modes
       (l.past ∙ ap (λ z. grown s.past z.events z.deeds) ha ∙ ap (λ z. grown s.past (T.learn v z).events (deed_of r (Some a) z (T.learn v z).events)) (sym tc))
       (sym (ap (λ q. card_in T q InCard) pl)) tt)
-      (λ sk. let ha : card_after T r v (Some a) InCard k ≡ turned_by T r v (Some a) (Stay (Loaded k) Moved) = after_load V T r v a k sk in
+      (λ sk. let ha : card_after T r v (Some a) InCard k ≡ turned_side T r v (Some a) (Stay (Loaded k) Moved) = after_load V T r v a k sk in
       load_keeps s t r v a g has pl sk l.words l.cards
       (l.sides ∙ ap (λ z. slice_set s.sides r z.side) ha) l.modes (l.past ∙ ap (λ z. grown s.past z.events z.deeds) ha ∙ grown_nil s.past))
       (bool_cases (skips a k))

@@ -16,7 +16,8 @@ use Rattle.rl_step.specs.Core.{MayBe}
 use Rattle.rl_work.specs.declared.follow.Follow.{Follow}
 use Rattle.rl_work.specs.declared.follow.Follow.TheVariants.{On, Ask, Over}
 use Rattle.rl_work.specs.Ways.{WorkSide, Worked, Works, AsksOut, GoesOnAt}
-use Rattle.rl_core.specs.ShardLaws.{AllShut, MayOpen}
+use Rattle.rl_core.specs.ShardTables.{AllShut}
+use Rattle.rl_core.specs.ShardLaws.{MayOpen}
 use Rattle.rl_rank.specs.declared.card_state.CardState.TheVariants.{Free}
 use Rattle.rl_rank.specs.declared.effect.Effect.{Effect}
 use Rattle.rl_rank.specs.declared.side.Side.{Side}
@@ -29,7 +30,7 @@ use Rattle.rl_rank.specs.laws.Bridge.{IsOffLock, is_work, no_work, off_lock, sam
 use Rattle.rl_rank.specs.Whole.{side_of, work_side, split_of, lock_words, shifted, lock_or_work, work_plan, after_of, whole_turned, work_turned, followed, left_by, is_at_work, Good}
 use Rattle.rl_rank.specs.laws.WholeLaws.{laid, lock_low, lock_turned, work_at, works_at, after_work}
 use Rattle.rl_rank.specs.laws.OpenLaws.{shut_is_none, closed_parts}
-use Rattle.rl_rank.specs.WholeShards.{whole_shard, WholeGood}
+use Rattle.rl_rank.specs.WholeShards.{whole_shard, whole_says}
 use Rattle.rl_ending.specs.Ending.{LockEnds}
 use Rattle.rl_rank.specs.Begun.{split_left, AtomNears}
 use Rattle.rl_rank.specs.laws.BegunLaws.{AllFree}
@@ -113,9 +114,9 @@ module _ (V K : Type 0) (L : LockAt V K) (good : Goods V K) (further : List Even
           let got : k ≡ do_got at state.words state.cards = lock_got L at h.words h.cards low in
           let ef : Effect = effect_at (plan_home L.table (L.table.plan x.side.view)) (L.table.plan x.side.view) x.side.card k in
           let calm : is_work ef ≡ false = no_work (plan_home L.table (L.table.plan x.side.view)) (L.table.plan x.side.view) x.side.card k at e in
-          let after : after_of L x k ≡ whole_turned L.base x (side_after L.table x.rank x.side k) = lock_turned L x (L.work.after x.rank x.work k) ef calm in
+          let after : after_of L x k ≡ whole_turned L x (side_after L.table x.rank x.side k) = lock_turned L x (L.work.after x.rank x.work k) ef calm in
           let left_is : SideTurned V = side_after L.table x.rank x.side k in
-          let y : WholeView V K = record { side = left_is.side; rank = x.rank; work = x.work } in
+          let y : WholeView V K = (whole_turned L x left_is).view in
           let went : left_is ≡ side_after L.table r x.side (do_got at state.words state.cards) = ap (λ n. side_after L.table n x.side k) (g.own r x has) ∙ ap (side_after L.table r x.side) got in
           let new_words : List ℕ = do_words at state.words in
           let new_sides : List (Side V) = slice_set (map side_of vs) r (side_after L.table r x.side (do_got at state.words state.cards)).side in
@@ -147,7 +148,7 @@ module _ (V K : Type 0) (L : LockAt V K) (good : Goods V K) (further : List Even
           let k : ℕ = do_got at h.words h.cards in
           let w : Works L.work good.work h.words sides r (work_side L.table x) at = works_at V K L good further layout laws home h vs g r x has at rests planned in
           let t : Worked K = L.work.after r x.work k in
-          let y : WholeView V K = record { side = record { view = followed L.table x.side.view t.follow; card = Free }; rank = x.rank; work = t.work } in
+          let y : WholeView V K = record { side = record { view = followed L.table x.side.view t.follow; card = Free }; kept = x.kept; rank = x.rank; work = t.work } in
           let is_y : (after_of L x k).view ≡ y =
           ap (λ z. z.view) (after_work V K L good further layout laws home h vs g r x has none k) ∙ ap (λ n. (work_turned L x (L.work.after n x.work k)).view) (g.own r x has) in
           let on : IsOffLock L r at h.words h.cards = off_lock L g.base_is g.behind_is r at h.words h.cards (laws.work.plain h.words sides r (work_side L.table x) at w) in
@@ -192,7 +193,7 @@ module _ (V K : Type 0) (L : LockAt V K) (good : Goods V K) (further : List Even
           lock_goes n.at (subst (λ z. side_atom L.table z ≡ Some n.at) same n.next) (subst (λ z. split_left L.table left (moved L.table state r z n.at) < split_left L.table left state) same n.less)
 
     abbrev Shut : Type 0
-    Shut = AllShut (whole_shard L home) (WholeGood L good layout) vs
+    Shut = AllShut (whole_shard L home) vs
 
     abbrev Somebody : Type 0
     Somebody = Shut ⊎ GoesOn (whole_shard L home) left_of h vs
@@ -260,9 +261,9 @@ module _ (V K : Type 0) (L : LockAt V K) (good : Goods V K) (further : List Even
           (open_more most (work_left h.words (works_in sides)) (work_left h.words (slice_set (works_in sides) r (L.work.opens r x.work calls seq))) work_most
           (lock_left L.table left state.words (map side_of vs)) (lock_left L.table left state.words (slice_set (map side_of vs) r y.side)) few adds)
 
-  pub whole_ends : ShardEnds (whole_shard L home) (whole_left L left most work_left) (WholeGood L good layout) (whole_most L left most work_left work_most)
+  pub whole_ends : ShardEnds (whole_says L good further layout home) (whole_left L left most work_left) (whole_most L left most work_left work_most)
   whole_ends =
       record {
-        somebody = λ h vs t ds g. somebody h vs g.rule;
-        open_adds = λ h vs t ds r x calls seq s shut o. opened h vs s.is_good.rule shut r x s.has calls seq o;
+        somebody = λ m g. somebody m.held m.views g.rule;
+        open_adds = λ m r x calls seq s shut o. opened m.held m.views s.is_good.rule shut r x s.has calls seq o;
       }

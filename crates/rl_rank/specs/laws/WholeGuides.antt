@@ -11,7 +11,7 @@ use Rattle.rl_step.specs.Lock.{Deed, IsHolder, AllOut}
 use Rattle.rl_step.specs.Do.{TheWindow}
 use Rattle.rl_ending.specs.Ending.{LockEnds}
 use Rattle.rl_ending.specs.Guiding.{UrgencyOf, IsChosen, NoneUrgent, LockGuides}
-use Rattle.rl_core.specs.ShardLaws.{AllShut}
+use Rattle.rl_core.specs.ShardTables.{AllShut}
 use Rattle.rl_core.specs.ShardEnding.{Lessens}
 use Rattle.rl_core.specs.ShardGuiding.{ShardGuides}
 use Rattle.rl_work.specs.WorkEnding.{WorkEnds}
@@ -22,7 +22,7 @@ use Rattle.rl_rank.specs.declared.whole.WholeView.{WholeView}
 use Rattle.rl_rank.specs.Running.{LockAt, Goods, BothLaws}
 use Rattle.rl_rank.specs.Split.{SplitState, lock_of, view_of}
 use Rattle.rl_rank.specs.Whole.{side_of, split_of, lock_words, is_at_work, Good}
-use Rattle.rl_rank.specs.WholeShards.{whole_shard, WholeGood}
+use Rattle.rl_rank.specs.WholeShards.{whole_shard, whole_says}
 use Rattle.rl_rank.specs.laws.BegunLaws.{AllFree, IsFirstIn}
 use Rattle.rl_rank.specs.laws.CardEnding.{first_goes, act_goes}
 use Rattle.rl_rank.specs.WholeLeft.{whole_left}
@@ -195,7 +195,7 @@ module _ (V K : Type 0) (L : LockAt V K) (good : Goods V K) (further : List Even
           let bad : None ≡ Some (some.0 + 1) = sym (none i o.whole o.has) ∙ by_lock_is quiet i v some.0 o some.1 in cc)
           (some_or_not (by_lock v))
 
-      all_shut : AllShut (whole_shard L home) (WholeGood L good layout) vs
+      all_shut : AllShut (whole_shard L home) vs
       all_shut r x has =
           let out : L.table.standing x.side.view ≡ standing.Out = outs (guides.rest (lock_of state) g.lock_part.lock nobody) r x has in
           let free : x.side.card ≡ Free = is_free quiet r x has in
@@ -203,9 +203,10 @@ module _ (V K : Type 0) (L : LockAt V K) (good : Goods V K) (further : List Even
           out_shut (L.work.is_open x.work) (ap (λ st. out_urgency st (L.work.is_open x.work)) (sym out) ∙ sym (free_is x None free (nobody r x.side.view (view_there r x has))) ∙ none r x has) in
           ap (λ st. is_at_work st x.side.card || L.work.is_open x.work) out ∙ ap (λ c. is_at_work standing.Out c || L.work.is_open x.work) free ∙ shut
 
-  pub whole_guides : ShardGuides (whole_shard L home) (whole_left L left most work_left) (WholeGood L good layout) (whole_urgent L urgent)
+  pub whole_guides : ShardGuides (whole_says L good further layout home) (whole_left L left most work_left) (whole_urgent L urgent)
   whole_guides =
       record {
-        goes = λ h vs t ds r v g c has. subst (λ z. Lessens (whole_shard L home) (whole_left L left most work_left) h vs r z) (same_Some _ _ (sym c.has ∙ has)) (chosen_goes h vs g.rule r c);
-        rest = λ h vs t ds g none. all_shut h vs g.rule none;
+        goes = λ m r v s c.
+            subst (λ z. Lessens (whole_shard L home) (whole_left L left most work_left) m.held m.views r z) (same_Some _ _ (sym c.has ∙ s.has)) (chosen_goes m.held m.views s.is_good.rule r c);
+        rest = λ m g none. all_shut m.held m.views g.rule none;
       }

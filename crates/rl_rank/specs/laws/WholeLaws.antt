@@ -27,13 +27,14 @@ use Rattle.rl_rank.specs.declared.effect.Effect.{Effect}
 use Rattle.rl_rank.specs.declared.effect.Effect.TheVariants as effect
 use Rattle.rl_rank.specs.Running.{LockAt, Goods, BothLaws}
 use Rattle.rl_rank.specs.declared.whole.WholeView.{WholeView}
-use Rattle.rl_rank.specs.Split.{SplitState, SideTurned, Past, lock_of, view_of, side_atom, side_after, home_of, moved, turned_by, effect_at, plan_home, grown}
+use Rattle.rl_rank.specs.Split.{SplitState, SideTurned, Past, lock_of, view_of, side_atom, side_after, home_of, moved, turned_side, effect_at, plan_home, grown}
 use Rattle.rl_rank.specs.laws.SplitLaws.{atom_keeps, atom_can, split_at, none_at}
 use Rattle.rl_rank.specs.laws.AnswerLaws.{atom_goes_on}
 use Rattle.rl_rank.specs.laws.CallLaws.{work_keeps, modes_after}
 use Rattle.rl_rank.specs.laws.ShiftLaws.{IsLow, can_low, lock_words_made, lock_got, shift_cards, shift_home, there}
 use Rattle.rl_rank.specs.laws.Bridge.{Moves, leaves_more, moves_leaves, is_work, no_work, IsOffLock, off_lock, same_work}
 use Rattle.rl_rank.specs.laws.LearnLaws.{moves_by}
+use Rattle.rl_rank.specs.laws.KeptLaws.{kept_turned, kept_after}
 use Rattle.rl_rank.specs.Whole.{side_of, shifted, lock_words, lock_or_work, work_plan, next_of, after_of, effect_turned, whole_turned, work_turned, work_events, departure_by, followed, left_by, home_of_word, whole_table, split_of, work_side, counts, leaves, made_deeds, Good}
 
 -- each view is still its rank's own after one rank's view was changed
@@ -88,7 +89,7 @@ mode_there modes r i Over ne = refl
 
 -- an atom of the lock leaves of a view what it leaves of the lock's side
 pub lock_turned : {V K : Type 0} (L : LockAt V K) (x : WholeView V K) (t : Worked K) (e : Effect) → is_work e ≡ false →
-    effect_turned L x t e ≡ whole_turned L.base x (turned_by L.table x.rank x.side.view (L.table.plan x.side.view) e)
+    effect_turned L x t e ≡ whole_turned L x (turned_side L.table x.rank x.side.view (L.table.plan x.side.view) e)
 lock_turned L x t effect.Work calm = absurd (cc)
 lock_turned L x t (effect.Stay c s) calm = refl
 lock_turned L x t (effect.Learn c told lost) calm = refl
@@ -184,13 +185,13 @@ module _ (V K : Type 0) (L : LockAt V K) (good : Goods V K) (further : List Even
           let named : x.rank ≡ r = g.own r x has in
           let ef : Effect = effect_at (plan_home L.table (L.table.plan x.side.view)) (L.table.plan x.side.view) x.side.card k in
           let calm : is_work ef ≡ false = no_work (plan_home L.table (L.table.plan x.side.view)) (L.table.plan x.side.view) x.side.card k at e in
-          let after : after_of L x k ≡ whole_turned L.base x (side_after L.table x.rank x.side k) = lock_turned L x (L.work.after x.rank x.work k) ef calm in
+          let after : after_of L x k ≡ whole_turned L x (side_after L.table x.rank x.side k) = lock_turned L x (L.work.after x.rank x.work k) ef calm in
           let left_of : SideTurned V = side_after L.table x.rank x.side k in
-          let y : WholeView V K = record { side = record { view = left_of.side.view; card = left_of.side.card }; rank = x.rank; work = x.work } in
+          let y : WholeView V K = (whole_turned L x left_of).view in
           let has_side : slice_get state.sides r ≡ Some x.side = get_map side_of vs r x has in
           let went : left_of ≡ side_after L.table r x.side (do_got at state.words state.cards) = ap (λ n. side_after L.table n x.side k) named ∙ ap (side_after L.table r x.side) got in
           let moves : Moves r (L.table.standing x.side.view) (L.table.standing y.side.view) left_of.events =
-          subst (λ n. Moves r (L.table.standing x.side.view) (L.table.standing (turned_by L.table n x.side.view (L.table.plan x.side.view) ef).side.view) (turned_by L.table n x.side.view (L.table.plan x.side.view) ef).events) (sym named)
+          subst (λ n. Moves r (L.table.standing x.side.view) (L.table.standing (turned_side L.table n x.side.view (L.table.plan x.side.view) ef).side.view) (turned_side L.table n x.side.view (L.table.plan x.side.view) ef).events) (sym named)
           (moves_by V L.table good.lock further layout laws.lock state r x.side.view x.side.card k ef g.lock_part has_side refl calm (λ b p. got ∙ ap (λ z. do_got z state.words state.cards) (same_Some _ _ (sym e ∙ p)))) in
           let past : Past = (moved L.table state r x.side at).past in
           let trace : past.trace ≡ g.past.trace ++ left_of.events = ap (λ z. g.past.trace ++ z.events) (sym went) in
@@ -222,6 +223,7 @@ module _ (V K : Type 0) (L : LockAt V K) (good : Goods V K) (further : List Even
                 (λ p. ap (λ z. leaves z g.past.trace) p.0 ∙ g.left_as r x has ∙ ap (λ z. count_by (counts L) (L.work.ended z.work)) (sym p.1))
                 (λ p. g.left_as i u p.1)
                 (get_set_cases vs r i y u q);
+            keeps = kept_after L.table vs r y g.keeps (kept_turned L.table x.rank x.side.view k x.kept (L.table.plan x.side.view) x.side.card refl (g.keeps r x has));
             own = own_after vs r x y g.own has refl;
             base_is = g.base_is;
             behind_is = g.behind_is;
@@ -246,7 +248,7 @@ module _ (V K : Type 0) (L : LockAt V K) (good : Goods V K) (further : List Even
       abbrev turned_as : ℕ → ℕ → Turned (WholeView V K)
       turned_as n got =
           record {
-            view = record { side = record { view = followed L.table x.side.view (L.work.after n x.work got).follow; card = Free }; rank = x.rank; work = (L.work.after n x.work got).work };
+            view = record { side = record { view = followed L.table x.side.view (L.work.after n x.work got).follow; card = Free }; kept = x.kept; rank = x.rank; work = (L.work.after n x.work got).work };
             events = work_events n (L.work.touch x.work) (L.table.standing x.side.view) (L.work.after n x.work got).follow;
             stepped = (L.work.after n x.work got).stepped;
           }
@@ -258,7 +260,7 @@ module _ (V K : Type 0) (L : LockAt V K) (good : Goods V K) (further : List Even
           let st : Standing = L.table.standing x.side.view in
           let follows = laws.work.follows h.words h.cards sides r (work_side L.table x) at w in
           let on : IsOffLock L r at h.words h.cards = off_lock L g.base_is g.behind_is r at h.words h.cards (laws.work.plain h.words sides r (work_side L.table x) at w) in
-          let y : WholeView V K = record { side = record { view = followed L.table x.side.view t.follow; card = Free }; rank = x.rank; work = t.work } in
+          let y : WholeView V K = record { side = record { view = followed L.table x.side.view t.follow; card = Free }; kept = x.kept; rank = x.rank; work = t.work } in
           let stands : side_turned st t ≡ work_side L.table y = ap (λ z. record { standing = z; work = t.work }) (sym (followed_stands L.table good.lock further layout laws.lock x.side.view t.follow follows.0)) in
           let events : List Event = work_events r (L.work.touch x.work) st t.follow in
           let tenures = laws.work.tenures h.words h.cards sides r (work_side L.table x) at w L.table.shares (suits_at r x has) in (
@@ -279,6 +281,7 @@ module _ (V K : Type 0) (L : LockAt V K) (good : Goods V K) (further : List Even
                   here ∙ ap (λ n. n + leaves r events) (g.left_as r x has) ∙ ap (λ n. count_by (counts L) (L.work.ended x.work) + n) (events_leave r (L.work.touch x.work) st t.follow) ∙ sym tenures ∙ ap (λ z. count_by (counts L) (L.work.ended z.work)) (sym p.1))
                   (λ p. ap (λ n. leaves i g.past.trace + n) (events_elsewhere i r (L.work.touch x.work) st t.follow p.0) ∙ omega (arith, g.left_as i u p.1))
                   (get_set_cases vs r i y u q);
+              keeps = kept_after L.table vs r y g.keeps tt;
               own = own_after vs r x y g.own has refl;
               base_is = g.base_is;
               behind_is = g.behind_is;
@@ -298,8 +301,8 @@ module _ (V K : Type 0) (L : LockAt V K) (good : Goods V K) (further : List Even
           ∙ ap (λ c. effect_turned L x (L.work.after x.rank x.work k) (effect_at (plan_home L.table None) None c k)) (away none).1 in
           let mine : turned_as x.rank k ≡ turned_as r k = ap (λ n. turned_as n k) named in
           let no_deeds : made_deeds L.table x k ≡ [] =
-          ap (λ p. (turned_by L.table x.rank x.side.view p (effect_at (plan_home L.table p) p x.side.card k)).deeds) (away none).0
-          ∙ ap (λ c. (turned_by L.table x.rank x.side.view None (effect_at (plan_home L.table None) None c k)).deeds) (away none).1 in
+          ap (λ p. (turned_side L.table x.rank x.side.view p (effect_at (plan_home L.table p) p x.side.card k)).deeds) (away none).0
+          ∙ ap (λ c. (turned_side L.table x.rank x.side.view None (effect_at (plan_home L.table None) None c k)).deeds) (away none).1 in
           subst (Kept r at (after_of L x k)) (sym no_deeds) (subst (λ t. Kept r at t []) (sym (after ∙ mine)) (work_kept at none (works_at at rests planned)))
 
       -- no atom of the work is answered as if none was made

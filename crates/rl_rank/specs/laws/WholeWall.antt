@@ -36,8 +36,9 @@ use Rattle.rl_core.specs.Domains.{IsLocalAct}
 use Rattle.rl_core.specs.Idle.{IsIdle}
 use Rattle.rl_core.specs.EventRanks.{AreByRanks}
 use Rattle.rl_core.specs.Standings.{AloneIn, leaves}
-use Rattle.rl_core.specs.ShardTables.{ShardTable, opening_held, first_views, journal_at, kept_in}
-use Rattle.rl_core.specs.ShardLaws.{IsLaidAtSite, IsSeated, MayOpen, ShardCoreLaws}
+use Rattle.rl_core.specs.ShardTables.{ShardTable, first_views, journal_at, kept_in}
+use Rattle.rl_core.specs.Moments.{Moment, CoreSays, first_moment, after_atom, after_opening}
+use Rattle.rl_core.specs.ShardLaws.{IsLaidAtSite, IsSeated, IsNext, MayBegin, MayOpen, ShardCoreLaws}
 use Rattle.rl_rank.specs.declared.card_state.CardState.{CardState}
 use Rattle.rl_rank.specs.declared.card_state.CardState.TheVariants.{Free, InCard, Loaded, ToLeave}
 use Rattle.rl_rank.specs.declared.whole.WholeView.{WholeView}
@@ -58,7 +59,7 @@ use Rattle.rl_rank.specs.laws.IdleLaws.{held_idle}
 use Rattle.rl_rank.specs.Causes.{Cause}
 use Rattle.rl_rank.specs.laws.CauseLaws.{answer_cause, work_no_take}
 use Rattle.rl_rank.specs.laws.AnswerAtoms.{cause_answers}
-use Rattle.rl_rank.specs.WholeShards.{stand, standing_while, stand_on, IsDoneInCard, whole_shard, WholeGood}
+use Rattle.rl_rank.specs.WholeShards.{stand, standing_while, stand_on, IsDoneInCard, whole_shard, WholeGood, whole_says}
 use Rattle.rl_rank.specs.laws.Events.{all_named, atom_events}
 use Rattle.rl_rank.specs.laws.EventsBy.{by_ranks_more, change_by}
 use Rattle.rl_rank.specs.laws.Alone.{unhindered, take_unshifted}
@@ -121,45 +122,47 @@ module _ (V K : Type 0) (L : LockAt V K) (good : Goods V K) (further : List Even
   abbrev T : ShardTable (WholeView V K)
   T = whole_shard L home
 
-  abbrev G : TheWindow → List (WholeView V K) → List Event → List Deed → Type 0
+  abbrev S : CoreSays (WholeView V K)
+  S = whole_says L good further layout home
+
+  abbrev G : Moment (WholeView V K) → Type 0
   G = WholeGood L good layout
 
   abbrev locked : (h : TheWindow) (vs : List (WholeView V K)) → Good L good layout h vs → LockState V
   locked h vs g = lock_of (split_of L h vs g.modes g.past)
 
-  may : (h : TheWindow) (vs : List (WholeView V K)) (t : List Event) (ds : List Deed) (r : ℕ) (x : WholeView V K) → IsSeated T G h vs t ds r x → MayBe (Good L good layout) x
-  may h vs t ds r x s = record { held = h; views = vs; rank = r; is_ruled = s.is_good.rule; has = s.has }
+  may : (m : Moment (WholeView V K)) (r : ℕ) (x : WholeView V K) → IsSeated S m r x → MayBe (Good L good layout) x
+  may m r x s = record { held = m.held; views = m.views; rank = r; is_ruled = s.is_good.rule; has = s.has }
 
   few_behind : length L.work.site.rooms ≤ 32 → L.table.size + L.work.size ≤ 2 ^ 17
   few_behind few = let a = laws.lock.few_words in let b = laws.work.few_words few in omega arith
 
-  all_words : (h : TheWindow) (vs : List (WholeView V K)) (t : List Event) (ds : List Deed) → G h vs t ds → length h.words ≡ lock_base L.work.site + (L.table.size + L.work.size)
-  all_words h vs t ds g = let all = g.rule.all_words in let base = g.rule.base_is in omega arith
+  all_words : (m : Moment (WholeView V K)) → G m → length m.held.words ≡ lock_base L.work.site + (L.table.size + L.work.size)
+  all_words m g = let all = g.rule.all_words in let base = g.rule.base_is in omega arith
 
-  all_fit : (h : TheWindow) (vs : List (WholeView V K)) (t : List Event) (ds : List Deed) → G h vs t ds → lock_base L.work.site + (L.table.size + L.work.size) < 2 ^ 32
-  all_fit h vs t ds g = let fits = g.rule.fits in let base = g.rule.base_is in omega arith
+  all_fit : (m : Moment (WholeView V K)) → G m → lock_base L.work.site + (L.table.size + L.work.size) < 2 ^ 32
+  all_fit m g = let fits = g.rule.fits in let base = g.rule.base_is in omega arith
 
-  all_ranks : (h : TheWindow) (vs : List (WholeView V K)) (t : List Event) (ds : List Deed) → G h vs t ds → length vs ≡ length layout.node_of
-  all_ranks h vs t ds g = sym (length-map vs side_of) ∙ sym (length-map (map side_of vs) view_of) ∙ (laws.lock.sized (locked h vs g.rule) g.rule.lock_part.lock).1
+  all_ranks : (m : Moment (WholeView V K)) → G m → length m.views ≡ length layout.node_of
+  all_ranks m g = sym (length-map m.views side_of) ∙ sym (length-map (map side_of m.views) view_of) ∙ (laws.lock.sized (locked m.held m.views g.rule) g.rule.lock_part.lock).1
 
-  sizes : (h : TheWindow) (vs : List (WholeView V K)) (t : List Event) (ds : List Deed) → G h vs t ds → GeomFits L.work.site.geom
-  sizes h vs t ds g = (laws.work.fits h.words (map (work_side L.table) vs) g.rule.work_part).0
+  sizes : (m : Moment (WholeView V K)) → G m → GeomFits L.work.site.geom
+  sizes m g = (laws.work.fits m.held.words (map (work_side L.table) m.views) g.rule.work_part).0
 
   -- ---- what keeps it good
 
-  begins : (rooms : List ℕ) → IsLaidAtSite T L.work.site → GeomFits L.work.site.geom → lock_base L.work.site + (L.table.size + L.work.size) < 2 ^ 32 → length L.work.site.rooms ≡ length layout.node_of → length layout.node_of < 2 ^ 32 → length rooms ≡ length layout.node_of →
-      G (opening_held L.work.site (L.table.size + L.work.size) layout.nodes) (first_views T 0 rooms) [] []
-  begins rooms is_laid fits low ranks few all =
-      let base : L.base ≡ lock_base L.work.site = let w = is_laid.words_are in omega arith in
-      let behind : L.work.behind ≡ L.base + L.table.size = let o = is_laid.own_last in omega arith in
+  begins : (rooms : List ℕ) → MayBegin S rooms → G (first_moment T layout.nodes rooms)
+  begins rooms b =
+      let base : L.base ≡ lock_base L.work.site = let w = b.laid.words_are in omega arith in
+      let behind : L.work.behind ≡ L.base + L.table.size = let o = b.laid.own_last in omega arith in
       let vs : List (WholeView V K) = first_views T 0 rooms in
       let view : (r : ℕ) (x : WholeView V K) → slice_get vs r ≡ Some x → IsFirstView V K L good further layout laws home r x = λ r x e.
       let x_is : x ≡ first_view L (slice_index rooms r) (0 + r) = first_one L home 0 rooms r x e in
       let at : 0 + r ≡ r = omega arith in
       subst (IsFirstView V K L good further layout laws home r) (sym (x_is ∙ ap (first_view L (slice_index rooms r)) at))
       (record { lock = refl; free = refl; rank = refl; room = slice_index rooms r; work = refl }) in
-      let small : L.base + L.table.size + L.work.size < 2 ^ 32 = omega arith in
-      let q = opening_rule V K L good further layout laws home fits base behind small few ranks vs (firsts_long L home 0 rooms ∙ all) view in
+      let small : L.base + L.table.size + L.work.size < 2 ^ 32 = let low = b.small in omega arith in
+      let q = opening_rule V K L good further layout laws home b.fits base behind small b.few b.updates vs (firsts_long L home 0 rooms ∙ b.entries) view in
       let out : (k : ℕ) (st : Standing) → slice_get (map (stand L.table) vs) k ≡ Some st → st ≡ Out = λ k st e.
       let x = get_map_back (stand L.table) vs k st e in
       sym x.2 ∙ ap (stand L.table) (first_one L home 0 rooms k x.0 x.1) ∙ laws.lock.first_out (0 + k) in
@@ -188,15 +191,17 @@ module _ (V K : Type 0) (L : LockAt V K) (good : Goods V K) (further : List Even
   shut_by r Leaving b next es c at out = at
 
   -- so who is only in a card yet stays done
-  done_after : (h : TheWindow) (vs : List (WholeView V K)) (t : List Event) (ds : List Deed) (r : ℕ) (x : WholeView V K) (at : Atom) → IsSeated T G h vs t ds r x → next_of L x ≡ Some at → IsDoneInCard L (after_of L x (do_got at h.words h.cards)).view
-  done_after h vs t ds r x at s e out =
+  done_after : (m : Moment (WholeView V K)) (r : ℕ) (x : WholeView V K) (at : Atom) → IsNext S m r x at → IsDoneInCard L (after_of L x (do_got at m.held.words m.held.cards)).view
+  done_after m r x at n out =
+      let s = n.seated in
+      let e = n.next in
       let g = s.is_good in
-      let got : ℕ = do_got at h.words h.cards in
+      let got : ℕ = do_got at m.held.words m.held.cards in
       let es : List Event = (after_of L x got).events in
       ⊎_elim
       (λ q.
       let planned_none : stand L.table x ≡ Out → L.table.plan x.side.view ≡ None = λ was.
-      (laws.lock.rests (locked h vs g.rule) r x.side.view g.rule.lock_part.lock (get_map view_of (map side_of vs) r x.side (get_map side_of vs r x s.has))).1 (subst Rests (sym was) tt) in
+      (laws.lock.rests (locked m.held m.views g.rule) r x.side.view g.rule.lock_part.lock (get_map view_of (map side_of m.views) r x.side (get_map side_of m.views r x s.has))).1 (subst Rests (sym was) tt) in
       let was_shut : stand L.table x ≡ Out → L.work.is_open x.work ≡ false = λ was. ⊎_elim
       (λ free.
       let none : side_atom L.table x.side ≡ None = ap (λ p. card_atom L.table p x.side.card) (planned_none was) ∙ ap (card_atom L.table None) free in
@@ -207,60 +212,60 @@ module _ (V K : Type 0) (L : LockAt V K) (good : Goods V K) (further : List Even
       let same : x.work ≡ (after_of L x got).view.work = (after_lock V K L good further layout laws home x q.0 at got q.1).1 in
       inr (ap L.work.is_open (sym same)
       ∙ shut_by r (stand L.table x) (L.work.is_open x.work) (L.work.next r x.work) es
-      (subst (λ z. Change r (stand L.table x) z es) out (atom_change V K L good further layout laws home h vs r x at g.rule s.has e))
-      (laws.work.goes_on h.words (map (work_side L.table) vs) r (work_side L.table x) (work_at V K L good further layout laws home h vs g.rule r x s.has)) was_shut))
-      (λ q. inl (ap (λ (z : Turned (WholeView V K)). z.view.side.card) (after_work V K L good further layout laws home h vs g.rule r x s.has q.0 got)))
+      (subst (λ z. Change r (stand L.table x) z es) out (atom_change V K L good further layout laws home m.held m.views r x at g.rule s.has e))
+      (laws.work.goes_on m.held.words (map (work_side L.table) m.views) r (work_side L.table x) (work_at V K L good further layout laws home m.held m.views g.rule r x s.has)) was_shut))
+      (λ q. inl (ap (λ (z : Turned (WholeView V K)). z.view.side.card) (after_work V K L good further layout laws home m.held m.views g.rule r x s.has q.0 got)))
       (next_either V K L good further layout laws home x at e)
 
   done_set : (vs : List (WholeView V K)) (r : ℕ) (y : WholeView V K) → ((i : ℕ) (u : WholeView V K) → slice_get vs i ≡ Some u → IsDoneInCard L u) → IsDoneInCard L y → (i : ℕ) (u : WholeView V K) → slice_get (slice_set vs r y) i ≡ Some u → IsDoneInCard L u
   done_set vs r y done here i u e = ⊎_elim (λ q. subst (IsDoneInCard L) (sym q.1) here) (λ q. done i u q.1) (get_set_cases vs r i y u e)
 
-  atom_keeps : (h : TheWindow) (vs : List (WholeView V K)) (t : List Event) (ds : List Deed) (r : ℕ) (x : WholeView V K) (at : Atom) → IsSeated T G h vs t ds r x → next_of L x ≡ Some at →
-      G (do_atom r at h) (slice_set vs r (after_of L x (do_got at h.words h.cards)).view) (t ++ (after_of L x (do_got at h.words h.cards)).events) (ds ++ made_deeds L.table x (do_got at h.words h.cards))
-  atom_keeps h vs t ds r x at s e =
+  atom_keeps : (m : Moment (WholeView V K)) (r : ℕ) (x : WholeView V K) (at : Atom) → IsNext S m r x at → G (after_atom T m r x at)
+  atom_keeps m r x at n =
+      let s = n.seated in
+      let e = n.next in
       let g = s.is_good in
-      let y : WholeView V K = (after_of L x (do_got at h.words h.cards)).view in
-      let es : List Event = (after_of L x (do_got at h.words h.cards)).events in
-      let q = keeps_at V K L good further layout laws home h vs r x at g.rule s.has e in
-      let went : Goes (writers_of nobody t) (readers_of nobody t) es (slice_set (map (stand L.table) vs) r (stand L.table y)) =
-      goes (writers_of nobody t) (readers_of nobody t) (map (stand L.table) vs) r (stand L.table x) (stand L.table y) es g.match (alone_in V K L good further layout laws home h vs g.rule)
-      (subst AloneIn (map_set (stand L.table) vs r y) (alone_in V K L good further layout laws home (do_atom r at h) (slice_set vs r y) q.0))
-      (get_map (stand L.table) vs r x s.has) (atom_change V K L good further layout laws home h vs r x at g.rule s.has e) in
+      let y : WholeView V K = (after_of L x (do_got at m.held.words m.held.cards)).view in
+      let es : List Event = (after_of L x (do_got at m.held.words m.held.cards)).events in
+      let q = keeps_at V K L good further layout laws home m.held m.views r x at g.rule s.has e in
+      let went : Goes (writers_of nobody m.trace) (readers_of nobody m.trace) es (slice_set (map (stand L.table) m.views) r (stand L.table y)) =
+      goes (writers_of nobody m.trace) (readers_of nobody m.trace) (map (stand L.table) m.views) r (stand L.table x) (stand L.table y) es g.match (alone_in V K L good further layout laws home m.held m.views g.rule)
+      (subst AloneIn (map_set (stand L.table) m.views r y) (alone_in V K L good further layout laws home (do_atom r at m.held) (slice_set m.views r y) q.0))
+      (get_map (stand L.table) m.views r x s.has) (atom_change V K L good further layout laws home m.held m.views r x at g.rule s.has e) in
       record {
         rule = q.0;
         same = ap (λ z. z.trace) q.1 ∙ ap (λ z. z ++ es) g.same;
-        made = ap (λ z. z.deeds) q.1 ∙ ap (λ z. z ++ made_deeds L.table x (do_got at h.words h.cards)) g.made;
-        match = subst (λ z. Match z (readers_of nobody (t ++ es)) (map (stand L.table) (slice_set vs r y))) (sym (writers_append nobody t es))
-            (subst (λ z. Match (writers_of (writers_of nobody t) es) z (map (stand L.table) (slice_set vs r y))) (sym (readers_append nobody t es))
-            (subst (Match (writers_of (writers_of nobody t) es) (readers_of (readers_of nobody t) es)) (sym (map_set (stand L.table) vs r y)) went.match));
-        exclusive = exclusive_append nobody nobody t es g.exclusive went.exclusive;
-        named = all_named L.table.queues L.table.cohort t es g.named (atom_events V K L good further layout laws home h vs r x at g.rule s.has e).named;
-        by_ranks = subst (λ n. AreByRanks n (t ++ es)) (sym (length-set vs r y))
-            (by_ranks_more (length vs) t es g.by_ranks
-            (change_by (length vs) r (stand L.table x) (stand L.table y) es (slice_get_within vs r x s.has) (atom_change V K L good further layout laws home h vs r x at g.rule s.has e)));
-        done = done_set vs r y g.done (done_after h vs t ds r x at s e);
+        made = ap (λ z. z.deeds) q.1 ∙ ap (λ z. z ++ made_deeds L.table x (do_got at m.held.words m.held.cards)) g.made;
+        match = subst (λ z. Match z (readers_of nobody (m.trace ++ es)) (map (stand L.table) (slice_set m.views r y))) (sym (writers_append nobody m.trace es))
+            (subst (λ z. Match (writers_of (writers_of nobody m.trace) es) z (map (stand L.table) (slice_set m.views r y))) (sym (readers_append nobody m.trace es))
+            (subst (Match (writers_of (writers_of nobody m.trace) es) (readers_of (readers_of nobody m.trace) es)) (sym (map_set (stand L.table) m.views r y)) went.match));
+        exclusive = exclusive_append nobody nobody m.trace es g.exclusive went.exclusive;
+        named = all_named L.table.queues L.table.cohort m.trace es g.named (atom_events V K L good further layout laws home m.held m.views r x at g.rule s.has e).named;
+        by_ranks = subst (λ n. AreByRanks n (m.trace ++ es)) (sym (length-set m.views r y))
+            (by_ranks_more (length m.views) m.trace es g.by_ranks
+            (change_by (length m.views) r (stand L.table x) (stand L.table y) es (slice_get_within m.views r x s.has) (atom_change V K L good further layout laws home m.held m.views r x at g.rule s.has e)));
+        done = done_set m.views r y g.done (done_after m r x at n);
       }
 
-  open_good : (h : TheWindow) (vs : List (WholeView V K)) (t : List Event) (ds : List Deed) (r : ℕ) (x : WholeView V K) (calls : List Call) (seq : ℕ) → IsSeated T G h vs t ds r x → MayOpen T r x calls seq →
-      G h (slice_set vs r (opened_in L calls seq x)) t ds
-  open_good h vs t ds r x calls seq s o =
+  open_good : (m : Moment (WholeView V K)) (r : ℕ) (x : WholeView V K) (calls : List Call) (seq : ℕ) → IsSeated S m r x → MayOpen T r x calls seq → G (after_opening T m r x calls seq)
+  open_good m r x calls seq s o =
       let g = s.is_good in
       let y : WholeView V K = opened_in L calls seq x in
-      let q = open_keeps V K L good further layout laws home h vs r x g.rule s.has calls seq (shut_is_none V K L good further layout laws home x (may h vs t ds r x s) o.shut) o.fits o.takes in
-      let went : Goes (writers_of nobody t) (readers_of nobody t) [] (slice_set (map (stand L.table) vs) r (stand L.table y)) =
-      goes (writers_of nobody t) (readers_of nobody t) (map (stand L.table) vs) r (stand L.table x) (stand L.table y) [] g.match (alone_in V K L good further layout laws home h vs g.rule)
-      (subst AloneIn (map_set (stand L.table) vs r y) (alone_in V K L good further layout laws home h (slice_set vs r y) q.0))
-      (get_map (stand L.table) vs r x s.has)
+      let q = open_keeps V K L good further layout laws home m.held m.views r x g.rule s.has calls seq (shut_is_none V K L good further layout laws home x (may m r x s) o.shut) o.fits o.takes in
+      let went : Goes (writers_of nobody m.trace) (readers_of nobody m.trace) [] (slice_set (map (stand L.table) m.views) r (stand L.table y)) =
+      goes (writers_of nobody m.trace) (readers_of nobody m.trace) (map (stand L.table) m.views) r (stand L.table x) (stand L.table y) [] g.match (alone_in V K L good further layout laws home m.held m.views g.rule)
+      (subst AloneIn (map_set (stand L.table) m.views r y) (alone_in V K L good further layout laws home m.held (slice_set m.views r y) q.0))
+      (get_map (stand L.table) m.views r x s.has)
       (subst (λ z. Change r z (stand L.table y) []) (sym q.2) (asked_change V K L good further layout laws home r x (L.work.asks calls) q.2)) in
       record {
         rule = q.0;
         same = ap (λ z. z.trace) q.1 ∙ g.same;
         made = ap (λ z. z.deeds) q.1 ∙ g.made;
-        match = subst (Match (writers_of nobody t) (readers_of nobody t)) (sym (map_set (stand L.table) vs r y)) went.match;
+        match = subst (Match (writers_of nobody m.trace) (readers_of nobody m.trace)) (sym (map_set (stand L.table) m.views r y)) went.match;
         exclusive = g.exclusive;
         named = g.named;
-        by_ranks = subst (λ n. AreByRanks n t) (sym (length-set vs r y)) g.by_ranks;
-        done = done_set vs r y g.done (λ out. inl (closed_parts V K L good further layout laws home h vs r x g.rule s.has (shut_is_none V K L good further layout laws home x (may h vs t ds r x s) o.shut)).1);
+        by_ranks = subst (λ n. AreByRanks n m.trace) (sym (length-set m.views r y)) g.by_ranks;
+        done = done_set m.views r y g.done (λ out. inl (closed_parts V K L good further layout laws home m.held m.views r x g.rule s.has (shut_is_none V K L good further layout laws home x (may m r x s) o.shut)).1);
       }
 
   -- whoever stands as a holder on the shard stands so at the lock
@@ -280,78 +285,78 @@ module _ (V K : Type 0) (L : LockAt V K) (good : Goods V K) (further : List Even
       get_map (stand L.table) vs i x.0 x.1 ∙ ap (λ z. Some z) (holder_at p holds (stand L.table x.0) (L.work.is_open x.0.work) x.2) in
       record { one = λ i j p q. a.one i j (holder Writer tt i p) (holder Writer tt j q); none = λ i j p q. a.none i j (holder Writer tt i p) (holder Reader tt j q) }
 
-  stands_so : (h : TheWindow) (vs : List (WholeView V K)) (t : List Event) (ds : List Deed) (r : ℕ) (x : WholeView V K) → IsSeated T G h vs t ds r x → ((stand_on L x ≡ Writer) ↔ writers t r) × ((stand_on L x ≡ Reader) ↔ readers t r)
-  stands_so h vs t ds r x s =
-      let m : Match (writers_of nobody t) (readers_of nobody t) (map (stand L.table) vs) = s.is_good.match in
+  stands_so : (m : Moment (WholeView V K)) (r : ℕ) (x : WholeView V K) → IsSeated S m r x → ((stand_on L x ≡ Writer) ↔ writers m.trace r) × ((stand_on L x ≡ Reader) ↔ readers m.trace r)
+  stands_so m r x s =
+      let m0 : Match (writers_of nobody m.trace) (readers_of nobody m.trace) (map (stand L.table) m.views) = s.is_good.match in
       let b : Bool = L.work.is_open x.work in
-      let here : slice_get (map (stand L.table) vs) r ≡ Some (stand L.table x) = get_map (stand L.table) vs r x s.has in (
+      let here : slice_get (map (stand L.table) m.views) r ≡ Some (stand L.table x) = get_map (stand L.table) m.views r x s.has in (
         (
-          λ e. is_writer t r (m.writer r (here ∙ ap (λ z. Some z) (holder_at Writer tt (stand L.table x) b e))),
-          λ w. let same : stand L.table x ≡ Writer = same_Some _ _ (sym here ∙ m.writes r (writer_found t r w)) in ap (λ z. standing_while z (L.work.is_open x.work)) same,
+          λ e. is_writer m.trace r (m0.writer r (here ∙ ap (λ z. Some z) (holder_at Writer tt (stand L.table x) b e))),
+          λ w. let same : stand L.table x ≡ Writer = same_Some _ _ (sym here ∙ m0.writes r (writer_found m.trace r w)) in ap (λ z. standing_while z (L.work.is_open x.work)) same,
         ),
         (
-          λ e. is_reader t r (m.reader r (here ∙ ap (λ z. Some z) (holder_at Reader tt (stand L.table x) b e))),
-          λ w. let same : stand L.table x ≡ Reader = same_Some _ _ (sym here ∙ m.reads r (reader_found t r w)) in ap (λ z. standing_while z (L.work.is_open x.work)) same,
+          λ e. is_reader m.trace r (m0.reader r (here ∙ ap (λ z. Some z) (holder_at Reader tt (stand L.table x) b e))),
+          λ w. let same : stand L.table x ≡ Reader = same_Some _ _ (sym here ∙ m0.reads r (reader_found m.trace r w)) in ap (λ z. standing_while z (L.work.is_open x.work)) same,
         ),
       )
 
-  none_open : (h : TheWindow) (vs : List (WholeView V K)) (t : List Event) (ds : List Deed) (r : ℕ) (x : WholeView V K) → IsSeated T G h vs t ds r x → is_open L x ≡ false → next_of L x ≡ None
-  none_open h vs t ds r x s shut = shut_is_none V K L good further layout laws home x (may h vs t ds r x s) shut
+  none_open : (m : Moment (WholeView V K)) (r : ℕ) (x : WholeView V K) → IsSeated S m r x → is_open L x ≡ false → next_of L x ≡ None
+  none_open m r x s shut = shut_is_none V K L good further layout laws home x (may m r x s) shut
 
   -- ---- what is known
 
-  legal : (h : TheWindow) (vs : List (WholeView V K)) (t : List Event) (ds : List Deed) → G h vs t ds → IsLegal L.work.site.geom (journal_at T h.words) (kept_in T h.words 0 vs)
-  legal h vs t ds g =
-      subst (IsLegal L.work.site.geom (journal_at T h.words)) (sym (kept_all L home h.words 0 vs))
-      (laws.work.legal h.words (map (work_side L.table) vs) g.rule.work_part (laid V K L good further layout laws home h vs g.rule))
+  legal : (m : Moment (WholeView V K)) → G m → IsLegal L.work.site.geom (journal_at T m.held.words) (kept_in T m.held.words 0 m.views)
+  legal m g =
+      subst (IsLegal L.work.site.geom (journal_at T m.held.words)) (sym (kept_all L home m.held.words 0 m.views))
+      (laws.work.legal m.held.words (map (work_side L.table) m.views) g.rule.work_part (laid V K L good further layout laws home m.held m.views g.rule))
 
-  sorted : (h : TheWindow) (vs : List (WholeView V K)) (t : List Event) (ds : List Deed) → G h vs t ds → IsSorted (history (journal_at T h.words) (kept_in T h.words 0 vs))
-  sorted h vs t ds g =
-      subst (λ k. IsSorted (history (journal_at T h.words) k)) (sym (kept_all L home h.words 0 vs))
-      (laws.work.sorted h.words (map (work_side L.table) vs) g.rule.work_part (laid V K L good further layout laws home h vs g.rule))
+  sorted : (m : Moment (WholeView V K)) → G m → IsSorted (history (journal_at T m.held.words) (kept_in T m.held.words 0 m.views))
+  sorted m g =
+      subst (λ k. IsSorted (history (journal_at T m.held.words) k)) (sym (kept_all L home m.held.words 0 m.views))
+      (laws.work.sorted m.held.words (map (work_side L.table) m.views) g.rule.work_part (laid V K L good further layout laws home m.held m.views g.rule))
 
-  short : (h : TheWindow) (vs : List (WholeView V K)) (t : List Event) (ds : List Deed) → G h vs t ds → length (journal_at T h.words) ≤ places L.work.site
-  short h vs t ds g = laws.work.short h.words (map (work_side L.table) vs) g.rule.work_part (laid V K L good further layout laws home h vs g.rule)
+  short : (m : Moment (WholeView V K)) → G m → length (journal_at T m.held.words) ≤ places L.work.site
+  short m g = laws.work.short m.held.words (map (work_side L.table) m.views) g.rule.work_part (laid V K L good further layout laws home m.held m.views g.rule)
 
   -- no block of any rank is open
   abbrev NoneOpen : List (WholeView V K) → Type 0
   NoneOpen vs = (r : ℕ) (x : WholeView V K) → slice_get vs r ≡ Some x → is_open L x ≡ false
 
-  left : (h : TheWindow) (vs : List (WholeView V K)) (t : List Event) (ds : List Deed) → G h vs t ds → NoneOpen vs →
-      IsVolume L.work.site.geom L.work.site.shard (volume_of L.work.site.geom h.words) (table_after L.work.site.geom finite.empty (journal_at T h.words))
-  left h vs t ds g shut =
-      let rests : (r : ℕ) (y : WorkSide K) → slice_get (map (work_side L.table) vs) r ≡ Some y → L.work.is_open y.work ≡ false = λ r y e.
-      let x = get_map_back (work_side L.table) vs r y e in
-      let m : MayBe (Good L good layout) x.0 = record { held = h; views = vs; rank = r; is_ruled = g.rule; has = x.1 } in
-      ap (λ (z : WorkSide K). L.work.is_open z.work) (sym x.2) ∙ closed_work V K L good further layout laws home x.0 m (shut_is_none V K L good further layout laws home x.0 m (shut r x.0 x.1)) in
-      subst (λ l. IsVolume L.work.site.geom L.work.site.shard l (table_after L.work.site.geom finite.empty (journal_at T h.words)))
-      (volume_before (volume_words L.work.site.geom) (lock_base L.work.site) h.words (omega arith))
-      (laws.work.volume h.words (map (work_side L.table) vs) g.rule.work_part (laid V K L good further layout laws home h vs g.rule) rests)
+  left : (m : Moment (WholeView V K)) → G m → NoneOpen m.views →
+      IsVolume L.work.site.geom L.work.site.shard (volume_of L.work.site.geom m.held.words) (table_after L.work.site.geom finite.empty (journal_at T m.held.words))
+  left m g shut =
+      let rests : (r : ℕ) (y : WorkSide K) → slice_get (map (work_side L.table) m.views) r ≡ Some y → L.work.is_open y.work ≡ false = λ r y e.
+      let x = get_map_back (work_side L.table) m.views r y e in
+      let m0 : MayBe (Good L good layout) x.0 = record { held = m.held; views = m.views; rank = r; is_ruled = g.rule; has = x.1 } in
+      ap (λ (z : WorkSide K). L.work.is_open z.work) (sym x.2) ∙ closed_work V K L good further layout laws home x.0 m0 (shut_is_none V K L good further layout laws home x.0 m0 (shut r x.0 x.1)) in
+      subst (λ l. IsVolume L.work.site.geom L.work.site.shard l (table_after L.work.site.geom finite.empty (journal_at T m.held.words)))
+      (volume_before (volume_words L.work.site.geom) (lock_base L.work.site) m.held.words (omega arith))
+      (laws.work.volume m.held.words (map (work_side L.table) m.views) g.rule.work_part (laid V K L good further layout laws home m.held m.views g.rule) rests)
 
-  queues : (h : TheWindow) (vs : List (WholeView V K)) (t : List Event) (ds : List Deed) → G h vs t ds → KeepQueues L.table.queues t
-  queues h vs t ds g =
-      let within : KeepBudgets L.table.queues t = subst (KeepBudgets L.table.queues) g.same (λ i budget queue has b. laws.lock.within _ i budget queue g.rule.lock_part.lock has b) in
+  queues : (m : Moment (WholeView V K)) → G m → KeepQueues L.table.queues m.trace
+  queues m g =
+      let within : KeepBudgets L.table.queues m.trace = subst (KeepBudgets L.table.queues) g.same (λ i budget queue has b. laws.lock.within _ i budget queue g.rule.lock_part.lock has b) in
       record {
         budgets = within;
-        totals = λ i budget queue has b. within_bound t i budget (within i budget queue has b);
+        totals = λ i budget queue has b. within_bound m.trace i budget (within i budget queue has b);
         order = λ i queue has. subst (λ z. IsFifo z i) g.same (laws.lock.fifo _ i queue g.rule.lock_part.lock has);
       }
 
-  counted : (h : TheWindow) (vs : List (WholeView V K)) (t : List Event) (ds : List Deed) → G h vs t ds → NoneOpen vs → CountTenures L.table.queues t
-  counted h vs t ds g shut =
-      let out : AllOut L.table (locked h vs g.rule) = λ r v e.
-      let y = get_map_back view_of (map side_of vs) r v e in
-      let x = get_map_back side_of vs r y.0 y.1 in
-      let m : MayBe (Good L good layout) x.0 = record { held = h; views = vs; rank = r; is_ruled = g.rule; has = x.1 } in
-      ap L.table.standing (sym y.2 ∙ ap view_of (sym x.2)) ∙ closed_is_out V K L good further layout laws home x.0 m (shut_is_none V K L good further layout laws home x.0 m (shut r x.0 x.1)) in
+  counted : (m : Moment (WholeView V K)) → G m → NoneOpen m.views → CountTenures L.table.queues m.trace
+  counted m g shut =
+      let out : AllOut L.table (locked m.held m.views g.rule) = λ r v e.
+      let y = get_map_back view_of (map side_of m.views) r v e in
+      let x = get_map_back side_of m.views r y.0 y.1 in
+      let m0 : MayBe (Good L good layout) x.0 = record { held = m.held; views = m.views; rank = r; is_ruled = g.rule; has = x.1 } in
+      ap L.table.standing (sym y.2 ∙ ap view_of (sym x.2)) ∙ closed_is_out V K L good further layout laws home x.0 m0 (shut_is_none V K L good further layout laws home x.0 m0 (shut r x.0 x.1)) in
       λ i queue has. subst (λ z. settled i z + passed i z ≡ tenures queue z) g.same (laws.lock.counted _ i queue g.rule.lock_part.lock out has)
 
-  left_count : (h : TheWindow) (vs : List (WholeView V K)) (t : List Event) (ds : List Deed) (r : ℕ) (x : WholeView V K) → IsSeated T G h vs t ds r x → is_open L x ≡ false → leaves r t ≡ count_by (counts L) (L.work.kept x.work).items
-  left_count h vs t ds r x s shut =
+  left_count : (m : Moment (WholeView V K)) (r : ℕ) (x : WholeView V K) → IsSeated S m r x → is_open L x ≡ false → leaves r m.trace ≡ count_by (counts L) (L.work.kept x.work).items
+  left_count m r x s shut =
       let g = s.is_good in
-      let closed : L.work.is_open x.work ≡ false = closed_work V K L good further layout laws home x (may h vs t ds r x s) (none_open h vs t ds r x s shut) in
+      let closed : L.work.is_open x.work ≡ false = closed_work V K L good further layout laws home x (may m r x s) (none_open m r x s shut) in
       ap (leaves r) (sym g.same) ∙ g.rule.left_as r x s.has
-      ∙ ap (count_by (counts L)) (laws.work.closed h.words (map (work_side L.table) vs) r (work_side L.table x) (work_at V K L good further layout laws home h vs g.rule r x s.has) closed).1
+      ∙ ap (count_by (counts L)) (laws.work.closed m.held.words (map (work_side L.table) m.views) r (work_side L.table x) (work_at V K L good further layout laws home m.held m.views g.rule r x s.has) closed).1
 
   -- ---- answers
 
@@ -367,9 +372,11 @@ module _ (V K : Type 0) (L : LockAt V K) (good : Goods V K) (further : List Even
       let same : at ≡ atom.Take n = same_Some _ _ e in
       subst (λ z. ((after_of L x (do_got z k.words k.cards)).view ≡ x) × ((after_of L x (do_got z k.words k.cards)).events ≡ []) × ((after_of L x (do_got z k.words k.cards)).stepped ≡ Busy n (slice_index k.cards n - 1))) same (i.1, i.2, i.3)
 
-  held : (h : TheWindow) (vs : List (WholeView V K)) (t : List Event) (ds : List Deed) (r : ℕ) (x : WholeView V K) (node : ℕ) (k : TheWindow) → IsSeated T G h vs t ds r x → next_of L x ≡ Some (atom.Take node) → (slice_index k.cards node == 0) ≡ false →
+  held : (m : Moment (WholeView V K)) (r : ℕ) (x : WholeView V K) (node : ℕ) (k : TheWindow) → IsNext S m r x (atom.Take node) → (slice_index k.cards node == 0) ≡ false →
       LeftHeld x k node
-  held h vs t ds r x node k s e full =
+  held m r x node k n full =
+      let s = n.seated in
+      let e = n.next in
       let g = s.is_good.rule in
       ⊎_elim
       (λ q.
@@ -377,36 +384,36 @@ module _ (V K : Type 0) (L : LockAt V K) (good : Goods V K) (further : List Even
       subst (LeftHeld x k) b.at_home
       (idle_held x k r (home_of L.table (word_of b.a)) (next_of L x) (e ∙ ap (λ n. Some (atom.Take n)) (sym b.at_home))
       (held_idle L x b.a b.planned b.free b.card home k r (ap (λ n. slice_index k.cards n == 0) b.at_home ∙ full))))
-      (λ q. absurd (work_no_take L.work (atom.Take node) node (laws.work.plain h.words (map (work_side L.table) vs) r (work_side L.table x) (atom.Take node) (works_at V K L good further layout laws home h vs g r x s.has (atom.Take node) q.1 q.2)) refl))
+      (λ q. absurd (work_no_take L.work (atom.Take node) node (laws.work.plain m.held.words (map (work_side L.table) m.views) r (work_side L.table x) (atom.Take node) (works_at V K L good further layout laws home m.held m.views g r x s.has (atom.Take node) q.1 q.2)) refl))
       (next_either V K L good further layout laws home x (atom.Take node) e)
 
-  cause_of : (h : TheWindow) (vs : List (WholeView V K)) (t : List Event) (ds : List Deed) (r : ℕ) (x : WholeView V K) (at : Atom) → IsSeated T G h vs t ds r x → next_of L x ≡ Some at → Cause L h x (Some at) (after_of L x (do_got at h.words h.cards)).stepped
-  cause_of h vs t ds r x at s e = answer_cause V K L good further layout laws home h vs r x at s.is_good.rule s.has e
+  cause_of : (m : Moment (WholeView V K)) (r : ℕ) (x : WholeView V K) (at : Atom) → IsNext S m r x at → Cause L m.held x (Some at) (after_of L x (do_got at m.held.words m.held.cards)).stepped
+  cause_of m r x at n = answer_cause V K L good further layout laws home m.held m.views r x at n.seated.is_good.rule n.seated.has n.next
 
-  pub whole_shard_laws : ShardCoreLaws T G (Cause L) further layout
+  pub whole_shard_laws : ShardCoreLaws S
   whole_shard_laws =
       record {
         few_words = few_behind;
         words = all_words;
         fits = all_fit;
         geom_fits = sizes;
-        few_ranks = λ h vs t ds g. g.rule.few;
+        few_ranks = λ m g. g.rule.few;
         ranks = all_ranks;
         begins = begins;
         atom_keeps = atom_keeps;
         open_keeps = open_good;
         first_desk = λ room rank. first_is_new V K L good further layout laws home room rank;
-        own_desk = λ h vs t ds r x s. own_is V K L good further layout laws home h vs r x s.is_good.rule s.has;
-        told_desk = λ h vs t ds r x s. told_is V K L good further layout laws home h vs r x s.is_good.rule s.has;
-        open_is = λ h vs t ds r x s. (none_is_shut V K L good further layout laws home x (may h vs t ds r x s), none_open h vs t ds r x s);
-        knows_open = λ h vs t ds r x s. refl;
-        settled = λ h vs t ds r x s shut. settled_is V K L good further layout laws home h vs r x s.is_good.rule s.has shut;
-        opens_own = λ h vs t ds r x calls seq s o. own_opens V K L good further layout laws home h vs r x s.is_good.rule s.has calls seq (none_open h vs t ds r x s o.shut) o.fits o.takes;
-        opens_told = λ h vs t ds r x calls seq s o. told_opens V K L good further layout laws home h vs r x s.is_good.rule s.has calls seq (none_open h vs t ds r x s o.shut) o.fits o.takes;
-        turns_own = λ h vs t ds r x at s e. own_turns V K L good further layout laws home h vs r x s.is_good.rule s.has at e;
-        turns_told = λ h vs t ds r x at s e. told_turns V K L good further layout laws home h vs r x s.is_good.rule s.has at e;
-        exclusive = λ h vs t ds g. is_exclusive t g.exclusive;
-        alone_in = λ h vs t ds g. alone_on h vs g.rule;
+        own_desk = λ m r x s. own_is V K L good further layout laws home m.held m.views r x s.is_good.rule s.has;
+        told_desk = λ m r x s. told_is V K L good further layout laws home m.held m.views r x s.is_good.rule s.has;
+        open_is = λ m r x s. (none_is_shut V K L good further layout laws home x (may m r x s), none_open m r x s);
+        knows_open = λ m r x s. refl;
+        settled = λ m r x s shut. settled_is V K L good further layout laws home m.held m.views r x s.is_good.rule s.has shut;
+        opens_own = λ m r x calls seq s o. own_opens V K L good further layout laws home m.held m.views r x s.is_good.rule s.has calls seq (none_open m r x s o.shut) o.fits o.takes;
+        opens_told = λ m r x calls seq s o. told_opens V K L good further layout laws home m.held m.views r x s.is_good.rule s.has calls seq (none_open m r x s o.shut) o.fits o.takes;
+        turns_own = λ m r x at n. own_turns V K L good further layout laws home m.held m.views r x n.seated.is_good.rule n.seated.has at n.next;
+        turns_told = λ m r x at n. told_turns V K L good further layout laws home m.held m.views r x n.seated.is_good.rule n.seated.has at n.next;
+        exclusive = λ m g. is_exclusive m.trace g.exclusive;
+        alone_in = λ m g. alone_on m.held m.views g.rule;
         stands = stands_so;
         legal = legal;
         sorted = sorted;
@@ -415,19 +422,19 @@ module _ (V K : Type 0) (L : LockAt V K) (good : Goods V K) (further : List Even
         queues = queues;
         counted = counted;
         left_as = left_count;
-        named = λ h vs t ds g. g.named;
-        by_ranks = λ h vs t ds g. g.by_ranks;
-        orders = λ h vs t ds r x at s e. let a = atom_events V K L good further layout laws home h vs r x at s.is_good.rule s.has e in (a.order, a.few);
-        guards = λ h vs t ds r x at s e. guarded V K L good further layout laws home h vs r x at s.is_good.rule s.has e;
-        cards = λ h vs t ds r x at s e kind. subst (λ n. (a : Act) × (by_card a ≡ true) × (L.table.may_make n a ≡ true)) (s.is_good.rule.own r x s.has) (next_card_allowed V K L good further layout laws home x at (may h vs t ds r x s) e kind);
-        locals = λ h vs t ds r x at s e kind. subst (λ n. (a : Act) × IsLocalAct a × (L.table.may_make n a ≡ true)) (s.is_good.rule.own r x s.has) (next_local_allowed V K L good further layout laws home x at (may h vs t ds r x s) e kind);
-        goes_on = λ h vs t ds r x at s e fin. subst (Cause L h x (Some at)) fin (cause_of h vs t ds r x at s e);
-        busy = λ h vs t ds r x at node holder s e b. subst (Cause L h x (Some at)) b (cause_of h vs t ds r x at s e);
+        named = λ m g. g.named;
+        by_ranks = λ m g. g.by_ranks;
+        orders = λ m r x at n. let a = atom_events V K L good further layout laws home m.held m.views r x at n.seated.is_good.rule n.seated.has n.next in (a.order, a.few);
+        guards = λ m r x at n. guarded V K L good further layout laws home m.held m.views r x at n.seated.is_good.rule n.seated.has n.next;
+        cards = λ m r x at n kind. subst (λ k. (a : Act) × (by_card a ≡ true) × (L.table.may_make k a ≡ true)) (n.seated.is_good.rule.own r x n.seated.has) (next_card_allowed V K L good further layout laws home x at (may m r x n.seated) n.next kind);
+        locals = λ m r x at n kind. subst (λ k. (a : Act) × IsLocalAct a × (L.table.may_make k a ≡ true)) (n.seated.is_good.rule.own r x n.seated.has) (next_local_allowed V K L good further layout laws home x at (may m r x n.seated) n.next kind);
+        goes_on = λ m r x at n fin. subst (Cause L m.held x (Some at)) fin (cause_of m r x at n);
+        busy = λ m r x at node holder n b. subst (Cause L m.held x (Some at)) b (cause_of m r x at n);
         held = held;
-        answers = λ h vs t ds r x at s e. cause_answers L h x at (after_of L x (do_got at h.words h.cards)).stepped (cause_of h vs t ds r x at s e);
+        answers = λ m r x at n. cause_answers L m.held x at (after_of L x (do_got at m.held.words m.held.cards)).stepped (cause_of m r x at n);
         causes = cause_of;
         rests = λ h x. tt;
-        unhindered = λ h vs t ds r x answer one s c. unhindered V K L good further layout laws home one h vs r x s.is_good.rule s.has (next_of L x) refl answer c;
-        says = λ h vs t ds g. subst (λ z. further z ds) g.same (subst (further g.rule.past.trace) g.made (laws.lock.goes_further _ g.rule.lock_part.lock));
-        shows = λ h vs t ds r x at s e. acts_shown V K L good further layout laws home h vs r x s.is_good.rule s.has at e;
+        unhindered = λ m r x answer one s c. unhindered V K L good further layout laws home one m.held m.views r x s.is_good.rule s.has (next_of L x) refl answer c;
+        says = λ m g. subst (λ z. further z m.acts) g.same (subst (further g.rule.past.trace) g.made (laws.lock.goes_further _ g.rule.lock_part.lock));
+        shows = λ m r x at n. acts_shown V K L good further layout laws home m.held m.views r x n.seated.is_good.rule n.seated.has at n.next;
       }

@@ -63,10 +63,10 @@ module _ (V K : Type 0) (L : LockAt V K) (good : Goods V K) (further : List Even
       abbrev turned : ℕ → Worked K
       turned n = L.work.after n x.work (do_got at h.words h.cards)
 
-      after_is : after ≡ record { side = after.side; rank = x.rank; work = (turned x.rank).work }
+      after_is : after ≡ record { side = after.side; kept = after.kept; rank = x.rank; work = (turned x.rank).work }
       after_is =
           let q = after_work V K L good further layout laws home h vs g r x has none (do_got at h.words h.cards) in
-          ap (λ t. record { side = after.side; rank = t.view.rank; work = t.view.work }) q
+          ap (λ t. record { side = after.side; kept = after.kept; rank = t.view.rank; work = t.view.work }) q
 
       stands : side_after L.work r (work_side L.table x) (do_got at h.words h.cards) ≡ work_side L.table after
       stands =

@@ -1,5 +1,6 @@
 -- A rank that rests counts its answers; and another rank's step leaves what is known of it.
-use Rattle.std.specs.Prelude.{◌≡◌, ◌≢◌, ℕ, zero, suc, ◌+◌, ◌<◌, ◌≤◌, ◌==◌, Bool, true, false, List, length, replicate, if◌then◌else◌, nat_lt, get_or, slice_get, slice_index, slice_set, Option, Some, None, refl}
+use Rattle.std.specs.Prelude.{◌≡◌, ◌≢◌, ℕ, zero, suc, ◌+◌, ◌<◌, ◌≤◌, ◌==◌, Bool, true, false}
+use Rattle.std.specs.Prelude.{List, length, replicate, if◌then◌else◌, nat_lt, get_or, slice_get, slice_index, slice_set, Option, Some, None, refl}
 use Rattle.std.proofs.Common.{sym, ◌∙◌, ap, subst, ⊎_elim, arith, length-set, get_or-set_other}
 use Rattle.std.proofs.lemmas.Bool.Decides.{eqb_tells, nat_tests}
 use Rattle.std.proofs.lemmas.List.{length-map}
@@ -18,7 +19,7 @@ use Rattle.rl_core.specs.declared.round.Round.{Round}
 use Rattle.rl_core.specs.Asks.{block_shard, place_after}
 use Rattle.rl_core.specs.Idle.{IsIdle, IdleWhile, IsNamed, Shows}
 use Rattle.rl_core.specs.Rounds.{IsRound}
-use Rattle.rl_core.specs.ShardTables.{ShardTable}
+use Rattle.rl_core.specs.Moments.{CoreSays}
 use Rattle.rl_machine.specs.Running.{ShardRun, Running, TheMachine, shard_run, running}
 use Rattle.rl_machine.specs.ShardSteps.{opened_at, opened_on, makes, made_at, atom_on, open_at, open_on}
 use Rattle.rl_machine.specs.Run.{changed_if, on_shard, calls_by, next_block, place_of, has_open_call, opens, opened_if, block_opened, stepped, run_of}
@@ -96,7 +97,8 @@ module _ {V : Type 0} (k j : ℕ) (other : k ≢ j) where
         (λ (apart : s ≢ p). record { shard = r.shard; has = get_set_other shards p s T apart ∙ r.has; says = r.says })
         (same_or_not s p)
 
-    on_if : (shards : List (ShardRun V)) (p : ℕ) (f : ShardRun V → ShardRun V) (o : Option (ShardRun V)) → slice_get shards p ≡ o → ((S : ShardRun V) → IsAlike k S (f S)) → OnShard s P shards → OnShard s P (changed_if shards p f o)
+    on_if : (shards : List (ShardRun V)) (p : ℕ) (f : ShardRun V → ShardRun V) (o : Option (ShardRun V)) → slice_get shards p ≡ o →
+        ((S : ShardRun V) → IsAlike k S (f S)) → OnShard s P shards → OnShard s P (changed_if shards p f o)
     on_if shards p f None e alike r = r
     on_if shards p f (Some S) e alike r = on_set shards p S (f S) e (alike S) r
 
@@ -109,7 +111,8 @@ module _ {V : Type 0} (k j : ℕ) (other : k ≢ j) where
     on_stepped : (m : Running V) → OnShard s P m.shards → OnShard s P (stepped m j).shards
     on_stepped m r =
         let n : Running V = block_opened m j in
-        on_if n.shards (place_of n j) (atom_on j (steps_made n.steps)) (slice_get n.shards (place_of n j)) refl (λ S. atom_alike S (steps_made n.steps) (slice_get S.views j)) (on_opened m (opens m j) r)
+        on_if n.shards (place_of n j) (atom_on j (steps_made n.steps)) (slice_get n.shards (place_of n j)) refl
+        (λ S. atom_alike S (steps_made n.steps) (slice_get S.views j)) (on_opened m (opens m j) r)
 
   -- rank k stands where it stood, and has opened as many of its calls
   opened_stays : (m : Running V) (b : Bool) → slice_index (opened_if m j b).opened k ≡ slice_index m.opened k
@@ -144,7 +147,9 @@ module _ {V : Type 0} (k j : ℕ) (other : k ≢ j) where
 
   rests_stepped : (s : ℕ) (answer : Stepped) (m : Running V) → RestsAt m k s answer → RestsAt (stepped m j) k s answer
   rests_stepped s answer m r =
-      let q = on_stepped s (RestsOn answer) (rests_alike answer) m (record { shard = r.shard; has = r.has; says = record { view = r.view; seen = r.seen; in_call = r.in_call; named = r.named; idle = r.idle } }) in
+      let q =
+      on_stepped s (RestsOn answer) (rests_alike answer) m
+      (record { shard = r.shard; has = r.has; says = record { view = r.view; seen = r.seen; in_call = r.in_call; named = r.named; idle = r.idle } }) in
       record { shard = q.shard; view = q.says.view; stands = place_stays m (opens m j) ∙ r.stands; has = q.has; seen = q.says.seen; in_call = q.says.in_call; named = q.says.named; idle = q.says.idle }
 
   -- that it goes in a round
@@ -193,10 +198,10 @@ pub not_free : (n : ℕ) → (n ≡ 0 → ⊥) → (n == 0) ≡ false
 not_free n some = ⊎_elim (λ q. absurd (some q.1)) (λ q. q.0) (eqb_tells n 0)
 
 -- a shard that is there in the machine as it runs is there
-pub shards_there : {C V : Type 0} (table : C → ShardTable V) (m : TheMachine C V) (s : ℕ) (S : ShardRun V) → slice_get (running table m).shards s ≡ Some S → s < length m.shards
-shards_there table m s S has =
-    let within : s < length (running table m).shards = slice_get_within (running table m).shards s S has in
-    let all : length (running table m).shards ≡ length m.shards = length-map m.shards (shard_run table) in
+pub shards_there : {C V : Type 0} (says : C → CoreSays V) (m : TheMachine C V) (s : ℕ) (S : ShardRun V) → slice_get (running says m).shards s ≡ Some S → s < length m.shards
+shards_there says m s S has =
+    let within : s < length (running says m).shards = slice_get_within (running says m).shards s S has in
+    let all : length (running says m).shards ≡ length m.shards = length-map m.shards (shard_run says) in
     omega arith
 
 module _ {V : Type 0} where
@@ -252,7 +257,8 @@ module _ {V Sight : Type 0} (seeing : V → Sight → V) where
   keeps_with m now counts is = λ rests all. subst (λ (u : Running V). AllRested seeing u rests) (sym is) (λ k r get. rested_with m counts k r (all k r get))
 
   -- what is noted of a rank after its steps, and what was noted of the others
-  pub all_noted : (m : Running V) (rests : List (LastRest Sight)) (j n : ℕ) (z : LastRest Sight) → Rested seeing (run_of m (replicate n j)) j z → AllRested seeing m rests → AllRested seeing (run_of m (replicate n j)) (slice_set rests j z)
+  pub all_noted : (m : Running V) (rests : List (LastRest Sight)) (j n : ℕ) (z : LastRest Sight) → Rested seeing (run_of m (replicate n j)) j z →
+      AllRested seeing m rests → AllRested seeing (run_of m (replicate n j)) (slice_set rests j z)
   all_noted m rests j n z now all = λ k r get.
       let after : Running V = run_of m (replicate n j) in
       ⊎_elim

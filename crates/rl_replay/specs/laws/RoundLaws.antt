@@ -15,16 +15,19 @@ use Rattle.rl_machine.specs.laws.RoundSteps.{both_legs}
 
 -- the answers of two loads are counted in either order
 answers_swap : (w v u t : ℕ) (p q : Bool) (n : ℕ) (s : Steps) → counted_more (load_answer w v p) n (counted (load_answer u t q) s) ≡ counted (load_answer u t q) (counted_more (load_answer w v p) n s)
-answers_swap w v u t true true n s = let e : s.waiting + 1 + n ≡ s.waiting + n + 1 = omega arith in ap (λ m. record { moved = s.moved; waiting = m; lost = s.lost; busy = s.busy; finished = s.finished }) e
+answers_swap w v u t true true n s =
+    let e : s.waiting + 1 + n ≡ s.waiting + n + 1 = omega arith in ap (λ m. record { moved = s.moved; waiting = m; lost = s.lost; busy = s.busy; finished = s.finished }) e
 answers_swap w v u t true false n s = refl
 answers_swap w v u t false true n s = refl
-answers_swap w v u t false false n s = let e : s.moved + 1 + n ≡ s.moved + n + 1 = omega arith in ap (λ m. record { moved = m; waiting = s.waiting; lost = s.lost; busy = s.busy; finished = s.finished }) e
+answers_swap w v u t false false n s =
+    let e : s.moved + 1 + n ≡ s.moved + n + 1 = omega arith in ap (λ m. record { moved = m; waiting = s.waiting; lost = s.lost; busy = s.busy; finished = s.finished }) e
 
 -- the counts after so many rounds
 abbrev pub counted_rounds : {Sight : Type 0} → Round Sight → ℕ → Steps → Steps
 counted_rounds round n s = counted_more (leg_answer round.there) n (counted_more (leg_answer round.here) n s)
 
-round_before : {Sight : Type 0} (round : Round Sight) (n : ℕ) (s : Steps) → counted_rounds round n (counted (leg_answer round.there) (counted (leg_answer round.here) s)) ≡ counted_rounds round (suc n) s
+round_before : {Sight : Type 0} (round : Round Sight) (n : ℕ) (s : Steps) →
+    counted_rounds round n (counted (leg_answer round.there) (counted (leg_answer round.here) s)) ≡ counted_rounds round (suc n) s
 round_before round n s =
     let a : Stepped = leg_answer round.here in
     let b : Stepped = leg_answer round.there in

@@ -1,11 +1,16 @@
 -- So many steps of one rank, one after the other and at once.
-use Rattle.std.specs.Prelude.{◌≡◌, ℕ, ◌+◌, ◌-◌, ◌<◌, [], ◌∷◌, length, replicate}
+use Rattle.std.specs.Prelude.{◌≡◌, ℕ, ◌+◌, ◌-◌, ◌<◌, [], ◌∷◌, length, replicate, Result, Ok, Err, OnErr}
 use Rattle.std.proofs.Common.{sym, ◌∙◌, ap, subst, arith}
 use Rattle.std.proofs.lemmas.List.{replicate-append-replicate}
 use Rattle.rl_step.specs.Answers.{steps_made}
 use Rattle.rl_machine.specs.Running.{Running}
 use Rattle.rl_machine.specs.Run.{stepped, run_of}
 use Rattle.rl_machine.specs.laws.ReplayLaws.{turn_counts, run_append}
+
+-- a result that may be an error, where it is so in any case
+pub on_err : {T E P : Type 0} (r : Result T E) → P → OnErr r P
+on_err (Ok x) p = tt
+on_err (Err e) p = p
 
 module _ {V : Type 0} where
   -- so many steps of a rank are counted, and the calls are as they were
@@ -26,7 +31,8 @@ module _ {V : Type 0} where
   next old mid now n k is step = step ∙ ap (λ m. stepped m k) is ∙ sym (run_end old n k)
 
   -- the steps that are left make the run whole
-  pub whole : (old now last : Running V) (n count rank : ℕ) → n < count → now ≡ run_of old (replicate (n + 1) rank) → last ≡ run_of now (replicate (count - n - 1) rank) → last ≡ run_of old (replicate count rank)
+  pub whole : (old now last : Running V) (n count rank : ℕ) → n < count → now ≡ run_of old (replicate (n + 1) rank) →
+      last ≡ run_of now (replicate (count - n - 1) rank) → last ≡ run_of old (replicate count rank)
   whole old now last n count rank more is rest =
       let left : ℕ = count - n - 1 in
       let parts : count ≡ n + 1 + left = omega arith in

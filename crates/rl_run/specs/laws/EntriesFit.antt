@@ -37,7 +37,8 @@ pub record HasDone (place : ThePlace) (ops : Ops) (k n : ℕ) (es : List ToldSha
   pub total : entries_in (map (told_of k) es) ≡ n
   pub low : n ≤ length (get_or ops.by_rank k [])
 
-pub each_block : (shards : ℕ) (lists : List (List Call)) (sizes : List (List ℕ)) → EachOfBlocks shards lists sizes → (k : ℕ) → k < length lists → AreBlocks shards (get_or lists k []) (get_or sizes k [])
+pub each_block : (shards : ℕ) (lists : List (List Call)) (sizes : List (List ℕ)) → EachOfBlocks shards lists sizes → (k : ℕ) → k < length lists →
+    AreBlocks shards (get_or lists k []) (get_or sizes k [])
 each_block shards [] sizes each k h = absurd (omega arith)
 each_block shards (c ∷ lists) [] each k h = absurd each
 each_block shards (c ∷ lists) (s ∷ sizes) each zero h = each.0
@@ -49,7 +50,8 @@ some_calls [] k calls e = absurd (cc)
 some_calls (c ∷ lists) zero calls e = let same : length c ≡ length calls = ap length (same_Some _ _ e) in omega (arith, sum_by-cons (λ (l : List Call). length l) c lists)
 some_calls (c ∷ lists) (suc k) calls e = let on = some_calls lists k calls e in omega (arith, sum_by-cons (λ (l : List Call). length l) c lists)
 
-module _ (place : ThePlace) (ops : Ops) (fit : OpsFit (length place.paths) place.geom.shards ops) (es : List ToldShard) (done : ℕ → ℕ) (are : (k : ℕ) → k < length ops.by_rank → HasDone place ops k (done k) es)
+module _ (place : ThePlace) (ops : Ops) (fit : OpsFit (length place.paths) place.geom.shards ops) (es : List ToldShard)
+    (done : ℕ → ℕ) (are : (k : ℕ) → k < length ops.by_rank → HasDone place ops k (done k) es)
     (s : ℕ) (e : ToldShard) (has : slice_get es s ≡ Some e) (c : HasTranscripts place e) where
   abbrev pub entries : List Entry
   entries = history e.journal e.transcripts

@@ -26,7 +26,7 @@ use Rattle.rl_report.proofs.QueueLaws.{queues_long}
 use Rattle.rl_run.specs.laws.EntriesFit.{HasTranscripts, HasDone, same_journal, same_transcripts, rank_of_it, as_many, few_here, few_updates, entry_fits}
 use Rattle.rl_run.specs.laws.RowLaws.{same_maps}
 use Rattle.rl_run.specs.Told.{ToldShard, told_of, part_of, report_of, ToldNumbersFit, IsClosedShard, AreClosedShards}
-use Rattle.rl_run.specs.laws.ToldLaws.{all_by_place, few_entries, ranks_there, pairs_fit}
+use Rattle.rl_run.specs.laws.ToldLaws.{all_by_place, pairs_fit}
 
 module _ (place : ThePlace) (ops : Ops) (proper : IsProper place) (fit : OpsFit (length place.paths) place.geom.shards ops) (es : List ToldShard) (are : AreClosedShards place ops es) where
   -- all calls of a rank
@@ -82,7 +82,8 @@ module _ (place : ThePlace) (ops : Ops) (proper : IsProper place) (fit : OpsFit 
 
   -- ---- the report
 
-  shards_fit : All ToldNumbersFit es → (from : ℕ) (rest : List ToldShard) → ((i : ℕ) (e : ToldShard) → slice_get rest i ≡ Some e → slice_get es (from + i) ≡ Some e) → ShardsFit (naming_of place) false from (map part_of rest)
+  shards_fit : All ToldNumbersFit es → (from : ℕ) (rest : List ToldShard) → ((i : ℕ) (e : ToldShard) → slice_get rest i ≡ Some e → slice_get es (from + i) ≡ Some e) →
+      ShardsFit (naming_of place) false from (map part_of rest)
   shards_fit numbers from [] at = tt
   shards_fit numbers from (e ∷ rest) at =
       let none : from + 0 ≡ from = omega arith in
@@ -109,14 +110,16 @@ module _ (place : ThePlace) (ops : Ops) (proper : IsProper place) (fit : OpsFit 
         };
         of_run = refl;
         shards = λ s home S has_home get. let q = get_map_back part_of es s S get in subst (IsLawfulShard place home) q.2 (shard_lawful s home q.0 has_home q.1);
-        calls = λ k low. subst (IsRankInOrder place.geom k (asked_of (get_or ops.by_rank k []) (get_or ops.sizes k [])) (length (get_or ops.by_rank k []))) (same_maps (told_of k) (λ (S : TheShard). transcript_in S.entries k) es (map part_of es) (sym (length-map es part_of))
+        calls = λ k low. subst (IsRankInOrder place.geom k (asked_of (get_or ops.by_rank k []) (get_or ops.sizes k [])) (length (get_or ops.by_rank k [])))
+            (same_maps (told_of k) (λ (S : TheShard). transcript_in S.entries k) es (map part_of es) (sym (length-map es part_of))
             (λ s e S get gS.
             let q = get_map_back part_of es s S gS in
             let same : e ≡ q.0 = same_Some _ _ (sym get ∙ q.1) in
             let home = some_at place.homes s (let h = slice_get_within es s e get in let a = are.all in let b = proper.each_shard in omega arith) in
             let own : HasTranscripts place e = has_transcripts s home.0 e home.1 get in
             let there : k < length e.transcripts = let a = as_many place ops fit es calls_of all_done s e get own in omega arith in
-            sym (rank_of_it place ops fit es calls_of all_done s e get own k (get_or e.transcripts k []) (slice_get-get_or e.transcripts k [] there)) ∙ ap (λ z. transcript_in (part_of z).entries k) same ∙ ap (λ z. transcript_in z.entries k) q.2))
+            sym (rank_of_it place ops fit es calls_of all_done s e get own k (get_or e.transcripts k []) (slice_get-get_or e.transcripts k [] there))
+            ∙ ap (λ z. transcript_in (part_of z).entries k) same ∙ ap (λ z. transcript_in z.entries k) q.2))
             (are.ranks k low).order;
         done = refl;
       }

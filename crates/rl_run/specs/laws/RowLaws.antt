@@ -79,7 +79,8 @@ module _ {W T : Type 0} (P : W → ℕ → T → Type 0) where
   with_column_long (row ∷ rows) (t ∷ ts) e = ap suc (with_column_long rows ts (omega arith))
 
   -- the seats of one shard more, in the order of the ranks
-  pub grid_more : (ws : List W) (rows : List (List T)) (w : W) (column : List T) → IsGrid P ws rows → IsColumn P w column → length column ≡ length rows → IsGrid P (ws ++ w ∷ []) (with_column rows column)
+  pub grid_more : (ws : List W) (rows : List (List T)) (w : W) (column : List T) → IsGrid P ws rows → IsColumn P w column → length column ≡ length rows →
+      IsGrid P (ws ++ w ∷ []) (with_column rows column)
   grid_more ws rows w column G C long r row e =
       let q = dealt_at rows column long r row e in
       let R = G r q.0 q.2 in
@@ -142,7 +143,8 @@ same_map f (x ∷ xs) (y ∷ ys) long same =
     ap (λ z. z ∷ map f ys) (same 0 x (omega arith)) ∙ ap (λ z. f x ∷ z) (same_map f xs ys (omega arith) (λ i d h. same (suc i) d (omega arith)))
 
 -- two lists that come to the same at each place
-pub same_maps : {X Y Z : Type 0} (f : X → Z) (g : Y → Z) (xs : List X) (ys : List Y) → length xs ≡ length ys → ((i : ℕ) (x : X) (y : Y) → slice_get xs i ≡ Some x → slice_get ys i ≡ Some y → f x ≡ g y) → map f xs ≡ map g ys
+pub same_maps : {X Y Z : Type 0} (f : X → Z) (g : Y → Z) (xs : List X) (ys : List Y) → length xs ≡ length ys →
+    ((i : ℕ) (x : X) (y : Y) → slice_get xs i ≡ Some x → slice_get ys i ≡ Some y → f x ≡ g y) → map f xs ≡ map g ys
 same_maps f g [] [] e same = refl
 same_maps f g [] (y ∷ ys) e same = absurd (omega arith)
 same_maps f g (x ∷ xs) [] e same = absurd (omega arith)

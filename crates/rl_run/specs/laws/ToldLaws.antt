@@ -1,5 +1,6 @@
 -- The report of closed shards is lawful: the parts. What is asked fits; how many entries there are; and lists that are told again.
-use Rattle.std.specs.Prelude.{◌≡◌, ℕ, zero, suc, ◌+◌, ◌<◌, ◌≤◌, ◌^◌, ◌==◌, nat_lt, Bool, true, false, not, ◌&&◌, if◌then◌else◌, cond, List, [], ◌∷◌, ◌++◌, count_by, filter, flat_map, length, map, sum_by, slice_get, Some, None, refl}
+use Rattle.std.specs.Prelude.{◌≡◌, ℕ, zero, suc, ◌+◌, ◌<◌, ◌≤◌, ◌^◌, ◌==◌, nat_lt, Bool, true, false, not, ◌&&◌, if◌then◌else◌, cond}
+use Rattle.std.specs.Prelude.{List, [], ◌∷◌, ◌++◌, count_by, filter, flat_map, length, map, sum_by, slice_get, Some, None, refl}
 use Rattle.std.specs.List.{AllByRecursion}
 use Rattle.std.specs.Ordering.{nat_cmp, is_lt}
 use Rattle.std.specs.declared.cmp.Ordering.TheVariants.{Less, Equal, Greater}
@@ -110,7 +111,8 @@ pub count_all : {X : Type 0} (xs : List X) → count_by (λ (x : X). true) xs �
 count_all [] = refl
 count_all (x ∷ xs) = omega (arith, count-cons (λ (y : _). true) x xs, count_all xs)
 
-pub few_entries : (ts : List (List Entry)) (lists : List (List Call)) → length ts ≡ length lists → ((k : ℕ) (t : List Entry) (calls : List Call) → slice_get ts k ≡ Some t → slice_get lists k ≡ Some calls → length t ≤ length calls) →
+pub few_entries : (ts : List (List Entry)) (lists : List (List Call)) → length ts ≡ length lists →
+    ((k : ℕ) (t : List Entry) (calls : List Call) → slice_get ts k ≡ Some t → slice_get lists k ≡ Some calls → length t ≤ length calls) →
     count_in (λ e. true) ts ≤ sum_by (λ (calls : List Call). length calls) lists
 few_entries [] [] e le = omega arith
 few_entries [] (l ∷ lists) e le = absurd (omega arith)

@@ -11,7 +11,8 @@ some_or_none (Some n) = inr (n, refl)
 
 module _ {V : Type 0} (urgent : V → Option ℕ) where
   -- the first of all is chosen where the others are no more urgent
-  at_head : (x : V) (xs : List V) (u : ℕ) → urgent x ≡ Some u → ((i : ℕ) (v : V) (n : ℕ) → slice_get xs i ≡ Some v → urgent v ≡ Some n → u ≤ n) → IsChosen urgent (x ∷ xs) 0
+  at_head : (x : V) (xs : List V) (u : ℕ) → urgent x ≡ Some u →
+      ((i : ℕ) (v : V) (n : ℕ) → slice_get xs i ≡ Some v → urgent v ≡ Some n → u ≤ n) → IsChosen urgent (x ∷ xs) 0
   at_head x xs u e rest = record { view = x; has = refl; urgency = u; is_urgent = e; least = least; first = λ i v n h a lt. absurd (omega arith) } where
     least : (i : ℕ) (v : V) (n : ℕ) → slice_get (x ∷ xs) i ≡ Some v → urgent v ≡ Some n → u ≤ n
     least zero v n h a = let same : u ≡ n = same_Some u n (sym e ∙ (ap urgent (same_Some x v h) ∙ a)) in omega arith

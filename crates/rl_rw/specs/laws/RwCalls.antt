@@ -39,7 +39,8 @@ granted_at : (q : Bool) (p : Phase) → standing_by q p ≡ standing.Writer → 
 granted_at q p e = let n = granted_is p (holds_is q p (writer_holds (standing_by q p) e)).1 in ap (λ z. hook_by false (leave_at z true)) n.1
 
 -- who holds the lock in the tree is a writer, and leaves
-pub tree_holder : (q : Bool) (p : Phase) → IsHolder (standing_by q p) → (standing_by q p ≡ standing.Writer) × (standing_by false (leave_at p true) ≡ standing.Leaving)
+pub tree_holder : (q : Bool) (p : Phase) → IsHolder (standing_by q p) →
+    (standing_by q p ≡ standing.Writer) × (standing_by false (leave_at p true) ≡ standing.Leaving)
 tree_holder q p h =
     let k = holds_is q p h in
     let n = granted_is p k.1 in (ap (λ z. standing_by z p) k.0 ∙ ap (standing_by false) n.1, phase_leaves p k.1)
@@ -62,7 +63,8 @@ holds_at Nothing t h = Writes refl (tree_holder t.query t.phase h).0
 holds_at Inside t h = Reads refl
 holds_at _ t h = absurd h
 
-pub leaving_at : (v : RwView) (p : Doing) (h : IsHolder (rw_standing p v.tree)) → v.counter.doing ≡ p → rw_standing (leaves_at v p).counter.doing (leaves_at v p).tree ≡ standing.Leaving
+pub leaving_at : (v : RwView) (p : Doing) (h : IsHolder (rw_standing p v.tree)) → v.counter.doing ≡ p →
+    rw_standing (leaves_at v p).counter.doing (leaves_at v p).tree ≡ standing.Leaving
 leaving_at v Nothing h e = (tree_holder v.tree.query v.tree.phase h).1
 leaving_at v Inside h e = refl
 leaving_at v _ h e = absurd h
@@ -82,8 +84,11 @@ module _ (K : Shared) (levels : ℕ) (F : TreeFacts K.rooted levels) (d : IsSoun
   Good = GoodAt K.rooted levels
 
   -- Where a rank's view changes and no word does, its counters keep their shares.
-  still_counters : (s : LockState RwView) (r : ℕ) (t : TreeView) (c : ℕ) (p q : Doing) (g : RwGood K levels s) → slice_get s.views r ≡ Some (rw_view t c p) → ShareSame p q → AllCounters K s.words (slice_set (doings s.views) r q) (mark_by g.inside g.hook)
-  still_counters s r t c p q g has same i lt = same_words_counter (counters_of K) (groups K) (mine_of K) i s.words (doings s.views) (mark_by g.inside g.hook i) r p q (as_doing K levels F d s r (rw_view t c p) has) (λ e. same) (g.counters i lt)
+  still_counters : (s : LockState RwView) (r : ℕ) (t : TreeView) (c : ℕ) (p q : Doing) (g : RwGood K levels s) →
+      slice_get s.views r ≡ Some (rw_view t c p) → ShareSame p q →
+      AllCounters K s.words (slice_set (doings s.views) r q) (mark_by g.inside g.hook)
+  still_counters s r t c p q g has same i lt = same_words_counter (counters_of K) (groups K) (mine_of K) i s.words (doings s.views)
+      (mark_by g.inside g.hook i) r p q (as_doing K levels F d s r (rw_view t c p) has) (λ e. same) (g.counters i lt)
 
   same_trees : (s : LockState RwView) (r : ℕ) (v : RwView) → slice_get s.views r ≡ Some v → slice_set (trees s.views) r v.tree ≡ trees s.views
   same_trees s r v has = set_same_get (trees s.views) r v.tree (as_tree K levels F d s r v has)
@@ -91,7 +96,9 @@ module _ (K : Shared) (levels : ℕ) (F : TreeFacts K.rooted levels) (d : IsSoun
   asked_mode : (ms : List Mode) (r : ℕ) (m k : Mode) → slice_get (slice_set ms r m) r ≡ Some k → k ≡ m
   asked_mode ms r m k e = ⊎_elim (λ p. p.1) (λ p. absurd (p.0 refl)) (get_set_cases ms r r m k e)
 
-  ask_out : (s : LockState RwView) (r : ℕ) (t : TreeView) (c : ℕ) (m : Mode) → RwGood K levels s → slice_get s.views r ≡ Some (rw_view t c Nothing) → tree_standing t ≡ standing.Out → RwGood K levels (asked (rw_table K) s r (rw_view t c Nothing) m)
+  ask_out : (s : LockState RwView) (r : ℕ) (t : TreeView) (c : ℕ) (m : Mode) → RwGood K levels s →
+      slice_get s.views r ≡ Some (rw_view t c Nothing) → tree_standing t ≡ standing.Out →
+      RwGood K levels (asked (rw_table K) s r (rw_view t c Nothing) m)
   ask_out s r t c mode.Read g has out =
       let v : RwView = rw_view t c Nothing in
       let w : RwView = rw_view t c Arrive in
@@ -109,12 +116,17 @@ module _ (K : Shared) (levels : ℕ) (F : TreeFacts K.rooted levels) (d : IsSoun
       g.hook (hooked_same s.views r v w g.hook has (λ m. m) (λ m. m) g.hooked)
       (still_counters s r t c Nothing Nothing g has (refl, refl, refl)) g.batches (λ one. tt)
 
-  pub ask_at : (s : LockState RwView) (r : ℕ) (t : TreeView) (c : ℕ) (p : Doing) (m : Mode) → RwGood K levels s → slice_get s.views r ≡ Some (rw_view t c p) → rw_standing p t ≡ standing.Out → RwGood K levels (asked (rw_table K) s r (rw_view t c p) m)
+  pub ask_at : (s : LockState RwView) (r : ℕ) (t : TreeView) (c : ℕ) (p : Doing) (m : Mode) → RwGood K levels s →
+      slice_get s.views r ≡ Some (rw_view t c p) → rw_standing p t ≡ standing.Out →
+      RwGood K levels (asked (rw_table K) s r (rw_view t c p) m)
   ask_at s r t c p m g has out =
       let o = out_at_both p t out in
-      subst (λ z. RwGood K levels (asked (rw_table K) s r (rw_view t c z) m)) (sym o.0) (ask_out s r t c m g (subst (λ z. slice_get s.views r ≡ Some (rw_view t c z)) o.0 has) o.1)
+      subst (λ z. RwGood K levels (asked (rw_table K) s r (rw_view t c z) m)) (sym o.0)
+      (ask_out s r t c m g (subst (λ z. slice_get s.views r ≡ Some (rw_view t c z)) o.0 has) o.1)
 
-  leave_writer : (s : LockState RwView) (r : ℕ) (t : TreeView) (c : ℕ) → RwGood K levels s → slice_get s.views r ≡ Some (rw_view t c Nothing) → tree_standing t ≡ standing.Writer → RwGood K levels (left_state (rw_table K) s r (rw_view t c Nothing) (event.LeaveW r))
+  leave_writer : (s : LockState RwView) (r : ℕ) (t : TreeView) (c : ℕ) → RwGood K levels s →
+      slice_get s.views r ≡ Some (rw_view t c Nothing) → tree_standing t ≡ standing.Writer →
+      RwGood K levels (left_state (rw_table K) s r (rw_view t c Nothing) (event.LeaveW r))
   leave_writer s r t c g has wr =
       let v : RwView = rw_view t c Nothing in
       let w : RwView = rw_view (at_level t 0 (leave_at t.phase true)) c Nothing in
@@ -124,21 +136,27 @@ module _ (K : Shared) (levels : ℕ) (F : TreeFacts K.rooted levels) (d : IsSoun
       g.hook (hooked_same s.views r v w g.hook has (λ m. m) (λ m. m) g.hooked)
       (still_counters s r t c Nothing Nothing g has (refl, refl, refl)) g.batches (λ one. tt)
 
-  leave_reader : (s : LockState RwView) (r : ℕ) (t : TreeView) (c : ℕ) → RwGood K levels s → slice_get s.views r ≡ Some (rw_view t c Inside) → RwGood K levels (left_state (rw_table K) s r (rw_view t c Inside) (event.LeaveR r))
+  leave_reader : (s : LockState RwView) (r : ℕ) (t : TreeView) (c : ℕ) → RwGood K levels s →
+      slice_get s.views r ≡ Some (rw_view t c Inside) → RwGood K levels (left_state (rw_table K) s r (rw_view t c Inside) (event.LeaveR r))
   leave_reader s r t c g has =
       let v : RwView = rw_view t c Inside in
       let w : RwView = rw_view t c Depart in
       stays K levels s (left_state (rw_table K) s r (rw_view t c Inside) (event.LeaveR r)) r v w g has refl refl refl refl (g.place r v has)
       (λ m e. g.moded r v m has e) (λ k ne. refl)
-      g.inside (subst (λ z. Good g.inside s.words z (s.trace ++ event.LeaveR r ∷ [])) (sym (same_trees s r v has)) (F.beside g.inside s.words (trees s.views) s.trace (event.LeaveR r) tt g.tree))
+      g.inside (subst (λ z. Good g.inside s.words z (s.trace ++ event.LeaveR r ∷ [])) (sym (same_trees s r v has))
+      (F.beside g.inside s.words (trees s.views) s.trace (event.LeaveR r) tt g.tree))
       g.hook (hooked_same s.views r v w g.hook has (λ m. m) (λ m. m) g.hooked)
       (still_counters s r t c Inside Depart g has (refl, refl, refl)) g.batches (λ one. tt)
 
-  pub leave_writer_at : (s : LockState RwView) (r : ℕ) (t : TreeView) (c : ℕ) (p : Doing) → RwGood K levels s → slice_get s.views r ≡ Some (rw_view t c p) → rw_standing p t ≡ standing.Writer → RwGood K levels (left_state (rw_table K) s r (rw_view t c p) (event.LeaveW r))
+  pub leave_writer_at : (s : LockState RwView) (r : ℕ) (t : TreeView) (c : ℕ) (p : Doing) → RwGood K levels s →
+      slice_get s.views r ≡ Some (rw_view t c p) → rw_standing p t ≡ standing.Writer →
+      RwGood K levels (left_state (rw_table K) s r (rw_view t c p) (event.LeaveW r))
   leave_writer_at s r t c Nothing g has e = leave_writer s r t c g has e
   leave_writer_at s r t c _ g has e = cc
 
-  pub leave_reader_at : (s : LockState RwView) (r : ℕ) (t : TreeView) (c : ℕ) (p : Doing) → RwGood K levels s → slice_get s.views r ≡ Some (rw_view t c p) → rw_standing p t ≡ standing.Reader → RwGood K levels (left_state (rw_table K) s r (rw_view t c p) (event.LeaveR r))
+  pub leave_reader_at : (s : LockState RwView) (r : ℕ) (t : TreeView) (c : ℕ) (p : Doing) → RwGood K levels s →
+      slice_get s.views r ≡ Some (rw_view t c p) → rw_standing p t ≡ standing.Reader →
+      RwGood K levels (left_state (rw_table K) s r (rw_view t c p) (event.LeaveR r))
   leave_reader_at s r t c Nothing g has e = absurd (not_reader t.query t.phase e)
   leave_reader_at s r t c Inside g has e = leave_reader s r t c g has
   leave_reader_at s r t c _ g has e = cc
@@ -162,22 +180,30 @@ module _ (K : Shared) (levels : ℕ) (F : TreeFacts K.rooted levels) (d : IsSoun
       }
 
   -- NO READER BESIDE A WRITER: the root's gate is open, so nobody is at the hook, and all counters are clear.
-  no_reader_beside : (s : LockState RwView) (i j : ℕ) (v w : RwView) → RwGood K levels s → slice_get s.views i ≡ Some v → slice_get s.views j ≡ Some w → tree_standing v.tree ≡ standing.Writer → w.counter.doing ≡ Inside → ⊥
+  no_reader_beside : (s : LockState RwView) (i j : ℕ) (v w : RwView) → RwGood K levels s → slice_get s.views i ≡ Some v →
+      slice_get s.views j ≡ Some w → tree_standing v.tree ≡ standing.Writer → w.counter.doing ≡ Inside → ⊥
   no_reader_beside s i j v w g hi hj wr rd =
       let opened : g.inside ≡ true = F.holder_open g.inside s.words (trees s.views) s.trace i v.tree (viewed K levels F d s i v g hi) wr in
       let free : g.hook ≡ Nothing = ⊎_elim (λ e. e)
       (λ k.
       let hook : at_hook k.view.tree ≡ true = marks_hook (groups K) k.view.counter.doing k.view.tree k.marks (g.place k.rank k.view k.has) in
-      let shut : g.inside ≡ false = F.hook_shut g.inside s.words (trees s.views) s.trace k.rank k.view.tree (viewed K levels F d s k.rank k.view g k.has) hook in
+      let shut : g.inside ≡ false = F.hook_shut g.inside s.words (trees s.views) s.trace k.rank k.view.tree
+      (viewed K levels F d s k.rank k.view g k.has) hook in
       let no : true ≡ false = sym opened ∙ shut in cc) g.hooked.some in
       let lt : j / K.group < groups K = group_there K j d (is_there K levels F d s j w g hj) in
-      let clear = subst (λ z. GroupGood (counters_of K) (mine_of K (j / K.group)) (j / K.group) s.words (doings s.views) z) (ap (λ z. mark_by g.inside z (j / K.group)) free ∙ ap (λ z. mark_by z Nothing (j / K.group)) opened) (g.counters (j / K.group) lt) in
-      let none : inside_of w.counter.doing ≡ 0 = nobody_inside (counters_of K) (groups K) (mine_of K) s.words (doings s.views) ClearMark (j / K.group) j w.counter.doing tt clear (as_doing K levels F d s j w hj) (self_mine K j) in
+      let clear = subst (λ z. GroupGood (counters_of K) (mine_of K (j / K.group)) (j / K.group) s.words (doings s.views) z)
+      (ap (λ z. mark_by g.inside z (j / K.group)) free ∙ ap (λ z. mark_by z Nothing (j / K.group)) opened)
+      (g.counters (j / K.group) lt) in
+      let none : inside_of w.counter.doing ≡ 0 = nobody_inside (counters_of K) (groups K) (mine_of K) s.words (doings s.views) ClearMark
+      (j / K.group) j w.counter.doing tt clear (as_doing K levels F d s j w hj) (self_mine K j) in
       let no : inside_of Inside ≡ 0 = sym (ap inside_of rd) ∙ none in absurd (omega arith)
 
-  pub excludes_at : (s : LockState RwView) (i j : ℕ) (v w : RwView) → RwGood K levels s → slice_get s.views i ≡ Some v → slice_get s.views j ≡ Some w → rw_standing v.counter.doing v.tree ≡ standing.Writer → IsHolder (rw_standing w.counter.doing w.tree) → i ≡ j
+  pub excludes_at : (s : LockState RwView) (i j : ℕ) (v w : RwView) → RwGood K levels s → slice_get s.views i ≡ Some v →
+      slice_get s.views j ≡ Some w → rw_standing v.counter.doing v.tree ≡ standing.Writer → IsHolder (rw_standing w.counter.doing w.tree) →
+      i ≡ j
   excludes_at s i j v w g hi hj wv hw = by (holds_at v.counter.doing v.tree (subst IsHolder (sym wv) tt)) (holds_at w.counter.doing w.tree hw) where
     by : Holds v.counter.doing v.tree → Holds w.counter.doing w.tree → i ≡ j
-    by (Writes p a) (Writes q b) = F.one_holder g.inside s.words (trees s.views) s.trace i j v.tree w.tree (viewed K levels F d s i v g hi) (viewed K levels F d s j w g hj) (writer_holds (tree_standing v.tree) a) (writer_holds (tree_standing w.tree) b)
+    by (Writes p a) (Writes q b) = F.one_holder g.inside s.words (trees s.views) s.trace i j v.tree w.tree (viewed K levels F d s i v g hi)
+        (viewed K levels F d s j w g hj) (writer_holds (tree_standing v.tree) a) (writer_holds (tree_standing w.tree) b)
     by (Writes p a) (Reads q) = absurd (no_reader_beside s i j v w g hi hj a q)
     by (Reads p) h = let no : standing.Reader ≡ standing.Writer = sym (ap (λ z. rw_standing z v.tree) p) ∙ wv in cc

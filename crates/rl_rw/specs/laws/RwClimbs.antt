@@ -22,7 +22,8 @@ use Rattle.rl_tree.specs.laws.Cases.{plan_by}
 use Rattle.rl_tree.specs.Elements.{names_in, tree_of}
 use Rattle.rl_tree.specs.TreeFacts.{TreeFacts}
 use Rattle.rl_tree.specs.TreeShape.{IsWellShaped}
-use Rattle.rl_tree.specs.laws.TreeHolders.{at_root}
+use Rattle.rl_tree.specs.laws.TreePaths.{el_top}
+use Rattle.rl_tree.specs.laws.RanksInTree.{stands_of}
 use Rattle.rl_counter.specs.declared.view.Doing.TheVariants.{Nothing}
 use Rattle.rl_rw.specs.declared.view.RwView.{RwView}
 use Rattle.rl_rw.specs.Rw.{Shared, groups, behind_tree, rw_view, from_tree, rw_learn}
@@ -68,37 +69,47 @@ module _ (K : Shared) (n : ℕ) (F : TreeFacts K.rooted n) (d : IsSound K) (S : 
         low = λ e. ⊎_elim (λ lt. lt)
             (λ ge.
             let top : t.level ≡ n = omega arith in
-            let root : path (tree_of K.rooted) t.leaf t.level ≡ 0 = ap (path (tree_of K.rooted) t.leaf) top ∙ at_root K.rooted n S s.words (trees s.views) s.trace g.tree.tree (all_trees K n F d s g) r t here in
-            let none : is_none ((tree_of K.rooted).parent (path (tree_of K.rooted) t.leaf t.level)) ≡ true = ap (λ z. is_none ((tree_of K.rooted).parent z)) root ∙ ap is_none S.root_free in
+            let none : is_none ((tree_of K.rooted).parent (path (tree_of K.rooted) t.leaf t.level)) ≡ true =
+            ap (λ z. is_none ((tree_of K.rooted).parent (path (tree_of K.rooted) t.leaf z))) top
+            ∙ ap is_none (el_top (stands_of S g.tree.tree (all_trees K n F d s g) r t here).on) in
             let bad : true ≡ false = sym none ∙ e in cc) (cases_lt t.level n);
       }
 
   -- no act of the tree is on a depart word
-  tree_full : (s : LockState RwView) (r : ℕ) (t : TreeView) (c : ℕ) (a : Act) (x : ℕ) → RwGood K n s → slice_get s.views r ≡ Some (rw_view t c Nothing) → tree_plan (tree_of K.rooted) t ≡ Some a → fulls K (slice_set s.words (word_of a) x) (groups K) ≡ fulls K s.words (groups K)
+  tree_full : (s : LockState RwView) (r : ℕ) (t : TreeView) (c : ℕ) (a : Act) (x : ℕ) → RwGood K n s →
+      slice_get s.views r ≡ Some (rw_view t c Nothing) → tree_plan (tree_of K.rooted) t ≡ Some a →
+      fulls K (slice_set s.words (word_of a) x) (groups K) ≡ fulls K s.words (groups K)
   tree_full s r t c a x g has pl =
       let low : word_of a < behind_tree K = (F.lawful g.inside s.words (trees s.views) s.trace r t a (acts_in K n F d s r t c a g has pl)).0.there in
-      fulls_same K s.words (slice_set s.words (word_of a) x) (groups K) (λ h lh. other_full K s.words (word_of a) x h (tree_word_apart K h (word_of a) lh low).1)
+      fulls_same K s.words (slice_set s.words (word_of a) x) (groups K)
+      (λ h lh. other_full K s.words (word_of a) x h (tree_word_apart K h (word_of a) lh low).1)
 
   -- an act that brings its rank nearer
-  by_act : (s : LockState RwView) (r : ℕ) (t : TreeView) (c : ℕ) (a : Act) → RwGood K n s → slice_get s.views r ≡ Some (rw_view t c Nothing) → tree_plan (tree_of K.rooted) t ≡ Some a →
+  by_act : (s : LockState RwView) (r : ℕ) (t : TreeView) (c : ℕ) (a : Act) → RwGood K n s →
+      slice_get s.views r ≡ Some (rw_view t c Nothing) → tree_plan (tree_of K.rooted) t ≡ Some a →
       rw_far K n (rw_learn K (rw_view t c Nothing) false (told a (slice_index s.words (word_of a)))).view < far_in n (groups K) t → Going s r
   by_act s r t c a g has pl lt =
       let full = tree_full s r t c a (written a (slice_index s.words (word_of a))) g has pl in
       by_far K n F d S s r (rw_view t c Nothing) a has pl (omega arith)
 
   -- an act that gets the rank's member on, with the walk that follows
-  turn_far : (u : TreeView) (c : ℕ) (p : Phase) (got : ℕ) → Placed u → GetsOn p got → rw_far K n (rw_learn K (rw_view (at_level u u.level p) c Nothing) false got).view < far_by n (2 * groups K) false u.level p
+  turn_far : (u : TreeView) (c : ℕ) (p : Phase) (got : ℕ) → Placed u → GetsOn p got →
+      rw_far K n (rw_learn K (rw_view (at_level u u.level p) c Nothing) false got).view < far_by n (2 * groups K) false u.level p
   turn_far u c p got at gets =
       let tu : QueueTurn = turn_at (names_in K.rooted (Q u)) (M u) p got in
       let w : Told TreeView = walk_turn (tree_of K.rooted) (at_level u u.level p) u.level (turn_at (names_in K.rooted (Q u)) (M u) p got) in
-      let a : far_in n (groups K) w.view ≤ cap n (groups K) u.level tu.phase = walk_cap n (groups K) (tree_of K.rooted) (at_level u u.level p) u.level tu.phase tu.events tu.waits at.within at.low in
-      let b : rw_far K n (from_tree (rw_view (at_level u u.level p) c Nothing) (at_hook w.view) w).view ≤ far_in n (groups K) w.view = hook_cap K n (rw_view (at_level u u.level p) c Nothing) w (at_hook w.view) refl in
+      let a : far_in n (groups K) w.view ≤ cap n (groups K) u.level tu.phase =
+      walk_cap n (groups K) (tree_of K.rooted) (at_level u u.level p) u.level tu.phase tu.events tu.waits at.within at.low in
+      let b : rw_far K n (from_tree (rw_view (at_level u u.level p) c Nothing) (at_hook w.view) w).view ≤ far_in n (groups K) w.view =
+      hook_cap K n (rw_view (at_level u u.level p) c Nothing) w (at_hook w.view) refl in
       let e : cap n (groups K) u.level tu.phase < far_by n (2 * groups K) false u.level p =
-      turn_falls (far_by n (2 * groups K) false u.level) (cap n (groups K) u.level) (far_falls n (groups K) u.level at.within) (names_in K.rooted (Q u)) (M u) p got gets in
+      turn_falls (far_by n (2 * groups K) false u.level) (cap n (groups K) u.level) (far_falls n (groups K) u.level at.within)
+      (names_in K.rooted (Q u)) (M u) p got gets in
       omega arith
 
   -- a swing that is lost learns the tail
-  by_loss : (s : LockState RwView) (r : ℕ) (u : TreeView) (c x : ℕ) → slice_get s.views r ≡ Some (rw_view (at_level u u.level (Swing x)) c Nothing) → (slice_index s.words (Q u) == x) ≡ false → Going s r
+  by_loss : (s : LockState RwView) (r : ℕ) (u : TreeView) (c x : ℕ) →
+      slice_get s.views r ≡ Some (rw_view (at_level u u.level (Swing x)) c Nothing) → (slice_index s.words (Q u) == x) ≡ false → Going s r
   by_loss s r u c x has test =
       let t : ℕ = slice_index s.words (Q u) in
       let v : RwView = rw_view (at_level u u.level (Swing x)) c Nothing in
@@ -107,13 +118,17 @@ module _ (K : Shared) (n : ℕ) (F : TreeFacts K.rooted n) (d : IsSound K) (S : 
       let turn : turn_at (names_in K.rooted (Q u)) (M u) (Swing x) (slice_index s.words (Q u)) ≡ moves_to (Swing (slice_index s.words (Q u))) =
       ap (λ b. if b then moves_with (joined_at x) (event.Join (Q u) (M u)) else moves_to (Swing (slice_index s.words (Q u)))) test in
       let view : (rw_learn K v false (slice_index s.words (Q u))).view ≡ rw_view (at_level u u.level (Swing (slice_index s.words (Q u)))) c Nothing =
-      ap (λ z. (from_tree v (at_hook (walk_turn (tree_of K.rooted) (at_level u u.level (Swing x)) u.level z).view) (walk_turn (tree_of K.rooted) (at_level u u.level (Swing x)) u.level z)).view) turn in
+      ap (λ z. (from_tree v (at_hook (walk_turn (tree_of K.rooted) (at_level u u.level (Swing x)) u.level z).view)
+      (walk_turn (tree_of K.rooted) (at_level u u.level (Swing x)) u.level z)).view) turn in
       let old : rw_near K s.words v ≡ 1 = ap (λ b. if b then 0 else 1) test in
-      let new : rw_near K s.words (rw_view (at_level u u.level (Swing (slice_index s.words (Q u)))) c Nothing) ≡ 0 = ap (λ b. if b then 0 else 1) (same_test (slice_index s.words (Q u))) in
-      by_still K n F d S s r v (rw_view (at_level u u.level (Swing (slice_index s.words (Q u)))) c Nothing) (CardCas (Q u) x (M u + 1)) has refl words view refl (omega (arith, old, new))
+      let new : rw_near K s.words (rw_view (at_level u u.level (Swing (slice_index s.words (Q u)))) c Nothing) ≡ 0 =
+      ap (λ b. if b then 0 else 1) (same_test (slice_index s.words (Q u))) in
+      by_still K n F d S s r v (rw_view (at_level u u.level (Swing (slice_index s.words (Q u)))) c Nothing)
+      (CardCas (Q u) x (M u + 1)) has refl words view refl (omega (arith, old, new))
 
   -- a rank at its queue in a phase
-  phase_goes : (s : LockState RwView) (r : ℕ) (u : TreeView) (c : ℕ) (p : Phase) → RwGood K n s → Placed u → slice_get s.views r ≡ Some (rw_view (at_level u u.level p) c Nothing) → hook_by false p ≡ false →
+  phase_goes : (s : LockState RwView) (r : ℕ) (u : TreeView) (c : ℕ) (p : Phase) → RwGood K n s → Placed u →
+      slice_get s.views r ≡ Some (rw_view (at_level u u.level p) c Nothing) → hook_by false p ≡ false →
       tree_urgency false p (loaded s.words (plan_at (names_in K.rooted (Q u)) (M u) p)) ≡ Some 1 → Going s r
   phase_goes s r u c Idle g at has hook urgent = cc
   phase_goes s r u c Clear g at has hook urgent = by_act s r (at_level u u.level Clear) c _ g has refl (turn_far u c Clear 0 at tt)
@@ -126,16 +141,19 @@ module _ (K : Shared) (n : ℕ) (F : TreeFacts K.rooted n) (d : IsSound K) (S : 
   phase_goes s r u c (Link x) g at has hook urgent = by_act s r (at_level u u.level (Link x)) c _ g has refl (turn_far u c (Link x) 0 at tt)
   phase_goes s r u c Wait g at has hook urgent =
       by_act s r (at_level u u.level Wait) c (Load (status_word (names_in K.rooted (Q u)) (M u))) g has refl
-      (turn_far u c Wait (slice_index s.words (status_word (names_in K.rooted (Q u)) (M u))) at (urgent_if (slice_index s.words (status_word (names_in K.rooted (Q u)) (M u))) urgent))
+      (turn_far u c Wait (slice_index s.words (status_word (names_in K.rooted (Q u)) (M u))) at
+      (urgent_if (slice_index s.words (status_word (names_in K.rooted (Q u)) (M u))) urgent))
   phase_goes s r u c Settle g at has hook urgent = cc
   phase_goes s r u c (Granted left) g at has hook urgent = cc
   phase_goes s r u c (Look left up) g at has hook urgent =
-      by_act s r (at_level u u.level (Look left up)) c _ g has refl (turn_far u c (Look left up) (slice_index s.words (queue_next_word (names_in K.rooted (Q u)) (M u))) at tt)
+      by_act s r (at_level u u.level (Look left up)) c _ g has refl
+      (turn_far u c (Look left up) (slice_index s.words (queue_next_word (names_in K.rooted (Q u)) (M u))) at tt)
   phase_goes s r u c (Close left) g at has hook urgent =
       by_act s r (at_level u u.level (Close left)) c (CardCas (Q u) (M u + 1) 0) g has refl (turn_far u c (Close left) (slice_index s.words (Q u)) at tt)
   phase_goes s r u c (Await left) g at has hook urgent =
       by_act s r (at_level u u.level (Await left)) c (Load (queue_next_word (names_in K.rooted (Q u)) (M u))) g has refl
-      (turn_far u c (Await left) (slice_index s.words (queue_next_word (names_in K.rooted (Q u)) (M u))) at (urgent_if (slice_index s.words (queue_next_word (names_in K.rooted (Q u)) (M u))) urgent))
+      (turn_far u c (Await left) (slice_index s.words (queue_next_word (names_in K.rooted (Q u)) (M u))) at
+      (urgent_if (slice_index s.words (queue_next_word (names_in K.rooted (Q u)) (M u))) urgent))
   phase_goes s r u c (Hand x left) g at has hook urgent = by_act s r (at_level u u.level (Hand x left)) c _ g has refl (turn_far u c (Hand x left) 0 at tt)
   phase_goes s r u c (Above x) g at has hook urgent = cc
 
@@ -143,7 +161,8 @@ module _ (K : Shared) (n : ℕ) (F : TreeFacts K.rooted n) (d : IsSound K) (S : 
   query_view : (t : TreeView) → t.query ≡ true → t ≡ record { rank = t.rank; leaf = t.leaf; level = t.level; phase = t.phase; query = true; behind = t.behind }
   query_view t e = ap (λ b. record { rank = t.rank; leaf = t.leaf; level = t.level; phase = t.phase; query = b; behind = t.behind }) e
 
-  query_goes : (s : LockState RwView) (r : ℕ) (t : TreeView) (c : ℕ) → RwGood K n s → slice_get s.views r ≡ Some (rw_view t c Nothing) → t.query ≡ true → Going s r
+  query_goes : (s : LockState RwView) (r : ℕ) (t : TreeView) (c : ℕ) → RwGood K n s → slice_get s.views r ≡ Some (rw_view t c Nothing) →
+      t.query ≡ true → Going s r
   query_goes s r t c g has e =
       let u : TreeView = record { rank = t.rank; leaf = t.leaf; level = t.level; phase = t.phase; query = true; behind = t.behind } in
       by_act s r u c (Load (status_word (names_in K.rooted (Q t)) (M t))) g (has ∙ ap (λ z. Some (rw_view z c Nothing)) (query_view t e)) refl (omega arith)

@@ -117,7 +117,8 @@ leaves_far n m (Await left) = omega arith
 leaves_far n m (Hand k left) = omega arith
 leaves_far n m (Above k) = omega arith
 
-leave_far : (K : Shared) (n : ℕ) (t : TreeView) (c : ℕ) (p : Doing) → IsHolder (rw_standing p t) → rw_far K n (leaves_at (rw_view t c p) p) ≤ 2 * groups K + (7 * n + 6)
+leave_far : (K : Shared) (n : ℕ) (t : TreeView) (c : ℕ) (p : Doing) → IsHolder (rw_standing p t) →
+    rw_far K n (leaves_at (rw_view t c p) p) ≤ 2 * groups K + (7 * n + 6)
 leave_far K n t c Inside h = omega arith
 leave_far K n t c Nothing h = leaves_far n (groups K) t.phase
 leave_far K n t c _ h = absurd h
@@ -131,8 +132,14 @@ module _ (K : Shared) (n : ℕ) (F : TreeFacts K.rooted n) (d : IsSound K) (S : 
   Going s r = CanGoOn (rw_table K) (rw_left K n) s r
 
   -- The three kinds of ranks that go on: one that holds the lock, or goes out of a counter;
-  out_goes : (s : LockState RwView) (r : ℕ) (t : TreeView) (c : ℕ) (p : Doing) → RwGood K n s → slice_get s.views r ≡ Some (rw_view t c p) → urgency_at K s.words p t ≡ Some 0 → Going s r
-  out_goes s r t c Nothing g has e = record { view = rw_view t c Nothing; has = has; way = inl (tree_holds t.query t.phase (loaded s.words (tree_plan (tree_of K.rooted) t)) e) }
+  out_goes : (s : LockState RwView) (r : ℕ) (t : TreeView) (c : ℕ) (p : Doing) → RwGood K n s → slice_get s.views r ≡ Some (rw_view t c p) →
+      urgency_at K s.words p t ≡ Some 0 → Going s r
+  out_goes s r t c Nothing g has e = record {
+    view = rw_view t c Nothing;
+    has = has;
+    way =
+        inl (tree_holds t.query t.phase (loaded s.words (tree_plan (tree_of K.rooted) t)) e);
+  }
   out_goes s r t c Inside g has e = record { view = rw_view t c Inside; has = has; way = inl tt }
   out_goes s r t c Depart g has e = depart_goes K n F d S s r t c g has
   out_goes s r t c (Refused a) g has e = refused_goes K n F d S s r t c a g has
@@ -145,7 +152,8 @@ module _ (K : Shared) (n : ℕ) (F : TreeFacts K.rooted n) (d : IsSound K) (S : 
   out_goes s r t c _ g has e = let low : 0 < 2 = omega arith in absurd (two_not 0 low e)
 
   -- a writer, where nobody does so;
-  writer_goes : (s : LockState RwView) (r : ℕ) (t : TreeView) (c : ℕ) (p : Doing) → NoneAt K s 0 → RwGood K n s → slice_get s.views r ≡ Some (rw_view t c p) → urgency_at K s.words p t ≡ Some 1 → Going s r
+  writer_goes : (s : LockState RwView) (r : ℕ) (t : TreeView) (c : ℕ) (p : Doing) → NoneAt K s 0 → RwGood K n s →
+      slice_get s.views r ≡ Some (rw_view t c p) → urgency_at K s.words p t ≡ Some 1 → Going s r
   writer_goes s r t c Nothing none g has e = climbs_go K n F d S s r t c g has e
   writer_goes s r t c (Put i) none g has e = marks_go K n F d S s r t c (Put i) some none g has tt
   writer_goes s r t c (Count i) none g has e = marks_go K n F d S s r t c (Count i) some none g has tt
@@ -161,28 +169,41 @@ module _ (K : Shared) (n : ℕ) (F : TreeFacts K.rooted n) (d : IsSound K) (S : 
   -- and a reader that asks, where no writer goes on either.
   chosen_goes : (s : LockState RwView) (r : ℕ) → RwGood K n s → IsChosen (rw_urgent K s.words) s.views r → Going s r
   chosen_goes s r g c = by c.urgency c.is_urgent c.least where
-    by : (u : ℕ) → rw_urgent K s.words c.view ≡ Some u → ((i : ℕ) (v : RwView) (k : ℕ) → slice_get s.views i ≡ Some v → rw_urgent K s.words v ≡ Some k → u ≤ k) → Going s r
+    by : (u : ℕ) → rw_urgent K s.words c.view ≡ Some u → ((i : ℕ) (v : RwView) (k : ℕ) → slice_get s.views i ≡ Some v →
+        rw_urgent K s.words v ≡ Some k → u ≤ k) → Going s r
     by zero e least = out_goes s r c.view.tree c.view.counter.counter c.view.counter.doing g c.has e
-    by (suc zero) e least = writer_goes s r c.view.tree c.view.counter.counter c.view.counter.doing (λ i x h a. let le = least i x 0 h a in absurd (omega arith)) g c.has e
+    by (suc zero) e least = writer_goes s r c.view.tree c.view.counter.counter c.view.counter.doing
+        (λ i x h a. let le = least i x 0 h a in absurd (omega arith)) g c.has e
     by (suc (suc k)) e least =
         readers_go K n F d S s r c.view.tree c.view.counter.counter c.view.counter.doing k some g
-        (record { leaving = λ i x h a. let le = least i x 0 h a in absurd (omega arith); writing = λ i x h a. let le = least i x 1 h a in absurd (omega arith) }) c.has e
+        (record {
+          leaving = λ i x h a. let le = least i x 0 h a in absurd (omega arith);
+          writing = λ i x h a. let le = least i x 1 h a in
+              absurd (omega arith);
+        }) c.has e
 
   -- where none is urgent all are out
   rest_out : (s : LockState RwView) → RwGood K n s → NoneUrgent (rw_urgent K s.words) s.views → AllOut (rw_table K) s
   rest_out s g none r v has =
-      let quiet : Quiet K n F d S s = record { leaving = λ i x h a. let no : None ≡ Some 0 = sym (none i x h) ∙ a in cc; writing = λ i x h a. let no : None ≡ Some 1 = sym (none i x h) ∙ a in cc } in
-      ap (λ z. rw_standing z v.tree) (idle_at K s.words v.counter.doing v.tree (none r v has)) ∙ trees_out K n F d S s g quiet r v.tree (as_tree K n F d s r v has)
+      let quiet : Quiet K n F d S s = record {
+        leaving = λ i x h a. let no : None ≡ Some 0 = sym (none i x h) ∙ a in cc;
+        writing =
+            λ i x h a. let no : None ≡ Some 1 = sym (none i x h) ∙ a in cc;
+      } in
+      ap (λ z. rw_standing z v.tree) (idle_at K s.words v.counter.doing v.tree (none r v has))
+      ∙ trees_out K n F d S s g quiet r v.tree (as_tree K n F d s r v has)
 
   pub rw_ends : LockEnds (rw_table K) (rw_left K n) (RwGood K n) (rw_most K n)
   rw_ends =
       record {
         somebody = λ s g. ⊎_elim (λ none. inl (rest_out s g none)) (λ c. inr (c.0, chosen_goes s c.0 g c.1)) (chosen_or_none (rw_urgent K s.words) s.views);
         ask_adds = λ s r v m g has out.
-            grows 8 (rw_far K n) (rw_near K s.words) (fulls K s.words (groups K)) s.views (ranks_in K.rooted) r (2 * groups K + (7 * n + 6)) 8 v (asks_for v m) g.all_views has (ask_far K n v m)
+            grows 8 (rw_far K n) (rw_near K s.words) (fulls K s.words (groups K)) s.views (ranks_in K.rooted) r
+            (2 * groups K + (7 * n + 6)) 8 v (asks_for v m) g.all_views has (ask_far K n v m)
             (near_few K s.words (asks_for v m).counter.counter (asks_for v m).counter.doing (asks_for v m).tree);
         leave_adds = λ s r v g has holds.
-            grows 8 (rw_far K n) (rw_near K s.words) (fulls K s.words (groups K)) s.views (ranks_in K.rooted) r (2 * groups K + (7 * n + 6)) 8 v (leaves_at v v.counter.doing) g.all_views has
+            grows 8 (rw_far K n) (rw_near K s.words) (fulls K s.words (groups K)) s.views (ranks_in K.rooted) r
+            (2 * groups K + (7 * n + 6)) 8 v (leaves_at v v.counter.doing) g.all_views has
             (leave_far K n v.tree v.counter.counter v.counter.doing holds)
             (near_few K s.words (leaves_at v v.counter.doing).counter.counter (leaves_at v v.counter.doing).counter.doing (leaves_at v v.counter.doing).tree);
       }
@@ -196,14 +217,19 @@ module _ (K : Shared) (n : ℕ) (F : TreeFacts K.rooted n) (d : IsSound K) (S : 
       }
 
 -- so it is with the lock that was made: at least one reader may come to a counter
-pub ends_of : (rooted : Rooted) (readers group : ℕ) → IsTreeLaid rooted (levels_of rooted.shape) → is_some rooted.root ≡ true → readers ≤ 1000 → 0 < group → 0 < readers →
-    LockEnds (rw_table (shared_of rooted readers group)) (rw_left (shared_of rooted readers group) (levels_of rooted.shape)) (RwGood (shared_of rooted readers group) (levels_of rooted.shape)) (rw_most (shared_of rooted readers group) (levels_of rooted.shape))
+pub ends_of : (rooted : Rooted) (readers group : ℕ) → IsTreeLaid rooted (levels_of rooted.shape) → is_some rooted.root ≡ true →
+    readers ≤ 1000 → 0 < group → 0 < readers →
+    LockEnds (rw_table (shared_of rooted readers group)) (rw_left (shared_of rooted readers group) (levels_of rooted.shape))
+    (RwGood (shared_of rooted readers group) (levels_of rooted.shape))
+    (rw_most (shared_of rooted readers group) (levels_of rooted.shape))
 ends_of rooted readers group laid limited few grouped some =
     let S : IsWellShaped rooted (levels_of rooted.shape) = laid_shaped rooted (levels_of rooted.shape) laid in
     rw_ends (shared_of rooted readers group) (levels_of rooted.shape) (tree_facts rooted (levels_of rooted.shape) S) (sound_of (shared_of rooted readers group) (levels_of rooted.shape) S limited few grouped) S some
 
-pub guides_of : (rooted : Rooted) (readers group : ℕ) → IsTreeLaid rooted (levels_of rooted.shape) → is_some rooted.root ≡ true → readers ≤ 1000 → 0 < group → 0 < readers →
-    LockGuides (rw_table (shared_of rooted readers group)) (rw_left (shared_of rooted readers group) (levels_of rooted.shape)) (RwGood (shared_of rooted readers group) (levels_of rooted.shape)) (rw_urgent (shared_of rooted readers group))
+pub guides_of : (rooted : Rooted) (readers group : ℕ) → IsTreeLaid rooted (levels_of rooted.shape) → is_some rooted.root ≡ true →
+    readers ≤ 1000 → 0 < group → 0 < readers →
+    LockGuides (rw_table (shared_of rooted readers group)) (rw_left (shared_of rooted readers group) (levels_of rooted.shape))
+    (RwGood (shared_of rooted readers group) (levels_of rooted.shape)) (rw_urgent (shared_of rooted readers group))
 guides_of rooted readers group laid limited few grouped some =
     let S : IsWellShaped rooted (levels_of rooted.shape) = laid_shaped rooted (levels_of rooted.shape) laid in
     rw_guides (shared_of rooted readers group) (levels_of rooted.shape) (tree_facts rooted (levels_of rooted.shape) S) (sound_of (shared_of rooted readers group) (levels_of rooted.shape) S limited few grouped) S some

@@ -66,7 +66,9 @@ module _ (mine : ℕ → Bool) where
   learn_still : (T : TheTree) (v : TreeView) (q : Bool) (got : ℕ) → Still (learn_by T v q got).events
   learn_still T v true got = refl
   learn_still T v false got =
-      walk_still T v v.level (turn_at (names_at T v v.level) (works_for T v v.level) v.phase got).phase (turn_at (names_at T v v.level) (works_for T v v.level) v.phase got).events (turn_at (names_at T v v.level) (works_for T v v.level) v.phase got).waits
+      walk_still T v v.level (turn_at (names_at T v v.level) (works_for T v v.level) v.phase got).phase
+      (turn_at (names_at T v v.level) (works_for T v v.level) v.phase got).events
+      (turn_at (names_at T v v.level) (works_for T v v.level) v.phase got).waits
       (turn_all Still (names_at T v v.level) (works_for T v v.level) v.phase got refl refl (λ s. refl))
 
   resume_still : (T : TheTree) (v : TreeView) (p : Phase) → Still (resume_by T v p []).events
@@ -89,7 +91,8 @@ module _ (mine : ℕ → Bool) where
   abbrev Fits : Shared → ℕ → Act → ℕ → List Event → Type 0
   Fits K g a got es = MayEnter mine (arrive_word (counters_of K) g) K.readers a got es
 
-  arrive_fits : (K : Shared) (v : RwView) (g : ℕ) (a : Act) (got : ℕ) → (mine v.tree.rank ≡ true → v.counter.counter ≡ g) → counter_act (counters_of K) v.counter.counter Arrive ≡ Some a →
+  arrive_fits : (K : Shared) (v : RwView) (g : ℕ) (a : Act) (got : ℕ) → (mine v.tree.rank ≡ true → v.counter.counter ≡ g) →
+      counter_act (counters_of K) v.counter.counter Arrive ≡ Some a →
       Fits K g a got (from_counter K v Arrive (counter_turn (counters_of K) Arrive got).doing (counter_turn (counters_of K) Arrive got).waits).events
   arrive_fits K v g a got own pl = at (nat_lt got K.readers) refl where
     group : (b : Bool) → mine v.tree.rank ≡ b → got < K.readers → Fits K g a got (event.EnterR v.tree.rank ∷ [])
@@ -98,31 +101,46 @@ module _ (mine : ℕ → Bool) where
         inr (sym same ∙ ap (λ z. CardAdd (arrive_word (counters_of K) z) 1) (own e), l, one_low (mine v.tree.rank))
     group false e l = inl (ap (λ z. count z + 0) e)
 
-    at : (b : Bool) → nat_lt got K.readers ≡ b → Fits K g a got (from_counter K v Arrive (if nat_lt got K.readers then to Inside else to (Refused got)).doing (if nat_lt got K.readers then to Inside else to (Refused got)).waits).events
-    at true e = subst (λ z. Fits K g a got (from_counter K v Arrive (if z then to Inside else to (Refused got)).doing (if z then to Inside else to (Refused got)).waits).events) (sym e) (group (mine v.tree.rank) refl (grind (arith, nat_tests)))
-    at false e = subst (λ z. Fits K g a got (from_counter K v Arrive (if z then to Inside else to (Refused got)).doing (if z then to Inside else to (Refused got)).waits).events) (sym e) (inl refl)
+    at : (b : Bool) → nat_lt got K.readers ≡ b → Fits K g a got
+        (from_counter K v Arrive (if nat_lt got K.readers then to Inside else to (Refused got)).doing
+        (if nat_lt got K.readers then to Inside else to (Refused got)).waits).events
+    at true e = subst (λ z. Fits K g a got (from_counter K v Arrive (if z then to Inside else to (Refused got)).doing
+        (if z then to Inside else to (Refused got)).waits).events) (sym e) (group (mine v.tree.rank) refl (grind (arith, nat_tests)))
+    at false e = subst (λ z. Fits K g a got (from_counter K v Arrive (if z then to Inside else to (Refused got)).doing
+        (if z then to Inside else to (Refused got)).waits).events) (sym e) (inl refl)
 
-  pub rw_enters : (K : Shared) (v : RwView) (p : Doing) (g : ℕ) (a : Act) (got : ℕ) → (mine v.tree.rank ≡ true → v.counter.counter ≡ g) → busy p ≡ true → counter_act (counters_of K) v.counter.counter p ≡ Some a →
+  pub rw_enters : (K : Shared) (v : RwView) (p : Doing) (g : ℕ) (a : Act) (got : ℕ) → (mine v.tree.rank ≡ true → v.counter.counter ≡ g) →
+      busy p ≡ true → counter_act (counters_of K) v.counter.counter p ≡ Some a →
       Fits K g a got (from_counter K v p (counter_turn (counters_of K) p got).doing (counter_turn (counters_of K) p got).waits).events
   rw_enters K v Nothing g a got own b pl = cc
   rw_enters K v Arrive g a got own b pl = arrive_fits K v g a got own pl
   rw_enters K v (SeeTail x) g a got own b pl =
-      choose (λ u. Fits K g a got (from_counter K v (SeeTail x) u.doing u.waits).events) ((got == 0) && nat_lt x (2 ^ 32)) (to Swap) (to Round) (inl refl) (inl refl)
+      choose (λ u. Fits K g a got (from_counter K v (SeeTail x) u.doing u.waits).events) ((got == 0) && nat_lt x (2 ^ 32)) (to Swap)
+      (to Round) (inl refl) (inl refl)
   rw_enters K v Round g a got own b pl =
       choose (λ u. Fits K g a got (from_counter K v Round u.doing u.waits).events) (nat_lt got K.readers) (to Arrive) (to (RoundTail got)) (inl refl) (inl refl)
   rw_enters K v (RoundTail x) g a got own b pl =
-      choose (λ u. Fits K g a got (from_counter K v (RoundTail x) u.doing u.waits).events) ((got == 0) && nat_lt x (2 ^ 32)) (to Arrive) (record { doing = Round; waits = true }) (inl refl) (inl refl)
+      choose (λ u. Fits K g a got (from_counter K v (RoundTail x) u.doing u.waits).events) ((got == 0) && nat_lt x (2 ^ 32)) (to Arrive)
+      (record { doing = Round; waits = true }) (inl refl) (inl refl)
   rw_enters K v Inside g a got own b pl = cc
   rw_enters K v (Put i) g a got own b pl =
-      choose (λ u. Fits K g a got (from_counter K v (Put i) u.doing u.waits).events) (nat_lt (i + 1) (length (counters_of K).arrive)) (to (Put (i + 1))) (to (Count 0)) (inl refl) (inl refl)
+      choose (λ u. Fits K g a got (from_counter K v (Put i) u.doing u.waits).events) (nat_lt (i + 1) (length (counters_of K).arrive))
+      (to (Put (i + 1))) (to (Count 0)) (inl refl) (inl refl)
   rw_enters K v (Compare i x) g a got own b pl =
-      choose (λ u. Fits K g a got (from_counter K v (Compare i x) u.doing u.waits).events) (got == x - 2 ^ 32) (if nat_lt (i + 1) (length (counters_of K).arrive) then to (Count (i + 1)) else to Nothing) (record { doing = Count i; waits = true })
-      (choose (λ u. Fits K g a got (from_counter K v (Compare i x) u.doing u.waits).events) (nat_lt (i + 1) (length (counters_of K).arrive)) (to (Count (i + 1))) (to Nothing) (inl refl) (inl (hook_still K v))) (inl refl)
+      choose (λ u. Fits K g a got (from_counter K v (Compare i x) u.doing u.waits).events) (got == x - 2 ^ 32)
+      (if nat_lt (i + 1) (length (counters_of K).arrive) then to (Count (i + 1)) else to Nothing)
+      (record { doing = Count i; waits = true })
+      (choose (λ u. Fits K g a got (from_counter K v (Compare i x) u.doing u.waits).events) (nat_lt (i + 1) (length (counters_of K).arrive))
+      (to (Count (i + 1))) (to Nothing) (inl refl) (inl (hook_still K v))) (inl refl)
   rw_enters K v (TakeOff i x) g a got own b pl =
-      choose (λ u. Fits K g a got (from_counter K v (TakeOff i x) u.doing u.waits).events) (nat_lt (i + 1) (length (counters_of K).arrive)) (to (TakeOut (i + 1))) (to Nothing) (inl refl) (inl (hook_still K v))
+      choose (λ u. Fits K g a got (from_counter K v (TakeOff i x) u.doing u.waits).events) (nat_lt (i + 1) (length (counters_of K).arrive))
+      (to (TakeOut (i + 1))) (to Nothing) (inl refl) (inl (hook_still K v))
   rw_enters K v _ g a got own b pl = inl refl
 
   -- each act of the lock fits
-  pub rw_fits : (K : Shared) (v : RwView) (q : Bool) (g : ℕ) (a : Act) (got : ℕ) → (mine v.tree.rank ≡ true → v.counter.counter ≡ g) → busy v.counter.doing ≡ q → plan_of K v q ≡ Some a → Fits K g a got (rw_learn K v q got).events
+  pub rw_fits : (K : Shared) (v : RwView) (q : Bool) (g : ℕ) (a : Act) (got : ℕ) → (mine v.tree.rank ≡ true → v.counter.counter ≡ g) →
+      busy v.counter.doing ≡ q → plan_of K v q ≡ Some a → Fits K g a got (rw_learn K v q got).events
   rw_fits K v true g a got own b pl = rw_enters K v v.counter.doing g a got own b pl
-  rw_fits K v false g a got own b pl = inl (tree_still v (at_hook (tree_learn (tree_of K.rooted) v.tree got).view) (tree_learn (tree_of K.rooted) v.tree got) (learn_still (tree_of K.rooted) v.tree v.tree.query got))
+  rw_fits K v false g a got own b pl =
+      inl (tree_still v (at_hook (tree_learn (tree_of K.rooted) v.tree got).view) (tree_learn (tree_of K.rooted) v.tree got)
+      (learn_still (tree_of K.rooted) v.tree v.tree.query got))

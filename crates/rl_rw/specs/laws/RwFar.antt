@@ -30,7 +30,8 @@ module _ (n m : ℕ) where
   up_cap w true v es low = omega arith
   up_cap w false v es low = let lt = low refl in omega arith
 
-  away_cap : (w : ℕ) (b : Bool) (v : TreeView) (s : Option ℕ) (es : List Event) → w ≤ n → (b ≡ false → w < n) → far_in n m (gives_up b v w s es).view ≤ 2 * m + (4 * n + 2 * (n - w) + 4)
+  away_cap : (w : ℕ) (b : Bool) (v : TreeView) (s : Option ℕ) (es : List Event) → w ≤ n → (b ≡ false → w < n) →
+      far_in n m (gives_up b v w s es).view ≤ 2 * m + (4 * n + 2 * (n - w) + 4)
   away_cap w true v s es le low = omega arith
   away_cap w false v s es le low = let lt = low refl in omega arith
 
@@ -42,7 +43,8 @@ module _ (n m : ℕ) where
   down_cap zero v es = omega arith
   down_cap (suc j) v es = let k = resumed j (behind_at v.behind j) in omega arith
 
-  pub walk_cap : (T : TheTree) (v : TreeView) (w : ℕ) (p : Phase) (es : List Event) (b : Bool) → w ≤ n → (is_none (T.parent (path T v.leaf w)) ≡ false → w < n) → far_in n m (tree_walk T v w p es b).view ≤ cap w p
+  pub walk_cap : (T : TheTree) (v : TreeView) (w : ℕ) (p : Phase) (es : List Event) (b : Bool) → w ≤ n →
+      (is_none (T.parent (path T v.leaf w)) ≡ false → w < n) → far_in n m (tree_walk T v w p es b).view ≤ cap w p
   walk_cap T v w Settle es b le low = up_cap w (is_none (T.parent (path T v.leaf w))) v es low
   walk_cap T v w (Granted left) es b le low = inside_zero T v w left
   walk_cap T v w (Above s) es b le low = away_cap w (is_none (T.parent (path T v.leaf w))) v s es le low
@@ -100,12 +102,14 @@ module _ (n m : ℕ) where
 
   -- from the hook a rank that settles comes in, and one that leaves goes down
   pub settles_cap : (T : TheTree) (v : TreeView) (p : Phase) → p ≡ Settle → far_in n m (resume_by T v p []).view ≤ 0
-  settles_cap T v p e = subst (λ z. far_in n m (resume_by T v z []).view ≤ 0) (sym e) (inside_zero T v v.level (full_budget (T.names (path T v.leaf v.level)).budget))
+  settles_cap T v p e = subst (λ z. far_in n m (resume_by T v z []).view ≤ 0) (sym e)
+      (inside_zero T v v.level (full_budget (T.names (path T v.leaf v.level)).budget))
 
   pub leaves_cap : (T : TheTree) (v : TreeView) (p : Phase) (s : Option ℕ) → v.level ≤ n → p ≡ Above s → far_in n m (resume_by T v p []).view ≤ 4 * n + 3
   leaves_cap T v p s le e = subst (λ z. far_in n m (resume_by T v z []).view ≤ 4 * n + 3) (sym e) (let k = resumed v.level s in omega arith)
 
 -- so it is where the walk ends at the hook, or away from it
-pub hook_cap : (K : Shared) (n : ℕ) (v : RwView) (u : Told TreeView) (b : Bool) → at_hook u.view ≡ b → rw_far K n (from_tree v b u).view ≤ far_in n (groups K) u.view
+pub hook_cap : (K : Shared) (n : ℕ) (v : RwView) (u : Told TreeView) (b : Bool) → at_hook u.view ≡ b →
+    rw_far K n (from_tree v b u).view ≤ far_in n (groups K) u.view
 hook_cap K n v u false e = omega arith
 hook_cap K n v u true e = hooked_cap n (groups K) u.view.query u.view.level u.view u.view.phase e

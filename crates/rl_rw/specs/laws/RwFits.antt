@@ -43,7 +43,8 @@ pub record RwFits (K : Shared) (r : ℕ) (st : Standing) (u : Told RwView) : Typ
   pub names : AllNamed (queues_from K.rooted 0 (how_many K.rooted)) (λ c. false) u.events
 
 -- no event, or a reader's entry
-no_events : (K : Shared) (r : ℕ) (st : Standing) (v : RwView) (w : Bool) → Shift r st (rw_standing v.counter.doing v.tree) [] → RwFits K r st (record { view = v; events = []; waits = w })
+no_events : (K : Shared) (r : ℕ) (st : Standing) (v : RwView) (w : Bool) → Shift r st (rw_standing v.counter.doing v.tree) [] →
+    RwFits K r st (record { view = v; events = []; waits = w })
 no_events K r st v w h = record { shift = h; order = tt; few = omega arith; names = tt }
 
 -- who is at the hook doesn't enter, and stands as its task does
@@ -64,15 +65,18 @@ above_leaves : (p : Phase) → IsAbove p → standing_by false p ≡ standing.Le
 above_leaves p h = let k = above_is p h in ap (standing_by false) k.1
 
 -- the tree's part fits
-tree_fits_off : (K : Shared) (r c : ℕ) (v : RwView) (t : TreeView) (u : Told TreeView) → LearnFits K.rooted r t u → RwFits K r (tree_standing t) (from_tree v false u)
+tree_fits_off : (K : Shared) (r c : ℕ) (v : RwView) (t : TreeView) (u : Told TreeView) → LearnFits K.rooted r t u →
+    RwFits K r (tree_standing t) (from_tree v false u)
 tree_fits_off K r c v t u f = let few : length (all_events u) ≤ 5 = f.few in record { shift = f.shift; order = f.order; few = omega arith; names = f.names }
 
-tree_fits_on : (K : Shared) (r c : ℕ) (v : RwView) (t : TreeView) (u : Told TreeView) → at_hook u.view ≡ true → LearnFits K.rooted r t u → RwFits K r (tree_standing t) (from_tree v true u)
+tree_fits_on : (K : Shared) (r c : ℕ) (v : RwView) (t : TreeView) (u : Told TreeView) → at_hook u.view ≡ true → LearnFits K.rooted r t u →
+    RwFits K r (tree_standing t) (from_tree v true u)
 tree_fits_on K r c v t u e f =
     let same : all_events u ≡ u.events = ap (λ z. u.events ++ z) (hook_enters u.view.query u.view.phase u.view.rank e) ∙ append-nil u.events in
     let few : length u.events ≤ 5 = subst (λ z. length z ≤ 5) same f.few in
     record {
-      shift = subst (λ z. Shift r (tree_standing t) z (holds_only u.events)) (sym (hook_stands u.view u.view.query u.view.phase e)) (subst (λ z. Shift r (tree_standing t) (tree_standing u.view) (holds_only z)) same f.shift);
+      shift = subst (λ z. Shift r (tree_standing t) z (holds_only u.events)) (sym (hook_stands u.view u.view.query u.view.phase e))
+          (subst (λ z. Shift r (tree_standing t) (tree_standing u.view) (holds_only z)) same f.shift);
       order = subst InOrder same f.order;
       few = omega arith;
       names = subst (AllNamed (queues_from K.rooted 0 (how_many K.rooted)) (λ c. false)) same f.names;
@@ -86,14 +90,25 @@ rests_at K t c _ h = (λ e. cc, λ x. absurd x)
 
 -- Where the words of the lock live, and of which class they are.
 spot_low : (K : Shared) (w : ℕ) → w < behind_tree K → rw_spot K w ≡ tree_spot K.rooted w
-spot_low K w lt = let k : nat_lt w (behind_tree K) ≡ true = grind (arith, nat_tests) in ap (λ z. if z then tree_spot K.rooted w else record { class = class.Card; home = slice_index K.rooted.shape.node_of (((w - behind_tree K) / 2) * K.group) }) k
+spot_low K w lt = let k : nat_lt w (behind_tree K) ≡ true = grind (arith, nat_tests) in
+    ap (λ z. if z then tree_spot K.rooted w else record {
+      class = class.Card;
+      home = slice_index K.rooted.shape.node_of
+          (((w - behind_tree K) / 2) * K.group);
+    }) k
 
-pub spot_behind : (K : Shared) (w : ℕ) → behind_tree K ≤ w → rw_spot K w ≡ record { class = class.Card; home = slice_index K.rooted.shape.node_of (((w - behind_tree K) / 2) * K.group) }
+pub spot_behind : (K : Shared) (w : ℕ) → behind_tree K ≤ w → rw_spot K w ≡
+    record { class = class.Card; home = slice_index K.rooted.shape.node_of (((w - behind_tree K) / 2) * K.group) }
 spot_behind K w le =
     let k : nat_lt w (behind_tree K) ≡ false = grind (arith, nat_tests) in
-    ap (λ z. if z then tree_spot K.rooted w else record { class = class.Card; home = slice_index K.rooted.shape.node_of (((w - behind_tree K) / 2) * K.group) }) k
+    ap (λ z. if z then tree_spot K.rooted w else record {
+      class = class.Card;
+      home = slice_index K.rooted.shape.node_of
+          (((w - behind_tree K) / 2) * K.group);
+    }) k
 
-spot_high : (K : Shared) (w : ℕ) → behind_tree K ≤ w → ((rw_spot K w).class ≡ class.Card) × ((rw_spot K w).home ≡ slice_index K.rooted.shape.node_of (((w - behind_tree K) / 2) * K.group))
+spot_high : (K : Shared) (w : ℕ) → behind_tree K ≤ w → ((rw_spot K w).class ≡ class.Card) ×
+    ((rw_spot K w).home ≡ slice_index K.rooted.shape.node_of (((w - behind_tree K) / 2) * K.group))
 spot_high K w le = let e = spot_behind K w le in (ap (λ z. z.class) e, ap (λ z. z.home) e)
 
 module _ (K : Shared) (levels : ℕ) (F : TreeFacts K.rooted levels) (d : IsSound K) where
@@ -127,7 +142,8 @@ module _ (K : Shared) (levels : ℕ) (F : TreeFacts K.rooted levels) (d : IsSoun
   lawful_depart : (r g : ℕ) → g < groups K → MayMake r (CardSwap (depart_word (counters_of K) g) 0)
   lawful_depart r g lt = let e = depart_is K g lt in lawful_swap r (depart_word (counters_of K) g) 0 (omega arith) (omega arith)
 
-  pub lawful_at : (s : LockState RwView) (r : ℕ) (t : TreeView) (c : ℕ) (p : Doing) (a : Act) → RwGood K levels s → slice_get s.views r ≡ Some (rw_view t c p) → plan_of K (rw_view t c p) (busy p) ≡ Some a → MayMake r a
+  pub lawful_at : (s : LockState RwView) (r : ℕ) (t : TreeView) (c : ℕ) (p : Doing) (a : Act) → RwGood K levels s →
+      slice_get s.views r ≡ Some (rw_view t c p) → plan_of K (rw_view t c p) (busy p) ≡ Some a → MayMake r a
   lawful_at s r t c p a g has pl =
       let own : c ≡ r / K.group = g.own r (rw_view t c p) has in
       let lc : c < groups K = subst (λ z. z < groups K) (sym own) (group_there K r d (is_there K levels F d s r (rw_view t c p) g has)) in
@@ -152,19 +168,27 @@ module _ (K : Shared) (levels : ℕ) (F : TreeFacts K.rooted levels) (d : IsSoun
         by (ResetOff y) has pl lc = subst (MayMake r) (same_Some _ _ pl) (lawful_arrive r c (off y) lc)
         by Round has pl lc = subst (MayMake r) (same_Some _ _ pl) (let e = arrive_is K c lc in lawful_load r (arrive_word (counters_of K) c) (omega arith))
         by (RoundTail y) has pl lc = subst (MayMake r) (same_Some _ _ pl) (lawful_load r 0 (omega arith))
-        by Depart has pl lc = subst (MayMake r) (same_Some _ _ pl) (let e = depart_is K c lc in lawful_add r (depart_word (counters_of K) c) 1 (omega arith) (omega arith))
+        by Depart has pl lc = subst (MayMake r) (same_Some _ _ pl)
+            (let e = depart_is K c lc in lawful_add r (depart_word (counters_of K) c) 1 (omega arith) (omega arith))
         by (Put i) has pl lc = subst (MayMake r) (same_Some _ _ pl) (lawful_arrive r i (2 ^ 32) (g.place r (rw_view t c (Put i)) has).2)
-        by (Count i) has pl lc = subst (MayMake r) (same_Some _ _ pl) (let li = (g.place r (rw_view t c (Count i)) has).2 in let e = arrive_is K i li in lawful_load r (arrive_word (counters_of K) i) (omega arith))
-        by (Compare i y) has pl lc = subst (MayMake r) (same_Some _ _ pl) (let li = (g.place r (rw_view t c (Compare i y)) has).2 in let e = depart_is K i li in lawful_load r (depart_word (counters_of K) i) (omega arith))
+        by (Count i) has pl lc = subst (MayMake r) (same_Some _ _ pl)
+            (let li = (g.place r (rw_view t c (Count i)) has).2 in let e = arrive_is K i li in
+            lawful_load r (arrive_word (counters_of K) i) (omega arith))
+        by (Compare i y) has pl lc = subst (MayMake r) (same_Some _ _ pl)
+            (let li = (g.place r (rw_view t c (Compare i y)) has).2 in let e = depart_is K i li in
+            lawful_load r (depart_word (counters_of K) i) (omega arith))
         by (TakeOut i) has pl lc = subst (MayMake r) (same_Some _ _ pl) (lawful_depart r i (g.place r (rw_view t c (TakeOut i)) has).2)
-        by (TakeOff i y) has pl lc = subst (MayMake r) (same_Some _ _ pl) (lawful_arrive r i (off ((2 ^ 32 + y) % 2 ^ 64)) (g.place r (rw_view t c (TakeOff i y)) has).2)
+        by (TakeOff i y) has pl lc = subst (MayMake r) (same_Some _ _ pl)
+            (lawful_arrive r i (off ((2 ^ 32 + y) % 2 ^ 64)) (g.place r (rw_view t c (TakeOff i y)) has).2)
 
   -- what the last act of a task at the marks leaves, which lets the tree go on
-  end_fits : (s : LockState RwView) (r : ℕ) (t : TreeView) (c : ℕ) (p : Doing) (st : Standing) → RwGood K levels s → slice_get s.views r ≡ Some (rw_view t c p) → IsMark p → tree_standing t ≡ st → RwFits K r st (after_hook K (rw_view t c p))
+  end_fits : (s : LockState RwView) (r : ℕ) (t : TreeView) (c : ℕ) (p : Doing) (st : Standing) → RwGood K levels s →
+      slice_get s.views r ≡ Some (rw_view t c p) → IsMark p → tree_standing t ≡ st → RwFits K r st (after_hook K (rw_view t c p))
   end_fits s r t c p st g has mp e =
       let hook : at_hook t ≡ true = marks_hook (groups K) p t mp (g.place r (rw_view t c p) has) in
       subst (λ z. RwFits K r z (after_hook K (rw_view t c p))) e
-      (tree_fits_off K r c (rw_view t c p) t (resumed_in K.rooted t) (F.goes_on g.inside s.words (trees s.views) s.trace r t (viewed K levels F d s r (rw_view t c p) g has) hook))
+      (tree_fits_off K r c (rw_view t c p) t (resumed_in K.rooted t)
+      (F.goes_on g.inside s.words (trees s.views) s.trace r t (viewed K levels F d s r (rw_view t c p) g has) hook))
 
   stands_up : (t : TreeView) → t.query ≡ false → t.phase ≡ Settle → tree_standing t ≡ standing.Asking
   stands_up t e f = ap (λ z. standing_by z t.phase) e ∙ ap (standing_by false) f
@@ -176,7 +200,9 @@ module _ (K : Shared) (levels : ℕ) (F : TreeFacts K.rooted levels) (d : IsSoun
   GoesOn r t c p u = RwFits K r (rw_standing p t) (from_counter K (rw_view t c p) p u.doing u.waits)
 
   -- what each act leaves fits
-  pub fits_at : (s : LockState RwView) (r : ℕ) (t : TreeView) (c : ℕ) (p : Doing) (a : Act) → RwGood K levels s → slice_get s.views r ≡ Some (rw_view t c p) → plan_of K (rw_view t c p) (busy p) ≡ Some a → RwFits K r (rw_standing p t) (rw_learn K (rw_view t c p) (busy p) (told a (found s a)))
+  pub fits_at : (s : LockState RwView) (r : ℕ) (t : TreeView) (c : ℕ) (p : Doing) (a : Act) → RwGood K levels s →
+      slice_get s.views r ≡ Some (rw_view t c p) → plan_of K (rw_view t c p) (busy p) ≡ Some a →
+      RwFits K r (rw_standing p t) (rw_learn K (rw_view t c p) (busy p) (told a (found s a)))
   fits_at s r t c Nothing a g has pl =
       let f = F.learns g.inside s.words (trees s.views) s.trace r t a (acts_in K levels F d s r t c a g has pl) in
       let U = learnt_in K.rooted s.words t a in
@@ -187,21 +213,30 @@ module _ (K : Shared) (levels : ℕ) (F : TreeFacts K.rooted levels) (d : IsSoun
       let name : t.rank ≡ r = is_named K levels F d s r (rw_view t c Arrive) g has in
       choose (GoesOn r t c Arrive) (nat_lt (told a (found s a)) K.readers) (to Inside) (to (Refused (told a (found s a))))
       (record { shift = ap (λ z. event.EnterR z ∷ []) name; order = tt; few = omega arith; names = (tt, tt) }) (no_events K r standing.Asking _ false refl)
-  fits_at s r t c (SeeTail x) a g has pl = choose (GoesOn r t c (SeeTail x)) ((told a (found s a) == 0) && nat_lt x (2 ^ 32)) (to Swap) (to Round) (no_events K r standing.Asking _ false refl) (no_events K r standing.Asking _ false refl)
-  fits_at s r t c Round a g has pl = choose (GoesOn r t c Round) (nat_lt (told a (found s a)) K.readers) (to Arrive) (to (RoundTail (told a (found s a)))) (no_events K r standing.Asking _ false refl) (no_events K r standing.Asking _ false refl)
-  fits_at s r t c (RoundTail x) a g has pl = choose (GoesOn r t c (RoundTail x)) ((told a (found s a) == 0) && nat_lt x (2 ^ 32)) (to Arrive) (record { doing = Round; waits = true }) (no_events K r standing.Asking _ false refl) (no_events K r standing.Asking _ true refl)
+  fits_at s r t c (SeeTail x) a g has pl = choose (GoesOn r t c (SeeTail x)) ((told a (found s a) == 0) && nat_lt x (2 ^ 32)) (to Swap)
+      (to Round) (no_events K r standing.Asking _ false refl) (no_events K r standing.Asking _ false refl)
+  fits_at s r t c Round a g has pl = choose (GoesOn r t c Round) (nat_lt (told a (found s a)) K.readers) (to Arrive)
+      (to (RoundTail (told a (found s a)))) (no_events K r standing.Asking _ false refl) (no_events K r standing.Asking _ false refl)
+  fits_at s r t c (RoundTail x) a g has pl = choose (GoesOn r t c (RoundTail x)) ((told a (found s a) == 0) && nat_lt x (2 ^ 32))
+      (to Arrive) (record { doing = Round; waits = true }) (no_events K r standing.Asking _ false refl)
+      (no_events K r standing.Asking _ true refl)
   fits_at s r t c Depart a g has pl =
       let out : tree_standing t ≡ standing.Out = g.place r (rw_view t c Depart) has in
       no_events K r standing.Leaving (rw_view t c Nothing) false (subst (λ z. Shift r standing.Leaving z []) (sym out) refl)
-  fits_at s r t c (Put i) a g has pl = choose (GoesOn r t c (Put i)) (nat_lt (i + 1) (length (counters_of K).arrive)) (to (Put (i + 1))) (to (Count 0)) (no_events K r standing.Asking _ false refl) (no_events K r standing.Asking _ false refl)
+  fits_at s r t c (Put i) a g has pl = choose (GoesOn r t c (Put i)) (nat_lt (i + 1) (length (counters_of K).arrive)) (to (Put (i + 1)))
+      (to (Count 0)) (no_events K r standing.Asking _ false refl) (no_events K r standing.Asking _ false refl)
   fits_at s r t c (Compare i x) a g has pl =
       let row = g.place r (rw_view t c (Compare i x)) has in
-      choose (GoesOn r t c (Compare i x)) (told a (found s a) == x - 2 ^ 32) (if nat_lt (i + 1) (length (counters_of K).arrive) then to (Count (i + 1)) else to Nothing) (record { doing = Count i; waits = true })
-      (choose (GoesOn r t c (Compare i x)) (nat_lt (i + 1) (length (counters_of K).arrive)) (to (Count (i + 1))) (to Nothing) (no_events K r standing.Asking _ false refl)
+      choose (GoesOn r t c (Compare i x)) (told a (found s a) == x - 2 ^ 32)
+      (if nat_lt (i + 1) (length (counters_of K).arrive) then to (Count (i + 1)) else to Nothing)
+      (record { doing = Count i; waits = true })
+      (choose (GoesOn r t c (Compare i x)) (nat_lt (i + 1) (length (counters_of K).arrive)) (to (Count (i + 1))) (to Nothing)
+      (no_events K r standing.Asking _ false refl)
       (end_fits s r t c (Compare i x) standing.Asking g has tt (stands_up t row.0 row.1))) (no_events K r standing.Asking _ true refl)
   fits_at s r t c (TakeOut i) a g has pl = no_events K r standing.Leaving _ false refl
   fits_at s r t c (TakeOff i x) a g has pl =
       let row = g.place r (rw_view t c (TakeOff i x)) has in
-      choose (GoesOn r t c (TakeOff i x)) (nat_lt (i + 1) (length (counters_of K).arrive)) (to (TakeOut (i + 1))) (to Nothing) (no_events K r standing.Leaving _ false refl)
+      choose (GoesOn r t c (TakeOff i x)) (nat_lt (i + 1) (length (counters_of K).arrive)) (to (TakeOut (i + 1))) (to Nothing)
+      (no_events K r standing.Leaving _ false refl)
       (end_fits s r t c (TakeOff i x) standing.Leaving g has tt (stands_out t row.0 row.1))
   fits_at s r t c _ a g has pl = no_events K r standing.Asking _ false refl

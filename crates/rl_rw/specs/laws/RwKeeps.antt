@@ -122,7 +122,8 @@ abbrev pub ReaderGoes : Shared → TreeView → ℕ → Doing → CounterTurn �
 ReaderGoes K t c p u =
     ((from_counter K (rw_view t c p) p u.doing u.waits).view ≡ rw_view t c u.doing) × Place (groups K) u.doing t × Moded u.doing t mode.Read × (IsMark u.doing → ⊥) × QuietEvents t.rank (from_counter K (rw_view t c p) p u.doing u.waits).events
 
-pub reader_goes : (K : Shared) (t : TreeView) (c : ℕ) (p : Doing) (got : ℕ) → tree_standing t ≡ standing.Out → IsReader p → ReaderGoes K t c p (counter_turn (counters_of K) p got)
+pub reader_goes : (K : Shared) (t : TreeView) (c : ℕ) (p : Doing) (got : ℕ) → tree_standing t ≡ standing.Out → IsReader p →
+    ReaderGoes K t c p (counter_turn (counters_of K) p got)
 reader_goes K t c Arrive got out h = choose (ReaderGoes K t c Arrive) (nat_lt got K.readers) (to Inside) (to (Refused got)) (refl, out, refl, λ m. m, inr refl) (refl, out, refl, λ m. m, inl refl)
 reader_goes K t c (Refused x) got out h = (refl, out, refl, λ m. m, inl refl)
 reader_goes K t c (SeeTail x) got out h = choose (ReaderGoes K t c (SeeTail x)) ((got == 0) && nat_lt x (2 ^ 32)) (to Swap) (to Round) (refl, out, refl, λ m. m, inl refl) (refl, out, refl, λ m. m, inl refl)
@@ -137,10 +138,12 @@ pub both_tests : (x y : ℕ) → x ≡ 0 → y < 2 ^ 32 → ((x == 0) && nat_lt 
 both_tests x y e l = let k : nat_lt y (2 ^ 32) ≡ true = grind (arith, nat_tests) in ap (λ z. (z == 0) && nat_lt y (2 ^ 32)) e ∙ k
 
 -- what one rank alone knows as a reader stays true
-pub reader_lonely : (K : Shared) (ws us : List ℕ) (p : Doing) (got : ℕ) → IsReader p → Lonely K ws p → (p ≡ Arrive → got < 2 ^ 32) → ((x : ℕ) → p ≡ SeeTail x → got ≡ 0) → Lonely K us (counter_turn (counters_of K) p got).doing
+pub reader_lonely : (K : Shared) (ws us : List ℕ) (p : Doing) (got : ℕ) → IsReader p → Lonely K ws p → (p ≡ Arrive → got < 2 ^ 32) →
+    ((x : ℕ) → p ≡ SeeTail x → got ≡ 0) → Lonely K us (counter_turn (counters_of K) p got).doing
 reader_lonely K ws us Arrive got h l low tail = choose (λ u. Lonely K us u.doing) (nat_lt got K.readers) (to Inside) (to (Refused got)) tt (low refl)
 reader_lonely K ws us (Refused x) got h l low tail = l
-reader_lonely K ws us (SeeTail x) got h l low tail = subst (λ z. Lonely K us (if z then to Swap else to Round).doing) (sym (both_tests got x (tail x refl) l)) tt
+reader_lonely K ws us (SeeTail x) got h l low tail = subst (λ z. Lonely K us (if z then to Swap else to Round).doing)
+    (sym (both_tests got x (tail x refl) l)) tt
 reader_lonely K ws us Swap got h l low tail = tt
 reader_lonely K ws us (ResetOff x) got h l low tail = tt
 reader_lonely K ws us Round got h l low tail = absurd l
@@ -177,15 +180,19 @@ module _ (K : Shared) (levels : ℕ) (F : TreeFacts K.rooted levels) (d : IsSoun
   some_group s r v g has = let a = group_there K r d (is_there s r v g has) in omega arith
 
   -- the tree of a rank, in its good states
-  pub viewed : (s : LockState RwView) (r : ℕ) (v : RwView) (g : RwGood K levels s) → slice_get s.views r ≡ Some v → HasView K.rooted levels g.inside s.words (trees s.views) s.trace r v.tree
+  pub viewed : (s : LockState RwView) (r : ℕ) (v : RwView) (g : RwGood K levels s) → slice_get s.views r ≡ Some v →
+      HasView K.rooted levels g.inside s.words (trees s.views) s.trace r v.tree
   viewed s r v g has = record { long = tree_long s g; all = all_trees s g; is_good = g.tree; has = as_tree s r v has }
 
   -- nobody else is at the marks where rank r is at the hook, or comes to it
   pub away_now : (s : LockState RwView) (r : ℕ) (v : RwView) → RwGood K levels s → slice_get s.views r ≡ Some v → at_hook v.tree ≡ true → OthersAway s.views r
   away_now s r v g has hook k y hk ne m =
-      ne (F.one_hook g.inside s.words (trees s.views) s.trace k r y.tree v.tree (viewed s k y g hk) (viewed s r v g has) (marks_hook (groups K) y.counter.doing y.tree m (g.place k y hk)) hook)
+      ne (F.one_hook g.inside s.words (trees s.views) s.trace k r y.tree v.tree (viewed s k y g hk) (viewed s r v g has)
+      (marks_hook (groups K) y.counter.doing y.tree m (g.place k y hk)) hook)
 
-  pub away_then : (s : LockState RwView) (r : ℕ) (v : RwView) (n : Bool) (ws : List ℕ) (x : TreeView) (t : List Event) → RwGood K levels s → slice_get s.views r ≡ Some v → behind_tree K ≤ length ws → Good n ws (slice_set (trees s.views) r x) t → at_hook x ≡ true → OthersAway s.views r
+  pub away_then : (s : LockState RwView) (r : ℕ) (v : RwView) (n : Bool) (ws : List ℕ) (x : TreeView) (t : List Event) → RwGood K levels s →
+      slice_get s.views r ≡ Some v → behind_tree K ≤ length ws → Good n ws (slice_set (trees s.views) r x) t → at_hook x ≡ true →
+      OthersAway s.views r
   away_then s r v n ws x t g has long good hook k y hk ne m =
       let all : length (slice_set (trees s.views) r x) ≡ ranks_in K.rooted = length-set (trees s.views) r x ∙ all_trees s g in
       ne (F.one_hook n ws (slice_set (trees s.views) r x) t k r y.tree x
@@ -194,11 +201,14 @@ module _ (K : Shared) (levels : ℕ) (F : TreeFacts K.rooted levels) (d : IsSoun
       (marks_hook (groups K) y.counter.doing y.tree m (g.place k y hk)) hook)
 
   -- an entry is of no queue
-  pub entered : (n : Bool) (ws : List ℕ) (vs : List TreeView) (t : List Event) (q : Bool) (p : Phase) (m : ℕ) → Good n ws vs t → Good n ws vs (t ++ entry_if q p m)
+  pub entered : (n : Bool) (ws : List ℕ) (vs : List TreeView) (t : List Event) (q : Bool) (p : Phase) (m : ℕ) → Good n ws vs t →
+      Good n ws vs (t ++ entry_if q p m)
   entered n ws vs t true p m g = subst (Good n ws vs) (sym (append-nil t)) g
   entered n ws vs t false (Granted l) m g = F.beside n ws vs t (event.EnterW m) tt g
   entered n ws vs t false _ m g = subst (Good n ws vs) (sym (append-nil t)) g
 
   -- An act of the tree, with what the tree says of it.
-  pub acts_in : (s : LockState RwView) (r : ℕ) (t : TreeView) (c : ℕ) (a : Act) (g : RwGood K levels s) → slice_get s.views r ≡ Some (rw_view t c Nothing) → tree_plan (tree_of K.rooted) t ≡ Some a → PlansAct K.rooted levels g.inside s.words (trees s.views) s.trace r t a
+  pub acts_in : (s : LockState RwView) (r : ℕ) (t : TreeView) (c : ℕ) (a : Act) (g : RwGood K levels s) →
+      slice_get s.views r ≡ Some (rw_view t c Nothing) → tree_plan (tree_of K.rooted) t ≡ Some a →
+      PlansAct K.rooted levels g.inside s.words (trees s.views) s.trace r t a
   acts_in s r t c a g has pl = record { viewed = viewed s r (rw_view t c Nothing) g has; away = g.place r (rw_view t c Nothing) has; planned = pl }

@@ -50,7 +50,8 @@ map_first f g from zero = refl
 map_first f g from (suc n) = ap (λ z. f (g from) ∷ z) (map_first f g (from + 1) n)
 
 -- the share of one rank alone, where it has none
-one_none : (mine : ℕ → Bool) (share : Doing → ℕ) (ps : List Doing) (r : ℕ) (p : Doing) → length ps ≡ 1 → slice_get ps r ≡ Some p → share p ≡ 0 → group_sum mine share ps ≡ 0
+one_none : (mine : ℕ → Bool) (share : Doing → ℕ) (ps : List Doing) (r : ℕ) (p : Doing) → length ps ≡ 1 → slice_get ps r ≡ Some p →
+    share p ≡ 0 → group_sum mine share ps ≡ 0
 one_none mine share [] r p one h e = cc
 one_none mine share (x ∷ []) zero p one h e =
     let k : share x ≡ 0 = ap share (same_Some _ _ h) ∙ e in
@@ -65,7 +66,8 @@ abbrev Goes : Shared → RwView → Doing → CounterTurn → Type 0
 Goes K v p u = (from_counter K v p u.doing u.waits).waits ≡ false
 
 -- what one rank learns at the counters it doesn't wait for
-counter_goes : (K : Shared) (v : RwView) (p : Doing) (got : ℕ) → (p ≡ Round → ⊥) → ((x : ℕ) → p ≡ RoundTail x → ⊥) → ((i f : ℕ) → p ≡ Compare i f → (got == f - 2 ^ 32) ≡ true) →
+counter_goes : (K : Shared) (v : RwView) (p : Doing) (got : ℕ) → (p ≡ Round → ⊥) → ((x : ℕ) → p ≡ RoundTail x → ⊥) →
+    ((i f : ℕ) → p ≡ Compare i f → (got == f - 2 ^ 32) ≡ true) →
     (from_counter K v p (counter_turn (counters_of K) p got).doing (counter_turn (counters_of K) p got).waits).waits ≡ false
 counter_goes K v Nothing got a b c = resume_goes (tree_of K.rooted) v.tree
 counter_goes K v Arrive got a b c = choose (Goes K v Arrive) (nat_lt got K.readers) (to Inside) (to (Refused got)) refl refl
@@ -74,9 +76,13 @@ counter_goes K v Round got a b c = absurd (a refl)
 counter_goes K v (RoundTail x) got a b c = absurd (b x refl)
 counter_goes K v (Put i) got a b c = choose (Goes K v (Put i)) (nat_lt (i + 1) (length (counters_of K).arrive)) (to (Put (i + 1))) (to (Count 0)) refl refl
 counter_goes K v (Compare i f) got a b c =
-    subst (λ z. Goes K v (Compare i f) (if z then (if nat_lt (i + 1) (length (counters_of K).arrive) then to (Count (i + 1)) else to Nothing) else record { doing = Count i; waits = true })) (sym (c i f refl))
-    (choose (Goes K v (Compare i f)) (nat_lt (i + 1) (length (counters_of K).arrive)) (to (Count (i + 1))) (to Nothing) refl (resume_goes (tree_of K.rooted) v.tree))
-counter_goes K v (TakeOff i x) got a b c = choose (Goes K v (TakeOff i x)) (nat_lt (i + 1) (length (counters_of K).arrive)) (to (TakeOut (i + 1))) (to Nothing) refl (resume_goes (tree_of K.rooted) v.tree)
+    subst (λ z. Goes K v (Compare i f)
+    (if z then (if nat_lt (i + 1) (length (counters_of K).arrive) then to (Count (i + 1)) else to Nothing) else
+    record { doing = Count i; waits = true })) (sym (c i f refl))
+    (choose (Goes K v (Compare i f)) (nat_lt (i + 1) (length (counters_of K).arrive)) (to (Count (i + 1))) (to Nothing) refl
+    (resume_goes (tree_of K.rooted) v.tree))
+counter_goes K v (TakeOff i x) got a b c = choose (Goes K v (TakeOff i x)) (nat_lt (i + 1) (length (counters_of K).arrive))
+    (to (TakeOut (i + 1))) (to Nothing) refl (resume_goes (tree_of K.rooted) v.tree)
 counter_goes K v _ got a b c = refl
 
 module _ (K : Shared) (levels : ℕ) (F : TreeFacts K.rooted levels) (d : IsSound K) where
@@ -89,13 +95,16 @@ module _ (K : Shared) (levels : ℕ) (F : TreeFacts K.rooted levels) (d : IsSoun
       let size : ℕ = behind_tree K + 2 * groups K in
       let first : (r : ℕ) (v : RwView) → slice_get (opening (rw_table K) (ranks_in K.rooted)).views r ≡ Some v → v ≡ view (0 + r) =
       λ r v h. first_views_at (λ r. rw_view (out_at r (leaf_of_rank K.rooted r)) (r / K.group) Nothing) 0 (ranks_in K.rooted) r v h in
-      let plain : (r : ℕ) (v : RwView) → slice_get (opening (rw_table K) (ranks_in K.rooted)).views r ≡ Some v → v.counter.doing ≡ Nothing = λ r v h. ap (λ z. z.counter.doing) (first r v h) in
+      let plain : (r : ℕ) (v : RwView) → slice_get (opening (rw_table K) (ranks_in K.rooted)).views r ≡ Some v → v.counter.doing ≡ Nothing =
+      λ r v h. ap (λ z. z.counter.doing) (first r v h) in
       record {
         all_words = length-replicate (behind_tree K + 2 * groups K) 0;
         all_views = length-first_views (λ r. rw_view (out_at r (leaf_of_rank K.rooted r)) (r / K.group) Nothing) 0 (ranks_in K.rooted);
         all_modes = length-replicate (ranks_in K.rooted) mode.Write;
         inside = false;
-        tree = subst (λ z. Good false (replicate (behind_tree K + 2 * groups K) 0) z []) (sym (map_first (λ v. v.tree) (λ r. rw_view (out_at r (leaf_of_rank K.rooted r)) (r / K.group) Nothing) 0 (ranks_in K.rooted))) (F.begins (behind_tree K + 2 * groups K) (omega arith));
+        tree = subst (λ z. Good false (replicate (behind_tree K + 2 * groups K) 0) z [])
+            (sym (map_first (λ v. v.tree) (λ r. rw_view (out_at r (leaf_of_rank K.rooted r)) (r / K.group) Nothing) 0 (ranks_in K.rooted)))
+            (F.begins (behind_tree K + 2 * groups K) (omega arith));
         hook = Nothing;
         hooked = record { all = λ r v h m. absurd (subst IsMark (plain r v h) m); some = inl refl };
         counters = begins (counters_of K) (groups K) (mine_of K) (behind_tree K + 2 * groups K) (doings (opening (rw_table K) (ranks_in K.rooted)).views)
@@ -108,12 +117,15 @@ module _ (K : Shared) (levels : ℕ) (F : TreeFacts K.rooted levels) (d : IsSoun
       }
 
   -- what one rank counted has gone
-  counted_gone : (s : LockState RwView) (r : ℕ) (t : TreeView) (c i f : ℕ) → ranks_in K.rooted ≡ 1 → RwGood K levels s → slice_get s.views r ≡ Some (rw_view t c (Compare i f)) → slice_index s.words (depart_word (counters_of K) i) ≡ f - 2 ^ 32
+  counted_gone : (s : LockState RwView) (r : ℕ) (t : TreeView) (c i f : ℕ) → ranks_in K.rooted ≡ 1 → RwGood K levels s →
+      slice_get s.views r ≡ Some (rw_view t c (Compare i f)) → slice_index s.words (depart_word (counters_of K) i) ≡ f - 2 ^ 32
   counted_gone s r t c i f one g has =
       let row = g.place r (rw_view t c (Compare i f)) has in
       let exact : slice_index s.words (arrive_word (counters_of K) i) ≡ f = g.lonely one r (rw_view t c (Compare i f)) has in
-      let at_i : mark_by g.inside g.hook i ≡ Loaded f = ap (λ z. mark_by g.inside z i) (sym (g.hooked.all r (rw_view t c (Compare i f)) has tt)) ∙ loaded_there i f in
-      let good : GroupGood (counters_of K) (mine_of K i) i s.words (doings s.views) (Loaded f) = subst (λ z. GroupGood (counters_of K) (mine_of K i) i s.words (doings s.views) z) at_i (g.counters i row.2) in
+      let at_i : mark_by g.inside g.hook i ≡ Loaded f = ap (λ z. mark_by g.inside z i)
+      (sym (g.hooked.all r (rw_view t c (Compare i f)) has tt)) ∙ loaded_there i f in
+      let good : GroupGood (counters_of K) (mine_of K i) i s.words (doings s.views) (Loaded f) =
+      subst (λ z. GroupGood (counters_of K) (mine_of K i) i s.words (doings s.views) z) at_i (g.counters i row.2) in
       let long : length (doings s.views) ≡ 1 = length-map s.views (λ x. x.counter.doing) ∙ g.all_views ∙ one in
       let me = as_doing K levels F d s r (rw_view t c (Compare i f)) has in
       let a = one_none (mine_of K i) inside_of (doings s.views) r (Compare i f) long me refl in
@@ -130,8 +142,10 @@ module _ (K : Shared) (levels : ℕ) (F : TreeFacts K.rooted levels) (d : IsSoun
   equal_test x y e = ⊎_elim (λ q. q.0) (λ q. absurd (q.1 e)) (eqb_tells x y)
 
   -- one rank alone never waits at the counters
-  busy_goes : (s : LockState RwView) (r : ℕ) (t : TreeView) (c : ℕ) (p : Doing) (a : Act) → ranks_in K.rooted ≡ 1 → RwGood K levels s → slice_get s.views r ≡ Some (rw_view t c p) → counter_act (counters_of K) c p ≡ Some a →
-      (from_counter K (rw_view t c p) p (counter_turn (counters_of K) p (told a (found s a))).doing (counter_turn (counters_of K) p (told a (found s a))).waits).waits ≡ false
+  busy_goes : (s : LockState RwView) (r : ℕ) (t : TreeView) (c : ℕ) (p : Doing) (a : Act) → ranks_in K.rooted ≡ 1 → RwGood K levels s →
+      slice_get s.views r ≡ Some (rw_view t c p) → counter_act (counters_of K) c p ≡ Some a →
+      (from_counter K (rw_view t c p) p (counter_turn (counters_of K) p (told a (found s a))).doing
+      (counter_turn (counters_of K) p (told a (found s a))).waits).waits ≡ false
   busy_goes s r t c p a one g has pl =
       counter_goes K (rw_view t c p) p (told a (found s a))
       (λ e. subst (Lonely K s.words) e (g.lonely one r (rw_view t c p) has))
@@ -141,7 +155,9 @@ module _ (K : Shared) (levels : ℕ) (F : TreeFacts K.rooted levels) (d : IsSoun
       let has2 : slice_get s.views r ≡ Some (rw_view t c (Compare i f)) = subst (λ z. slice_get s.views r ≡ Some (rw_view t c z)) e has in
       equal_test (told a (found s a)) (f - 2 ^ 32) (ap (λ z. told z (slice_index s.words (word_of z))) (sym pa) ∙ counted_gone s r t c i f one g has2))
 
-  moves_at : (s : LockState RwView) (r : ℕ) (t : TreeView) (c : ℕ) (p : Doing) (a : Act) → ranks_in K.rooted ≡ 1 → RwGood K levels s → slice_get s.views r ≡ Some (rw_view t c p) → plan_of K (rw_view t c p) (busy p) ≡ Some a → (rw_learn K (rw_view t c p) (busy p) (told a (found s a))).waits ≡ false
+  moves_at : (s : LockState RwView) (r : ℕ) (t : TreeView) (c : ℕ) (p : Doing) (a : Act) → ranks_in K.rooted ≡ 1 → RwGood K levels s →
+      slice_get s.views r ≡ Some (rw_view t c p) → plan_of K (rw_view t c p) (busy p) ≡ Some a →
+      (rw_learn K (rw_view t c p) (busy p) (told a (found s a))).waits ≡ false
   moves_at s r t c Nothing a one g has pl =
       let U = learnt_in K.rooted s.words t a in
       let k = F.moves_on g.inside s.words (trees s.views) s.trace r t a one (acts_in K levels F d s r t c a g has pl) in
@@ -149,7 +165,8 @@ module _ (K : Shared) (levels : ℕ) (F : TreeFacts K.rooted levels) (d : IsSoun
   moves_at s r t c Inside a one g has pl = let no : None ≡ Some a = sym (out_plans_not (tree_of K.rooted) t (g.place r (rw_view t c Inside) has)) ∙ pl in cc
   moves_at s r t c p a one g has pl = busy_goes s r t c p a one g has pl
 
-  finds_at : (s : LockState RwView) (r : ℕ) (t : TreeView) (c : ℕ) (p : Doing) (a : Act) → ranks_in K.rooted ≡ 1 → RwGood K levels s → slice_get s.views r ≡ Some (rw_view t c p) → plan_of K (rw_view t c p) (busy p) ≡ Some a → FindsOld a (found s a)
+  finds_at : (s : LockState RwView) (r : ℕ) (t : TreeView) (c : ℕ) (p : Doing) (a : Act) → ranks_in K.rooted ≡ 1 → RwGood K levels s →
+      slice_get s.views r ≡ Some (rw_view t c p) → plan_of K (rw_view t c p) (busy p) ≡ Some a → FindsOld a (found s a)
   finds_at s r t c Nothing a one g has pl = F.finds g.inside s.words (trees s.views) s.trace r t a one (acts_in K levels F d s r t c a g has pl)
   finds_at s r t c Inside a one g has pl = let no : None ≡ Some a = sym (out_plans_not (tree_of K.rooted) t (g.place r (rw_view t c Inside) has)) ∙ pl in cc
   finds_at s r t c p a one g has pl = (tells_what_it_finds (counters_of K) c p a (found s a) pl).0
@@ -158,7 +175,9 @@ module _ (K : Shared) (levels : ℕ) (F : TreeFacts K.rooted levels) (d : IsSoun
   ask_stands v mode.Read = refl
   ask_stands v mode.Write = refl
 
-  trees_out : (s : LockState RwView) → ((r : ℕ) (v : RwView) → slice_get s.views r ≡ Some v → rw_standing v.counter.doing v.tree ≡ standing.Out) → (r : ℕ) (x : TreeView) → slice_get (trees s.views) r ≡ Some x → tree_standing x ≡ standing.Out
+  trees_out : (s : LockState RwView) → ((r : ℕ) (v : RwView) → slice_get s.views r ≡ Some v →
+      rw_standing v.counter.doing v.tree ≡ standing.Out) → (r : ℕ) (x : TreeView) → slice_get (trees s.views) r ≡ Some x →
+      tree_standing x ≡ standing.Out
   trees_out s out r x h =
       let b = get_map_back (λ v. v.tree) s.views r x h in
       subst (λ z. tree_standing z ≡ standing.Out) b.2 (out_at_both b.0.counter.doing b.0.tree (out r b.0 b.1)).1
@@ -167,35 +186,45 @@ module _ (K : Shared) (levels : ℕ) (F : TreeFacts K.rooted levels) (d : IsSoun
   abbrev Again : TreeView → ℕ → Doing → Act → CounterTurn → Type 0
   Again t c p a u =
       (from_counter K (rw_view t c p) p u.doing u.waits).waits ≡ true →
-      IsLoad a × PlansLoad (plan_of K (from_counter K (rw_view t c p) p u.doing u.waits).view (busy (from_counter K (rw_view t c p) p u.doing u.waits).view.counter.doing))
+      IsLoad a × PlansLoad (plan_of K (from_counter K (rw_view t c p) p u.doing u.waits).view
+      (busy (from_counter K (rw_view t c p) p u.doing u.waits).view.counter.doing))
 
   -- it never waits where the tree goes on from the hook
   hook_again : (t : TreeView) (c : ℕ) (p : Doing) (a : Act) → (after_hook K (rw_view t c p)).waits ≡ true → ⊥
   hook_again t c p a e = let bad : false ≡ true = sym (resume_goes (tree_of K.rooted) t) ∙ e in cc
 
-  counter_again : (t : TreeView) (c : ℕ) (p : Doing) (a : Act) (got : ℕ) → busy p ≡ true → counter_act (counters_of K) c p ≡ Some a → Again t c p a (counter_turn (counters_of K) p got)
+  counter_again : (t : TreeView) (c : ℕ) (p : Doing) (a : Act) (got : ℕ) → busy p ≡ true → counter_act (counters_of K) c p ≡ Some a →
+      Again t c p a (counter_turn (counters_of K) p got)
   counter_again t c Arrive a got b pl e = choose (Again t c Arrive a) (nat_lt got K.readers) (to Inside) (to (Refused got)) (λ z. cc) (λ z. cc) e
   counter_again t c (SeeTail x) a got b pl e = choose (Again t c (SeeTail x) a) ((got == 0) && nat_lt x (2 ^ 32)) (to Swap) (to Round) (λ z. cc) (λ z. cc) e
   counter_again t c Round a got b pl e = choose (Again t c Round a) (nat_lt got K.readers) (to Arrive) (to (RoundTail got)) (λ z. cc) (λ z. cc) e
-  counter_again t c (RoundTail x) a got b pl e = choose (Again t c (RoundTail x) a) ((got == 0) && nat_lt x (2 ^ 32)) (to Arrive) (record { doing = Round; waits = true }) (λ z. cc) (λ z. (subst IsLoad (same_Some _ _ pl) tt, tt)) e
-  counter_again t c (Put i) a got b pl e = choose (Again t c (Put i) a) (nat_lt (i + 1) (length (counters_of K).arrive)) (to (Put (i + 1))) (to (Count 0)) (λ z. cc) (λ z. cc) e
+  counter_again t c (RoundTail x) a got b pl e = choose (Again t c (RoundTail x) a) ((got == 0) && nat_lt x (2 ^ 32)) (to Arrive)
+      (record { doing = Round; waits = true }) (λ z. cc) (λ z. (subst IsLoad (same_Some _ _ pl) tt, tt)) e
+  counter_again t c (Put i) a got b pl e = choose (Again t c (Put i) a) (nat_lt (i + 1) (length (counters_of K).arrive)) (to (Put (i + 1)))
+      (to (Count 0)) (λ z. cc) (λ z. cc) e
   counter_again t c (Compare i f) a got b pl e =
-      choose (Again t c (Compare i f) a) (got == f - 2 ^ 32) (if nat_lt (i + 1) (length (counters_of K).arrive) then to (Count (i + 1)) else to Nothing) (record { doing = Count i; waits = true })
-      (choose (Again t c (Compare i f) a) (nat_lt (i + 1) (length (counters_of K).arrive)) (to (Count (i + 1))) (to Nothing) (λ z. cc) (λ z. absurd (hook_again t c (Compare i f) a z)))
+      choose (Again t c (Compare i f) a) (got == f - 2 ^ 32) (if nat_lt (i + 1) (length (counters_of K).arrive) then to (Count (i + 1)) else
+      to Nothing) (record { doing = Count i; waits = true })
+      (choose (Again t c (Compare i f) a) (nat_lt (i + 1) (length (counters_of K).arrive)) (to (Count (i + 1))) (to Nothing) (λ z. cc)
+      (λ z. absurd (hook_again t c (Compare i f) a z)))
       (λ z. (subst IsLoad (same_Some _ _ pl) tt, tt)) e
   counter_again t c (TakeOff i x) a got b pl e =
-      choose (Again t c (TakeOff i x) a) (nat_lt (i + 1) (length (counters_of K).arrive)) (to (TakeOut (i + 1))) (to Nothing) (λ z. cc) (λ z. absurd (hook_again t c (TakeOff i x) a z)) e
+      choose (Again t c (TakeOff i x) a) (nat_lt (i + 1) (length (counters_of K).arrive)) (to (TakeOut (i + 1))) (to Nothing) (λ z. cc)
+      (λ z. absurd (hook_again t c (TakeOff i x) a z)) e
   counter_again t c _ a got b pl e = cc
 
-  waits_at : (t : TreeView) (c : ℕ) (p : Doing) (a : Act) (got : ℕ) (q : Bool) → busy p ≡ q → plan_of K (rw_view t c p) q ≡ Some a → (rw_learn K (rw_view t c p) q got).waits ≡ true →
+  waits_at : (t : TreeView) (c : ℕ) (p : Doing) (a : Act) (got : ℕ) (q : Bool) → busy p ≡ q → plan_of K (rw_view t c p) q ≡ Some a →
+      (rw_learn K (rw_view t c p) q got).waits ≡ true →
       IsLoad a × PlansLoad (plan_of K (rw_learn K (rw_view t c p) q got).view (busy (rw_learn K (rw_view t c p) q got).view.counter.doing))
   waits_at t c p a got true b pl e = counter_again t c p a got b pl e
   waits_at t c p a got false b pl e = by (at_hook u.view) refl e where
     u : Told TreeView
     u = tree_learn (tree_of K.rooted) t got
 
-    by : (h : Bool) → at_hook (tree_learn (tree_of K.rooted) t got).view ≡ h → (from_tree (rw_view t c p) h (tree_learn (tree_of K.rooted) t got)).waits ≡ true →
-        IsLoad a × PlansLoad (plan_of K (from_tree (rw_view t c p) h (tree_learn (tree_of K.rooted) t got)).view (busy (from_tree (rw_view t c p) h (tree_learn (tree_of K.rooted) t got)).view.counter.doing))
+    by : (h : Bool) → at_hook (tree_learn (tree_of K.rooted) t got).view ≡ h →
+        (from_tree (rw_view t c p) h (tree_learn (tree_of K.rooted) t got)).waits ≡ true →
+        IsLoad a × PlansLoad (plan_of K (from_tree (rw_view t c p) h (tree_learn (tree_of K.rooted) t got)).view
+        (busy (from_tree (rw_view t c p) h (tree_learn (tree_of K.rooted) t got)).view.counter.doing))
     by true o e = let k = F.waits t a got pl e in let bad : false ≡ true = sym k.2 ∙ o in cc
     by false o e = let k = F.waits t a got pl e in (k.0, k.1)
 
@@ -205,7 +234,8 @@ module _ (K : Shared) (levels : ℕ) (F : TreeFacts K.rooted levels) (d : IsSoun
       record {
         begins = begins_at;
         sized = λ s g. (g.all_words, g.all_views, g.all_modes);
-        few_words = let few : ranks_in K.rooted ≤ 32 = d.seats in let small : how_many K.rooted ≤ ranks_in K.rooted * 4 = d.small in let g : groups K ≤ 32 = groups_low (ranks_in K.rooted) K.group d.seats d.grouped in omega arith;
+        few_words = let few : ranks_in K.rooted ≤ 32 = d.seats in let small : how_many K.rooted ≤ ranks_in K.rooted * 4 = d.small in
+            let g : groups K ≤ 32 = groups_low (ranks_in K.rooted) K.group d.seats d.grouped in omega arith;
         homes = λ w lt. home_at K levels F d w lt;
         lawful = λ s r v a h. lawful_at K levels F d s r v.tree v.counter.counter v.counter.doing a h.is_good h.has h.planned;
         keeps = λ s r v a h. act_keeps_at K levels F d s r v.tree v.counter.counter v.counter.doing a h.is_good h.has h.planned;
@@ -223,14 +253,18 @@ module _ (K : Shared) (levels : ℕ) (F : TreeFacts K.rooted levels) (d : IsSoun
         waits_on_loads = λ s r v a h e. waits_at v.tree v.counter.counter v.counter.doing a (told a (found s a)) (busy v.counter.doing) refl h.planned e;
         orders = λ s r v a h. let ok = fits s r v a h in (ok.order, ok.few);
         names = λ s r v a h. (fits s r v a h).names;
-        within = λ s q B e g has eb. let o = queue_is K.rooted q e has in F.within g.inside s.words (trees s.views) s.trace q B g.tree o.0 (sym (ap (λ z. z.budget) o.1) ∙ eb);
+        within = λ s q B e g has eb. let o = queue_is K.rooted q e has in
+            F.within g.inside s.words (trees s.views) s.trace q B g.tree o.0 (sym (ap (λ z. z.budget) o.1) ∙ eb);
         fifo = λ s q e g has. F.fifo g.inside s.words (trees s.views) s.trace q g.tree (queue_is K.rooted q e has).0;
-        counted = λ s q e g out has. let o = queue_is K.rooted q e has in subst (λ z. settled q s.trace + passed q s.trace ≡ tenures z s.trace) (sym o.1) (F.counted g.inside s.words (trees s.views) s.trace q (all_trees K levels F d s g) g.tree (trees_out s out) o.0);
+        counted = λ s q e g out has. let o = queue_is K.rooted q e has in
+            subst (λ z. settled q s.trace + passed q s.trace ≡ tenures z s.trace) (sym o.1)
+            (F.counted g.inside s.words (trees s.views) s.trace q (all_trees K levels F d s g) g.tree (trees_out s out) o.0);
         goes_further = λ s g i lt. (g.batches i lt).so_far;
         finds = λ s r v a one h. finds_at s r v.tree v.counter.counter v.counter.doing a one h.is_good h.has h.planned;
         moves_on = λ s r v a one h. moves_at s r v.tree v.counter.counter v.counter.doing a one h.is_good h.has h.planned;
       } where
-        fits : (s : LockState RwView) (r : ℕ) (v : RwView) (a : Act) → Acts (rw_table K) (RwGood K levels) s r v a → RwFits K r (rw_standing v.counter.doing v.tree) (rw_learn K v (busy v.counter.doing) (told a (found s a)))
+        fits : (s : LockState RwView) (r : ℕ) (v : RwView) (a : Act) → Acts (rw_table K) (RwGood K levels) s r v a →
+            RwFits K r (rw_standing v.counter.doing v.tree) (rw_learn K v (busy v.counter.doing) (told a (found s a)))
         fits s r v a h = fits_at K levels F d s r v.tree v.counter.counter v.counter.doing a h.is_good h.has h.planned
 
 -- what is asked of the numbers follows from the shape and the settings
@@ -239,11 +273,14 @@ sound_of K levels S limited few grouped = record { limited = limited; few = few;
 
 -- so all laws hold of a tree as a lock keeps it, with a budget of the root, at most 1000 readers to a counter, and groups of a rank at least
 pub laws_of : (rooted : Rooted) (readers group : ℕ) → IsTreeLaid rooted (levels_of rooted.shape) → is_some rooted.root ≡ true → readers ≤ 1000 → 0 < group →
-    LockLaws (rw_table (shared_of rooted readers group)) (RwGood (shared_of rooted readers group) (levels_of rooted.shape)) (KeepsBatches (shared_of rooted readers group)) (layout_of rooted.shape)
+    LockLaws (rw_table (shared_of rooted readers group)) (RwGood (shared_of rooted readers group) (levels_of rooted.shape))
+    (KeepsBatches (shared_of rooted readers group)) (layout_of rooted.shape)
 laws_of rooted readers group laid limited few grouped =
     let S : IsWellShaped rooted (levels_of rooted.shape) = laid_shaped rooted (levels_of rooted.shape) laid in
-    rw_laws (shared_of rooted readers group) (levels_of rooted.shape) (tree_facts rooted (levels_of rooted.shape) S) (sound_of (shared_of rooted readers group) (levels_of rooted.shape) S limited few grouped)
+    rw_laws (shared_of rooted readers group) (levels_of rooted.shape) (tree_facts rooted (levels_of rooted.shape) S)
+    (sound_of (shared_of rooted readers group) (levels_of rooted.shape) S limited few grouped)
 
 -- what it says of its acts gives what is promised, of the lock that was asked for
 pub hands_on : (made asked : Shared) → made ≡ asked → HandsOn (KeepsBatches made) (BoundsBatches asked)
-hands_on made asked same t ds ts shown keeps = subst (λ K. BoundsBatches K t ts) same (λ g lt. is_batched (mine_of made g) (behind_tree made + 2 * g) made.readers ds ts shown (keeps g lt))
+hands_on made asked same t ds ts shown keeps = subst (λ K. BoundsBatches K t ts) same
+    (λ g lt. is_batched (mine_of made g) (behind_tree made + 2 * g) made.readers ds ts shown (keeps g lt))

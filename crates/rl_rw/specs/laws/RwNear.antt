@@ -63,7 +63,9 @@ module _ (K : Shared) where
   near_few ws c p t = if_few (is_full K ws c) p
 
   -- it is the same where what it is counted by is
-  pub near_kept : (ws us : List ℕ) (c : ℕ) (p : Doing) (t : TreeView) → slice_index us (path (tree_of K.rooted) t.leaf t.level) ≡ slice_index ws (path (tree_of K.rooted) t.leaf t.level) → is_full K us c ≡ is_full K ws c →
+  pub near_kept : (ws us : List ℕ) (c : ℕ) (p : Doing) (t : TreeView) →
+      slice_index us (path (tree_of K.rooted) t.leaf t.level) ≡ slice_index ws (path (tree_of K.rooted) t.leaf t.level) →
+      is_full K us c ≡ is_full K ws c →
       ((i a : ℕ) → p ≡ Compare i a → departed us i ≡ departed ws i) → near_at K us c p t ≡ near_at K ws c p t
   near_kept ws us c Nothing t tail full gone = ap (λ z. near_by t.query z t.phase) tail
   near_kept ws us c (Count i) t tail full gone = refl
@@ -77,7 +79,8 @@ module _ (K : Shared) where
   pub other_full : (ws : List ℕ) (w x g : ℕ) → w ≢ depart_word (counters_of K) g → is_full K (slice_set ws w x) g ≡ is_full K ws g
   other_full ws w x g ne = ap (λ z. z == K.readers) (other_gone ws w x g ne)
 
-  pub reset_full : (ws : List ℕ) (g : ℕ) → 0 < K.readers → depart_word (counters_of K) g < length ws → is_full K (slice_set ws (depart_word (counters_of K) g) 0) g ≡ false
+  pub reset_full : (ws : List ℕ) (g : ℕ) → 0 < K.readers → depart_word (counters_of K) g < length ws →
+      is_full K (slice_set ws (depart_word (counters_of K) g) 0) g ≡ false
   reset_full ws g some there =
       ap (λ z. z == K.readers) (get_or-set_same ws (depart_word (counters_of K) g) 0 0 there) ∙ other_test 0 K.readers (λ e. absurd (omega arith))
 
@@ -96,7 +99,8 @@ module _ (K : Shared) where
       let a : ones (is_full K us k) ≡ ones (is_full K ws k) = ap ones (h k top) in
       let b = fulls_same ws us k (λ g lt. let l : g < suc k = omega arith in h g l) in omega arith
 
-  pub fulls_fall : (ws us : List ℕ) (c k : ℕ) → c < k → ((g : ℕ) → g < k → is_full K us g ≡ true → is_full K ws g ≡ true) → is_full K ws c ≡ true → is_full K us c ≡ false → fulls K us k < fulls K ws k
+  pub fulls_fall : (ws us : List ℕ) (c k : ℕ) → c < k → ((g : ℕ) → g < k → is_full K us g ≡ true → is_full K ws g ≡ true) →
+      is_full K ws c ≡ true → is_full K us c ≡ false → fulls K us k < fulls K ws k
   fulls_fall ws us c zero lt h was now = absurd (omega arith)
   fulls_fall ws us c (suc k) lt h was now =
       let top : k < suc k = omega arith in

@@ -40,7 +40,8 @@ use Rattle.rl_rw.specs.laws.RwBalance.{NoneAt, balanced}
 use Rattle.rl_rw.specs.laws.RwGoes.{Goes, by_far, by_change, by_look, by_arrive, own_there, tail_low, arrive_full, swap_fall, swap_still}
 
 -- who isn't stuck in the tree holds the lock, or is as urgent as a writer
-free_urgent : (N : TheNames) (ws : List ℕ) (m : ℕ) (p : Phase) → Busy p → (Stuck p (slice_index ws (queue_next_word N m)) (slice_index ws (status_word N m)) → ⊥) →
+free_urgent : (N : TheNames) (ws : List ℕ) (m : ℕ) (p : Phase) → Busy p →
+    (Stuck p (slice_index ws (queue_next_word N m)) (slice_index ws (status_word N m)) → ⊥) →
     (tree_urgency false p (loaded ws (plan_at N m p)) ≡ Some 0) ⊎ (tree_urgency false p (loaded ws (plan_at N m p)) ≡ Some 1)
 free_urgent N ws m Idle busy free = absurd busy
 free_urgent N ws m Wait busy free = inr (ap (λ b. where_some 1 (if b then None else Some 0)) (other_test (slice_index ws (status_word N m)) 0 free))
@@ -58,13 +59,15 @@ marks_urgent K ws (TakeOff i x) t m = refl
 marks_urgent K ws _ t m = absurd m
 
 -- a rank that goes on in the tree is one or the other
-goes_urgent : (K : Shared) (ws : List ℕ) (p : Doing) (t : TreeView) → Place (groups K) p t → GoesIn K.rooted ws t.query (path (tree_of K.rooted) t.leaf t.level) (works_for (tree_of K.rooted) t t.level) t.phase →
+goes_urgent : (K : Shared) (ws : List ℕ) (p : Doing) (t : TreeView) → Place (groups K) p t →
+    GoesIn K.rooted ws t.query (path (tree_of K.rooted) t.leaf t.level) (works_for (tree_of K.rooted) t t.level) t.phase →
     (urgency_at K ws p t ≡ Some 0) ⊎ (urgency_at K ws p t ≡ Some 1)
 goes_urgent K ws Nothing t place goes = by t.query goes where
   urgent_there : Bool → Option ℕ
   urgent_there b = tree_urgency b t.phase (loaded ws (plan_by (tree_of K.rooted) t b))
 
-  by : (b : Bool) → GoesIn K.rooted ws b (path (tree_of K.rooted) t.leaf t.level) (works_for (tree_of K.rooted) t t.level) t.phase → (urgent_there b ≡ Some 0) ⊎ (urgent_there b ≡ Some 1)
+  by : (b : Bool) → GoesIn K.rooted ws b (path (tree_of K.rooted) t.leaf t.level) (works_for (tree_of K.rooted) t t.level) t.phase →
+      (urgent_there b ≡ Some 0) ⊎ (urgent_there b ≡ Some 1)
   by true goes = inr refl
   by false goes = free_urgent (names_in K.rooted (path (tree_of K.rooted) t.leaf t.level)) ws (works_for (tree_of K.rooted) t t.level) t.phase goes.0 goes.1
 goes_urgent K ws Inside t place goes = inl refl
@@ -78,7 +81,9 @@ goes_urgent K ws (TakeOut i) t place goes = inr refl
 goes_urgent K ws (TakeOff i x) t place goes = inr refl
 goes_urgent K ws _ t place goes =
     let o = out_is t.query t.phase place in
-    let idle : Busy Idle = subst Busy o.1 (subst (λ b. GoesIn K.rooted ws b (path (tree_of K.rooted) t.leaf t.level) (works_for (tree_of K.rooted) t t.level) t.phase) o.0 goes).0 in absurd idle
+    let idle : Busy Idle = subst Busy o.1
+    (subst (λ b. GoesIn K.rooted ws b (path (tree_of K.rooted) t.leaf t.level) (works_for (tree_of K.rooted) t t.level) t.phase) o.0
+    goes).0 in absurd idle
 
 -- the turn of a reader that has seen that the tail is 0
 tail_test : (a x : ℕ) → x ≡ 0 → ((x == 0) && nat_lt a (2 ^ 32)) ≡ nat_lt a (2 ^ 32)
@@ -147,14 +152,17 @@ module _ (K : Shared) (n : ℕ) (F : TreeFacts K.rooted n) (d : IsSound K) (S : 
     pub writing : NoneAt K s 1
 
   -- so all are out of the tree
-  pub trees_out : (s : LockState RwView) → RwGood K n s → Quiet s → (r : ℕ) (x : TreeView) → slice_get (trees s.views) r ≡ Some x → tree_standing x ≡ standing.Out
+  pub trees_out : (s : LockState RwView) → RwGood K n s → Quiet s → (r : ℕ) (x : TreeView) → slice_get (trees s.views) r ≡ Some x →
+      tree_standing x ≡ standing.Out
   trees_out s g quiet =
       ⊎_elim (λ out. out)
       (λ b.
       let k = tree_goes K.rooted n S s.words (trees s.views) s.trace g.tree.tree (all_trees K n F d s g) b.0 b.1.view b.1.has b.1.busy in
       let m = get_map_back (λ v. v.tree) s.views k.0 k.1.view k.1.has in
-      let goes : GoesIn K.rooted s.words m.0.tree.query (path (tree_of K.rooted) m.0.tree.leaf m.0.tree.level) (works_for (tree_of K.rooted) m.0.tree m.0.tree.level) m.0.tree.phase =
-      subst (λ z. GoesIn K.rooted s.words z.query (path (tree_of K.rooted) z.leaf z.level) (works_for (tree_of K.rooted) z z.level) z.phase) (sym m.2) k.1.goes in
+      let goes : GoesIn K.rooted s.words m.0.tree.query (path (tree_of K.rooted) m.0.tree.leaf m.0.tree.level)
+      (works_for (tree_of K.rooted) m.0.tree m.0.tree.level) m.0.tree.phase =
+      subst (λ z. GoesIn K.rooted s.words z.query (path (tree_of K.rooted) z.leaf z.level) (works_for (tree_of K.rooted) z z.level) z.phase)
+      (sym m.2) k.1.goes in
       absurd (⊎_elim (quiet.leaving k.0 m.0 m.1) (quiet.writing k.0 m.0 m.1) (goes_urgent K s.words m.0.counter.doing m.0.tree (g.place k.0 m.0 m.1) goes)))
       (all_out_or_not tree_standing (trees s.views))
 
@@ -163,9 +171,12 @@ module _ (K : Shared) (n : ℕ) (F : TreeFacts K.rooted n) (d : IsSound K) (S : 
   at_rest s g quiet = F.rest_shut g.inside s.words (trees s.views) s.trace (all_trees K n F d s g) g.tree (trees_out s g quiet)
 
   -- no mark is up, and as many departed from each counter as came to it
-  evened : (s : LockState RwView) (c : ℕ) (g : RwGood K n s) → Quiet s → c < groups K → (slice_index s.words (arrive_word (counters_of K) c) ≡ slice_index s.words (depart_word (counters_of K) c)) × (slice_index s.words (depart_word (counters_of K) c) ≤ K.readers)
+  evened : (s : LockState RwView) (c : ℕ) (g : RwGood K n s) → Quiet s → c < groups K →
+      (slice_index s.words (arrive_word (counters_of K) c) ≡ slice_index s.words (depart_word (counters_of K) c)) ×
+      (slice_index s.words (depart_word (counters_of K) c) ≤ K.readers)
   evened s c g quiet lc =
-      let free : g.hook ≡ Nothing = ⊎_elim (λ e. e) (λ k. absurd (quiet.writing k.rank k.view k.has (marks_urgent K s.words k.view.counter.doing k.view.tree k.marks))) g.hooked.some in
+      let free : g.hook ≡ Nothing = ⊎_elim (λ e. e) (λ k. absurd
+      (quiet.writing k.rank k.view k.has (marks_urgent K s.words k.view.counter.doing k.view.tree k.marks))) g.hooked.some in
       let down : mark_by g.inside g.hook c ≡ Down = ap (λ z. mark_by g.inside z c) free ∙ ap (λ z. mark_by z Nothing c) (at_rest s g quiet).0 in
       let k = balanced K n s c Down g quiet.leaving lc down refl in
       let a = k.0 in
@@ -188,7 +199,9 @@ module _ (K : Shared) (n : ℕ) (F : TreeFacts K.rooted n) (d : IsSound K) (S : 
         let us : List ℕ = slice_set s.words w ((got + 1) % 2 ^ 64) in
         let full : fulls K us (groups K) ≡ fulls K s.words (groups K) = arrive_full K n F d S s c ((got + 1) % 2 ^ 64) g lc in
         by_far K n F d S s r v (CardAdd w 1) has refl
-        (subst (λ b. rw_far K n (from_counter K v Arrive (if b then to Inside else to (Refused got)).doing (if b then to Inside else to (Refused got)).waits).view + fulls K us (groups K) < 1 + fulls K s.words (groups K)) (sym e) (omega arith))
+        (subst (λ b. rw_far K n (from_counter K v Arrive (if b then to Inside else to (Refused got)).doing
+        (if b then to Inside else to (Refused got)).waits).view + fulls K us (groups K) < 1 + fulls K s.words (groups K)) (sym e)
+        (omega arith))
     by false e =
         let lc : c < groups K = own_there K n F d S s r v g has in
         let even = evened s c g quiet lc in
@@ -198,7 +211,8 @@ module _ (K : Shared) (n : ℕ) (F : TreeFacts K.rooted n) (d : IsSound K) (S : 
         let high : K.readers ≤ got = not_lt got K.readers e in
         let full : is_full K s.words c ≡ true = is_same (slice_index s.words (depart_word (counters_of K) c)) K.readers (omega arith) in
         by_arrive K n F d S s r t c Arrive (Refused got) 1 g has refl
-        (ap (λ b. (from_counter K v Arrive (if b then to Inside else to (Refused got)).doing (if b then to Inside else to (Refused got)).waits).view) e) refl (λ i x h. cc)
+        (ap (λ b. (from_counter K v Arrive (if b then to Inside else to (Refused got)).doing
+        (if b then to Inside else to (Refused got)).waits).view) e) refl (λ i x h. cc)
         (subst (λ b. near_if b (Refused got) < near_if b Arrive) (sym full) (refused_next got (omega arith)))
 
   see_goes : (s : LockState RwView) (r : ℕ) (t : TreeView) (c a : ℕ) → RwGood K n s → Quiet s → slice_get s.views r ≡ Some (rw_view t c (SeeTail a)) → Going s r
@@ -209,7 +223,9 @@ module _ (K : Shared) (n : ℕ) (F : TreeFacts K.rooted n) (d : IsSound K) (S : 
     test : (b : Bool) → nat_lt a (2 ^ 32) ≡ b → ((slice_index s.words 0 == 0) && nat_lt a (2 ^ 32)) ≡ b
     test b e = tail_test a (slice_index s.words 0) (at_rest s g quiet).1 ∙ e
 
-    seen : (b : Bool) → nat_lt a (2 ^ 32) ≡ b → (from_counter K v (SeeTail a) (counter_turn (counters_of K) (SeeTail a) (slice_index s.words 0)).doing (counter_turn (counters_of K) (SeeTail a) (slice_index s.words 0)).waits).view ≡
+    seen : (b : Bool) → nat_lt a (2 ^ 32) ≡ b →
+        (from_counter K v (SeeTail a) (counter_turn (counters_of K) (SeeTail a) (slice_index s.words 0)).doing
+        (counter_turn (counters_of K) (SeeTail a) (slice_index s.words 0)).waits).view ≡
         (from_counter K v (SeeTail a) (if b then to Swap else to Round).doing (if b then to Swap else to Round).waits).view
     seen b e = ap (λ b. (from_counter K v (SeeTail a) (if b then to Swap else to Round).doing (if b then to Swap else to Round).waits).view) (test b e)
 
@@ -217,7 +233,8 @@ module _ (K : Shared) (n : ℕ) (F : TreeFacts K.rooted n) (d : IsSound K) (S : 
     by true e = by_look K n F d S s r v (rw_view t c Swap) 0 has refl (seen true e) refl (swaps_falls (is_full K s.words c) a e)
     by false e = by_look K n F d S s r v (rw_view t c Round) 0 has refl (seen false e) refl (rounds_falls (is_full K s.words c) a e)
 
-  swap_goes : (s : LockState RwView) (r : ℕ) (t : TreeView) (c : ℕ) → 0 < K.readers → RwGood K n s → Quiet s → slice_get s.views r ≡ Some (rw_view t c Swap) → Going s r
+  swap_goes : (s : LockState RwView) (r : ℕ) (t : TreeView) (c : ℕ) → 0 < K.readers → RwGood K n s → Quiet s →
+      slice_get s.views r ≡ Some (rw_view t c Swap) → Going s r
   swap_goes s r t c some g quiet has = by (is_full K s.words c) refl where
     v : RwView
     v = rw_view t c Swap
@@ -234,7 +251,9 @@ module _ (K : Shared) (n : ℕ) (F : TreeFacts K.rooted n) (d : IsSound K) (S : 
     lc : c < groups K
     lc = own_there K n F d S s r (rw_view t c Swap) g has
 
-    tails : (i : ℕ) (x : RwView) → slice_get s.views i ≡ Some x → slice_index us (path (tree_of K.rooted) x.tree.leaf x.tree.level) ≡ slice_index s.words (path (tree_of K.rooted) x.tree.leaf x.tree.level)
+    tails : (i : ℕ) (x : RwView) → slice_get s.views i ≡ Some x →
+        slice_index us (path (tree_of K.rooted) x.tree.leaf x.tree.level) ≡ slice_index s.words
+        (path (tree_of K.rooted) x.tree.leaf x.tree.level)
     tails i x h =
         let low = tail_low K n F d S s i x g h in
         let high = depart_is K c lc in
@@ -246,12 +265,14 @@ module _ (K : Shared) (n : ℕ) (F : TreeFacts K.rooted n) (d : IsSound K) (S : 
         by_far K n F d S s r v (CardSwap w 0) has refl (omega arith)
     by false e =
         let others : (i : ℕ) (x : RwView) → slice_get s.views i ≡ Some x → rw_near K us x ≡ rw_near K s.words x =
-        λ i x h. near_kept K s.words us x.counter.counter x.counter.doing x.tree (tails i x h) (swap_still K n F d S s c x.counter.counter some g lc (own_there K n F d S s i x g h) e)
+        λ i x h. near_kept K s.words us x.counter.counter x.counter.doing x.tree (tails i x h)
+        (swap_still K n F d S s c x.counter.counter some g lc (own_there K n F d S s i x g h) e)
         (λ j a same. absurd (quiet.writing i x h (ap (λ z. urgency_at K s.words z x.tree) same))) in
         let still : is_full K us c ≡ false = swap_still K n F d S s c c some g lc lc e ∙ e in
         let near : near_at K us c (ResetOff got) t ≡ 3 = ap (λ b. near_if b (ResetOff got)) still in
         let old : near_at K s.words c Swap t ≡ 4 = ap (λ b. near_if b Swap) e in
-        let full : fulls K us (groups K) ≡ fulls K s.words (groups K) = fulls_same K s.words us (groups K) (λ h lh. swap_still K n F d S s c h some g lc lh e) in
+        let full : fulls K us (groups K) ≡ fulls K s.words (groups K) =
+        fulls_same K s.words us (groups K) (λ h lh. swap_still K n F d S s c h some g lc lh e) in
         by_change K n F d S s r v (rw_view t c (ResetOff got)) (CardSwap w 0) has refl refl others refl full (omega (arith, near, old))
 
   round_goes : (s : LockState RwView) (r : ℕ) (t : TreeView) (c : ℕ) → RwGood K n s → Quiet s → slice_get s.views r ≡ Some (rw_view t c Round) → Going s r
@@ -285,7 +306,8 @@ module _ (K : Shared) (n : ℕ) (F : TreeFacts K.rooted n) (d : IsSound K) (S : 
         (ap (λ b. (from_counter K v Round (if b then to Arrive else to (RoundTail got)).doing (if b then to Arrive else to (RoundTail got)).waits).view) e) refl
         (subst (λ b. near_if b (RoundTail got) < near_if b Round) (sym full) (round_next got (omega arith)))
 
-  tail_goes : (s : LockState RwView) (r : ℕ) (t : TreeView) (c a : ℕ) → RwGood K n s → Quiet s → slice_get s.views r ≡ Some (rw_view t c (RoundTail a)) → Going s r
+  tail_goes : (s : LockState RwView) (r : ℕ) (t : TreeView) (c a : ℕ) → RwGood K n s → Quiet s →
+      slice_get s.views r ≡ Some (rw_view t c (RoundTail a)) → Going s r
   tail_goes s r t c a g quiet has = by (nat_lt a (2 ^ 32)) refl where
     v : RwView
     v = rw_view t c (RoundTail a)
@@ -293,16 +315,20 @@ module _ (K : Shared) (n : ℕ) (F : TreeFacts K.rooted n) (d : IsSound K) (S : 
     again : CounterTurn
     again = record { doing = Round; waits = true }
 
-    seen : (b : Bool) → nat_lt a (2 ^ 32) ≡ b → (from_counter K v (RoundTail a) (counter_turn (counters_of K) (RoundTail a) (slice_index s.words 0)).doing (counter_turn (counters_of K) (RoundTail a) (slice_index s.words 0)).waits).view ≡
+    seen : (b : Bool) → nat_lt a (2 ^ 32) ≡ b →
+        (from_counter K v (RoundTail a) (counter_turn (counters_of K) (RoundTail a) (slice_index s.words 0)).doing (counter_turn
+        (counters_of K) (RoundTail a) (slice_index s.words 0)).waits).view ≡
         (from_counter K v (RoundTail a) (if b then to Arrive else again).doing (if b then to Arrive else again).waits).view
-    seen b e = ap (λ b. (from_counter K v (RoundTail a) (if b then to Arrive else again).doing (if b then to Arrive else again).waits).view) (tail_test a (slice_index s.words 0) (at_rest s g quiet).1 ∙ e)
+    seen b e = ap (λ b. (from_counter K v (RoundTail a) (if b then to Arrive else again).doing (if b then to Arrive else again).waits).view)
+        (tail_test a (slice_index s.words 0) (at_rest s g quiet).1 ∙ e)
 
     by : (b : Bool) → nat_lt a (2 ^ 32) ≡ b → Going s r
     by true e = by_look K n F d S s r v (rw_view t c Arrive) 0 has refl (seen true e) refl (arrives_falls (is_full K s.words c) a e)
     by false e = by_look K n F d S s r v (rw_view t c Round) 0 has refl (seen false e) refl (again_falls (is_full K s.words c) a e)
 
   -- EACH READER THAT ASKS
-  pub readers_go : (s : LockState RwView) (r : ℕ) (t : TreeView) (c : ℕ) (p : Doing) (k : ℕ) → 0 < K.readers → RwGood K n s → Quiet s → slice_get s.views r ≡ Some (rw_view t c p) → urgency_at K s.words p t ≡ Some (suc (suc k)) → Going s r
+  pub readers_go : (s : LockState RwView) (r : ℕ) (t : TreeView) (c : ℕ) (p : Doing) (k : ℕ) → 0 < K.readers → RwGood K n s → Quiet s →
+      slice_get s.views r ≡ Some (rw_view t c p) → urgency_at K s.words p t ≡ Some (suc (suc k)) → Going s r
   readers_go s r t c Arrive k some g quiet has e = arrive_goes s r t c g quiet has
   readers_go s r t c (SeeTail a) k some g quiet has e = see_goes s r t c a g quiet has
   readers_go s r t c Swap k some g quiet has e = swap_goes s r t c some g quiet has

@@ -46,7 +46,8 @@ hook_place n t lt e =
     let c = hook_cases t.query t.phase e in
     ⊎_elim
     (λ s. let b : hooks t.phase ≡ Put 0 = ap hooks s in (subst (λ z. Place n z t) (sym b) (c.0, s, lt), subst IsMark (sym b) tt))
-    (λ a. let k = above_is t.phase a in let b : hooks t.phase ≡ TakeOut 0 = ap hooks k.1 in (subst (λ z. Place n z t) (sym b) (c.0, a, lt), subst IsMark (sym b) tt)) c.1
+    (λ a. let k = above_is t.phase a in let b : hooks t.phase ≡ TakeOut 0 = ap hooks k.1 in
+    (subst (λ z. Place n z t) (sym b) (c.0, a, lt), subst IsMark (sym b) tt)) c.1
 
 -- nothing waits where the tree goes on from the hook
 pub resume_goes : (T : TheTree) (v : TreeView) → (tree_resume T v).waits ≡ false
@@ -75,7 +76,8 @@ mark_free o n _ g m = absurd m
 abbrev pub OthersAway : List RwView → ℕ → Type 0
 OthersAway vs r = (k : ℕ) (x : RwView) → slice_get vs k ≡ Some x → k ≢ r → IsMark x.counter.doing → ⊥
 
-pub hooked_same : (vs : List RwView) (r : ℕ) (v w : RwView) (h : Doing) → slice_get vs r ≡ Some v → (IsMark v.counter.doing → ⊥) → (IsMark w.counter.doing → ⊥) → Hooked vs h → Hooked (slice_set vs r w) h
+pub hooked_same : (vs : List RwView) (r : ℕ) (v w : RwView) (h : Doing) → slice_get vs r ≡ Some v → (IsMark v.counter.doing → ⊥) →
+    (IsMark w.counter.doing → ⊥) → Hooked vs h → Hooked (slice_set vs r w) h
 hooked_same vs r v w h has nv nw b =
     record {
       all = λ k x e m. ⊎_elim (λ p. absurd (nw (subst (λ z. IsMark z.counter.doing) p.1 m))) (λ p. b.all k x p.1 m) (get_set_cases vs r k w x e);
@@ -83,13 +85,15 @@ hooked_same vs r v w h has nv nw b =
           (λ a. inr (record {
             rank = a.rank;
             view = a.view;
-            has = get_set_other vs r a.rank w (λ e. nv (subst (λ z. IsMark z.counter.doing) (same_Some _ _ (sym a.has ∙ ap (slice_get vs) e ∙ has)) a.marks)) ∙ a.has;
+            has = get_set_other vs r a.rank w
+                (λ e. nv (subst (λ z. IsMark z.counter.doing) (same_Some _ _ (sym a.has ∙ ap (slice_get vs) e ∙ has)) a.marks)) ∙ a.has;
             does = a.does;
             marks = a.marks;
           })) b.some;
     }
 
-pub hooked_at : (vs : List RwView) (r : ℕ) (v w : RwView) → slice_get vs r ≡ Some v → IsMark w.counter.doing → OthersAway vs r → Hooked (slice_set vs r w) w.counter.doing
+pub hooked_at : (vs : List RwView) (r : ℕ) (v w : RwView) → slice_get vs r ≡ Some v → IsMark w.counter.doing → OthersAway vs r →
+    Hooked (slice_set vs r w) w.counter.doing
 hooked_at vs r v w has mw away =
     record {
       all = λ k x e m. ⊎_elim (λ p. ap (λ z. z.counter.doing) p.1) (λ p. absurd (away k x p.1 p.0 m)) (get_set_cases vs r k w x e);
@@ -105,11 +109,15 @@ hooked_off vs r w nw away =
 
 module _ (K : Shared) (levels : ℕ) where
   -- A state stays good where rank r's view changes.
-  pub stays : (s u : LockState RwView) (r : ℕ) (v w : RwView) → RwGood K levels s → slice_get s.views r ≡ Some v → length u.words ≡ length s.words → u.views ≡ slice_set s.views r w → length u.modes ≡ length s.modes → w.counter.counter ≡ v.counter.counter →
-      Place (groups K) w.counter.doing w.tree → ((m : Mode) → slice_get u.modes r ≡ Some m → Moded w.counter.doing w.tree m) → ((k : ℕ) → k ≢ r → slice_get u.modes k ≡ slice_get s.modes k) →
+  pub stays : (s u : LockState RwView) (r : ℕ) (v w : RwView) → RwGood K levels s → slice_get s.views r ≡ Some v →
+      length u.words ≡ length s.words → u.views ≡ slice_set s.views r w → length u.modes ≡ length s.modes →
+      w.counter.counter ≡ v.counter.counter →
+      Place (groups K) w.counter.doing w.tree → ((m : Mode) → slice_get u.modes r ≡ Some m → Moded w.counter.doing w.tree m) →
+      ((k : ℕ) → k ≢ r → slice_get u.modes k ≡ slice_get s.modes k) →
       (o : Bool) → GoodAt K.rooted levels o u.words (slice_set (trees s.views) r w.tree) u.trace → (h : Doing) → Hooked (slice_set s.views r w) h →
       ((g : ℕ) → g < groups K → GroupGood (counters_of K) (mine_of K g) g u.words (slice_set (doings s.views) r w.counter.doing) (mark_by o h g)) →
-      ((g : ℕ) → g < groups K → Batched (mine_of K g) (behind_tree K + 2 * g) K.readers u.words u.deeds) → (ranks_in K.rooted ≡ 1 → Lonely K u.words w.counter.doing) → RwGood K levels u
+      ((g : ℕ) → g < groups K → Batched (mine_of K g) (behind_tree K + 2 * g) K.readers u.words u.deeds) →
+      (ranks_in K.rooted ≡ 1 → Lonely K u.words w.counter.doing) → RwGood K levels u
   stays s u r v w g has lw ev lm own place moded modes o tree h hooked counters batches lonely =
       record {
         all_words = lw ∙ g.all_words;
@@ -119,11 +127,14 @@ module _ (K : Shared) (levels : ℕ) where
         tree = subst (λ z. GoodAt K.rooted levels o u.words z u.trace) (sym (ap (λ z. trees z) ev ∙ map_set (λ x. x.tree) s.views r w)) tree;
         hook = h;
         hooked = subst (λ z. Hooked z h) (sym ev) hooked;
-        counters = λ i lt. subst (λ z. GroupGood (counters_of K) (mine_of K i) i u.words z (mark_by o h i)) (sym (ap (λ z. doings z) ev ∙ map_set (λ x. x.counter.doing) s.views r w)) (counters i lt);
+        counters = λ i lt. subst (λ z. GroupGood (counters_of K) (mine_of K i) i u.words z (mark_by o h i))
+            (sym (ap (λ z. doings z) ev ∙ map_set (λ x. x.counter.doing) s.views r w)) (counters i lt);
         own = each_set (λ i x. x.counter.counter ≡ i / K.group) s.views u.views r w ev (own ∙ g.own r v has) (λ i x ne e. g.own i x e);
         place = each_set (λ i x. Place (groups K) x.counter.doing x.tree) s.views u.views r w ev place (λ i x ne e. g.place i x e);
-        moded = λ i x m e f. each_set (λ i x. slice_get u.modes i ≡ Some m → Moded x.counter.doing x.tree m) s.views u.views r w ev (moded m) (λ i x ne e f. g.moded i x m e (sym (modes i ne) ∙ f)) i x e f;
+        moded = λ i x m e f. each_set (λ i x. slice_get u.modes i ≡ Some m → Moded x.counter.doing x.tree m) s.views u.views r w ev
+            (moded m) (λ i x ne e f. g.moded i x m e (sym (modes i ne) ∙ f)) i x e f;
         batches = batches;
         lonely = λ one. each_set (λ i x. Lonely K u.words x.counter.doing) s.views u.views r w ev (lonely one)
-            (λ i x ne e. let a = slice_get_within s.views i x e in let b = slice_get_within s.views r v has in let c = g.all_views in absurd (ne (omega arith)));
+            (λ i x ne e. let a = slice_get_within s.views i x e in let b = slice_get_within s.views r v has in let c = g.all_views in
+            absurd (ne (omega arith)));
       }

@@ -90,15 +90,24 @@ module _ (K : Shared) (d : IsSound K) where
   of_group r = record { mine_is = self_mine K r; alone = λ h e. sym (eqb_means (r / K.group) h e) }
 
   -- Each act keeps the batches bounded.
-  pub batches_keep : (ws : List ℕ) (ds : List Deed) (r : ℕ) (v : RwView) (a : Act) → length ws ≡ behind_tree K + 2 * groups K → v.tree.rank ≡ r → v.counter.counter ≡ r / K.group → plan_of K v (busy v.counter.doing) ≡ Some a → ((word_of a < behind_tree K) ⊎ ((x : ℕ) → told a x ≡ x)) →
+  pub batches_keep : (ws : List ℕ) (ds : List Deed) (r : ℕ) (v : RwView) (a : Act) → length ws ≡ behind_tree K + 2 * groups K →
+      v.tree.rank ≡ r → v.counter.counter ≡ r / K.group → plan_of K v (busy v.counter.doing) ≡ Some a →
+      ((word_of a < behind_tree K) ⊎ ((x : ℕ) → told a x ≡ x)) →
       ((g : ℕ) → g < groups K → Batched (mine_of K g) (behind_tree K + 2 * g) K.readers ws ds) → (g : ℕ) → g < groups K →
       Batched (mine_of K g) (behind_tree K + 2 * g) K.readers (slice_set ws (word_of a) (written a (slice_index ws (word_of a))))
-      (ds ++ record { rank = r; act = a; got = told a (slice_index ws (word_of a)); events = (rw_learn K v (busy v.counter.doing) (told a (slice_index ws (word_of a)))).events } ∷ [])
+      (ds ++ record {
+        rank = r;
+        act = a;
+        got = told a (slice_index ws (word_of a));
+        events =
+            (rw_learn K v (busy v.counter.doing) (told a (slice_index ws (word_of a)))).events;
+      } ∷ [])
   batches_keep ws ds r v a long name own pl tells all g lt =
       let x : ℕ = slice_index ws (word_of a) in
       let es : List Event = (rw_learn K v (busy v.counter.doing) (told a (slice_index ws (word_of a)))).events in
       let fits : MayEnter (mine_of K g) (arrive_word (counters_of K) g) K.readers a (told a x) es =
-      rw_fits (mine_of K g) K v (busy v.counter.doing) g a (told a x) (λ e. own ∙ eqb_means (r / K.group) g (subst (λ z. mine_of K g z ≡ true) name e)) refl pl in
+      rw_fits (mine_of K g) K v (busy v.counter.doing) g a (told a x)
+      (λ e. own ∙ eqb_means (r / K.group) g (subst (λ z. mine_of K g z ≡ true) name e)) refl pl in
       act_batches (mine_of K g) (behind_tree K + 2 * g) K.readers ws ds r a es (omega arith) (all g lt)
       (λ e. ⊎_elim (λ low. absurd (omega arith)) (λ f. f x) tells)
       (⊎_elim inl (λ z. inr (z.0 ∙ ap (λ y. CardAdd y 1) (arrive_is K g lt), subst (λ y. y < K.readers) (ap (λ y. told y x) z.0) z.1, z.2)) fits)

@@ -50,7 +50,8 @@ module _ (K : Shared) (n : ℕ) (F : TreeFacts K.rooted n) (d : IsSound K) (S : 
       by_far K n F d S s r v (CardAdd w (2 ^ 32)) has refl
       (choose (Nearer s.words us v (Put i)) (nat_lt (i + 1) (length (counters_of K).arrive)) (to (Put (i + 1))) (to (Count 0)) (omega arith) (omega arith))
 
-  take_out_goes : (s : LockState RwView) (r : ℕ) (t : TreeView) (c i : ℕ) → 0 < K.readers → RwGood K n s → slice_get s.views r ≡ Some (rw_view t c (TakeOut i)) → Going s r
+  take_out_goes : (s : LockState RwView) (r : ℕ) (t : TreeView) (c i : ℕ) → 0 < K.readers → RwGood K n s →
+      slice_get s.views r ≡ Some (rw_view t c (TakeOut i)) → Going s r
   take_out_goes s r t c i some g has =
       let v : RwView = rw_view t c (TakeOut i) in
       let w : ℕ = depart_word (counters_of K) i in
@@ -72,16 +73,19 @@ module _ (K : Shared) (n : ℕ) (F : TreeFacts K.rooted n) (d : IsSound K) (S : 
       let le : t.level ≤ n = (g.tree.tree.by.shaped r t (as_tree K n F d s r v has)).within in
       let down : far_in n (groups K) (tree_resume (tree_of K.rooted) t).view ≤ 4 * n + 3 = leaves_cap n (groups K) (tree_of K.rooted) t t.phase k.0 le k.1 in
       by_far K n F d S s r v (CardAdd w (off ((2 ^ 32 + x) % 2 ^ 64))) has refl
-      (choose (Nearer s.words us v (TakeOff i x)) (nat_lt (i + 1) (length (counters_of K).arrive)) (to (TakeOut (i + 1))) (to Nothing) (omega arith) (omega arith))
+      (choose (Nearer s.words us v (TakeOff i x)) (nat_lt (i + 1) (length (counters_of K).arrive)) (to (TakeOut (i + 1))) (to Nothing)
+      (omega arith) (omega arith))
 
   -- What was counted under the mark is what has gone, where nobody goes out.
-  count_goes : (s : LockState RwView) (r : ℕ) (t : TreeView) (c i : ℕ) → NoneAt K s 0 → RwGood K n s → slice_get s.views r ≡ Some (rw_view t c (Count i)) → Going s r
+  count_goes : (s : LockState RwView) (r : ℕ) (t : TreeView) (c i : ℕ) → NoneAt K s 0 → RwGood K n s →
+      slice_get s.views r ≡ Some (rw_view t c (Count i)) → Going s r
   count_goes s r t c i none g has =
       let v : RwView = rw_view t c (Count i) in
       let w : ℕ = arrive_word (counters_of K) i in
       let got : ℕ = slice_index s.words w in
       let li : i < groups K = (g.place r v has).2 in
-      let up : mark_by g.inside g.hook i ≡ Up = ap (λ z. mark_by g.inside z i) (sym (g.hooked.all r v has tt)) ∙ ap (λ b. if b then ClearMark else Up) (not_less i) in
+      let up : mark_by g.inside g.hook i ≡ Up = ap (λ z. mark_by g.inside z i) (sym (g.hooked.all r v has tt))
+      ∙ ap (λ b. if b then ClearMark else Up) (not_less i) in
       let bal = (balanced K n s i Up g none li up refl).0 in
       let gone : slice_index s.words (depart_word (counters_of K) i) ≡ got - 2 ^ 32 = omega arith in
       let test : (slice_index s.words (depart_word (counters_of K) i) == got - 2 ^ 32) ≡ true =
@@ -103,17 +107,22 @@ module _ (K : Shared) (n : ℕ) (F : TreeFacts K.rooted n) (d : IsSound K) (S : 
       let us : List ℕ = slice_set s.words w (slice_index s.words w) in
       ⊎_elim
       (λ q. by_far K n F d S s r v (Load w) has refl
-      (subst (λ b. Nearer s.words us v (Compare i a) (if b then (if nat_lt (i + 1) (length (counters_of K).arrive) then to (Count (i + 1)) else to Nothing) else record { doing = Count i; waits = true })) (sym q.0)
-      (choose (Nearer s.words us v (Compare i a)) (nat_lt (i + 1) (length (counters_of K).arrive)) (to (Count (i + 1))) (to Nothing) (omega arith) (omega arith))))
+      (subst (λ b. Nearer s.words us v (Compare i a) (if b then
+      (if nat_lt (i + 1) (length (counters_of K).arrive) then to (Count (i + 1)) else to Nothing) else
+      record { doing = Count i; waits = true })) (sym q.0)
+      (choose (Nearer s.words us v (Compare i a)) (nat_lt (i + 1) (length (counters_of K).arrive)) (to (Count (i + 1))) (to Nothing)
+      (omega arith) (omega arith))))
       (λ q.
       let turn : counter_turn (counters_of K) (Compare i a) got ≡ record { doing = Count i; waits = true } =
-      ap (λ b. if b then (if nat_lt (i + 1) (length (counters_of K).arrive) then to (Count (i + 1)) else to Nothing) else record { doing = Count i; waits = true }) q.0 in
+      ap (λ b. if b then (if nat_lt (i + 1) (length (counters_of K).arrive) then to (Count (i + 1)) else to Nothing) else
+      record { doing = Count i; waits = true }) q.0 in
       let near : near_at K s.words c (Compare i a) t ≡ 3 = ap (λ b. if b then 1 else 3) q.0 in
       by_look K n F d S s r v (rw_view t c (Count i)) w has refl (ap (λ u. (from_counter K v (Compare i a) u.doing u.waits).view) turn) refl (omega (arith, near)))
       (eqb_tells (slice_index s.words w) (a - 2 ^ 32))
 
   -- EACH RANK AT THE MARKS
-  pub marks_go : (s : LockState RwView) (r : ℕ) (t : TreeView) (c : ℕ) (p : Doing) → 0 < K.readers → NoneAt K s 0 → RwGood K n s → slice_get s.views r ≡ Some (rw_view t c p) → IsMark p → Going s r
+  pub marks_go : (s : LockState RwView) (r : ℕ) (t : TreeView) (c : ℕ) (p : Doing) → 0 < K.readers → NoneAt K s 0 → RwGood K n s →
+      slice_get s.views r ≡ Some (rw_view t c p) → IsMark p → Going s r
   marks_go s r t c (Put i) some none g has m = put_goes s r t c i g has
   marks_go s r t c (Count i) some none g has m = count_goes s r t c i none g has
   marks_go s r t c (Compare i a) some none g has m = compare_goes s r t c i a g has

@@ -16,4 +16,5 @@ same_counter x y e = search rules
 pub same_rw : (x y : RwView) → rw.ghosts.eq x y ≡ true → x ≡ y
 same_rw x y e =
     let p = both _ _ e in
-    ap (λ z. record { tree = z; counter = x.counter }) (same_tree x.tree y.tree p.0) ∙ ap (λ z. record { tree = y.tree; counter = z }) (same_counter x.counter y.counter p.1)
+    ap (λ z. record { tree = z; counter = x.counter }) (same_tree x.tree y.tree p.0)
+    ∙ ap (λ z. record { tree = y.tree; counter = z }) (same_counter x.counter y.counter p.1)

@@ -46,11 +46,13 @@ module _ (at : WaySite) (home : ℕ) where
     counted : slice_index (front at words) count_word ≤ places at.site
     counted = let c = g.locked.count in let short = journal_short at.site (front at words) (map as_locked sides) g.locked in omega arith
 
-    inside : (st : SeqStage) → x.work.stage ≡ st → locked_at x.standing w st ≡ record { standing = x.standing; work = w } → slice_get (map as_locked sides) r ≡ Some (record { standing = x.standing; work = w })
+    inside : (st : SeqStage) → x.work.stage ≡ st → locked_at x.standing w st ≡ record { standing = x.standing; work = w } →
+        slice_get (map as_locked sides) r ≡ Some (record { standing = x.standing; work = w })
     inside st e same = locked_there at words sides g r x s.there st e ∙ ap Some same
 
     names_inside : (st : SeqStage) → x.work.stage ≡ st → locked_at x.standing w st ≡ record { standing = x.standing; work = w } → CanName at.site.geom w w.stage
-    names_inside st e same = can_name at.site (front at words) (map as_locked sides) g.locked r (record { standing = x.standing; work = w }) (inside st e same) few
+    names_inside st e same = can_name at.site (front at words) (map as_locked sides) g.locked r (record { standing = x.standing; work = w })
+        (inside st e same) few
 
     pub names : CanNameAt at.site.geom w x.work.stage
     names = subst (CanNameAt at.site.geom w) refl (by_stage x.work.stage refl) where
@@ -58,7 +60,8 @@ module _ (at : WaySite) (home : ℕ) where
       by_stage stage.Locked e = names_inside stage.Locked e refl
       by_stage stage.Look e = tt
       by_stage (stage.Count v) e = tt
-      by_stage (stage.Read v count word) e = wanted_there at.site.geom g.locked.geom_fits w.calls w.seen.pairs word (fit_at at words sides g r x s.there (stage.Read v count word) e).wants
+      by_stage (stage.Read v count word) e = wanted_there at.site.geom g.locked.geom_fits w.calls w.seen.pairs word
+          (fit_at at words sides g r x s.there (stage.Read v count word) e).wants
       by_stage (stage.Again v count) e = tt
       by_stage stage.Decided e = tt
       by_stage (stage.Open v) e =
@@ -72,13 +75,17 @@ module _ (at : WaySite) (home : ℕ) where
     seen_room : (st : SeqStage) → x.work.stage ≡ st → (locked_at x.standing w st).work.seen.room ≡ w.seen.room → w.seen.room ≡ volume_words at.site.geom
     seen_room st e same = sym same ∙ g.locked.seen_rooms r (locked_at x.standing w st) (locked_there at words sides g r x s.there st e)
 
-    turns_inside : (cards : List ℕ) (a : Atom) (st : SeqStage) → x.work.stage ≡ st → locked_at x.standing w st ≡ record { standing = x.standing; work = w } → work_atom at.site.geom w ≡ Some a → CanTurn at.site.geom w (do_got a words cards) w.stage
+    turns_inside : (cards : List ℕ) (a : Atom) (st : SeqStage) → x.work.stage ≡ st →
+        locked_at x.standing w st ≡ record { standing = x.standing; work = w } → work_atom at.site.geom w ≡ Some a →
+        CanTurn at.site.geom w (do_got a words cards) w.stage
     turns_inside cards a st e same planned =
         let there = inside st e same in
         let side : WorkSide = record { standing = x.standing; work = w } in
         let q : IsInFront at words low size a cards =
-        in_front at words low size (home_at (λ z. 0) a) r a cards (plain_atom at.site.geom w w.stage a planned) (atom_can at.site (front at words) (map as_locked sides) g.locked r side there a (λ z. 0) cards planned) in
-        subst (λ n. CanTurn at.site.geom w n w.stage) (sym q.got_is) (can_turn at.site (front at words) (map as_locked sides) g.locked r side there few a cards planned)
+        in_front at words low size (home_at (λ z. 0) a) r a cards (plain_atom at.site.geom w w.stage a planned)
+        (atom_can at.site (front at words) (map as_locked sides) g.locked r side there a (λ z. 0) cards planned) in
+        subst (λ n. CanTurn at.site.geom w n w.stage) (sym q.got_is)
+        (can_turn at.site (front at words) (map as_locked sides) g.locked r side there few a cards planned)
 
     pub turns : (cards : List ℕ) (a : Atom) → seq_stage_atom at w x.work.stage ≡ Some a → CanTurnAt at.site.geom w (do_got a words cards) x.work.stage
     turns cards a planned = by_stage x.work.stage refl planned where
@@ -86,7 +93,8 @@ module _ (at : WaySite) (home : ℕ) where
       by_stage stage.Locked e p = turns_inside cards a stage.Locked e refl p
       by_stage stage.Look e p = tt
       by_stage (stage.Count v) e p =
-          let got : do_got a words cards ≡ slice_index (front at words) count_word = ap (λ b. do_got b words cards) (sym (same_Some _ _ p)) ∙ sym (front_get at words low size count_word (omega arith)) in
+          let got : do_got a words cards ≡ slice_index (front at words) count_word = ap (λ b. do_got b words cards) (sym (same_Some _ _ p))
+          ∙ sym (front_get at words low size count_word (omega arith)) in
           let c = counted in let f = few in omega arith
       by_stage (stage.Read v count word) e p =
           let f = fit_at at words sides g r x s.there (stage.Read v count word) e in
@@ -111,7 +119,11 @@ module _ (at : WaySite) (home : ℕ) where
   pub may_name : (r : ℕ) (x : TheSeqWork) → MayWork (seq_table at home) (SeqGood at) r x → GeomFits at.site.geom × CanNameAt at.site.geom x.work x.stage
   may_name r x m = let g = m.side.is_good in (g.locked.geom_fits, names m.words m.sides r (record { standing = m.standing; work = x }) m.side)
 
-  pub may_turn : (r : ℕ) (x : TheSeqWork) (got : ℕ) → MayTurn (seq_table at home) (SeqGood at) r x got → GeomFits at.site.geom × CanTurnAt at.site.geom x.work got x.stage
+  pub may_turn : (r : ℕ) (x : TheSeqWork) (got : ℕ) → MayTurn (seq_table at home) (SeqGood at) r x got →
+      GeomFits at.site.geom × CanTurnAt at.site.geom x.work got x.stage
   may_turn r x got m =
-      let g = m.works.side.is_good in
-      (g.locked.geom_fits, subst (λ n. CanTurnAt at.site.geom x.work n x.stage) (sym m.gives) (turns m.words m.sides r (record { standing = m.standing; work = x }) m.works.side m.cards m.at m.works.planned))
+      let g = m.works.side.is_good in (
+        g.locked.geom_fits,
+        subst (λ n. CanTurnAt at.site.geom x.work n x.stage) (sym m.gives)
+            (turns m.words m.sides r (record { standing = m.standing; work = x }) m.works.side m.cards m.at m.works.planned),
+      )

@@ -51,10 +51,12 @@ no_store (Volume made) e = absurd (cc)
 
 module _ (site : Site) (r : ℕ) (at_standing : Standing) (w : TheWork) where
   -- where words and version change, a get that has found a version has found one still, and not the new one
-  fits_later : (words vs : List ℕ) (now next : ℕ) → ((version : ℕ) → HasVersion site version now → HasVersion site version next) → ((version : ℕ) → HasVersion site version now → next ≡ version → ⊥) →
+  fits_later : (words vs : List ℕ) (now next : ℕ) → ((version : ℕ) → HasVersion site version now → HasVersion site version next) →
+      ((version : ℕ) → HasVersion site version now → next ≡ version → ⊥) →
       (st : SeqStage) → is_decided st ≡ false → SeqFitsAt site words now r at_standing w st → SeqFitsAt site vs next r at_standing w st
   fits_later words vs now next has not_now st e f = by_stage st e f where
-    reading : (version count : ℕ) (wanted : Option ℕ) → IsReadingOut site words now r at_standing w version count wanted → IsReadingOut site vs next r at_standing w version count wanted
+    reading : (version count : ℕ) (wanted : Option ℕ) → IsReadingOut site words now r at_standing w version count wanted →
+        IsReadingOut site vs next r at_standing w version count wanted
     reading version count wanted f =
         record {
           getting = f.getting;
@@ -76,13 +78,18 @@ module _ (site : Site) (r : ℕ) (at_standing : Standing) (w : TheWork) where
     by_stage (stage.Close version) e f = absurd (cc)
 
   -- while the version is odd, the words change
-  pub fits_odd : (words vs : List ℕ) (now : ℕ) → (now % 2 ≡ 0 → ⊥) → (st : SeqStage) → is_decided st ≡ false → SeqFitsAt site words now r at_standing w st → SeqFitsAt site vs now r at_standing w st
-  fits_odd words vs now odd = fits_later words vs now now (λ version h. h) (λ version h same. odd (let even : version % 2 ≡ 0 = h.even in ap (λ n. n % 2) same ∙ even))
+  pub fits_odd : (words vs : List ℕ) (now : ℕ) → (now % 2 ≡ 0 → ⊥) → (st : SeqStage) → is_decided st ≡ false →
+      SeqFitsAt site words now r at_standing w st → SeqFitsAt site vs now r at_standing w st
+  fits_odd words vs now odd = fits_later words vs now now (λ version h. h)
+      (λ version h same. odd (let even : version % 2 ≡ 0 = h.even in ap (λ n. n % 2) same ∙ even))
 
   -- another rank raises the version
-  pub fits_raised : (words : List ℕ) (now next : ℕ) → now < next → (length site.rooms ≡ 1 → ⊥) → (st : SeqStage) → is_decided st ≡ false → SeqFitsAt site words now r at_standing w st → SeqFitsAt site words next r at_standing w st
+  pub fits_raised : (words : List ℕ) (now next : ℕ) → now < next → (length site.rooms ≡ 1 → ⊥) → (st : SeqStage) → is_decided st ≡ false →
+      SeqFitsAt site words now r at_standing w st → SeqFitsAt site words next r at_standing w st
   fits_raised words now next up others =
-      fits_later words words now next (λ version h. record { even = h.even; past = let low = h.past in omega arith; alone = λ one. absurd (others one) }) (λ version h same. let low = h.past in omega arith)
+      fits_later words words now next
+      (λ version h. record { even = h.even; past = let low = h.past in omega arith; alone = λ one. absurd (others one) })
+      (λ version h same. let low = h.past in omega arith)
 
 -- a side stands in the work inside the lock as it stands, or is about to leave
 standing_back : (x : SeqRank) (st : Standing) → (st ≡ Leaving → ⊥) → (as_locked x).standing ≡ st → x.standing ≡ st
@@ -110,7 +117,8 @@ holds_back x h = by_standing (as_locked x).standing refl h where
 -- so they are apart there too
 pub locked_apart : (sides : List SeqRank) → IsSeqApart sides → IsApart (map as_locked sides)
 locked_apart sides apart = record { excludes = excludes; reads = reads } where
-  excludes : (i j : ℕ) (x y : WorkSide) → slice_get (map as_locked sides) i ≡ Some x → slice_get (map as_locked sides) j ≡ Some y → x.standing ≡ Writer → IsHolder y.standing → i ≡ j
+  excludes : (i j : ℕ) (x y : WorkSide) → slice_get (map as_locked sides) i ≡ Some x → slice_get (map as_locked sides) j ≡ Some y →
+      x.standing ≡ Writer → IsHolder y.standing → i ≡ j
   excludes i j x y a b w h =
       let u = get_map_back as_locked sides i x a in
       let v = get_map_back as_locked sides j y b in
@@ -124,19 +132,23 @@ locked_apart sides apart = record { excludes = excludes; reads = reads } where
 
 module _ (at : WaySite) (words : List ℕ) (sides : List SeqRank) (g : SeqGood at words sides) where
   -- of a rank, by where it stands
-  pub fit_at : (r : ℕ) (x : SeqRank) → slice_get sides r ≡ Some x → (st : SeqStage) → x.work.stage ≡ st → SeqFitsAt at.site (front at words) (version_in at words) r x.standing x.work.work st
+  pub fit_at : (r : ℕ) (x : SeqRank) → slice_get sides r ≡ Some x → (st : SeqStage) → x.work.stage ≡ st →
+      SeqFitsAt at.site (front at words) (version_in at words) r x.standing x.work.work st
   fit_at r x has st e = subst (SeqFitsAt at.site (front at words) (version_in at words) r x.standing x.work.work) e (g.fits r x has)
 
   -- it is there in the work inside the lock
-  pub locked_there : (r : ℕ) (x : SeqRank) → slice_get sides r ≡ Some x → (st : SeqStage) → x.work.stage ≡ st → slice_get (map as_locked sides) r ≡ Some (locked_at x.standing x.work.work st)
+  pub locked_there : (r : ℕ) (x : SeqRank) → slice_get sides r ≡ Some x → (st : SeqStage) → x.work.stage ≡ st →
+      slice_get (map as_locked sides) r ≡ Some (locked_at x.standing x.work.work st)
   locked_there r x has st e = get_map as_locked sides r x has ∙ ap (λ s. Some (locked_at x.standing x.work.work s)) e
 
   -- a block that is decided is a writer's
   pub decided_writes : (r : ℕ) (x : SeqRank) → slice_get sides r ≡ Some x → is_decided x.work.stage ≡ true → x.standing ≡ Writer
   decided_writes r x has d = by_stage x.work.stage refl d where
-    plain : (st : SeqStage) → x.work.stage ≡ st → locked_at x.standing x.work.work st ≡ record { standing = x.standing; work = x.work.work } → stores x.work.work.stage ≡ true → x.standing ≡ Writer
+    plain : (st : SeqStage) → x.work.stage ≡ st → locked_at x.standing x.work.work st ≡ record { standing = x.standing; work = x.work.work }
+        → stores x.work.work.stage ≡ true → x.standing ≡ Writer
     plain st e same writes =
-        stores_alone at.site (front at words) (map as_locked sides) g.locked r (record { standing = x.standing; work = x.work.work }) (locked_there r x has st e ∙ ap Some same) writes
+        stores_alone at.site (front at words) (map as_locked sides) g.locked r (record { standing = x.standing; work = x.work.work })
+        (locked_there r x has st e ∙ ap Some same) writes
 
     by_stage : (st : SeqStage) → x.work.stage ≡ st → is_decided st ≡ true → x.standing ≡ Writer
     by_stage stage.Locked e d = absurd (cc)
@@ -175,7 +187,8 @@ module _ (at : WaySite) (words : List ℕ) (sides : List SeqRank) (g : SeqGood a
       let u = get_map_back as_locked sides r y get in
       ap (λ (z : WorkSide). is_writing z.work.stage) (sym u.2) ∙ by_stage u.0 u.1 u.0.work.stage refl
     where
-      by_stage : (x : SeqRank) → slice_get sides r ≡ Some x → (st : SeqStage) → x.work.stage ≡ st → is_writing (locked_at x.standing x.work.work st).work.stage ≡ false
+      by_stage : (x : SeqRank) → slice_get sides r ≡ Some x → (st : SeqStage) → x.work.stage ≡ st →
+          is_writing (locked_at x.standing x.work.work st).work.stage ≡ false
       by_stage x has stage.Locked e = no_store x.work.work.stage (fit_at r x has stage.Locked e).0
       by_stage x has stage.Look e = refl
       by_stage x has (stage.Count version) e = refl

@@ -49,21 +49,25 @@ module _ (geom : Geom) (shard rank count : ℕ) (calls : List Call) where
   read_outcome (c ∷ rest) y same =
       let d : List Write × Reply = decision geom c (value_or_zero y.seen.pairs) in
       reads_next y same (next_word geom c y.seen.pairs) _
-      (elim (stops_block (length y.calls) d.1) as (λ b. Outcome calls (cond b (block_close shard rank (with_stop y d.1 rest) count) (read_on geom shard rank count rest (with_call y d)))) [
+      (elim (stops_block (length y.calls) d.1) as (λ b. Outcome calls
+      (cond b (block_close shard rank (with_stop y d.1 rest) count) (read_on geom shard rank count rest (with_call y d)))) [
         | true ↦ closes (with_stop y d.1 rest) same (asks_update y.calls)
         | false ↦ read_outcome rest (with_call y d) same
       ])
 
 -- of an atom that loads
-pub load_outcome : (geom : Geom) (shard rank : ℕ) (x : TheWork) (got : ℕ) (st : Stage) → stores st ≡ false → has_work st ≡ true → Outcome x.calls (stage_after geom shard rank x got st)
+pub load_outcome : (geom : Geom) (shard rank : ℕ) (x : TheWork) (got : ℕ) (st : Stage) → stores st ≡ false → has_work st ≡ true →
+    Outcome x.calls (stage_after geom shard rank x got st)
 load_outcome geom shard rank x got Rest e s = absurd (cc)
 load_outcome geom shard rank x got Begin e s = read_outcome geom shard rank got x.calls (left_of x) x refl
-load_outcome geom shard rank x got (Read count word) e s = read_outcome geom shard rank count x.calls (left_of x) (with_seen x (x.seen.pairs ++ (word, got) ∷ [])) refl
+load_outcome geom shard rank x got (Read count word) e s = read_outcome geom shard rank count x.calls (left_of x)
+    (with_seen x (x.seen.pairs ++ (word, got) ∷ [])) refl
 load_outcome geom shard rank x got (Journal made) e s = absurd (cc)
 load_outcome geom shard rank x got (Volume made) e s = absurd (cc)
 
 -- it changes no words
-pub load_changes : (geom : Geom) (x : TheWork) (st : Stage) (a : Atom) (words : List ℕ) → stores st ≡ false → stage_atom geom x st ≡ Some a → do_words a words ≡ words
+pub load_changes : (geom : Geom) (x : TheWork) (st : Stage) (a : Atom) (words : List ℕ) → stores st ≡ false →
+    stage_atom geom x st ≡ Some a → do_words a words ≡ words
 load_changes geom x Rest a words e p = absurd (cc)
 load_changes geom x Begin a words e p = subst (λ b. do_words b words ≡ words) (same_Some _ _ p) refl
 load_changes geom x (Read count word) a words e p = subst (λ b. do_words b words ≡ words) (same_Some _ _ p) refl
@@ -75,7 +79,8 @@ pub record StoreOutcome (x : TheWork) (t : WorkTurned) : Type 0 where
   pub kept : t.over ≡ false → t.work.transcript.items ≡ x.transcript.items
   pub joined : t.over ≡ true → t.work.transcript.items ≡ x.transcript.items ++ t.work.entries
 
-pub store_outcome : (geom : Geom) (shard rank : ℕ) (x : TheWork) (got : ℕ) (st : Stage) → stores st ≡ true → StoreOutcome x (stage_after geom shard rank x got st)
+pub store_outcome : (geom : Geom) (shard rank : ℕ) (x : TheWork) (got : ℕ) (st : Stage) → stores st ≡ true →
+    StoreOutcome x (stage_after geom shard rank x got st)
 store_outcome geom shard rank x got Rest e = absurd (cc)
 store_outcome geom shard rank x got Begin e = absurd (cc)
 store_outcome geom shard rank x got (Read count word) e = absurd (cc)
@@ -101,7 +106,8 @@ pub record IsReadOff (geom : Geom) (shard rank count : ℕ) (x : TheWork) (c : C
   pub transcript_room : t.work.transcript.room ≡ x.transcript.room
   pub items : t.work.transcript.items ≡ x.transcript.items ++ read_entry geom shard rank count x c ∷ []
 
-pub reads_off : (geom : Geom) (shard rank count : ℕ) (x : TheWork) (c : Call) → x.calls ≡ c ∷ [] → x.replies ≡ [] → reads c ≡ true → next_word geom c x.seen.pairs ≡ None → IsReadOff geom shard rank count x c (seen_on geom shard rank x count)
+pub reads_off : (geom : Geom) (shard rank count : ℕ) (x : TheWork) (c : Call) → x.calls ≡ c ∷ [] → x.replies ≡ [] → reads c ≡ true →
+    next_word geom c x.seen.pairs ≡ None → IsReadOff geom shard rank count x c (seen_on geom shard rank x count)
 reads_off geom shard rank count x c calls replies is none =
     subst (λ z. IsReadOff geom shard rank count z c (seen_on geom shard rank z count)) (sym same) (by_call c is none)
   where
@@ -111,11 +117,13 @@ reads_off geom shard rank count x c calls replies is none =
     same : x ≡ record x { calls = c ∷ []; replies = [] }
     same = ap (λ cs. record x { calls = cs; replies = x.replies }) calls ∙ ap (λ rs. record x { calls = c ∷ []; replies = rs }) replies
 
-    over_next : (d : Call) (y : TheWork) (n : Option ℕ) (on : WorkTurned) → n ≡ None → IsReadOff geom shard rank count y d on → IsReadOff geom shard rank count y d (read_next y count n on)
+    over_next : (d : Call) (y : TheWork) (n : Option ℕ) (on : WorkTurned) → n ≡ None → IsReadOff geom shard rank count y d on →
+        IsReadOff geom shard rank count y d (read_next y count n on)
     over_next d y (Some w) on e o = absurd (cc)
     over_next d y None on e o = o
 
-    by_call : (d : Call) → reads d ≡ true → next_word geom d x.seen.pairs ≡ None → let y : TheWork = record x { calls = d ∷ []; replies = [] } in IsReadOff geom shard rank count y d (seen_on geom shard rank y count)
+    by_call : (d : Call) → reads d ≡ true → next_word geom d x.seen.pairs ≡ None →
+        let y : TheWork = record x { calls = d ∷ []; replies = [] } in IsReadOff geom shard rank count y d (seen_on geom shard rank y count)
     by_call (Get key) e f =
         let y : TheWork = record x { calls = Get key ∷ []; replies = [] } in
         over_next (Get key) y (next_word geom (Get key) x.seen.pairs) _ f
@@ -133,19 +141,23 @@ module _ (P : Worked TheSeqWork → Type 0) where
   loaded_each w false true ends decides goes = decides
   loaded_each w false false ends decides goes = goes
 
-  pub stored_each : (version : ℕ) (w : TheWork) (over : Bool) → P (goes_to w (stage.Close version)) → P (goes_to w (stage.Write version)) → P (stored_by version w over)
+  pub stored_each : (version : ℕ) (w : TheWork) (over : Bool) → P (goes_to w (stage.Close version)) → P (goes_to w (stage.Write version)) →
+      P (stored_by version w over)
   stored_each version w true closes goes = closes
   stored_each version w false closes goes = goes
 
-  pub looked_each : (at : WaySite) (w : TheWork) (got : ℕ) (even : Bool) → P (goes_to w (stage.Count got)) → P (waits w (seq_version_word at) got) → P (looked_by at w got even)
+  pub looked_each : (at : WaySite) (w : TheWork) (got : ℕ) (even : Bool) → P (goes_to w (stage.Count got)) →
+      P (waits w (seq_version_word at) got) → P (looked_by at w got even)
   looked_each at w got true finds waits = finds
   looked_each at w got false finds waits = waits
 
-  pub read_each : (w : TheWork) (version count : ℕ) (next : Option ℕ) → ((word : ℕ) → P (goes_to w (stage.Read version count word))) → P (goes_to w (stage.Again version count)) → P (read_by w version count next)
+  pub read_each : (w : TheWork) (version count : ℕ) (next : Option ℕ) → ((word : ℕ) → P (goes_to w (stage.Read version count word))) →
+      P (goes_to w (stage.Again version count)) → P (read_by w version count next)
   read_each w version count (Some word) reads checks = reads word
   read_each w version count None reads checks = checks
 
-  pub checked_each : (at : WaySite) (rank : ℕ) (w : TheWork) (version count got : ℕ) (same : Bool) → P (is_over (seen_on at.site.geom at.site.shard rank w count).work) → P (lost w version got)
+  pub checked_each : (at : WaySite) (rank : ℕ) (w : TheWork) (version count got : ℕ) (same : Bool) →
+      P (is_over (seen_on at.site.geom at.site.shard rank w count).work) → P (lost w version got)
       → P (checked_by at rank w version count got same)
   checked_each at rank w version count got true ends loses = ends
   checked_each at rank w version count got false ends loses = loses

@@ -18,13 +18,16 @@ module _ (site : Site) (words : List ℕ) (sides : List WorkSide) (g : WorkGood 
   fits_done y rests done = subst (FitsAt site words g.journal g.before r y) (sym rests) done
 
   -- the entries stay
-  pub rest_stays : (y : WorkSide) → y.work.stage ≡ Rest → IsDone y.standing → is_writing x.work.stage ≡ false → y.work.seen.room ≡ x.work.seen.room → y.work.transcript ≡ x.work.transcript →
+  pub rest_stays : (y : WorkSide) → y.work.stage ≡ Rest → IsDone y.standing → is_writing x.work.stage ≡ false →
+      y.work.seen.room ≡ x.work.seen.room → y.work.transcript ≡ x.work.transcript →
       WorkGood site words (slice_set sides r y)
   rest_stays y rests done calm room kept = side_stays site words sides g r x has y (λ _. calm) kept room (fits_done y rests done)
 
   -- an entry joins them that looked at the journal as it is, and was answered by its table
-  pub read_joins : (y : WorkSide) (e : Entry) → y.work.stage ≡ Rest → IsDone y.standing → is_writing x.work.stage ≡ false → y.work.seen.room ≡ x.work.seen.room → y.work.transcript.items ≡ x.work.transcript.items ++ e ∷ [] →
-      IsOwn site.shard r e → updates e ≡ false → All (λ d. d.seq < e.seq) x.work.transcript.items → e.at ≡ length g.journal → e.reply ≡ (apply site.geom e.call (table_after site.geom finite.empty g.journal)).1 →
+  pub read_joins : (y : WorkSide) (e : Entry) → y.work.stage ≡ Rest → IsDone y.standing → is_writing x.work.stage ≡ false →
+      y.work.seen.room ≡ x.work.seen.room → y.work.transcript.items ≡ x.work.transcript.items ++ e ∷ [] →
+      IsOwn site.shard r e → updates e ≡ false → All (λ d. d.seq < e.seq) x.work.transcript.items → e.at ≡ length g.journal → e.reply ≡
+      (apply site.geom e.call (table_after site.geom finite.empty g.journal)).1 →
       WorkGood site words (slice_set sides r y)
   read_joins y e rests done calm room items own is fresh at reply =
       entry_joins site words sides g r x has y e calm room items own is fresh at reply (fits_done y rests done)

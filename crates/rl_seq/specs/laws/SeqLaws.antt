@@ -25,7 +25,9 @@ seq_laws at home =
       closed = λ words sides r x s closed. (refl, state.all_ended at home words sides r x s closed);
       keeps = λ words sides r x s. ([], sym (append-nil _));
       shifts = λ words sides r x standing events s shift. state.shifts at home words sides r x s standing events shift;
-      makes = λ words cards sides r x a m. let laid = m.side.laid in makes_at at words laid.low laid.all sides m.side.is_good r x m.side.there (step.apart_of at home sides m.apart) m.rests a cards m.planned;
+      makes = λ words cards sides r x a m. let laid = m.side.laid in
+          makes_at at words laid.low laid.all sides m.side.is_good r x m.side.there
+          (step.apart_of at home sides m.apart) m.rests a cards m.planned;
       plain = λ words sides r x a m. let laid = m.side.laid in plain_at at words laid.low laid.all sides m.side.is_good r x m.side.there home a m.planned;
       goes_on = λ words sides r x s. step.goes_on at home words sides r x s;
       follows = λ words cards sides r x a m. step.follows_at at home r x.standing x.work.work (do_got a words cards) x.work.stage;

@@ -97,7 +97,8 @@ reads_is_get (call.Hold shard) e = absurd (cc)
 
 -- the entries before the last ones
 last_off : (xs ys : List Entry) → before_last (xs ++ ys) (length ys) ≡ xs
-last_off xs ys = let same : length (xs ++ ys) - length ys ≡ length xs = omega (arith, length-append xs ys) in ap (λ n. take n (xs ++ ys)) same ∙ take_at xs ys (length xs) refl
+last_off xs ys = let same : length (xs ++ ys) - length ys ≡ length xs = omega (arith, length-append xs ys) in
+    ap (λ n. take n (xs ++ ys)) same ∙ take_at xs ys (length xs) refl
 
 -- how a work looks whose calls, numbers and entries these are
 abbrev looks_so : TheWork → Bool → Look
@@ -220,7 +221,9 @@ module _ (at : WaySite) (home : ℕ) where
       by_stage : (st : SeqStage) → x.work.stage ≡ st → seq_stage_atom at work st ≡ Some a → TouchesAs (seq_touch_at work st) x.standing
       by_stage stage.Locked e p =
           let none : stores work.stage ≡ false = (fit_at at words sides rule r x m.side.there stage.Locked e).0 in
-          subst (λ b. TouchesAs (Some b) x.standing) (sym none) (loads_holding at words (let laid = m.side.laid in laid.low) (let laid = m.side.laid in laid.all) sides rule r x m.side.there m.rests e a p)
+          subst (λ b. TouchesAs (Some b) x.standing) (sym none)
+          (loads_holding at words (let laid = m.side.laid in laid.low)
+          (let laid = m.side.laid in laid.all) sides rule r x m.side.there m.rests e a p)
       by_stage stage.Look e p = tt
       by_stage (stage.Count v) e p = tt
       by_stage (stage.Read v count word) e p = tt
@@ -253,7 +256,8 @@ module _ (at : WaySite) (home : ℕ) where
       behind_store : (v : ℕ) → Store at.behind v ≡ a → TellsTouch (lock_base at.site) a x.standing work.calls None
       behind_store v p = subst (λ z. TellsTouch (lock_base at.site) z x.standing work.calls None) p (λ under. absurd (omega arith))
 
-      by_stage : (st : SeqStage) → x.work.stage ≡ st → seq_stage_atom at work st ≡ Some a → TellsTouch (lock_base at.site) a x.standing work.calls (seq_touch_at work st)
+      by_stage : (st : SeqStage) → x.work.stage ≡ st → seq_stage_atom at work st ≡ Some a →
+          TellsTouch (lock_base at.site) a x.standing work.calls (seq_touch_at work st)
       by_stage stage.Locked e p = work_tells at.site.geom work (lock_base at.site) x.standing work.calls work.stage a p
       by_stage stage.Look e p = behind_load (same_Some _ _ p)
       by_stage (stage.Count v) e p = by_get _ (fit_at at words sides rule r x m.side.there (stage.Count v) e).0 (same_Some _ _ p)
@@ -274,43 +278,58 @@ module _ (at : WaySite) (home : ℕ) where
           let same : i ≡ r = omega arith in
           one_at sides r u x (subst (λ z. slice_get sides z ≡ Some u) same get) m.side.there
 
-      by_stage : (st : SeqStage) → x.work.stage ≡ st → seq_stage_atom at work st ≡ Some a → (seq_stage_after at r work (do_got a words cards) st).stepped ≡ Moved
+      by_stage : (st : SeqStage) → x.work.stage ≡ st → seq_stage_atom at work st ≡ Some a →
+          (seq_stage_after at r work (do_got a words cards) st).stepped ≡ Moved
       by_stage stage.Locked e p = loaded_each IsMoved turned.work turned.over (stores turned.work.stage) refl refl refl
       by_stage stage.Look e p =
           let quiet : IsQuiet sides = λ i u get. ap (λ (z : SeqRank). is_between z.work.stage) (only i u get) ∙ ap is_between e in
           let even : version_in at words % 2 ≡ 0 = (rule.quiet quiet).even in
           let hit : (version_in at words % 2 == 0) ≡ true = grind (arith, nat_tests) in
-          subst (λ b. (looked_on at work (do_got b words cards)).stepped ≡ Moved) (same_Some _ _ p) (ap (λ b. (looked_by at work (version_in at words) b).stepped) hit)
+          subst (λ b. (looked_on at work (do_got b words cards)).stepped ≡ Moved) (same_Some _ _ p)
+          (ap (λ b. (looked_by at work (version_in at words) b).stepped) hit)
       by_stage (stage.Count v) e p = read_each IsMoved work v (do_got a words cards) (wanted at.site.geom work) (λ next. refl) refl
-      by_stage (stage.Read v count word) e p = let y : TheWork = with_word work word (do_got a words cards) in read_each IsMoved y v count (wanted at.site.geom y) (λ next. refl) refl
+      by_stage (stage.Read v count word) e p = let y : TheWork = with_word work word (do_got a words cards) in
+          read_each IsMoved y v count (wanted at.site.geom y) (λ next. refl) refl
       by_stage (stage.Again v count) e p =
           let f = fit_at at words sides rule r x m.side.there (stage.Again v count) e in
           let rooms : length at.site.rooms ≡ 1 = sym rule.locked.ranks ∙ length-map sides as_locked ∙ one in
           let same : version_in at words ≡ v = f.has.alone rooms in
           let hit : (version_in at words == v) ≡ true = grind (arith, nat_tests) in
-          subst (λ b. (checked_on at r work v count (do_got b words cards)).stepped ≡ Moved) (same_Some _ _ p) (ap (λ b. (checked_by at r work v count (version_in at words) b).stepped) hit)
+          subst (λ b. (checked_on at r work v count (do_got b words cards)).stepped ≡ Moved) (same_Some _ _ p)
+          (ap (λ b. (checked_by at r work v count (version_in at words) b).stepped) hit)
       by_stage stage.Decided e p = refl
       by_stage (stage.Open v) e p = refl
       by_stage (stage.Write v) e p = stored_each IsMoved v turned.work turned.over refl refl
       by_stage (stage.Close v) e p = refl
 
     -- what an atom inside the lock leaves
-    inside_ends : (st : SeqStage) → x.work.stage ≡ st → locked_at x.standing work st ≡ record { standing = x.standing; work = work } → Ends at.site.shard r work turned
+    inside_ends : (st : SeqStage) → x.work.stage ≡ st → locked_at x.standing work st ≡ record { standing = x.standing; work = work } →
+        Ends at.site.shard r work turned
     inside_ends st e same =
         let side : WorkSide = record { standing = x.standing; work = work } in
         let there : slice_get (map as_locked sides) r ≡ Some side = locked_there at words sides rule r x m.side.there st e ∙ ap Some same in
-        turn_ends at.site.geom at.site.shard r work work.stage (do_got a words cards) (few_replies at.site (front at words) (map as_locked sides) rule.locked r side there)
+        turn_ends at.site.geom at.site.shard r work work.stage (do_got a words cards)
+        (few_replies at.site (front at words) (map as_locked sides) rule.locked r side there)
         (λ made s. entry_calls at.site (front at words) (map as_locked sides) rule.locked r side there made s)
 
     -- the block goes on, or its entries join
     abbrev Changes : SeqStage → TheSeqWork → Type 0
     Changes st y = AtomWork at.site.shard r (looks_so work (is_open_at work st && owes_at work st)) (seen y)
 
-    goes : (y : TheSeqWork) (b : Bool) → y.work.calls ≡ work.calls → y.work.seq ≡ work.seq → y.work.transcript ≡ work.transcript → (seq_is_open y && seq_owes y) ≡ b → AtomWork at.site.shard r (looks_so work b) (seen y)
+    goes : (y : TheSeqWork) (b : Bool) → y.work.calls ≡ work.calls → y.work.seq ≡ work.seq → y.work.transcript ≡ work.transcript →
+        (seq_is_open y && seq_owes y) ≡ b → AtomWork at.site.shard r (looks_so work b) (seen y)
     goes y b calls seq kept same =
-        inl (record { same_calls = calls; same_seq = seq; same_items = ap (λ (z : TheTranscript). z.items) kept; same_room = ap (λ (z : TheTranscript). z.room) kept; owes = same })
+        inl (record {
+          same_calls = calls;
+          same_seq = seq;
+          same_items = ap (λ (z : TheTranscript). z.items) kept;
+          same_room =
+              ap (λ (z : TheTranscript). z.room) kept;
+          owes = same;
+        })
 
-    joins : (y : TheSeqWork) → Ends at.site.shard r work turned → y.work ≡ turned.work → (seq_is_open y && seq_owes y) ≡ false → turned.over ≡ true → AtomWork at.site.shard r (looks_so work true) (seen y)
+    joins : (y : TheSeqWork) → Ends at.site.shard r work turned → y.work ≡ turned.work → (seq_is_open y && seq_owes y) ≡ false →
+        turned.over ≡ true → AtomWork at.site.shard r (looks_so work true) (seen y)
     joins y ended same over is =
         let k : EndsBy at.site.shard r work turned.work true = subst (EndsBy at.site.shard r work turned.work) is ended.kept in
         inr (record {
@@ -323,7 +342,8 @@ module _ (at : WaySite) (home : ℕ) where
           tells = k.3;
         })
 
-    goes_inside : (y : TheSeqWork) → Ends at.site.shard r work turned → y.work ≡ turned.work → (seq_is_open y && seq_owes y) ≡ true → turned.over ≡ false → AtomWork at.site.shard r (looks_so work true) (seen y)
+    goes_inside : (y : TheSeqWork) → Ends at.site.shard r work turned → y.work ≡ turned.work → (seq_is_open y && seq_owes y) ≡ true →
+        turned.over ≡ false → AtomWork at.site.shard r (looks_so work true) (seen y)
     goes_inside y ended same on is =
         inl (record {
           same_calls = ap (λ (z : TheWork). z.calls) same ∙ ended.same_calls;
@@ -334,7 +354,9 @@ module _ (at : WaySite) (home : ℕ) where
         })
 
     -- a get that has read all that it needs
-    read_off : (v count : ℕ) → x.work.stage ≡ stage.Again v count → (c : Call) × (work.calls ≡ c ∷ []) × IsReadOff at.site.geom at.site.shard r count work c (seen_on at.site.geom at.site.shard r work count) × (reads c ≡ true)
+    read_off : (v count : ℕ) → x.work.stage ≡ stage.Again v count →
+        (c : Call) × (work.calls ≡ c ∷ []) × IsReadOff at.site.geom at.site.shard r count work c
+        (seen_on at.site.geom at.site.shard r work count) × (reads c ≡ true)
     read_off v count e =
         let f = fit_at at words sides rule r x m.side.there (stage.Again v count) e in
         let q : IsGetting at.site r x.standing work = f.getting in
@@ -345,13 +367,16 @@ module _ (at : WaySite) (home : ℕ) where
 
     pub own_work : AtomWork at.site.shard r (seen x.work) (seen (seq_after at r x.work (do_got a words cards)).work)
     own_work = by_stage x.work.stage refl m.planned where
-      by_stage : (st : SeqStage) → x.work.stage ≡ st → seq_stage_atom at work st ≡ Some a → Changes st (seq_stage_after at r work (do_got a words cards) st).work
+      by_stage : (st : SeqStage) → x.work.stage ≡ st → seq_stage_atom at work st ≡ Some a →
+          Changes st (seq_stage_after at r work (do_got a words cards) st).work
       by_stage stage.Locked e p =
           let on : has_work work.stage ≡ true = works_on at work work.stage a p in
           let ended : Ends at.site.shard r work turned = inside_ends stage.Locked e refl in
-          let o : Outcome work.calls turned = load_outcome at.site.geom at.site.shard r work (do_got a words cards) work.stage (fit_at at words sides rule r x m.side.there stage.Locked e).0 on in
+          let o : Outcome work.calls turned = load_outcome at.site.geom at.site.shard r work (do_got a words cards) work.stage
+          (fit_at at words sides rule r x m.side.there stage.Locked e).0 on in
           subst (λ b. AtomWork at.site.shard r (looks_so work (b && b)) (seen (loaded_by turned.work turned.over (stores turned.work.stage)).work)) (sym on)
-          (elim turned.over as (λ b. turned.over ≡ b → AtomWork at.site.shard r (looks_so work true) (seen (loaded_by turned.work b (stores turned.work.stage)).work)) [
+          (elim turned.over as (λ b. turned.over ≡ b → AtomWork at.site.shard r (looks_so work true)
+          (seen (loaded_by turned.work b (stores turned.work.stage)).work)) [
             | true ↦ λ over. joins (seq_at_stage turned.work stage.Locked) ended refl (ap (λ st. has_work st && has_work st) (o.rests over)) over
             | false ↦ λ over.
                 elim (stores turned.work.stage) as (λ b. AtomWork at.site.shard r (looks_so work true) (seen (loaded_by turned.work false b).work)) [
@@ -360,14 +385,18 @@ module _ (at : WaySite) (home : ℕ) where
                 ]
           ] refl)
       by_stage stage.Look e p =
-          looked_each (λ t. Changes stage.Look t.work) at work (do_got a words cards) _ (goes (seq_at_stage work (stage.Count (do_got a words cards))) true refl refl refl refl) (goes (seq_at_stage work stage.Look) true refl refl refl refl)
+          looked_each (λ t. Changes stage.Look t.work) at work (do_got a words cards) _
+          (goes (seq_at_stage work (stage.Count (do_got a words cards))) true refl refl refl refl)
+          (goes (seq_at_stage work stage.Look) true refl refl refl refl)
       by_stage (stage.Count v) e p =
           read_each (λ t. Changes (stage.Count v) t.work) work v (do_got a words cards) _
           (λ next. goes (seq_at_stage work (stage.Read v (do_got a words cards) next)) true refl refl refl refl)
           (goes (seq_at_stage work (stage.Again v (do_got a words cards))) true refl refl refl refl)
       by_stage (stage.Read v count word) e p =
           let y : TheWork = with_word work word (do_got a words cards) in
-          read_each (λ t. Changes (stage.Read v count word) t.work) y v count _ (λ next. goes (seq_at_stage y (stage.Read v count next)) true refl refl refl refl) (goes (seq_at_stage y (stage.Again v count)) true refl refl refl refl)
+          read_each (λ t. Changes (stage.Read v count word) t.work) y v count _
+          (λ next. goes (seq_at_stage y (stage.Read v count next)) true refl refl refl refl)
+          (goes (seq_at_stage y (stage.Again v count)) true refl refl refl refl)
       by_stage (stage.Again v count) e p =
           elim (do_got a words cards == v) as (λ b. Changes (stage.Again v count) (checked_by at r work v count (do_got a words cards) b).work) [
             | true ↦
@@ -396,7 +425,9 @@ module _ (at : WaySite) (home : ℕ) where
           let rests : work.stage ≡ Rest = (fit_at at words sides rule r x m.side.there (stage.Close v) e).0 in
           goes (seq_at_stage work stage.Locked) false refl refl refl (ap (λ st. has_work st && has_work st) rests)
 
-    pub changes : (k : ℕ) (u y : SeqRank) → slice_get sides k ≡ Some u → slice_get (slice_set sides r (side_after T r x (do_got a words cards))) k ≡ Some y → AtomWork at.site.shard k (seen u.work) (seen y.work)
+    pub changes : (k : ℕ) (u y : SeqRank) → slice_get sides k ≡ Some u →
+        slice_get (slice_set sides r (side_after T r x (do_got a words cards))) k ≡ Some y →
+        AtomWork at.site.shard k (seen u.work) (seen y.work)
     changes k u y was is =
         ⊎_elim
         (λ q.
@@ -406,7 +437,8 @@ module _ (at : WaySite) (home : ℕ) where
         (subst (λ (z : SeqRank). AtomWork at.site.shard r (seen x.work) (seen z.work)) (sym q.1) own_work)))
         (λ q.
         let same : u ≡ y = one_at sides k u y was q.1 in
-        subst (λ (z : SeqRank). AtomWork at.site.shard k (seen u.work) (seen z.work)) same (inl (record { same_calls = refl; same_seq = refl; same_items = refl; same_room = refl; owes = refl })))
+        subst (λ (z : SeqRank). AtomWork at.site.shard k (seen u.work) (seen z.work)) same
+        (inl (record { same_calls = refl; same_seq = refl; same_items = refl; same_room = refl; owes = refl })))
         (get_set_cases sides r k (side_after T r x (do_got a words cards)) y is)
 
     -- the blocks that are over are one tenure more where a writer's is over
@@ -430,10 +462,14 @@ module _ (at : WaySite) (home : ℕ) where
           elim turned.over as (λ b. turned.over ≡ b → Counts stage.Locked (loaded_by turned.work b (stores turned.work.stage))) [
             | true ↦ λ over.
                 let k : EndsBy at.site.shard r work turned.work true = subst (EndsBy at.site.shard r work turned.work) over ended.kept in
-                let holds : IsHolder x.standing = loads_holding at words (let laid = m.side.laid in laid.low) (let laid = m.side.laid in laid.all) sides rule r x m.side.there m.rests e a p in
-                let asked : 1 ≤ length work.calls = holder_asks at.site (front at words) (map as_locked sides) rule.locked r (record { standing = x.standing; work = work }) (locked_there at words sides rule r x m.side.there stage.Locked e) holds in
+                let holds : IsHolder x.standing = loads_holding at words (let laid = m.side.laid in laid.low) (let laid = m.side.laid in
+                laid.all) sides rule r x m.side.there m.rests e a p in
+                let asked : 1 ≤ length work.calls = holder_asks at.site (front at words) (map as_locked sides) rule.locked r
+                (record { standing = x.standing; work = work })
+                (locked_there at words sides rule r x m.side.there stage.Locked e) holds in
                 let some : 1 ≤ length k.0 = omega (arith, length-map k.0 (λ (z : Entry). z.call), ap length k.2) in
-                let other : first_reads (calls_of k.0) ≡ false = ap first_reads k.2 ∙ (fit_at at words sides rule r x m.side.there stage.Locked e).1 (works_on at work work.stage a p) in
+                let other : first_reads (calls_of k.0) ≡ false = ap first_reads k.2
+                ∙ (fit_at at words sides rule r x m.side.there stage.Locked e).1 (works_on at work work.stage a p) in
                 let one : count_by (is_tenure true) k.0 ≡ 1 = one_tenure k.0 some (tells_rise _ _ _ _ 0 k.0 k.3) other in
                 let writer : tenure_by x.standing ≡ 1 = as_writer (holds_writing shares x.standing suits holds) in
                 ap (count_by (is_tenure true)) k.1 ∙ count-append (is_tenure true) work.transcript.items k.0 ∙ omega arith
@@ -445,7 +481,8 @@ module _ (at : WaySite) (home : ℕ) where
           ] refl
       by_stage stage.Look e p = looked_each (Counts stage.Look) at work (do_got a words cards) _ (none_more) (none_more)
       by_stage (stage.Count v) e p = read_each (Counts (stage.Count v)) work v (do_got a words cards) _ (λ next. none_more) (none_more)
-      by_stage (stage.Read v count word) e p = read_each (Counts (stage.Read v count word)) (with_word work word (do_got a words cards)) v count _ (λ next. none_more) (none_more)
+      by_stage (stage.Read v count word) e p = read_each (Counts (stage.Read v count word)) (with_word work word (do_got a words cards)) v
+          count _ (λ next. none_more) (none_more)
       by_stage (stage.Again v count) e p =
           elim (do_got a words cards == v) as (λ b. Counts (stage.Again v count) (checked_by at r work v count (do_got a words cards) b)) [
             | true ↦
@@ -455,13 +492,15 @@ module _ (at : WaySite) (home : ℕ) where
                 let none : is_tenure true entry ≡ false = ap not q.3 in
                 let zero_is : ◌≡◌ {A = ℕ} (cond (is_tenure true entry) 1 0) 0 = ap (λ b. cond {A = ℕ} b 1 0) none in
                 let out : tenure_by x.standing ≡ 0 = ap tenure_by (fit_at at words sides rule r x m.side.there (stage.Again v count) e).getting.out in
-                ap (count_by (is_tenure true)) off.items ∙ count-append (is_tenure true) work.transcript.items (entry ∷ []) ∙ omega (arith, count-cons (is_tenure true) entry []))
+                ap (count_by (is_tenure true)) off.items ∙ count-append (is_tenure true) work.transcript.items (entry ∷ [])
+                ∙ omega (arith, count-cons (is_tenure true) entry []))
             | false ↦ none_more
           ]
       by_stage stage.Decided e p = none_more
       by_stage (stage.Open v) e p = none_more
       by_stage (stage.Write v) e p =
-          let o : StoreOutcome work turned = store_outcome at.site.geom at.site.shard r work (do_got a words cards) work.stage (fit_at at words sides rule r x m.side.there (stage.Write v) e).0 in
+          let o : StoreOutcome work turned = store_outcome at.site.geom at.site.shard r work (do_got a words cards) work.stage
+          (fit_at at words sides rule r x m.side.there (stage.Write v) e).0 in
           elim turned.over as (λ b. turned.over ≡ b → Counts (stage.Write v) (stored_by v turned.work b)) [
             | true ↦ λ over.
                 same_count (before_last turned.work.transcript.items (length turned.work.entries)) work.transcript.items
@@ -471,9 +510,13 @@ module _ (at : WaySite) (home : ℕ) where
       by_stage (stage.Close v) e p =
           let f = fit_at at words sides rule r x m.side.there (stage.Close v) e in
           let j : HasJoined work = f.4 in
-          let before : before_last work.transcript.items (length work.entries) ≡ j.earlier = ap (λ z. before_last z (length work.entries)) j.items ∙ last_off j.earlier work.entries in
-          let some : 1 ≤ length work.entries = omega (arith, length-map work.entries (λ (z : Entry). z.call), ap length j.calls_are, some_update work.calls j.update) in
-          let one : count_by (is_tenure true) work.entries ≡ 1 = one_tenure work.entries some j.parts (ap first_reads j.calls_are ∙ update_no_get work.calls j.update) in
+          let before : before_last work.transcript.items (length work.entries) ≡ j.earlier =
+          ap (λ z. before_last z (length work.entries)) j.items ∙ last_off j.earlier work.entries in
+          let some : 1 ≤ length work.entries =
+          omega (arith, length-map work.entries (λ (z : Entry). z.call), ap length j.calls_are, some_update work.calls j.update) in
+          let one : count_by (is_tenure true) work.entries ≡ 1 =
+          one_tenure work.entries some j.parts (ap first_reads j.calls_are ∙ update_no_get work.calls j.update) in
           let writer : tenure_by x.standing ≡ 1 = as_writer f.1 in
-          let was : count_by (is_tenure true) (before_last work.transcript.items (length work.entries)) ≡ count_by (is_tenure true) j.earlier = ap (count_by (is_tenure true)) before in
+          let was : count_by (is_tenure true) (before_last work.transcript.items (length work.entries)) ≡ count_by
+          (is_tenure true) j.earlier = ap (count_by (is_tenure true)) before in
           ap (count_by (is_tenure true)) j.items ∙ count-append (is_tenure true) j.earlier work.entries ∙ omega arith

@@ -51,7 +51,8 @@ decided_between (stage.Write v) e = refl
 decided_between (stage.Close v) e = refl
 
 -- a get that has loaded what it wanted, word after word, has loaded few
-few_pairs : (geom : Geom) (cs : List Call) (pairs : List (ℕ × ℕ)) → IsAsked cs → first_reads cs ≡ true → AreWanted geom cs pairs → length pairs ≤ 3 + 2 * geom.overflow
+few_pairs : (geom : Geom) (cs : List Call) (pairs : List (ℕ × ℕ)) → IsAsked cs → first_reads cs ≡ true → AreWanted geom cs pairs →
+    length pairs ≤ 3 + 2 * geom.overflow
 few_pairs geom cs pairs asked get wanted = by_length (length pairs) refl where
   a : (c : Call) × (cs ≡ c ∷ []) × (reads c ≡ true)
   a = get_alone cs asked get
@@ -73,8 +74,10 @@ few_pairs geom cs pairs asked get wanted = by_length (length pairs) refl where
       let before : List (ℕ × ℕ) = take m pairs in
       let long : length before ≡ m = length-take-le m pairs (omega arith) in
       let before_named : AreNamed geom a.0 before = λ i h.
-      ap (next_word geom a.0) (take-take i m pairs (omega arith)) ∙ named i (omega arith) ∙ ap (λ (p : ℕ × ℕ). Some p.0) (sym (get_or-take m pairs i (0, 0) (omega arith))) in
-      let less : length before < most_reads geom a.0 = subst (λ o. IfSome o (λ word. length before < most_reads geom a.0)) (named m (omega arith)) (few_read geom a.0 before before_named) in
+      ap (next_word geom a.0) (take-take i m pairs (omega arith)) ∙ named i (omega arith) ∙ ap (λ (p : ℕ × ℕ). Some p.0)
+      (sym (get_or-take m pairs i (0, 0) (omega arith))) in
+      let less : length before < most_reads geom a.0 = subst (λ o. IfSome o (λ word. length before < most_reads geom a.0))
+      (named m (omega arith)) (few_read geom a.0 before before_named) in
       let top = most a.0 a.2 in
       omega arith
 
@@ -89,9 +92,12 @@ module _ (at : WaySite) (words : List ℕ) (sides : List SeqRank) (g : SeqGood a
     has_version : (st : SeqStage) → x.work.stage ≡ st → (v : ℕ) → found_version st ≡ Some v → HasVersion at.site v (version_in at words)
     has_version stage.Locked e v f = absurd (cc)
     has_version stage.Look e v f = absurd (cc)
-    has_version (stage.Count u) e v f = subst (λ n. HasVersion at.site n (version_in at words)) (same_Some _ _ f) (fit_at at words sides g r x has (stage.Count u) e).1
-    has_version (stage.Read u count word) e v f = subst (λ n. HasVersion at.site n (version_in at words)) (same_Some _ _ f) (fit_at at words sides g r x has (stage.Read u count word) e).has
-    has_version (stage.Again u count) e v f = subst (λ n. HasVersion at.site n (version_in at words)) (same_Some _ _ f) (fit_at at words sides g r x has (stage.Again u count) e).has
+    has_version (stage.Count u) e v f = subst (λ n. HasVersion at.site n (version_in at words)) (same_Some _ _ f)
+        (fit_at at words sides g r x has (stage.Count u) e).1
+    has_version (stage.Read u count word) e v f = subst (λ n. HasVersion at.site n (version_in at words)) (same_Some _ _ f)
+        (fit_at at words sides g r x has (stage.Read u count word) e).has
+    has_version (stage.Again u count) e v f = subst (λ n. HasVersion at.site n (version_in at words)) (same_Some _ _ f)
+        (fit_at at words sides g r x has (stage.Again u count) e).has
     has_version stage.Decided e v f = absurd (cc)
     has_version (stage.Open u) e v f = absurd (cc)
     has_version (stage.Write u) e v f = absurd (cc)
@@ -101,7 +107,8 @@ module _ (at : WaySite) (words : List ℕ) (sides : List SeqRank) (g : SeqGood a
     no_lower v f = let h = has_version x.work.stage refl v f in (h.even, h.past)
 
     words_still : (st : SeqStage) → x.work.stage ≡ st → found_version st ≡ Some (version_in at words)
-        → AgreesWith x.work.work.seen.pairs (volume_of at.site.geom (front at words)) × ((count : ℕ) → found_count st ≡ Some count → slice_index (front at words) count_word ≡ count)
+        → AgreesWith x.work.work.seen.pairs (volume_of at.site.geom (front at words)) ×
+        ((count : ℕ) → found_count st ≡ Some count → slice_index (front at words) count_word ≡ count)
     words_still stage.Locked e f = absurd (cc)
     words_still stage.Look e f = absurd (cc)
     words_still (stage.Count u) e f =
@@ -121,25 +128,29 @@ module _ (at : WaySite) (words : List ℕ) (sides : List SeqRank) (g : SeqGood a
     words_still (stage.Close u) e f = absurd (cc)
 
     pub stands_still : found_version x.work.stage ≡ Some (version_in at words)
-        → IsQuiet sides × AgreesWith x.work.work.seen.pairs (volume_of at.site.geom (front at words)) × ((count : ℕ) → found_count x.work.stage ≡ Some count → slice_index (front at words) count_word ≡ count)
+        → IsQuiet sides × AgreesWith x.work.work.seen.pairs (volume_of at.site.geom (front at words)) ×
+        ((count : ℕ) → found_count x.work.stage ≡ Some count → slice_index (front at words) count_word ≡ count)
     stands_still f =
         let s = words_still x.work.stage refl f in
         (even_quiet at words sides g (has_version x.work.stage refl (version_in at words) f).even, s.0, s.1)
 
     pub gets_load : is_getting x.work.stage ≡ true → (w : ℕ) × (seq_atom at x.work ≡ Some (atom.Load w)) × ((w ≡ seq_version_word at) ⊎ (w < lock_base at.site))
-    gets_load b = subst (λ st. (w : ℕ) × (seq_stage_atom at x.work.work st ≡ Some (atom.Load w)) × ((w ≡ seq_version_word at) ⊎ (w < lock_base at.site))) refl (by_stage x.work.stage refl b) where
-      by_stage : (st : SeqStage) → x.work.stage ≡ st → is_getting st ≡ true → (w : ℕ) × (seq_stage_atom at x.work.work st ≡ Some (atom.Load w)) × ((w ≡ seq_version_word at) ⊎ (w < lock_base at.site))
-      by_stage stage.Locked e d = absurd (cc)
-      by_stage stage.Look e d = (seq_version_word at, refl, inl refl)
-      by_stage (stage.Count v) e d = (count_word, refl, inr (omega arith))
-      by_stage (stage.Read v count word) e d =
-          let there = wanted_there at.site.geom g.locked.geom_fits x.work.work.calls x.work.work.seen.pairs word (fit_at at words sides g r x has (stage.Read v count word) e).wants in
-          (volume_base + word, refl, inr (omega arith))
-      by_stage (stage.Again v count) e d = (seq_version_word at, refl, inl refl)
-      by_stage stage.Decided e d = absurd (cc)
-      by_stage (stage.Open v) e d = absurd (cc)
-      by_stage (stage.Write v) e d = absurd (cc)
-      by_stage (stage.Close v) e d = absurd (cc)
+    gets_load b = subst (λ st. (w : ℕ) × (seq_stage_atom at x.work.work st ≡ Some (atom.Load w)) ×
+        ((w ≡ seq_version_word at) ⊎ (w < lock_base at.site))) refl (by_stage x.work.stage refl b) where
+          by_stage : (st : SeqStage) → x.work.stage ≡ st → is_getting st ≡ true →
+              (w : ℕ) × (seq_stage_atom at x.work.work st ≡ Some (atom.Load w)) × ((w ≡ seq_version_word at) ⊎ (w < lock_base at.site))
+          by_stage stage.Locked e d = absurd (cc)
+          by_stage stage.Look e d = (seq_version_word at, refl, inl refl)
+          by_stage (stage.Count v) e d = (count_word, refl, inr (omega arith))
+          by_stage (stage.Read v count word) e d =
+              let there = wanted_there at.site.geom g.locked.geom_fits x.work.work.calls x.work.work.seen.pairs word
+              (fit_at at words sides g r x has (stage.Read v count word) e).wants in
+              (volume_base + word, refl, inr (omega arith))
+          by_stage (stage.Again v count) e d = (seq_version_word at, refl, inl refl)
+          by_stage stage.Decided e d = absurd (cc)
+          by_stage (stage.Open v) e d = absurd (cc)
+          by_stage (stage.Write v) e d = absurd (cc)
+          by_stage (stage.Close v) e d = absurd (cc)
 
     pub reads_few : is_getting x.work.stage ≡ true → length x.work.work.seen.pairs ≤ 3 + 2 * at.site.geom.overflow
     reads_few b = by_stage x.work.stage refl b where
@@ -161,7 +172,8 @@ module _ (at : WaySite) (words : List ℕ) (sides : List SeqRank) (g : SeqGood a
       by_stage (stage.Write v) e d = absurd (cc)
       by_stage (stage.Close v) e d = absurd (cc)
 
-pub never_lowers : (at : WaySite) (home : ℕ) (words : List ℕ) (sides : List SeqRank) (r : ℕ) (x : SeqRank) (a : Atom) → Works (seq_table at home) (SeqGood at) words sides r x a → version_in at words ≤ version_in at (do_words a words)
+pub never_lowers : (at : WaySite) (home : ℕ) (words : List ℕ) (sides : List SeqRank) (r : ℕ) (x : SeqRank) (a : Atom) →
+    Works (seq_table at home) (SeqGood at) words sides r x a → version_in at words ≤ version_in at (do_words a words)
 never_lowers at home words sides r x a m = by_stage x.work.stage refl m.planned where
   g : SeqGood at words sides
   g = m.side.is_good
@@ -175,12 +187,14 @@ never_lowers at home words sides r x a m = by_stage x.work.stage refl m.planned 
   loads : (w : ℕ) → Some (atom.Load w) ≡ Some a → version_in at words ≤ version_in at (do_words a words)
   loads w p = subst (λ b. version_in at words ≤ version_in at (do_words b words)) (same_Some _ _ p) (omega arith)
 
-  inside : (st : SeqStage) → x.work.stage ≡ st → locked_at x.standing x.work.work st ≡ record { standing = x.standing; work = x.work.work } → work_atom at.site.geom x.work.work ≡ Some a → version_in at words ≤ version_in at (do_words a words)
+  inside : (st : SeqStage) → x.work.stage ≡ st → locked_at x.standing x.work.work st ≡ record { standing = x.standing; work = x.work.work }
+      → work_atom at.site.geom x.work.work ≡ Some a → version_in at words ≤ version_in at (do_words a words)
   inside st e same planned =
       let w : TheWork = x.work.work in
       let q : IsInFront at words low size a [] =
       in_front at words low size (home_at (λ z. 0) a) r a [] (plain_atom at.site.geom w w.stage a planned)
-      (atom_can at.site (front at words) (map as_locked sides) g.locked r (record { standing = x.standing; work = w }) (locked_there at words sides g r x m.side.there st e ∙ ap Some same) a (λ z. 0) [] planned) in
+      (atom_can at.site (front at words) (map as_locked sides) g.locked r (record { standing = x.standing; work = w })
+      (locked_there at words sides g r x m.side.there st e ∙ ap Some same) a (λ z. 0) [] planned) in
       let kept = q.same_version in omega arith
 
   stored : (v : ℕ) → version_in at words ≤ v → Some (atom.Store at.behind v) ≡ Some a → version_in at words ≤ version_in at (do_words a words)
@@ -207,7 +221,8 @@ module _ (at : WaySite) (r : ℕ) (w : TheWork) (got : ℕ) where
   Loses guess seen st = (count : ℕ) × (st ≡ stage.Again guess count) × (seen ≡ got) × (got ≢ guess)
 
   -- all other stages only move
-  by_move : (P : SeqStage → Type 0) → ((st : SeqStage) → (seq_stage_after at r w got st).stepped ≡ Moved → P st) → P stage.Look → ((v count : ℕ) → P (stage.Again v count)) → (st : SeqStage) → P st
+  by_move : (P : SeqStage → Type 0) → ((st : SeqStage) → (seq_stage_after at r w got st).stepped ≡ Moved → P st) → P stage.Look →
+      ((v count : ℕ) → P (stage.Again v count)) → (st : SeqStage) → P st
   by_move P moves look check stage.Locked = moves stage.Locked (loaded_each IsMoved _ _ _ refl refl refl)
   by_move P moves look check stage.Look = look
   by_move P moves look check (stage.Count v) = moves (stage.Count v) (read_each IsMoved w v got (wanted at.site.geom w) (λ next. refl) refl)
@@ -227,7 +242,13 @@ module _ (at : WaySite) (r : ℕ) (w : TheWork) (got : ℕ) where
       look e =
           elim (got % 2 == 0) as (λ b. (got % 2 == 0) ≡ b → (looked_by at w got b).stepped ≡ Waiting word value → Waits word value stage.Look) [
             | true ↦ λ is f. absurd (cc)
-            | false ↦ λ is f. (refl, λ even. let hit : (got % 2 == 0) ≡ true = grind (arith, nat_tests) in cc, (let same : seq_version_word at ≡ word = cc in sym same), (let same : got ≡ value = cc in sym same))
+            | false ↦ λ is f. (
+              refl,
+              λ even. let hit : (got % 2 == 0) ≡ true = grind (arith, nat_tests) in
+                  cc,
+              (let same : seq_version_word at ≡ word = cc in sym same),
+              (let same : got ≡ value = cc in sym same),
+            )
           ] refl e
 
       check : (v count : ℕ) → (seq_stage_after at r w got (stage.Again v count)).stepped ≡ Waiting word value → Waits word value (stage.Again v count)
@@ -261,8 +282,13 @@ module _ (at : WaySite) (r : ℕ) (w : TheWork) (got : ℕ) where
           elim (got == v) as (λ b. (got == v) ≡ b → (checked_by at r w v count got b).stepped ≡ Lost guess seen → Loses guess seen (stage.Again v count)) [
             | true ↦ λ is f. absurd (cc)
             | false ↦ λ is f.
-                let same : v ≡ guess = cc in
-                (count, ap (λ z. stage.Again z count) same, (let s : got ≡ seen = cc in sym s), λ q. let hit : (got == v) ≡ true = grind (arith, nat_tests) in cc)
+                let same : v ≡ guess = cc in (
+                  count,
+                  ap (λ z. stage.Again z count) same,
+                  (let s : got ≡ seen = cc in sym s),
+                  λ q. let hit : (got == v) ≡ true =
+                      grind (arith, nat_tests) in cc,
+                )
           ] refl e
 
     back : (st : SeqStage) → Loses guess seen st → (seq_stage_after at r w got st).stepped ≡ Lost guess seen

@@ -1,5 +1,5 @@
 -- Who comes to count, volume and journal, the words before the lock's, on a shard that threads share.
-use Rattle.std.specs.Prelude.{◌⊎◌, ℕ, List}
+use Rattle.std.specs.Prelude.{ℕ, List}
 use Rattle.std.proofs.Common.{inl, inr, ⊎_elim}
 use Rattle.rl_word.specs.declared.acts.Atom.{Atom}
 use Rattle.rl_word.specs.declared.acts.Atom.TheVariants as atom
@@ -7,7 +7,6 @@ use Rattle.rl_model.specs.declared.call.Call.{Call}
 use Rattle.rl_step.specs.declared.events.Event.{Event}
 use Rattle.rl_step.specs.declared.events.Standing.{Standing}
 use Rattle.rl_core.specs.Touches.{IsGuarded}
-use Rattle.rl_core.specs.ShardTables.{ShardTable}
 use Rattle.rl_shard.specs.Guards.{NamesAs}
 
 -- so does a rank whose atom is guarded

@@ -112,14 +112,20 @@ passes_all q (e ∷ es) ts h =
     (passes_once q e ts h) (passes_all q es (noted e ts) (let l = length_noted e ts in omega arith))
 
 -- the counts of all ranks come to so much more, where one rank's goes up by it
-pub come_to_more : {V : Type 0} (f : CountedView V → ℕ) (vs : List (CountedView V)) (r : ℕ) (x y : CountedView V) (n d : ℕ) → slice_get vs r ≡ Some x → Rises (f x) d (f y) → ComeTo f vs n → ComeTo f (slice_set vs r y) (n + d)
+pub come_to_more : {V : Type 0} (f : CountedView V → ℕ) (vs : List (CountedView V)) (r : ℕ) (x y : CountedView V) (n d : ℕ) → slice_get vs r ≡ Some x →
+    Rises (f x) d (f y) → ComeTo f vs n → ComeTo f (slice_set vs r y) (n + d)
 come_to_more f vs r x y n d has rises sum =
     let new : slice_get (slice_set vs r y) r ≡ Some y = get_set_same vs r x y has in
     ⊎_elim
     (λ (high : full ≤ f y). inl (record { rank = r; view = y; has = new; is_full = high }))
     (λ (is : f y ≡ f x + d). ⊎_elim
     (λ (w : AnyFull f vs). inl (⊎_elim
-    (λ (e : w.rank ≡ r). record { rank = r; view = y; has = new; is_full = let h = w.is_full in let same = ap f (one_at vs r w.view x (subst (λ k. slice_get vs k ≡ Some w.view) e w.has) has) in omega arith })
+    (λ (e : w.rank ≡ r). record {
+      rank = r;
+      view = y;
+      has = new;
+      is_full = let h = w.is_full in let same = ap f (one_at vs r w.view x (subst (λ k. slice_get vs k ≡ Some w.view) e w.has) has) in omega arith;
+    })
     (λ (ne : w.rank ≢ r). record { rank = w.rank; view = w.view; has = get_set_other vs r w.rank y ne ∙ w.has; is_full = w.is_full })
     (same_or_not w.rank r)))
     (λ (all : sum_by f vs ≡ n). inr (

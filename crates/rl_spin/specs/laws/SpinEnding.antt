@@ -14,7 +14,8 @@ use Rattle.rl_ending.specs.laws.Sums.{sum_falls, sum_grows}
 use Rattle.rl_ending.specs.laws.EndingLaws.{all_out_or_not}
 
 -- who owns the word can go on
-pub owner_goes : (n home : ℕ) (s : LockState SpinView) (r k : ℕ) (p : SpinPhase) → slice_get s.views r ≡ Some (spin_at_phase k p) → Owns p → CanGoOn (spin_table home) spin_left s r
+pub owner_goes : (n home : ℕ) (s : LockState SpinView) (r k : ℕ) (p : SpinPhase) → slice_get s.views r ≡ Some (spin_at_phase k p) → Owns p →
+    CanGoOn (spin_table home) spin_left s r
 owner_goes n home s r k Out has o = absurd o
 owner_goes n home s r k Trying has o = absurd o
 owner_goes n home s r k Inside has o = record { view = spin_at_phase k Inside; has = has; way = inl tt }
@@ -26,21 +27,29 @@ owner_goes n home s r k Releasing has o =
     }
 
 -- and where the word is 0, so can everybody who isn't out
-pub free_goes : (n home : ℕ) (s : LockState SpinView) (r k : ℕ) (p : SpinPhase) → slice_index s.words 0 ≡ 0 → slice_get s.views r ≡ Some (spin_at_phase k p) → (spin_standing p ≡ standing.Out → ⊥) → CanGoOn (spin_table home) spin_left s r
+pub free_goes : (n home : ℕ) (s : LockState SpinView) (r k : ℕ) (p : SpinPhase) → slice_index s.words 0 ≡ 0 →
+    slice_get s.views r ≡ Some (spin_at_phase k p) → (spin_standing p ≡ standing.Out → ⊥) → CanGoOn (spin_table home) spin_left s r
 free_goes n home s r k Out free has busy = absurd (busy refl)
 free_goes n home s r k Trying free has busy =
     let enters : (spin_learn k Trying (slice_index s.words 0)).view ≡ spin_at_phase k Inside = ap (λ w. (spin_learn k Trying w).view) free in
     record {
       view = spin_at_phase k Trying;
       has = has;
-      way = inr (record { act = _; planned = refl; less = subst (λ v. sum_by acts_of (slice_set s.views r v) < sum_by acts_of s.views) (sym enters) (sum_falls acts_of s.views r (spin_at_phase k Trying) (spin_at_phase k Inside) has (omega arith)) });
+      way = inr (record {
+        act = _;
+        planned = refl;
+        less = subst (λ v. sum_by acts_of (slice_set s.views r v) < sum_by acts_of s.views)
+            (sym enters) (sum_falls acts_of s.views r (spin_at_phase k Trying) (spin_at_phase k Inside) has (omega arith));
+      });
     }
 free_goes n home s r k Inside free has busy = owner_goes n home s r k Inside has tt
 free_goes n home s r k Releasing free has busy = owner_goes n home s r k Releasing has tt
 
-goes_by : (n home : ℕ) (s : LockState SpinView) (w : ℕ) → SpinGood n s → slice_index s.words 0 ≡ w → AllOut (spin_table home) s ⊎ ((r : ℕ) × CanGoOn (spin_table home) spin_left s r)
+goes_by : (n home : ℕ) (s : LockState SpinView) (w : ℕ) → SpinGood n s → slice_index s.words 0 ≡ w →
+    AllOut (spin_table home) s ⊎ ((r : ℕ) × CanGoOn (spin_table home) spin_left s r)
 goes_by n home s zero g e =
-    ⊎_elim inl (λ b. inr (b.0, free_goes n home s b.0 b.1.view.rank b.1.view.phase e b.1.has b.1.busy)) (all_out_or_not (λ (v : SpinView). spin_standing v.phase) s.views)
+    ⊎_elim inl (λ b. inr (b.0, free_goes n home s b.0 b.1.view.rank b.1.view.phase e b.1.has b.1.busy))
+    (all_out_or_not (λ (v : SpinView). spin_standing v.phase) s.views)
 goes_by n home s (suc w) g e =
     let here : slice_index s.words 0 ≡ w + 1 = e ∙ omega arith in
     let h = g.held w here in inr (w, owner_goes n home s w h.0.rank h.0.phase h.1 h.2)

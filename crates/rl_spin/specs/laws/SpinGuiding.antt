@@ -26,7 +26,8 @@ few_at (suc w) n Trying e = absurd (taken w n e)
 few_at w n Inside e = let z : 0 ≡ n = cc in omega arith
 few_at w n Releasing e = let z : 0 ≡ n = cc in omega arith
 
-goes_at : (n home : ℕ) (s : LockState SpinView) (r k u w : ℕ) (p : SpinPhase) → slice_index s.words 0 ≡ w → slice_get s.views r ≡ Some (spin_at_phase k p) → urgent_in w p ≡ Some u → CanGoOn (spin_table home) spin_left s r
+goes_at : (n home : ℕ) (s : LockState SpinView) (r k u w : ℕ) (p : SpinPhase) → slice_index s.words 0 ≡ w →
+    slice_get s.views r ≡ Some (spin_at_phase k p) → urgent_in w p ≡ Some u → CanGoOn (spin_table home) spin_left s r
 goes_at n home s r k u w Out is has e = cc
 goes_at n home s r k u zero Trying is has e = free_goes n home s r k Trying is has (λ z. cc)
 goes_at n home s r k u (suc w) Trying is has e = absurd (taken w u e)
@@ -53,9 +54,12 @@ spin_guides n home =
       free_urgent Inside busy e = cc
       free_urgent Releasing busy e = cc
 
-      rests_by : (s : LockState SpinView) (w : ℕ) → SpinGood n s → NoneUrgent (spin_urgent s.words) s.views → slice_index s.words 0 ≡ w → AllOut (spin_table home) s
+      rests_by : (s : LockState SpinView) (w : ℕ) → SpinGood n s → NoneUrgent (spin_urgent s.words) s.views → slice_index s.words 0 ≡ w →
+          AllOut (spin_table home) s
       rests_by s zero g none is =
-          ⊎_elim (λ out. out) (λ b. absurd (free_urgent b.1.view.phase b.1.busy (subst (λ z. urgent_in z b.1.view.phase ≡ None) is (none b.0 b.1.view b.1.has)))) (all_out_or_not (λ (v : SpinView). spin_standing v.phase) s.views)
+          ⊎_elim (λ out. out) (λ b. absurd (free_urgent b.1.view.phase b.1.busy
+          (subst (λ z. urgent_in z b.1.view.phase ≡ None) is (none b.0 b.1.view b.1.has))))
+          (all_out_or_not (λ (v : SpinView). spin_standing v.phase) s.views)
       rests_by s (suc w) g none is =
           let here : slice_index s.words 0 ≡ w + 1 = is ∙ omega arith in
           let h = g.held w here in absurd (owner_urgent (slice_index s.words 0) h.0.phase h.2 (none w h.0 h.1))

@@ -44,7 +44,9 @@ stays_good n s t r p x g modes one is v has e mine back others kept =
           ⊎_elim
           (λ q. (
             spin_at_phase v.rank p,
-            subst (λ vs. slice_get vs i ≡ Some (spin_at_phase v.rank p)) (sym e) (subst (λ k. slice_get (slice_set s.views r (spin_at_phase v.rank p)) k ≡ Some (spin_at_phase v.rank p)) (sym q) (get_set_same s.views r v _ has)),
+            subst (λ vs. slice_get vs i ≡ Some (spin_at_phase v.rank p)) (sym e)
+                (subst (λ k. slice_get (slice_set s.views r (spin_at_phase v.rank p)) k ≡ Some (spin_at_phase v.rank p)) (sym q)
+                (get_set_same s.views r v _ has)),
             back (sym is ∙ h ∙ ap (λ k. k + 1) q),
           ))
           (λ q. let old = kept i q (sym is ∙ h) in
@@ -53,7 +55,8 @@ stays_good n s t r p x g modes one is v has e mine back others kept =
     }
 
 -- the number of a rank that doesn't own the word isn't in it
-not_its_number : (n : ℕ) (s : LockState SpinView) (r : ℕ) (v : SpinView) → SpinGood n s → slice_get s.views r ≡ Some v → (Owns v.phase → ⊥) → slice_index s.words 0 ≡ r + 1 → ⊥
+not_its_number : (n : ℕ) (s : LockState SpinView) (r : ℕ) (v : SpinView) → SpinGood n s → slice_get s.views r ≡ Some v →
+    (Owns v.phase → ⊥) → slice_index s.words 0 ≡ r + 1 → ⊥
 not_its_number n s r v g has free e =
     let o = g.held r e in free (subst (λ z. Owns z.phase) (same_Some _ _ (sym o.1 ∙ has)) o.2)
 
@@ -69,8 +72,10 @@ lost_view : (k w : ℕ) → spin_learn k Trying (suc w) ≡ told_as (spin_at_pha
 lost_view k w = rw (eqb-suc-zero w)
 
 -- trying keeps a state good, whatever value w the word has
-try_keeps : (n home : ℕ) (s : LockState SpinView) (r k : ℕ) (w : ℕ) → SpinGood n s → slice_get s.views r ≡ Some (spin_at_phase k Trying) → slice_index s.words 0 ≡ w →
-    (t : LockState SpinView) → t.modes ≡ s.modes → t.words ≡ slice_set s.words 0 (written (CardCas 0 0 (k + 1)) w) → t.views ≡ slice_set s.views r (spin_learn k Trying w).view → SpinGood n t
+try_keeps : (n home : ℕ) (s : LockState SpinView) (r k : ℕ) (w : ℕ) → SpinGood n s → slice_get s.views r ≡ Some (spin_at_phase k Trying) →
+    slice_index s.words 0 ≡ w →
+    (t : LockState SpinView) → t.modes ≡ s.modes → t.words ≡ slice_set s.words 0
+    (written (CardCas 0 0 (k + 1)) w) → t.views ≡ slice_set s.views r (spin_learn k Trying w).view → SpinGood n t
 try_keeps n home s r k zero g has is t em ew ev =
     stays_good n s t r Inside (r + 1) g (ap length em ∙ g.all_modes) (ap length ew ∙ length-set s.words 0 (k + 1) ∙ g.one_word)
     (ap (λ ws. slice_index ws 0) ew ∙ after_write n s (k + 1) g ∙ ap (λ m. m + 1) (g.named r _ has)) _ has ev
@@ -78,7 +83,8 @@ try_keeps n home s r k zero g has is t em ew ev =
     (λ i u ne h o. let c : 0 ≡ i + 1 = sym is ∙ g.owner i u h o in absurd (omega arith))
     (λ i ne h. absurd (ne (omega arith)))
 try_keeps n home s r k (suc w) g has is t em ew ev =
-    let same : t.words ≡ s.words = ew ∙ ap (λ z. slice_set s.words 0 z) (lost_word (k + 1) w) ∙ subst (λ z. slice_set s.words 0 z ≡ s.words) is (set-get_or s.words 0 0) in
+    let same : t.words ≡ s.words = ew ∙ ap (λ z. slice_set s.words 0 z) (lost_word (k + 1) w)
+    ∙ subst (λ z. slice_set s.words 0 z ≡ s.words) is (set-get_or s.words 0 0) in
     stays_good n s t r Trying (suc w) g (ap length em ∙ g.all_modes) (ap length same ∙ g.one_word)
     (ap (λ ws. slice_index ws 0) same ∙ is) _ has (ev ∙ ap (λ z. slice_set s.views r z.view) (lost_view k w))
     absurd (λ h. not_its_number n s r _ g has (λ o. o) (is ∙ h))
@@ -92,11 +98,13 @@ release_keeps n home s r k g has t em ew ev =
     stays_good n s t r Out 0 g (ap length em ∙ g.all_modes) (ap length ew ∙ length-set s.words 0 0 ∙ g.one_word)
     (ap (λ ws. slice_index ws 0) ew ∙ after_write n s 0 g) _ has ev
     absurd (λ h. absurd (omega arith))
-    (λ i u ne h o. let a : slice_index s.words 0 ≡ i + 1 = g.owner i u h o in let b : slice_index s.words 0 ≡ r + 1 = g.owner r _ has tt in absurd (ne (omega arith)))
+    (λ i u ne h o. let a : slice_index s.words 0 ≡ i + 1 = g.owner i u h o in let b : slice_index s.words 0 ≡ r + 1 = g.owner r _ has tt in
+    absurd (ne (omega arith)))
     (λ i ne h. absurd (omega arith))
 
 -- an act in any phase keeps a state good
-act_keeps : (n home : ℕ) (s : LockState SpinView) (r k : ℕ) (p : SpinPhase) (a : Act) → SpinGood n s → slice_get s.views r ≡ Some (spin_at_phase k p) → spin_plan k p ≡ Some a →
+act_keeps : (n home : ℕ) (s : LockState SpinView) (r k : ℕ) (p : SpinPhase) (a : Act) → SpinGood n s →
+    slice_get s.views r ≡ Some (spin_at_phase k p) → spin_plan k p ≡ Some a →
     SpinGood n (acted (spin_table home) s r (spin_at_phase k p) a)
 act_keeps n home s r k Out a g has pl = cc
 act_keeps n home s r k Trying a g has pl =
@@ -112,13 +120,16 @@ lawful_at : (home : ℕ) (layout : Layout) (r k : ℕ) (p : SpinPhase) (a : Act)
     IsLawful 1 (spin_table home).spot layout r a × (no_local r a ≡ true)
 lawful_at home layout r k Out a h pl = cc
 lawful_at home layout r k Trying a h pl =
-    subst (λ b. IsLawful 1 (spin_table home).spot layout r b × (no_local r b ≡ true)) (same_Some _ _ pl) (record { there = omega arith; homed = h; allowed = refl }, refl)
+    subst (λ b. IsLawful 1 (spin_table home).spot layout r b × (no_local r b ≡ true)) (same_Some _ _ pl)
+    (record { there = omega arith; homed = h; allowed = refl }, refl)
 lawful_at home layout r k Inside a h pl = cc
 lawful_at home layout r k Releasing a h pl =
-    subst (λ b. IsLawful 1 (spin_table home).spot layout r b × (no_local r b ≡ true)) (same_Some _ _ pl) (record { there = omega arith; homed = h; allowed = refl }, refl)
+    subst (λ b. IsLawful 1 (spin_table home).spot layout r b × (no_local r b ≡ true)) (same_Some _ _ pl)
+    (record { there = omega arith; homed = h; allowed = refl }, refl)
 
 -- asking keeps a state good
-ask_keeps_at : (n home : ℕ) (s : LockState SpinView) (r k : ℕ) (p : SpinPhase) (m : Mode) → SpinGood n s → slice_get s.views r ≡ Some (spin_at_phase k p) → spin_standing p ≡ standing.Out →
+ask_keeps_at : (n home : ℕ) (s : LockState SpinView) (r k : ℕ) (p : SpinPhase) (m : Mode) → SpinGood n s →
+    slice_get s.views r ≡ Some (spin_at_phase k p) → spin_standing p ≡ standing.Out →
     SpinGood n (asked (spin_table home) s r (spin_at_phase k p) m)
 ask_keeps_at n home s r k Out m g has st =
     stays_good n s _ r Trying (slice_index s.words 0) g (length-set s.modes r m ∙ g.all_modes) g.one_word refl _ has refl
@@ -130,7 +141,8 @@ ask_keeps_at n home s r k Inside m g has st = cc
 ask_keeps_at n home s r k Releasing m g has st = cc
 
 -- so does leaving, with whatever event
-leave_keeps_at : (n home : ℕ) (s : LockState SpinView) (r k : ℕ) (p : SpinPhase) (e : Event) → SpinGood n s → slice_get s.views r ≡ Some (spin_at_phase k p) → spin_standing p ≡ standing.Writer →
+leave_keeps_at : (n home : ℕ) (s : LockState SpinView) (r k : ℕ) (p : SpinPhase) (e : Event) → SpinGood n s →
+    slice_get s.views r ≡ Some (spin_at_phase k p) → spin_standing p ≡ standing.Writer →
     SpinGood n (left (spin_table home) s r (spin_at_phase k p) e)
 leave_keeps_at n home s r k Out e g has st = cc
 leave_keeps_at n home s r k Trying e g has st = cc
@@ -174,7 +186,8 @@ suits_at m Inside = tt
 suits_at m Releasing = tt
 
 -- the events of an act, and that none waits
-act_events : (k : ℕ) (p : SpinPhase) (w : ℕ) → InOrder (spin_learn k p w).events × (length (spin_learn k p w).events ≤ 8) × AllNamed [] (λ c. false) (spin_learn k p w).events × ((spin_learn k p w).waits ≡ false)
+act_events : (k : ℕ) (p : SpinPhase) (w : ℕ) → InOrder (spin_learn k p w).events × (length (spin_learn k p w).events ≤ 8) × AllNamed []
+    (λ c. false) (spin_learn k p w).events × ((spin_learn k p w).waits ≡ false)
 act_events k Out w = (tt, omega arith, tt, refl)
 act_events k Trying zero = (tt, omega arith, (tt, tt), refl)
 act_events k Trying (suc w) =
@@ -184,7 +197,8 @@ act_events k Inside w = (tt, omega arith, tt, refl)
 act_events k Releasing w = (tt, omega arith, tt, refl)
 
 -- one rank alone finds the word free
-finds_at : (s : LockState SpinView) (r k : ℕ) (p : SpinPhase) (a : Act) → SpinGood 1 s → slice_get s.views r ≡ Some (spin_at_phase k p) → spin_plan k p ≡ Some a → FindsOld a (found s a)
+finds_at : (s : LockState SpinView) (r k : ℕ) (p : SpinPhase) (a : Act) → SpinGood 1 s → slice_get s.views r ≡ Some (spin_at_phase k p) →
+    spin_plan k p ≡ Some a → FindsOld a (found s a)
 finds_at s r k Out a g has pl = cc
 finds_at s r k Trying a g has pl = subst (λ b. FindsOld b (found s b)) (same_Some _ _ pl) (free (slice_index s.words 0) refl) where
   free : (w : ℕ) → slice_index s.words 0 ≡ w → slice_index s.words 0 ≡ 0
@@ -237,7 +251,15 @@ spin_laws home layout homed =
       ask_keeps = λ s r v m g has out. ask_keeps_at (length layout.node_of) home s r v.rank v.phase m g has out;
       leave_keeps_writer = λ s r v g has st. leave_keeps_at (length layout.node_of) home s r v.rank v.phase _ g has st;
       leave_keeps_reader = λ s r v g has st. absurd (no_reader v.phase st);
-      touch_keeps = λ s r w g. record { one_word = g.one_word; all_views = g.all_views; all_modes = g.all_modes; named = g.named; owner = g.owner; held = g.held };
+      touch_keeps = λ s r w g. record {
+        one_word = g.one_word;
+        all_views = g.all_views;
+        all_modes = g.all_modes;
+        named = g.named;
+        owner =
+            g.owner;
+        held = g.held;
+      };
       excludes = λ s i j v w g hi hj wv hw.
           let a : slice_index s.words 0 ≡ i + 1 = g.owner i v hi (writer_owns v.phase wv) in
           let b : slice_index s.words 0 ≡ j + 1 = g.owner j w hj (holder_owns w.phase hw) in

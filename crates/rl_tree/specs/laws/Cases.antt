@@ -20,7 +20,12 @@ plan_by T v query =
 
 abbrev pub learn_by : TheTree → TreeView → Bool → ℕ → Told TreeView
 learn_by T v query got =
-    if query then record { view = at_level v v.level (Look (told_left (names_at T v v.level).budget got) (is_some (names_at T v v.level).budget)); events = []; waits = false }
+    if query then record {
+      view = at_level v v.level (Look (told_left (names_at T v v.level).budget got)
+          (is_some (names_at T v v.level).budget));
+      events = [];
+      waits = false;
+    }
     else walk_turn T v v.level (turn_at (names_at T v v.level) (works_for T v v.level) v.phase got)
 
 -- and how it stands

@@ -1,17 +1,16 @@
 -- The queues of a tree by number, and its events: what they name, and the settlements on a path.
 use Rattle.std.specs.Prelude.{◌≡◌, ℕ, zero, suc, ◌+◌, ◌<◌, ◌≤◌, false, List, [], ◌∷◌, ◌++◌, length, slice_get, Some, refl}
-use Rattle.std.proofs.Common.{sym, ◌∙◌, ap, subst, arith}
+use Rattle.std.proofs.Common.{sym, ◌∙◌, ap, arith}
 use Rattle.std.proofs.lemmas.Option.{same_Some}
 use Rattle.rl_step.specs.declared.events.Event.{Event}
 use Rattle.rl_step.specs.declared.events.Event.TheVariants as event
 use Rattle.rl_step.specs.Lock.{InOrder, IsMember, AllNamed, holds_only}
 use Rattle.rl_step.specs.Queues.{QueueOf}
-use Rattle.rl_tree.specs.declared.view.TreeView.{TreeView}
-use Rattle.rl_tree.specs.Tree.{path, works_for, settles_below}
+use Rattle.rl_tree.specs.Tree.{settles_below}
 use Rattle.rl_tree.specs.declared.rooted.Rooted.{Rooted}
-use Rattle.rl_tree.specs.Elements.{how_many, ranks_in, leaf_of_rank, tree_of, queue_at, queues_from}
+use Rattle.rl_tree.specs.Elements.{how_many, tree_of, queue_at, queues_from}
 use Rattle.rl_tree.specs.TreeGood.{InQueue}
-use Rattle.rl_tree.specs.TreeShape.{IsWellShaped}
+use Rattle.rl_tree.specs.laws.TreePaths.{OnPath, el, me, el_there, el_up, el_in}
 
 -- the queues by number
 queues_at : (K : Rooted) (from n q : ℕ) → q < n → slice_get (queues_from K from n) q ≡ Some (queue_at K (from + q))
@@ -63,29 +62,27 @@ pub append_length : (es fs : List Event) → length (es ++ fs) ≡ length es + l
 append_length [] fs = omega arith
 append_length (e ∷ es) fs = let k = append_length es fs in omega arith
 
-module _ (K : Rooted) (levels : ℕ) (S : IsWellShaped K levels) (v : TreeView) (own : v.leaf ≡ leaf_of_rank K v.rank) (here : v.rank < ranks_in K) where
-  el_there : (i : ℕ) → i ≤ levels → path (tree_of K) v.leaf i < how_many K
-  el_there i le = subst (λ z. path (tree_of K) z i < how_many K) (sym own) (S.treed.there v.rank i here le)
-
-  el_up : (i : ℕ) → i < levels → (tree_of K).parent (path (tree_of K) v.leaf i) ≡ Some (path (tree_of K) v.leaf (suc i))
-  el_up i lt = subst (λ z. (tree_of K).parent (path (tree_of K) z i) ≡ Some (path (tree_of K) z (suc i))) (sym own) (S.treed.up v.rank i here lt)
-
+module _ {K : Rooted} {levels : ℕ} (r : OnPath K levels) where
   -- the settlements below a level, and the entry after them
-  pub settles_order : (j : ℕ) → j ≤ suc levels → InOrder (settles_below (tree_of K) v j ++ event.EnterW v.rank ∷ [])
+  pub settles_order : (j : ℕ) → j ≤ suc levels → InOrder (settles_below (tree_of K) r.view j ++ event.EnterW r.view.rank ∷ [])
   settles_order zero le = tt
   settles_order (suc zero) le = (omega arith, tt)
   settles_order (suc (suc i)) le =
-      let a : path (tree_of K) v.leaf (suc i) < path (tree_of K) v.leaf i = S.rising (path (tree_of K) v.leaf i) (path (tree_of K) v.leaf (suc i)) (el_there i (omega arith)) (el_up i (omega arith)) in
+      let a : el r (suc i) < el r i =
+      r.well.rising (el r i) (el r (suc i)) (el_there r i (omega arith)) (el_up r i (omega arith)) in
       (a, settles_order (suc i) (omega arith))
 
-  pub settles_length : (j : ℕ) → length (settles_below (tree_of K) v j) ≡ j
+  pub settles_length : (j : ℕ) → length (settles_below (tree_of K) r.view j) ≡ j
   settles_length zero = refl
   settles_length (suc j) = ap suc (settles_length j)
 
-  pub settles_hold : (j : ℕ) → holds_only (settles_below (tree_of K) v j) ≡ []
+  pub settles_hold : (j : ℕ) → holds_only (settles_below (tree_of K) r.view j) ≡ []
   settles_hold zero = refl
   settles_hold (suc j) = settles_hold j
 
-  pub settles_named : (j : ℕ) → j ≤ suc levels → ((i : ℕ) → i ≤ levels → InQueue K (path (tree_of K) v.leaf i) (works_for (tree_of K) v i)) → Named K (settles_below (tree_of K) v j)
-  settles_named zero le ins = tt
-  settles_named (suc j) le ins = (is_member K (path (tree_of K) v.leaf j) (works_for (tree_of K) v j) (el_there j (omega arith)) (ins j (omega arith)), settles_named j (omega arith) ins)
+  pub settles_named : (j : ℕ) → j ≤ suc levels → Named K (settles_below (tree_of K) r.view j)
+  settles_named zero le = tt
+  settles_named (suc j) le = (is_member K (el r j) (me r j) (el_there r j (omega arith)) (el_in r j (omega arith)), settles_named j (omega arith))
+
+  pub settles_enter : (j : ℕ) → j ≤ suc levels → Named K (settles_below (tree_of K) r.view j ++ event.EnterW r.view.rank ∷ [])
+  settles_enter j le = named_append K (settles_below (tree_of K) r.view j) (event.EnterW r.view.rank ∷ []) (settles_named j le) (tt, tt)

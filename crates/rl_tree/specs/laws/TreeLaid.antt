@@ -5,12 +5,12 @@ use Rattle.std.proofs.lemmas.Option.{slice_get_within}
 use Rattle.rl_word.specs.declared.shapes.Element.{Element}
 use Rattle.rl_word.specs.Shapes.{IsProper}
 use Rattle.rl_step.specs.LockQueues.{parent_of, budget_by}
-use Rattle.rl_tree.specs.Tree.{path}
+use Rattle.rl_tree.specs.Tree.{path, is_none}
 use Rattle.rl_tree.specs.declared.rooted.Rooted.{Rooted}
 use Rattle.rl_tree.specs.Elements.{how_many, ranks_in, leaf_of_rank, names_in, tree_of}
 use Rattle.rl_tree.specs.laws.TreeProper.{root_free, rising, seated, path_root, is_treed, depth_same, levels_are, reached, first_there}
 use Rattle.rl_tree.specs.laws.TreeSize.{few_elements}
-use Rattle.rl_tree.specs.TreeShape.{IsTreed, IsWellShaped, IsBudgeted, levels_of, level_in, IsTreeLaid}
+use Rattle.rl_tree.specs.TreeShape.{IsTreed, IsWellShaped, IsBudgeted, IsParented, levels_of, level_in, IsTreeLaid}
 
 pub laid_shaped : (K : Rooted) (levels : ℕ) → IsTreeLaid K levels → IsWellShaped K levels
 laid_shaped K levels d =
@@ -44,8 +44,13 @@ laid_shaped K levels d =
       has_budget zero p lt up = let bad : None ≡ Some p = sym d.root_free ∙ up in cc
       has_budget (suc e) p lt up = d.budgeted (suc e) (omega arith) lt
 
+-- every element but the root has a parent
+pub proper_parented : (K : Rooted) → IsProper K.shape → IsParented K
+proper_parented K proper e some there = let k = proper.parented e some there in ap is_none (ap parent_of k.1.1 ∙ k.1.2)
+
 -- A PROPER SHAPE that holds the home, with a budget on every element but the root, is laid so; the root's budget is modest, if it has one.
-pub proper_laid : (K : Rooted) → IsProper K.shape → K.home < K.shape.nodes → IsBudgeted K.shape → ((b : ℕ) → K.root ≡ Some b → b ≤ 1000) → IsTreeLaid K (levels_of K.shape)
+pub proper_laid : (K : Rooted) → IsProper K.shape → K.home < K.shape.nodes → IsBudgeted K.shape → ((b : ℕ) → K.root ≡ Some b → b ≤ 1000) →
+    IsTreeLaid K (levels_of K.shape)
 proper_laid K proper homed budgeted low = subst (IsTreeLaid K) (sym (levels_are K proper)) laid where
   T : IsTreed K proper.levels
   T = is_treed K proper
@@ -54,7 +59,8 @@ proper_laid K proper homed budgeted low = subst (IsTreeLaid K) (sym (levels_are 
   same e = depth_same K proper e
 
   reaches : (e : ℕ) → e < how_many K → (r : ℕ) × (j : ℕ) × (r < ranks_in K) × (j ≤ 3) × (e ≡ path (tree_of K) (leaf_of_rank K r) j)
-  reaches e lt = let k = reached K proper e lt in let a : k.1 ≤ proper.levels = k.3 in let b : proper.levels ≤ 3 = proper.shallow in (k.0, k.1, k.2, omega arith, k.4)
+  reaches e lt = let k = reached K proper e lt in let a : k.1 ≤ proper.levels = k.3 in let b : proper.levels ≤ 3 = proper.shallow in
+      (k.0, k.1, k.2, omega arith, k.4)
 
   lone : (e : ℕ) → ranks_in K ≡ 1 → e < how_many K → e ≡ path (tree_of K) (leaf_of_rank K 0) (level_in K proper.levels e)
   lone e one lt =
@@ -93,6 +99,7 @@ proper_laid K proper homed budgeted low = subst (IsTreeLaid K) (sym (levels_are 
         homed = homed;
         first_there = λ e lt. first_there K proper e lt;
         seated = λ r lt. seated K proper r lt;
-        leafed = λ r lt. let a : slice_index K.shape.node_of r < K.shape.nodes = seated K proper r lt in let c : length K.shape.leaf_of ≡ K.shape.nodes = proper.each_node in omega arith;
+        leafed = λ r lt. let a : slice_index K.shape.node_of r < K.shape.nodes = seated K proper r lt in
+            let c : length K.shape.leaf_of ≡ K.shape.nodes = proper.each_node in omega arith;
         modest = modest;
       }

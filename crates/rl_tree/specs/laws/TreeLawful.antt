@@ -46,7 +46,8 @@ spot_by K x y z w =
     else record { class = class.Plain; home = slice_index K.shape.node_of ((w - of_elements K) / 2) }
 
 -- what holds of the spot by each outcome of the tests holds of it
-by_tests : (K : Rooted) (P : Spot → Type 0) (w : ℕ) → ((x y z : Bool) → (w == 0) ≡ x → nat_lt w (how_many K) ≡ y → nat_lt w (of_elements K) ≡ z → P (spot_by K x y z w)) → P (tree_spot K w)
+by_tests : (K : Rooted) (P : Spot → Type 0) (w : ℕ) → ((x y z : Bool) → (w == 0) ≡ x → nat_lt w (how_many K) ≡ y →
+    nat_lt w (of_elements K) ≡ z → P (spot_by K x y z w)) → P (tree_spot K w)
 by_tests K P w f = f (w == 0) (nat_lt w (how_many K)) (nat_lt w (of_elements K)) refl refl refl
 
 module _ (K : Rooted) (levels : ℕ) (S : IsWellShaped K levels) where
@@ -96,7 +97,8 @@ module _ (K : Rooted) (levels : ℕ) (S : IsWellShaped K levels) where
   stores_next r q m x lq i = let k = words_at K S.root_free q m i in may_store r (queue_next_word (names_in K q) m) x (omega arith) k.0 k.1
 
   stores_status : (r q m x : ℕ) → q < how_many K → InQueue K q m → MayMake r (Store (status_word (names_in K q) m) x)
-  stores_status r q m x lq i = let k = words_at K S.root_free q m i in let a = k.0 in let b = k.2 in may_store r (status_word (names_in K q) m) x (omega arith) (omega arith) k.3
+  stores_status r q m x lq i = let k = words_at K S.root_free q m i in let a = k.0 in let b = k.2 in
+      may_store r (status_word (names_in K q) m) x (omega arith) (omega arith) k.3
 
   pub loads_status : (r q m : ℕ) → InQueue K q m → MayMake r (Load (status_word (names_in K q) m))
   loads_status r q m i = may_load r (status_word (names_in K q) m) (words_at K S.root_free q m i).3
@@ -105,13 +107,15 @@ module _ (K : Rooted) (levels : ℕ) (S : IsWellShaped K levels) where
   loads_next r q m i = may_load r (queue_next_word (names_in K q) m) (words_at K S.root_free q m i).1
 
   -- each planned act is lawful
-  pub lawful_in : (r q m : ℕ) (p : Phase) (a : Act) (ws : List ℕ) (ph : ℕ → Phase) (l : List ℕ) (t : List Event) (e : ℕ) → q < how_many K → QueueGood (names_in K q) (InQueue K q) ws ph l t e → ph m ≡ p → plan_at (names_in K q) m p ≡ Some a → MayMake r a
+  pub lawful_in : (r q m : ℕ) (p : Phase) (a : Act) (ws : List ℕ) (ph : ℕ → Phase) (l : List ℕ) (t : List Event) (e : ℕ) → q < how_many K →
+      QueueGood (names_in K q) (InQueue K q) ws ph l t e → ph m ≡ p → plan_at (names_in K q) m p ≡ Some a → MayMake r a
   lawful_in r q m Clear a ws ph l t e lq g ep pl = subst (MayMake r) (same_Some _ _ pl) (stores_next r q m 0 lq (g.inv.inside m (subst Busy (sym ep) tt)))
   lawful_in r q m Reset a ws ph l t e lq g ep pl = subst (MayMake r) (same_Some _ _ pl) (stores_status r q m 0 lq (g.inv.inside m (subst Busy (sym ep) tt)))
   lawful_in r q m (Swing guess) a ws ph l t e lq g ep pl = subst (MayMake r) (same_Some _ _ pl) (may_swap r q guess (m + 1) lq)
   lawful_in r q m (Link guess) a ws ph l t e lq g ep pl =
       let b = link_guess (names_in K q).budget (InQueue K q) (lane_of (names_in K q) ws ph) l m guess g.inv ep in
-      subst (MayMake r) (same_Some _ _ pl) (stores_next r q (guess - 1) (m + 1) lq (in_line (names_in K q).budget (InQueue K q) (lane_of (names_in K q) ws ph) l (guess - 1) g.inv b.0))
+      subst (MayMake r) (same_Some _ _ pl) (stores_next r q (guess - 1) (m + 1) lq
+      (in_line (names_in K q).budget (InQueue K q) (lane_of (names_in K q) ws ph) l (guess - 1) g.inv b.0))
   lawful_in r q m Wait a ws ph l t e lq g ep pl = subst (MayMake r) (same_Some _ _ pl) (loads_status r q m (g.inv.inside m (subst Busy (sym ep) tt)))
   lawful_in r q m (Look left u) a ws ph l t e lq g ep pl = subst (MayMake r) (same_Some _ _ pl) (loads_next r q m (g.inv.inside m (subst Busy (sym ep) tt)))
   lawful_in r q m (Close left) a ws ph l t e lq g ep pl = subst (MayMake r) (same_Some _ _ pl) (may_swap r q (m + 1) 0 lq)
@@ -121,7 +125,8 @@ module _ (K : Rooted) (levels : ℕ) (S : IsWellShaped K levels) where
   lawful_in r q m _ a ws ph l t e lq g ep pl = cc
 
   -- where there is one rank, each queue on its path has one member
-  pub alone_on : (r i : ℕ) → ranks_in K ≡ 1 → r < ranks_in K → i ≤ levels → IsAlone (InQueue K (path (tree_of K) (leaf_of_rank K r) i)) (member_at (tree_of K) r (leaf_of_rank K r) i)
+  pub alone_on : (r i : ℕ) → ranks_in K ≡ 1 → r < ranks_in K → i ≤ levels →
+      IsAlone (InQueue K (path (tree_of K) (leaf_of_rank K r) i)) (member_at (tree_of K) r (leaf_of_rank K r) i)
   alone_on r zero one hr le x j =
       ⊎_elim (λ n. let a : x < ranks_in K = n.there in omega arith)
       (λ n. let bad : true ≡ false = sym (S.treed.leaf r hr) ∙ n.is in cc)
@@ -131,7 +136,8 @@ module _ (K : Rooted) (levels : ℕ) (S : IsWellShaped K levels) where
       let dq : S.treed.depth (path (tree_of K) (leaf_of_rank K r) (suc i)) ≡ suc i = S.treed.deep r (suc i) hr le in
       let lq : path (tree_of K) (leaf_of_rank K r) (suc i) < how_many K = S.treed.there r (suc i) hr le in
       ⊎_elim
-      (λ n. let z : S.treed.depth (path (tree_of K) (leaf_of_rank K r) (suc i)) ≡ 0 = S.treed.node (path (tree_of K) (leaf_of_rank K r) (suc i)) lq n.is in absurd (omega arith))
+      (λ n. let z : S.treed.depth (path (tree_of K) (leaf_of_rank K r) (suc i)) ≡ 0 =
+      S.treed.node (path (tree_of K) (leaf_of_rank K r) (suc i)) lq n.is in absurd (omega arith))
       (λ n.
       let o = S.treed.over x (path (tree_of K) (leaf_of_rank K r) (suc i)) n.there n.mine in
       let dx0 : S.treed.depth (path (tree_of K) (leaf_of_rank K r) (suc i)) ≡ suc (S.treed.depth x) = o.1 in
@@ -145,7 +151,8 @@ pub up_goes : (b : Bool) (v : TreeView) (w : ℕ) (es : List Event) → ((goes_u
 up_goes true v w es = (refl, refl)
 up_goes false v w es = (refl, refl)
 
-pub gives_goes : (b : Bool) (v : TreeView) (w : ℕ) (s : Option ℕ) (es : List Event) → ((gives_up b v w s es).events ≡ es) × ((gives_up b v w s es).waits ≡ false)
+pub gives_goes : (b : Bool) (v : TreeView) (w : ℕ) (s : Option ℕ) (es : List Event) →
+    ((gives_up b v w s es).events ≡ es) × ((gives_up b v w s es).waits ≡ false)
 gives_goes true v w s es = (refl, refl)
 gives_goes false v w s es = (refl, refl)
 

@@ -1,17 +1,20 @@
 -- Paths in a tree, and that one rank at most works for an element.
-use Rattle.std.specs.Prelude.{◌≡◌, ◌≢◌, ◌⊎◌, ℕ, zero, suc, ◌<◌, ◌≤◌, ◌==◌, ◌&&◌, Bool, true, false, List, if◌then◌else◌, slice_index, Option, refl}
+use Rattle.std.specs.Prelude.{◌≡◌, ◌≢◌, ◌⊎◌, ℕ, zero, suc, ◌<◌, ◌≤◌, ◌==◌, ◌&&◌, Bool, true, false, List, nat_lt, if◌then◌else◌, slice_index, Option, Some, None, refl}
 use Rattle.std.proofs.Common.{sym, ◌∙◌, ap, subst, inl, inr, ⊎_elim, arith}
 use Rattle.rl_step.specs.declared.events.Event.{Event}
-use Rattle.rl_queue.specs.laws.Choices.{same_test, other_test}
+use Rattle.rl_step.specs.LockQueues.{is_at}
+use Rattle.rl_queue.specs.laws.Choices.{same_test, other_test, lt_test}
 use Rattle.rl_queue.specs.declared.view.Phase.{Phase}
 use Rattle.rl_queue.specs.Queue.{status_word}
-use Rattle.rl_queue.specs.Lane.{IsFirst}
+use Rattle.rl_queue.specs.Lane.{lane_of, IsFirst}
+use Rattle.rl_queue.specs.Heads.{Head, head_in}
 use Rattle.rl_queue.specs.QueueGood.{QueueGood, Moves}
 use Rattle.rl_queue.specs.laws.QueueMoves.{one_first}
-use Rattle.rl_tree.specs.Tree.{path, member_at}
+use Rattle.rl_tree.specs.declared.view.TreeView.{TreeView}
+use Rattle.rl_tree.specs.Tree.{path, works_for}
 use Rattle.rl_tree.specs.declared.rooted.Rooted.{Rooted}
-use Rattle.rl_tree.specs.Elements.{how_many, ranks_in, leaf_of_rank, names_in, tree_of}
-use Rattle.rl_tree.specs.TreeShape.{IsTreed}
+use Rattle.rl_tree.specs.Elements.{how_many, ranks_in, leaf_of_rank, is_node, names_in, tree_of}
+use Rattle.rl_tree.specs.TreeShape.{IsTreed, IsWellShaped}
 use Rattle.rl_tree.specs.TreeGood.{Way, Up, Down, Rest, below_by, InQueue}
 
 -- a phase put in the place of a member's
@@ -38,37 +41,100 @@ below_first Up o s ne = tt
 below_first Down o s ne = tt
 below_first Rest o s ne = absurd (ne refl)
 
-module _ (K : Rooted) (levels : ℕ) (T : IsTreed K levels) where
-  -- the element at a level of a rank's path, and the member for which it works there
-  abbrev pub at_path : ℕ → ℕ → ℕ
-  at_path l k = path (tree_of K) l k
+-- the head of each queue, by these words, phases and lines
+abbrev pub head_by : Rooted → List ℕ → (ℕ → ℕ → Phase) → (ℕ → List ℕ) → ℕ → Option Head
+head_by K ws F L x = head_in (lane_of (names_in K x) ws (F x)) (L x)
 
-  abbrev pub at_member : ℕ → ℕ → ℕ → ℕ
-  at_member r l k = member_at (tree_of K) r l k
+-- all queues are good
+abbrev pub AllGood : Rooted → List ℕ → (ℕ → ℕ → Phase) → (ℕ → List ℕ) → (ℕ → ℕ) → List Event → Type 0
+AllGood K ws F L e t = (q : ℕ) → q < how_many K → QueueGood (names_in K q) (InQueue K q) ws (F q) (L q) t (e q)
 
+-- an element is a member of its parent's queue
+pub is_child : {K : Rooted} {levels : ℕ} (T : IsTreed K levels) (x p : ℕ) → x < how_many K → (tree_of K).parent x ≡ Some p →
+    (is_node K p ≡ false) × InQueue K p x
+is_child {K} T x p there up =
+    let o = T.over x p there up in
+    let no : is_node K p ≡ false = by (is_node K p) refl o.0 o.1 in (
+      no,
+      record {
+        is = ap (λ z. if z then (nat_lt x (ranks_in K) && (leaf_of_rank K x == p)) else is_at ((tree_of K).parent x) p) no
+            ∙ ap (λ z. is_at z p) up ∙ same_test p;
+      },
+    ) where
+      by : (b : Bool) → is_node K p ≡ b → p < how_many K → T.depth p ≡ suc (T.depth x) → is_node K p ≡ false
+      by true h lt deep = let z : T.depth p ≡ 0 = T.node p lt h in absurd (omega arith)
+      by false h lt deep = h
+
+-- a rank's view, and the path from its leaf
+pub record OnPath (K : Rooted) (levels : ℕ) : Type 0 where
+  pub well : IsWellShaped K levels
+  pub view : TreeView
+  pub own : view.leaf ≡ leaf_of_rank K view.rank
+  pub there : view.rank < ranks_in K
+
+module _ {K : Rooted} {levels : ℕ} (r : OnPath K levels) where
+  -- the element and the member at a level of the rank's path
+  abbrev pub el : ℕ → ℕ
+  el i = path (tree_of K) r.view.leaf i
+
+  abbrev pub me : ℕ → ℕ
+  me i = works_for (tree_of K) r.view i
+
+  pub el_there : (i : ℕ) → i ≤ levels → el i < how_many K
+  el_there i le = subst (λ z. path (tree_of K) z i < how_many K) (sym r.own) (r.well.treed.there r.view.rank i r.there le)
+
+  pub el_deep : (i : ℕ) → i ≤ levels → r.well.treed.depth (el i) ≡ i
+  el_deep i le = subst (λ z. r.well.treed.depth (path (tree_of K) z i) ≡ i) (sym r.own) (r.well.treed.deep r.view.rank i r.there le)
+
+  pub el_apart : (i j : ℕ) → i ≤ levels → j ≤ levels → i ≢ j → el i ≢ el j
+  el_apart i j li lj ne e = ne (sym (el_deep i li) ∙ ap r.well.treed.depth e ∙ el_deep j lj)
+
+  pub el_up : (i : ℕ) → i < levels → (tree_of K).parent (el i) ≡ Some (el (suc i))
+  el_up i lt = subst (λ z. (tree_of K).parent (path (tree_of K) z i) ≡ Some (path (tree_of K) z (suc i))) (sym r.own)
+      (r.well.treed.up r.view.rank i r.there lt)
+
+  -- the path ends at the root, and not before
+  pub el_root : el levels ≡ 0
+  el_root = subst (λ z. path (tree_of K) z levels ≡ 0) (sym r.own) (r.well.one_root r.view.rank r.there)
+
+  pub el_top : (tree_of K).parent (el levels) ≡ None
+  el_top = ap (tree_of K).parent el_root ∙ r.well.root_free
+
+  pub not_root : (i : ℕ) → i < levels → 0 ≢ el i
+  not_root i lt e = let no : None ≡ Some (el (suc i)) = sym r.well.root_free ∙ ap (tree_of K).parent e ∙ el_up i lt in cc
+
+  pub leaf_node : is_node K r.view.leaf ≡ true
+  leaf_node = ap (is_node K) r.own ∙ r.well.treed.leaf r.view.rank r.there
+
+  -- each member on the path is one of its queue
+  pub el_in : (i : ℕ) → i ≤ levels → InQueue K (el i) (me i)
+  el_in zero le =
+      record {
+        is = ap (λ z. if z then nat_lt r.view.rank (ranks_in K) && (leaf_of_rank K r.view.rank == r.view.leaf) else is_at
+            ((tree_of K).parent r.view.rank) r.view.leaf) leaf_node
+            ∙ ap (λ z. z && (leaf_of_rank K r.view.rank == r.view.leaf)) (lt_test r.view.rank (ranks_in K) r.there)
+            ∙ ap (λ z. z == r.view.leaf) (sym r.own) ∙ same_test r.view.leaf;
+      }
+  el_in (suc i) le = (is_child r.well.treed (el i) (el (suc i)) (el_there i (omega arith)) (el_up i (omega arith))).1
+
+  -- the rank is the first, for its members, in the queues below a level
+  abbrev pub FirstBelow : List ℕ → (ℕ → ℕ → Phase) → ℕ → Type 0
+  FirstBelow ws F i = (k : ℕ) → k < i → IsFirst (F (el k) (me k)) (slice_index ws (status_word (names_in K (el k)) (me k)))
+
+module _ {K : Rooted} {levels : ℕ} (r n : OnPath K levels) where
   -- two ranks' paths meet at one level
-  pub same_level : (r r' l l' i j : ℕ) → l ≡ leaf_of_rank K r → l' ≡ leaf_of_rank K r' → r < ranks_in K → r' < ranks_in K → i ≤ levels → j ≤ levels → at_path l i ≡ at_path l' j → i ≡ j
-  same_level r r' l l' i j o o' h h' li lj e =
-      sym (T.deep r i h li) ∙ ap (λ z. T.depth (at_path z i)) (sym o) ∙ ap T.depth e ∙ ap (λ z. T.depth (at_path z j)) o' ∙ T.deep r' j h' lj
-
-  abbrev pub AllGood : List ℕ → (ℕ → ℕ → Phase) → (ℕ → List ℕ) → (ℕ → ℕ) → List Event → Type 0
-  AllGood ws F L e t = (q : ℕ) → q < how_many K → QueueGood (names_in K q) (InQueue K q) ws (F q) (L q) t (e q)
-
-  -- a rank is the first, for its members, in the queues below a level
-  abbrev pub FirstBelow : List ℕ → (ℕ → ℕ → Phase) → ℕ → ℕ → ℕ → Type 0
-  FirstBelow ws F r l i = (k : ℕ) → k < i → IsFirst (F (at_path l k) (at_member r l k)) (slice_index ws (status_word (names_in K (at_path l k)) (at_member r l k)))
+  pub same_level : (i j : ℕ) → i ≤ levels → j ≤ levels → el r i ≡ el n j → i ≡ j
+  same_level i j li lj e =
+      sym (el_deep r i li) ∙ ap r.well.treed.depth e
+      ∙ subst (λ z. r.well.treed.depth (path (tree_of K) z j) ≡ j) (sym n.own) (r.well.treed.deep n.view.rank j n.there lj)
 
   -- One agent: two ranks that work for the same member of a queue are one.
-  pub one_agent : (ws : List ℕ) (F : ℕ → ℕ → Phase) (L : ℕ → List ℕ) (e : ℕ → ℕ) (t : List Event) → AllGood ws F L e t → (r r' l l' i : ℕ) → l ≡ leaf_of_rank K r → r < ranks_in K → i ≤ levels →
-      FirstBelow ws F r l i → FirstBelow ws F r' l' i → at_member r l i ≡ at_member r' l' i → r ≡ r'
-  one_agent ws F L e t g r r' l l' zero o h li f f' same = same
-  one_agent ws F L e t g r r' l l' (suc k) o h li f f' same =
-      let q : ℕ = at_path l k in
-      let m' : ℕ = at_member r' l' k in
-      let lk : k ≤ levels = omega arith in
-      let lt : k < suc k = omega arith in
-      let there : at_path l k < how_many K = subst (λ z. at_path z k < how_many K) (sym o) (T.there r k h lk) in
-      let one : at_member r l k ≡ at_member r' l' k =
-      one_first (names_in K q) (InQueue K q) ws (F q) (L q) t (e q) (at_member r l k) (at_member r' l' k) (g q there) (f k lt)
-      (subst (λ z. IsFirst (F z m') (slice_index ws (status_word (names_in K z) m'))) (sym same) (f' k lt)) in
-      one_agent ws F L e t g r r' l l' k o h lk (λ i b. f i (omega arith)) (λ i b. f' i (omega arith)) one
+  pub one_agent : (ws : List ℕ) (F : ℕ → ℕ → Phase) (L : ℕ → List ℕ) (e : ℕ → ℕ) (t : List Event) → AllGood K ws F L e t → (i : ℕ) →
+      i ≤ levels → FirstBelow r ws F i → FirstBelow n ws F i → me r i ≡ me n i → r.view.rank ≡ n.view.rank
+  one_agent ws F L e t g zero li f f' same = same
+  one_agent ws F L e t g (suc k) li f f' same =
+      let q : ℕ = el r k in
+      let m' : ℕ = me n k in
+      one_agent ws F L e t g k (omega arith) (λ i b. f i (omega arith)) (λ i b. f' i (omega arith))
+      (one_first (names_in K q) (InQueue K q) ws (F q) (L q) t (e q) (me r k) m' (g q (el_there r k (omega arith))) (f k (omega arith))
+      (subst (λ z. IsFirst (F z m') (slice_index ws (status_word (names_in K z) m'))) (sym same) (f' k (omega arith))))

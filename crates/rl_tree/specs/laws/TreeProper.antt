@@ -62,7 +62,8 @@ module _ (K : Rooted) (P : IsProper K.shape) where
   -- the steps to element 0 are counted
   steps_are : (f n e : ℕ) → e < f → IsUnder K.shape.elements 0 n e → steps_up K.shape.elements f e ≡ n
   steps_are zero n e lt u = absurd (omega arith)
-  steps_are (suc f) zero e lt u = ap (λ z. above_it (steps_up K.shape.elements f) (parent_of (slice_get K.shape.elements z))) u ∙ ap (above_it (steps_up K.shape.elements f)) root_free
+  steps_are (suc f) zero e lt u = ap (λ z. above_it (steps_up K.shape.elements f) (parent_of (slice_get K.shape.elements z))) u
+      ∙ ap (above_it (steps_up K.shape.elements f)) root_free
   steps_are (suc f) (suc n) e lt u =
       let a : u.0 < e = lower e u.0 u.1 in
       ap (above_it (steps_up K.shape.elements f)) (parent_is e u.0 u.1) ∙ ap suc (steps_are f n u.0 (omega arith) u.2)
@@ -159,14 +160,18 @@ module _ (K : Rooted) (P : IsProper K.shape) where
       record {
         depth = depth_of;
         there = λ r j h le. under_there (P.levels - j) (path (tree_of K) (leaf_of_rank K r) j) (path_at r j (P.levels - j) h (omega arith));
-        deep = λ r j h le. let k = depth_is (path (tree_of K) (leaf_of_rank K r) j) (P.levels - j) (path_at r j (P.levels - j) h (omega arith)) in let d : depth_of (path (tree_of K) (leaf_of_rank K r) j) + (P.levels - j) ≡ P.levels = k.1 in omega arith;
+        deep = λ r j h le. let k = depth_is (path (tree_of K) (leaf_of_rank K r) j) (P.levels - j)
+            (path_at r j (P.levels - j) h (omega arith)) in let d : depth_of (path (tree_of K) (leaf_of_rank K r) j) + (P.levels - j) ≡
+            P.levels = k.1 in omega arith;
         up = λ r j h lt. path_step r j (P.levels - suc j) h (omega arith);
         top = λ r h. ap (λ z. parent_of (slice_get K.shape.elements z)) (path_root r h) ∙ root_free;
         node = λ e there h. node_low e h;
         leaf = λ r h. let k = leaf_at r h in at_stands K.shape.leaf_of k.0 (leaf_of_rank K r) k.1;
         over = λ e p there h. over_it e p there h;
       } where
-        path_step : (r j n : ℕ) → r < ranks_in K → P.levels ≡ j + suc n → parent_of (slice_get K.shape.elements (path (tree_of K) (leaf_of_rank K r) j)) ≡ Some (path (tree_of K) (leaf_of_rank K r) (suc j))
+        path_step : (r j n : ℕ) → r < ranks_in K → P.levels ≡ j + suc n →
+            parent_of (slice_get K.shape.elements (path (tree_of K) (leaf_of_rank K r) j)) ≡ Some
+            (path (tree_of K) (leaf_of_rank K r) (suc j))
         path_step r j n h e =
             let k = path_at r j (suc n) h e in
             let a = parent_is (path (tree_of K) (leaf_of_rank K r) j) k.0 k.1 in
@@ -199,7 +204,9 @@ module _ (K : Rooted) (P : IsProper K.shape) where
       let f : x.0.first_node < length K.shape.leaf_of = slice_get_within K.shape.leaf_of x.0.first_node k.leaf k.has in
       let c : length K.shape.leaf_of ≡ K.shape.nodes = P.each_node in
       let r = P.used x.0.first_node (omega arith) in
-      let leaf : leaf_of_rank K r.0 ≡ k.leaf = ap (slice_index K.shape.leaf_of) (get_or_from_slice_get K.shape.node_of r.0 x.0.first_node 0 r.1) ∙ get_or_from_slice_get K.shape.leaf_of x.0.first_node k.leaf 0 k.has in
+      let leaf : leaf_of_rank K r.0 ≡ k.leaf = ap (slice_index K.shape.leaf_of)
+      (get_or_from_slice_get K.shape.node_of r.0 x.0.first_node 0 r.1)
+      ∙ get_or_from_slice_get K.shape.leaf_of x.0.first_node k.leaf 0 k.has in
       let up : path (tree_of K) k.leaf k.steps ≡ e = path_top k.steps e k.leaf k.under in
       (r.0, k.steps, slice_get_within K.shape.node_of r.0 x.0.first_node r.1, omega arith, sym up ∙ ap (λ z. path (tree_of K) z k.steps) (sym leaf))
 
@@ -225,4 +232,5 @@ module _ (K : Rooted) (P : IsProper K.shape) where
       let c : length K.shape.leaf_of ≡ K.shape.nodes = P.each_node in
       let l = some_at K.shape.leaf_of 0 (omega arith) in
       let u = P.even 0 l.0 l.1 in
-      ap (steps_up K.shape.elements (length K.shape.elements)) (get_or_from_slice_get K.shape.leaf_of 0 l.0 0 l.1) ∙ steps_are (length K.shape.elements) P.levels l.0 (under_there P.levels l.0 u) u
+      ap (steps_up K.shape.elements (length K.shape.elements)) (get_or_from_slice_get K.shape.leaf_of 0 l.0 0 l.1)
+      ∙ steps_are (length K.shape.elements) P.levels l.0 (under_there P.levels l.0 u) u

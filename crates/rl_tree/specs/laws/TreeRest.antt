@@ -22,7 +22,7 @@ use Rattle.rl_tree.specs.declared.rooted.Rooted.{Rooted}
 use Rattle.rl_tree.specs.Elements.{how_many, ranks_in, leaf_of_rank, is_node, of_tree, names_in, queue_at, out_at}
 use Rattle.rl_tree.specs.TreeGood.{gate_of, granted_in, Matches, Tells, Shaped, InQueue, is_open, IsGoodBy}
 use Rattle.rl_tree.specs.laws.TreeClimb.{heads_same, else_zero}
-use Rattle.rl_tree.specs.laws.TreeOnward.{spent_idle}
+use Rattle.rl_tree.specs.laws.TreePuts.{spent_idle}
 use Rattle.rl_tree.specs.laws.TreeCalls.{beside_tree}
 use Rattle.rl_tree.specs.laws.TreeWords.{words_at}
 use Rattle.rl_tree.specs.TreeShape.{IsWellShaped}
@@ -60,14 +60,19 @@ module _ (K : Rooted) (levels : ℕ) (S : IsWellShaped K levels) where
           phase = g.tree.phase;
           line = g.tree.line;
           ended = g.tree.ended;
-          by = beside_tree K levels g.tree.phase g.tree.line g.tree.ended ws vs t e g.tree.by (λ q. beside_apart q (names_in K q).budget e h) (λ q. beside_ends (queue_at K q) e h);
+          by = beside_tree K levels g.tree.phase g.tree.line g.tree.ended ws vs t e g.tree.by
+              (λ q. beside_apart q (names_in K q).budget e h) (λ q. beside_ends (queue_at K q) e h);
         };
         gate = g.gate;
       }
 
   -- a word behind the tree's is none of its queues'
   pub beyond_at : BeyondKeeps K levels
-  beyond_at inside ws vs t w x far g = record { tree = record { phase = F; line = L; ended = g.tree.ended; by = good }; gate = ap (λ z. is_open (gate_of z)) (heads 0 S.some) ∙ g.gate } where
+  beyond_at inside ws vs t w x far g = record {
+    tree = record { phase = F; line = L; ended = g.tree.ended; by = good };
+    gate =
+        ap (λ z. is_open (gate_of z)) (heads 0 S.some) ∙ g.gate;
+  } where
     F : ℕ → ℕ → Phase
     F = g.tree.phase
 
@@ -84,9 +89,11 @@ module _ (K : Rooted) (levels : ℕ) (S : IsWellShaped K levels) where
     states q m i = same _ (words_at K S.root_free q m i).3
 
     queues : (q : ℕ) → q < how_many K → QueueGood (names_in K q) (InQueue K q) (slice_set ws w x) (g.tree.phase q) (g.tree.line q) t (g.tree.ended q)
-    queues q lq = still_keeps (names_in K q) (InQueue K q) ws (slice_set ws w x) (F q) (F q) (L q) t (g.tree.ended q) (g.tree.by.queue q lq) (λ y. refl) (same q (omega arith)) (λ m i. nexts q m i) (λ m i. states q m i)
+    queues q lq = still_keeps (names_in K q) (InQueue K q) ws (slice_set ws w x) (F q) (F q) (L q) t (g.tree.ended q) (g.tree.by.queue q lq)
+        (λ y. refl) (same q (omega arith)) (λ m i. nexts q m i) (λ m i. states q m i)
 
-    heads : (q : ℕ) → q < how_many K → head_in (lane_of (names_in K q) (slice_set ws w x) (g.tree.phase q)) (g.tree.line q) ≡ head_in (lane_of (names_in K q) ws (g.tree.phase q)) (g.tree.line q)
+    heads : (q : ℕ) → q < how_many K → head_in (lane_of (names_in K q) (slice_set ws w x) (g.tree.phase q)) (g.tree.line q) ≡ head_in
+        (lane_of (names_in K q) ws (g.tree.phase q)) (g.tree.line q)
     heads q lq =
         heads_same (lane_of (names_in K q) ws (F q)) (lane_of (names_in K q) (slice_set ws w x) (F q)) (L q) (λ y. refl)
         (λ y h. states q y (in_line (names_in K q).budget (InQueue K q) (lane_of (names_in K q) ws (F q)) (L q) y (g.tree.by.queue q lq).inv h))
@@ -126,7 +133,8 @@ module _ (K : Rooted) (levels : ℕ) (S : IsWellShaped K levels) where
     good =
         record {
           own = λ r v h. (ap (λ z. z.rank) (first r v h), ap (λ z. z.leaf) (first r v h));
-          shaped = λ r v h. subst (Shaped levels) (sym (first r v h)) (record { within = omega arith; resting = λ e. refl; above = λ e. cc; three = refl; hooked = λ e. cc });
+          shaped = λ r v h. subst (Shaped levels) (sym (first r v h))
+              (record { within = omega arith; resting = λ e. refl; above = λ e. cc; three = refl; hooked = λ e. cc });
           queue = queues;
           below = λ r v j h b. let z : v.level ≡ 0 = ap (λ y. y.level) (first r v h) in absurd (omega arith);
           here = λ r v h. subst (λ z. Tells z z.query Idle) (sym (first r v h)) refl;
@@ -138,6 +146,6 @@ module _ (K : Rooted) (levels : ℕ) (S : IsWellShaped K levels) where
   -- WHILE NO RANK IS IN A CALL the root is shut, and its tail is 0
   pub shut_at_rest : IsShutAtRest K levels
   shut_at_rest inside ws vs t all g out =
-      let idle : (m : ℕ) → g.tree.phase 0 m ≡ Idle = λ m. all_idle K levels S ws vs t g.tree all out (S.treed.depth 0) 0 m S.some refl in
+      let idle : (m : ℕ) → g.tree.phase 0 m ≡ Idle = λ m. all_idle S g.tree all out (S.treed.depth 0) 0 m S.some refl in
       let none = no_head K 0 ws (g.tree.phase 0) (g.tree.line 0) t (g.tree.ended 0) (g.tree.by.queue 0 S.some) idle in
       (sym g.gate ∙ ap (λ z. is_open (gate_of z)) none, empty_tail K 0 ws (g.tree.phase 0) (g.tree.line 0) t (g.tree.ended 0) (g.tree.by.queue 0 S.some) idle)

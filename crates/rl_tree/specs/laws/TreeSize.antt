@@ -29,8 +29,10 @@ pigeon (suc n) (suc h) R has one =
     (same_or_not a.0 n))
     (λ i j c li lj ri rj.
     ⊎_elim
-    (λ x. ⊎_elim (λ y. one i j c (omega arith) (omega arith) x y) (λ y. let same : i ≡ h = one i h c (omega arith) (omega arith) x y.1 in absurd (omega arith)) rj)
-    (λ x. ⊎_elim (λ y. let same : j ≡ h = one j h c (omega arith) (omega arith) y x.1 in absurd (omega arith)) (λ y. one i j n (omega arith) (omega arith) x.0 y.0) rj)
+    (λ x. ⊎_elim (λ y. one i j c (omega arith) (omega arith) x y)
+    (λ y. let same : i ≡ h = one i h c (omega arith) (omega arith) x y.1 in absurd (omega arith)) rj)
+    (λ x. ⊎_elim (λ y. let same : j ≡ h = one j h c (omega arith) (omega arith) y x.1 in absurd (omega arith))
+    (λ y. one i j n (omega arith) (omega arith) x.0 y.0) rj)
     ri) in
     omega arith
 
@@ -38,7 +40,8 @@ pigeon (suc n) (suc h) R has one =
 abbrev At : Rooted → ℕ → ℕ → Type 0
 At K e c = (r : ℕ) × (j : ℕ) × (r < ranks_in K) × (j ≤ 3) × (c ≡ r * 4 + j) × (e ≡ path (tree_of K) (leaf_of_rank K r) j)
 
-pub few_elements : (K : Rooted) → ((e : ℕ) → e < how_many K → (r : ℕ) × (j : ℕ) × (r < ranks_in K) × (j ≤ 3) × (e ≡ path (tree_of K) (leaf_of_rank K r) j)) → how_many K ≤ ranks_in K * 4
+pub few_elements : (K : Rooted) → ((e : ℕ) → e < how_many K → (r : ℕ) × (j : ℕ) × (r < ranks_in K) × (j ≤ 3) ×
+    (e ≡ path (tree_of K) (leaf_of_rank K r) j)) → how_many K ≤ ranks_in K * 4
 few_elements K reached =
     pigeon (ranks_in K * 4) (how_many K) (At K)
     (λ e lt.

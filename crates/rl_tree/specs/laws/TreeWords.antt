@@ -55,18 +55,24 @@ module _ (K : Rooted) (root_free : parent_of (slice_get K.shape.elements 0) ≡ 
   member_is q m i = by (is_node K q) refl where
     by : (b : Bool) → is_node K q ≡ b → OfNode K q m ⊎ OfElement K q m
     by true e =
-        let h : (nat_lt m (ranks_in K) && (leaf_of_rank K m == q)) ≡ true = ap (λ z. if z then nat_lt m (ranks_in K) && (leaf_of_rank K m == q) else is_at (parent_of (slice_get K.shape.elements m)) q) (sym e) ∙ i.is in
+        let h : (nat_lt m (ranks_in K) && (leaf_of_rank K m == q)) ≡ true =
+        ap (λ z. if z then nat_lt m (ranks_in K) && (leaf_of_rank K m == q) else is_at (parent_of (slice_get K.shape.elements m)) q)
+        (sym e) ∙ i.is in
         let c = and_both (nat_lt m (ranks_in K)) (leaf_of_rank K m == q) h in
         let lt : m < ranks_in K = let t : nat_lt m (ranks_in K) ≡ true = c.0 in grind (arith, nat_tests) in
         inl (record {
           is = e;
           there = lt;
           mine = eqb_means (leaf_of_rank K m) q c.1;
-          next = ap (λ z. slice_index (if z then every_second (of_elements K) (ranks_in K) else 0 ∷ every_second (how_many K) (how_many K - 1)) m) e ∙ every_second_at (of_elements K) (ranks_in K) m lt;
-          status = ap (λ z. slice_index (if z then every_second (of_elements K + 1) (ranks_in K) else 0 ∷ every_second (how_many K + 1) (how_many K - 1)) m) e ∙ every_second_at (of_elements K + 1) (ranks_in K) m lt;
+          next = ap (λ z. slice_index (if z then every_second (of_elements K) (ranks_in K) else 0 ∷ every_second (how_many K)
+              (how_many K - 1)) m) e ∙ every_second_at (of_elements K) (ranks_in K) m lt;
+          status = ap (λ z. slice_index (if z then every_second (of_elements K + 1) (ranks_in K) else 0 ∷ every_second (how_many K + 1)
+              (how_many K - 1)) m) e ∙ every_second_at (of_elements K + 1) (ranks_in K) m lt;
         })
     by false e =
-        let h : is_at (parent_of (slice_get K.shape.elements m)) q ≡ true = ap (λ z. if z then nat_lt m (ranks_in K) && (leaf_of_rank K m == q) else is_at (parent_of (slice_get K.shape.elements m)) q) (sym e) ∙ i.is in
+        let h : is_at (parent_of (slice_get K.shape.elements m)) q ≡ true =
+        ap (λ z. if z then nat_lt m (ranks_in K) && (leaf_of_rank K m == q) else is_at (parent_of (slice_get K.shape.elements m)) q)
+        (sym e) ∙ i.is in
         let p = at_is (parent_of (slice_get K.shape.elements m)) q h in
         inr (element m p e) where
           element : (m : ℕ) → parent_of (slice_get K.shape.elements m) ≡ Some q → is_node K q ≡ false → OfElement K q m
@@ -82,12 +88,17 @@ module _ (K : Rooted) (root_free : parent_of (slice_get K.shape.elements 0) ≡ 
                 low = omega arith;
                 there = lt;
                 mine = p;
-                next = ap (λ y. slice_index (if y then every_second (of_elements K) (ranks_in K) else 0 ∷ every_second (how_many K) (how_many K - 1)) (suc j)) e ∙ a ∙ ap (λ y. how_many K + 2 * y) (sym z);
-                status = ap (λ y. slice_index (if y then every_second (of_elements K + 1) (ranks_in K) else 0 ∷ every_second (how_many K + 1) (how_many K - 1)) (suc j)) e ∙ b ∙ ap (λ y. how_many K + 1 + 2 * y) (sym z);
+                next = ap (λ y. slice_index (if y then every_second (of_elements K) (ranks_in K) else 0 ∷ every_second (how_many K)
+                    (how_many K - 1)) (suc j)) e ∙ a ∙ ap (λ y. how_many K + 2 * y) (sym z);
+                status = ap (λ y. slice_index (if y then every_second (of_elements K + 1) (ranks_in K) else 0 ∷ every_second
+                    (how_many K + 1) (how_many K - 1)) (suc j)) e ∙ b ∙ ap (λ y. how_many K + 1 + 2 * y) (sym z);
               }
 
   -- where a member's words are, of one word or the other
-  pub words_at : (q m : ℕ) → InQueue K q m → (how_many K ≤ queue_next_word (names_in K q) m) × (queue_next_word (names_in K q) m < of_elements K + 2 * ranks_in K) × (status_word (names_in K q) m ≡ queue_next_word (names_in K q) m + 1) × (status_word (names_in K q) m < of_elements K + 2 * ranks_in K)
+  pub words_at : (q m : ℕ) → InQueue K q m → (how_many K ≤ queue_next_word (names_in K q) m) ×
+      (queue_next_word (names_in K q) m < of_elements K + 2 * ranks_in K) ×
+      (status_word (names_in K q) m ≡ queue_next_word (names_in K q) m + 1) ×
+      (status_word (names_in K q) m < of_elements K + 2 * ranks_in K)
   words_at q m i =
       ⊎_elim
       (λ n. let a = n.next in let b = n.status in let c = n.there in (omega arith, omega arith, omega arith, omega arith))
@@ -103,19 +114,22 @@ module _ (K : Rooted) (root_free : parent_of (slice_get K.shape.elements 0) ≡ 
       (λ o. let a = n.next in let b = o.next in let c = o.there in let d = o.low in absurd (omega arith)) (member_is x k j))
       (λ n. ⊎_elim
       (λ o. let a = n.next in let b = o.next in let c = n.there in let d = n.low in absurd (omega arith))
-      (λ o. let a = n.next in let b = o.next in let c = n.low in let d = o.low in let s : m ≡ k = omega arith in (s, same_Some _ _ (sym n.mine ∙ ap (λ z. parent_of (slice_get K.shape.elements z)) s ∙ o.mine))) (member_is x k j))
+      (λ o. let a = n.next in let b = o.next in let c = n.low in let d = o.low in let s : m ≡ k = omega arith in
+      (s, same_Some _ _ (sym n.mine ∙ ap (λ z. parent_of (slice_get K.shape.elements z)) s ∙ o.mine))) (member_is x k j))
       (member_is q m i)
 
   -- next words and status words have other parities behind the tails, so none is both
   pub never_both : (q x m k : ℕ) → InQueue K q m → InQueue K x k → queue_next_word (names_in K q) m ≢ status_word (names_in K x) k
   never_both q x m k i j e =
       ⊎_elim
-      (λ n. ⊎_elim (λ o. let a = n.next in let b = o.status in absurd (omega arith)) (λ o. let a = n.next in let b = o.status in let c = o.there in let d = o.low in absurd (omega arith)) (member_is x k j))
-      (λ n. ⊎_elim (λ o. let a = n.next in let b = o.status in let c = n.there in let d = n.low in absurd (omega arith)) (λ o. let a = n.next in let b = o.status in let c = n.low in let d = o.low in absurd (omega arith)) (member_is x k j))
+      (λ n. ⊎_elim (λ o. let a = n.next in let b = o.status in absurd (omega arith))
+      (λ o. let a = n.next in let b = o.status in let c = o.there in let d = o.low in absurd (omega arith)) (member_is x k j))
+      (λ n. ⊎_elim (λ o. let a = n.next in let b = o.status in let c = n.there in let d = n.low in absurd (omega arith))
+      (λ o. let a = n.next in let b = o.status in let c = n.low in let d = o.low in absurd (omega arith)) (member_is x k j))
       (member_is q m i)
 
   -- so the queues' words are as they should be
-  pub is_worded : (size : ℕ) → size ≡ of_elements K + 2 * ranks_in K → IsWorded K size
+  pub is_worded : (size : ℕ) → of_elements K + 2 * ranks_in K ≤ size → IsWorded K size
   is_worded size es =
       record {
         naming = λ q lq. record {
@@ -133,11 +147,13 @@ module _ (K : Rooted) (root_free : parent_of (slice_get K.shape.elements 0) ≡ 
           places = λ w p r.
               ⊎_elim
               (λ e. ⊎_elim (λ f. ne (sym e ∙ f))
-              (λ f. ⊎_elim (λ y. let v = words_at x y.0 y.1.0 in let a = v.0 in let b = y.1.1 in absurd (omega arith)) (λ y. let v = words_at x y.0 y.1.0 in let a = v.0 in let c = v.2 in let b = y.1.1 in absurd (omega arith)) f) r)
+              (λ f. ⊎_elim (λ y. let v = words_at x y.0 y.1.0 in let a = v.0 in let b = y.1.1 in absurd (omega arith))
+              (λ y. let v = words_at x y.0 y.1.0 in let a = v.0 in let c = v.2 in let b = y.1.1 in absurd (omega arith)) f) r)
               (λ e. ⊎_elim
               (λ z. let u = words_at q z.0 z.1.0 in let a = u.0 in let b = z.1.1 in
               ⊎_elim (λ f. absurd (omega arith))
-              (λ f. ⊎_elim (λ y. ne (same_words q x z.0 y.0 z.1.0 y.1.0 (sym z.1.1 ∙ y.1.1)).1) (λ y. never_both q x z.0 y.0 z.1.0 y.1.0 (sym z.1.1 ∙ y.1.1)) f) r)
+              (λ f. ⊎_elim (λ y. ne (same_words q x z.0 y.0 z.1.0 y.1.0 (sym z.1.1 ∙ y.1.1)).1)
+              (λ y. never_both q x z.0 y.0 z.1.0 y.1.0 (sym z.1.1 ∙ y.1.1)) f) r)
               (λ z. let u = words_at q z.0 z.1.0 in let a = u.0 in let b = z.1.1 in let c = u.2 in
               ⊎_elim (λ f. absurd (omega arith))
               (λ f. ⊎_elim (λ y. never_both x q y.0 z.0 y.1.0 z.1.0 (sym y.1.1 ∙ z.1.1))

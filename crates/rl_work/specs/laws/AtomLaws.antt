@@ -59,7 +59,8 @@ module _ (site : Site) (words : List ℕ) (sides : List WorkSide) (g : WorkGood 
 
   pub atom_can : (at : Atom) (home : ℕ → ℕ) (cards : List ℕ) → work_atom site.geom x.work ≡ Some at → CanDo (home_at home at) r at words cards
   atom_can at home cards planned = by_stage x.work.stage (g.fits r x has) planned where
-    by_write : (made : ℕ) → IsDecided site r g.journal g.before x → (o : Option Write) → slice_get x.work.writes made ≡ o → Some (write_atom (x.work.at + length x.work.entries) o) ≡ Some at → CanDo (home_at home at) r at words cards
+    by_write : (made : ℕ) → IsDecided site r g.journal g.before x → (o : Option Write) → slice_get x.work.writes made ≡ o →
+        Some (write_atom (x.work.at + length x.work.entries) o) ≡ Some at → CanDo (home_at home at) r at words cards
     by_write made d (Some w) e p =
         let inside : w.word < volume_words site.geom = all_at (λ z. z.word < volume_words site.geom) x.work.writes made w d.is_next.inside e in
         let size = g.size in
@@ -85,13 +86,15 @@ module _ (site : Site) (words : List ℕ) (sides : List WorkSide) (g : WorkGood 
 
   -- an atom that finds the rank at this stage keeps the rule
   abbrev Kept : List ℕ → Stage → Atom → Type 0
-  Kept cards st a = WorkGood site (do_words a words) (slice_set sides r (side_turned x.standing (stage_after site.geom site.shard r x.work (do_got a words cards) st)))
+  Kept cards st a = WorkGood site (do_words a words) (slice_set sides r
+      (side_turned x.standing (stage_after site.geom site.shard r x.work (do_got a words cards) st)))
 
   -- every atom of the work keeps the rule
   pub atom_keeps : IsApart sides → IsHolder x.standing → (at : Atom) (cards : List ℕ) → work_atom site.geom x.work ≡ Some at →
       WorkGood site (do_words at words) (slice_set sides r (side_after site r x (do_got at words cards)))
   atom_keeps apart holds at cards planned = by_stage x.work.stage refl planned where
-    by_write : (made : ℕ) → x.work.stage ≡ Volume made → (o : Option Write) → slice_get x.work.writes made ≡ o → Some (write_atom (x.work.at + length x.work.entries) o) ≡ Some at →
+    by_write : (made : ℕ) → x.work.stage ≡ Volume made → (o : Option Write) → slice_get x.work.writes made ≡ o →
+        Some (write_atom (x.work.at + length x.work.entries) o) ≡ Some at →
         WorkGood site (do_words at words) (slice_set sides r (side_turned x.standing (written_on x.work made o)))
     by_write made st (Some w) e p =
         subst (λ a. WorkGood site (do_words a words) (slice_set sides r (side_turned x.standing (written_on x.work made (Some w))))) (same_Some _ _ p)
@@ -127,7 +130,8 @@ module _ (site : Site) (words : List ℕ) (sides : List WorkSide) (g : WorkGood 
         let long : length x.work.entries ≡ length x.work.calls = sym (length-map x.work.entries (λ (e : Entry). e.call)) ∙ ap length d.same_calls in
         let at_end : x.work.at ≡ length g.journal = d.found in
         let fits = g.geom_fits in
-        let low_words : All (λ w. w.word < 2 ^ 31) x.work.writes = All-weaker (λ w. w.word < volume_words site.geom) (λ w. w.word < 2 ^ 31) (λ w h. omega arith) x.work.writes d.is_next.inside in
+        let low_words : All (λ w. w.word < 2 ^ 31) x.work.writes =
+        All-weaker (λ w. w.word < volume_words site.geom) (λ w. w.word < 2 ^ 31) (λ w h. omega arith) x.work.writes d.is_next.inside in
         (f.1, low_words, omega arith)
 
   -- the numbers of the entries of an open block fit
@@ -144,9 +148,11 @@ module _ (site : Site) (words : List ℕ) (sides : List WorkSide) (g : WorkGood 
       }
 
   -- and to make what the atom gave of it
-  pub can_turn : lock_base site < 2 ^ 32 → (at : Atom) (cards : List ℕ) → work_atom site.geom x.work ≡ Some at → CanTurn site.geom x.work (do_got at words cards) x.work.stage
+  pub can_turn : lock_base site < 2 ^ 32 → (at : Atom) (cards : List ℕ) → work_atom site.geom x.work ≡ Some at →
+      CanTurn site.geom x.work (do_got at words cards) x.work.stage
   can_turn low at cards planned = by_stage x.work.stage (g.fits r x has) planned where
-    by_stage : (st : Stage) → FitsAt site words g.journal g.before r x st → stage_atom site.geom x.work st ≡ Some at → CanTurn site.geom x.work (do_got at words cards) st
+    by_stage : (st : Stage) → FitsAt site words g.journal g.before r x st → stage_atom site.geom x.work st ≡ Some at →
+        CanTurn site.geom x.work (do_got at words cards) st
     by_stage Rest f p = tt
     by_stage Begin f p =
         let few : length g.journal ≤ places site = journal_short site words sides g in
@@ -162,43 +168,46 @@ module _ (site : Site) (words : List ℕ) (sides : List WorkSide) (g : WorkGood 
         (f.1, let room = f.0.open_call.room in omega arith)
 
   -- a change of its standing by an atom of the lock
-  pub shift_keeps : (st : Standing) (es : List Event) → Shift r x.standing st es → WorkGood site words (slice_set sides r (record { standing = st; work = x.work }))
-  shift_keeps st es shift = side_stays site words sides g r x has (record { standing = st; work = x.work }) (λ calm. calm) refl refl (by_stage x.work.stage (g.fits r x has)) where
-    asks_on : (a b : Standing) → Shift r a b es → IsInCall a → IsInCall b
-    asks_on Out b s i = absurd i
-    asks_on Asking Out s i = absurd s
-    asks_on Asking Asking s i = tt
-    asks_on Asking Writer s i = tt
-    asks_on Asking Reader s i = tt
-    asks_on Asking Leaving s i = absurd s
-    asks_on Writer b s i = absurd s
-    asks_on Reader b s i = absurd s
-    asks_on Leaving b s i = absurd i
+  pub shift_keeps : (st : Standing) (es : List Event) → Shift r x.standing st es →
+      WorkGood site words (slice_set sides r (record { standing = st; work = x.work }))
+  shift_keeps st es shift = side_stays site words sides g r x has (record { standing = st; work = x.work }) (λ calm. calm) refl refl
+      (by_stage x.work.stage (g.fits r x has)) where
+        asks_on : (a b : Standing) → Shift r a b es → IsInCall a → IsInCall b
+        asks_on Out b s i = absurd i
+        asks_on Asking Out s i = absurd s
+        asks_on Asking Asking s i = tt
+        asks_on Asking Writer s i = tt
+        asks_on Asking Reader s i = tt
+        asks_on Asking Leaving s i = absurd s
+        asks_on Writer b s i = absurd s
+        asks_on Reader b s i = absurd s
+        asks_on Leaving b s i = absurd i
 
-    is_done : (a b : Standing) → Shift r a b es → IsDone a → IsDone b
-    is_done Out b s i = absurd s
-    is_done Asking b s i = absurd i
-    is_done Writer b s i = absurd s
-    is_done Reader b s i = absurd s
-    is_done Leaving Out s i = tt
-    is_done Leaving Asking s i = absurd s
-    is_done Leaving Writer s i = absurd s
-    is_done Leaving Reader s i = absurd s
-    is_done Leaving Leaving s i = tt
+        is_done : (a b : Standing) → Shift r a b es → IsDone a → IsDone b
+        is_done Out b s i = absurd s
+        is_done Asking b s i = absurd i
+        is_done Writer b s i = absurd s
+        is_done Reader b s i = absurd s
+        is_done Leaving Out s i = tt
+        is_done Leaving Asking s i = absurd s
+        is_done Leaving Writer s i = absurd s
+        is_done Leaving Reader s i = absurd s
+        is_done Leaving Leaving s i = tt
 
-    no_holder : (a b : Standing) → Shift r a b es → IsHolder a → ⊥
-    no_holder Out b s i = i
-    no_holder Asking b s i = i
-    no_holder Writer b s i = s
-    no_holder Reader b s i = s
-    no_holder Leaving b s i = i
+        no_holder : (a b : Standing) → Shift r a b es → IsHolder a → ⊥
+        no_holder Out b s i = i
+        no_holder Asking b s i = i
+        no_holder Writer b s i = s
+        no_holder Reader b s i = s
+        no_holder Leaving b s i = i
 
-    by_stage : (stage : Stage) → FitsAt site words g.journal g.before r x stage → FitsAt site words g.journal g.before r (record { standing = st; work = x.work }) stage
-    by_stage Rest f = is_done x.standing st shift f
-    by_stage Begin f = (f.0, asks_on x.standing st shift f.1, f.2, f.3, f.4)
-    by_stage (Read count word) f = absurd (no_holder x.standing st shift f.holds)
-    by_stage (Journal made) f = absurd (no_holder x.standing st shift (subst IsHolder (sym f.0.writes) tt))
-    by_stage (Volume made) f = absurd (no_holder x.standing st shift (subst IsHolder (sym f.0.writes) tt))
+        by_stage : (stage : Stage) → FitsAt site words g.journal g.before r x stage →
+            FitsAt site words g.journal g.before r (record { standing = st; work = x.work }) stage
+        by_stage Rest f = is_done x.standing st shift f
+        by_stage Begin f = (f.0, asks_on x.standing st shift f.1, f.2, f.3, f.4)
+        by_stage (Read count word) f = absurd (no_holder x.standing st shift f.holds)
+        by_stage (Journal made) f = absurd (no_holder x.standing st shift (subst IsHolder (sym f.0.writes) tt))
+        by_stage (Volume made) f = absurd (no_holder x.standing st shift (subst IsHolder (sym f.0.writes) tt))
 
   -- where a rank is out its work is over
   rests_out : x.standing ≡ Out → (stage : Stage) → FitsAt site words g.journal g.before r x stage → is_writing stage ≡ false
@@ -209,12 +218,15 @@ module _ (site : Site) (words : List ℕ) (sides : List WorkSide) (g : WorkGood 
   rests_out out (Volume made) f = let e = f.0.writes in absurd (cc)
 
   -- the opening of a block
-  pub open_keeps : (c : List Call) (seq : ℕ) → x.standing ≡ Out → IsOpen site r c seq x.work.transcript → WorkGood site words (slice_set sides r (record { standing = Asking; work = with_block x.work c seq }))
+  pub open_keeps : (c : List Call) (seq : ℕ) → x.standing ≡ Out → IsOpen site r c seq x.work.transcript →
+      WorkGood site words (slice_set sides r (record { standing = Asking; work = with_block x.work c seq }))
   open_keeps c seq out o =
-      side_stays site words sides g r x has (record { standing = Asking; work = with_block x.work c seq }) (λ _. rests_out out x.work.stage (g.fits r x has)) refl refl (o, tt, refl, refl, refl)
+      side_stays site words sides g r x has (record { standing = Asking; work = with_block x.work c seq })
+      (λ _. rests_out out x.work.stage (g.fits r x has)) refl refl (o, tt, refl, refl, refl)
 
 -- the opening state meets the rule
-pub opening_good : (site : Site) → GeomFits site.geom → (sides : List WorkSide) → length sides ≡ length site.rooms → ((r : ℕ) (x : WorkSide) → slice_get sides r ≡ Some x → IsFirst site.geom x) →
+pub opening_good : (site : Site) → GeomFits site.geom → (sides : List WorkSide) → length sides ≡ length site.rooms →
+    ((r : ℕ) (x : WorkSide) → slice_get sides r ≡ Some x → IsFirst site.geom x) →
     WorkGood site (opening_words site) sides
 opening_good site fits sides ranks first =
     let empty : (k : ℕ) (t : List Entry) → slice_get (transcripts sides) k ≡ Some t → t ≡ [] = λ k t get.
@@ -240,7 +252,8 @@ opening_good site fits sides ranks first =
       own = λ r x get. subst (IsOwnTranscript site r) (sym (first r x get).nothing)
           (record { own = All-nil (IsOwn site.shard r); in_order = λ i e f a b. absurd (cc); place = omega arith });
       seen_rooms = λ r x get. (first r x get).seen_room;
-      fits = λ r x get. subst (FitsAt site (opening_words site) [] (start_words site.geom) r x) (sym (first r x get).rests) (subst IsDone (sym (first r x get).out) tt);
+      fits = λ r x get. subst (FitsAt site (opening_words site) [] (start_words site.geom) r x) (sym (first r x get).rests)
+          (subst IsDone (sym (first r x get).out) tt);
     }
 
 -- the batch number is that of so many calls
@@ -250,14 +263,16 @@ batch_back (suc zero) ne = absurd (ne refl)
 batch_back (suc (suc n)) ne = let miss : (suc (suc n) == 1) ≡ false = grind (arith, nat_tests) in ap (λ b. if b then 0 else suc (suc n)) miss
 
 -- the decided entries are of the open block
-pub entry_calls : (site : Site) (words : List ℕ) (sides : List WorkSide) (g : WorkGood site words sides) (r : ℕ) (x : WorkSide) → slice_get sides r ≡ Some x → (made : ℕ) → x.work.stage ≡ Volume made →
+pub entry_calls : (site : Site) (words : List ℕ) (sides : List WorkSide) (g : WorkGood site words sides) (r : ℕ) (x : WorkSide) →
+    slice_get sides r ≡ Some x → (made : ℕ) → x.work.stage ≡ Volume made →
     (calls_of x.work.entries ≡ x.work.calls) × Tells site.shard r (batch_in x.work) x.work.seq 0 x.work.entries
 entry_calls site words sides g r x has made stage =
     let f : FitsAt site words g.journal g.before r x (Volume made) = subst (FitsAt site words g.journal g.before r x) stage (g.fits r x has) in
     let l : IsLegalBlock site.geom (table_after site.geom finite.empty g.journal) (length g.journal) x.work.entries = f.0.is_next.legal in
     let many : length x.work.calls ≡ size_of l.batch = ap length (sym f.0.same_calls) ∙ length-map x.work.entries (λ (e : Entry). e.call) ∙ l.is.whole in
     let batch : l.batch ≡ batch_in x.work = sym (batch_back l.batch l.is.not_one) ∙ ap batch_number (sym many) in
-    let told : Tells site.shard l.rank l.batch l.seq 0 x.work.entries = parts_tell site.shard l.rank l.batch l.seq (length g.journal) 0 x.work.entries l.is.parts
+    let told : Tells site.shard l.rank l.batch l.seq 0 x.work.entries =
+    parts_tell site.shard l.rank l.batch l.seq (length g.journal) 0 x.work.entries l.is.parts
     (subst (λ k. All (IsOwn site.shard k) x.work.entries) (sym f.0.is_next.mine) f.0.is_next.own) in (
       f.0.same_calls,
       subst (λ k. Tells site.shard k (batch_in x.work) x.work.seq 0 x.work.entries) f.0.is_next.mine
@@ -266,25 +281,36 @@ entry_calls site words sides g r x has made stage =
     )
 
 -- where calls were decided, they are calls of the open block
-pub few_replies : (site : Site) (words : List ℕ) (sides : List WorkSide) (g : WorkGood site words sides) (r : ℕ) (x : WorkSide) → slice_get sides r ≡ Some x → (x.work.stage ≡ Begin) ⊎ ((count : ℕ) × (word : ℕ) × (x.work.stage ≡ Read count word)) →
+pub few_replies : (site : Site) (words : List ℕ) (sides : List WorkSide) (g : WorkGood site words sides) (r : ℕ) (x : WorkSide) →
+    slice_get sides r ≡ Some x → (x.work.stage ≡ Begin) ⊎ ((count : ℕ) × (word : ℕ) × (x.work.stage ≡ Read count word)) →
     length x.work.replies ≤ length x.work.calls
 few_replies site words sides g r x has at =
     ⊎_elim
-    (λ st. let f : FitsAt site words g.journal g.before r x Begin = subst (FitsAt site words g.journal g.before r x) st (g.fits r x has) in omega (arith, ap length f.3))
+    (λ st. let f : FitsAt site words g.journal g.before r x Begin = subst (FitsAt site words g.journal g.before r x) st (g.fits r x has) in
+    omega (arith, ap length f.3))
     (λ q.
     let f : IsReading site r g.journal g.before x q.0 q.1 = subst (FitsAt site words g.journal g.before r x) q.2 (g.fits r x has) in
     let p : HasDecided site g.journal g.before x.work (f.call ∷ f.rest) = f.partly in
-    omega (arith, ap length p.replies_are, turn_length site.geom (table_after site.geom finite.empty g.journal) p.first, ap length p.split, length-append p.first (f.call ∷ f.rest)))
+    omega (
+      arith,
+      ap length p.replies_are,
+      turn_length site.geom
+          (table_after site.geom finite.empty g.journal) p.first,
+      ap length p.split,
+      length-append p.first (f.call ∷ f.rest),
+    ))
     at
 
 -- who reads a word for a call alone has read few
-pub few_loads : (site : Site) (words : List ℕ) (sides : List WorkSide) (g : WorkGood site words sides) (r : ℕ) (x : WorkSide) → slice_get sides r ≡ Some x → (call : Call) (count word : ℕ) → x.work.calls ≡ call ∷ [] → x.work.stage ≡ Read count word →
+pub few_loads : (site : Site) (words : List ℕ) (sides : List WorkSide) (g : WorkGood site words sides) (r : ℕ) (x : WorkSide) →
+    slice_get sides r ≡ Some x → (call : Call) (count word : ℕ) → x.work.calls ≡ call ∷ [] → x.work.stage ≡ Read count word →
     length x.work.seen.pairs < most_reads site.geom call
 few_loads site words sides g r x has call count word alone stage =
     let f : IsReading site r g.journal g.before x count word = subst (FitsAt site words g.journal g.before r x) stage (g.fits r x has) in
     let p : HasDecided site g.journal g.before x.work (f.call ∷ f.rest) = f.partly in
     let few : length x.work.seen.pairs < most_reads site.geom f.call =
-    subst (λ o. IfSome o (λ word. length x.work.seen.pairs < most_reads site.geom f.call)) f.next (few_read site.geom f.call x.work.seen.pairs (f.named (ap length alone))) in
+    subst (λ o. IfSome o (λ word. length x.work.seen.pairs < most_reads site.geom f.call)) f.next
+    (few_read site.geom f.call x.work.seen.pairs (f.named (ap length alone))) in
     subst (λ c. length x.work.seen.pairs < most_reads site.geom c) (only p.first f.call f.rest (p.split ∙ alone)) few
   where
     only : (first : List Call) (c : Call) (rest : List Call) → first ++ c ∷ rest ≡ call ∷ [] → c ≡ call
@@ -300,7 +326,8 @@ holds_on Reader d h = d
 holds_on Leaving d h = h
 
 -- a rank that holds the lock has an atom of the work
-pub holder_works : (site : Site) (words : List ℕ) (sides : List WorkSide) (g : WorkGood site words sides) (r : ℕ) (x : WorkSide) → slice_get sides r ≡ Some x → IsHolder x.standing → work_atom site.geom x.work ≡ None → ⊥
+pub holder_works : (site : Site) (words : List ℕ) (sides : List WorkSide) (g : WorkGood site words sides) (r : ℕ) (x : WorkSide) →
+    slice_get sides r ≡ Some x → IsHolder x.standing → work_atom site.geom x.work ≡ None → ⊥
 holder_works site words sides g r x has holds none = by_stage x.work.stage (g.fits r x has) none where
   by_stage : (st : Stage) → FitsAt site words g.journal g.before r x st → stage_atom site.geom x.work st ≡ None → ⊥
   by_stage Rest f e = holds_on x.standing f holds
@@ -310,7 +337,8 @@ holder_works site words sides g r x has holds none = by_stage x.work.stage (g.fi
   by_stage (Volume made) f e = cc
 
 -- and its block has calls
-pub holder_asks : (site : Site) (words : List ℕ) (sides : List WorkSide) (g : WorkGood site words sides) (r : ℕ) (x : WorkSide) → slice_get sides r ≡ Some x → IsHolder x.standing → 1 ≤ length x.work.calls
+pub holder_asks : (site : Site) (words : List ℕ) (sides : List WorkSide) (g : WorkGood site words sides) (r : ℕ) (x : WorkSide) →
+    slice_get sides r ≡ Some x → IsHolder x.standing → 1 ≤ length x.work.calls
 holder_asks site words sides g r x has holds = by_stage x.work.stage (g.fits r x has) where
   by_stage : (st : Stage) → FitsAt site words g.journal g.before r x st → 1 ≤ length x.work.calls
   by_stage Rest f = absurd (holds_on x.standing f holds)
@@ -320,7 +348,8 @@ holder_asks site words sides g r x has holds = by_stage x.work.stage (g.fits r x
   by_stage (Volume made) f = f.0.open_call.is_block.some
 
 -- who stores is a writer
-pub stores_alone : (site : Site) (words : List ℕ) (sides : List WorkSide) (g : WorkGood site words sides) (r : ℕ) (x : WorkSide) → slice_get sides r ≡ Some x → stores x.work.stage ≡ true → x.standing ≡ Writer
+pub stores_alone : (site : Site) (words : List ℕ) (sides : List WorkSide) (g : WorkGood site words sides) (r : ℕ) (x : WorkSide) →
+    slice_get sides r ≡ Some x → stores x.work.stage ≡ true → x.standing ≡ Writer
 stores_alone site words sides g r x has writes = by_stage x.work.stage (g.fits r x has) writes where
   by_stage : (st : Stage) → FitsAt site words g.journal g.before r x st → stores st ≡ true → x.standing ≡ Writer
   by_stage Rest f e = absurd (cc)

@@ -88,7 +88,8 @@ later_parts shares n (e ∷ es) rises =
     omega (arith, count-cons (is_tenure shares) e es, later_parts shares (n + 1) es rises.1)
 
 -- a block is one tenure where a writer has done it
-block_counts : (shares : Bool) (st : Standing) (b : List Entry) → IsHolder st → 1 ≤ length b → Rises 0 b → Suits shares (mode_of (calls_of b)) st → count_by (is_tenure shares) b ≡ tenure_by st
+block_counts : (shares : Bool) (st : Standing) (b : List Entry) → IsHolder st → 1 ≤ length b → Rises 0 b →
+    Suits shares (mode_of (calls_of b)) st → count_by (is_tenure shares) b ≡ tenure_by st
 block_counts shares st [] h some rises s = absurd (omega arith)
 block_counts shares st (e ∷ es) h some rises s = omega (arith, count-cons (is_tenure shares) e es, later_parts shares 0 es rises.1, by_standing st h s) where
   by_standing : (st : Standing) → IsHolder st → Suits shares (mode_of (calls_of (e ∷ es))) st → cond {A = ℕ} (is_tenure shares e) 1 0 ≡ tenure_by st
@@ -107,15 +108,17 @@ holder_open Reader busy next h e = e.0
 holder_open Leaving busy next h e = absurd h
 
 -- each atom of the work inside a lock is told as a touch
-pub work_tells : (geom : Geom) (x : TheWork) (base : ℕ) (st : Standing) (calls : List Call) (stage : Stage) (at : Atom) → stage_atom geom x stage ≡ Some at → TellsTouch base at st calls (Some (stores stage))
+pub work_tells : (geom : Geom) (x : TheWork) (base : ℕ) (st : Standing) (calls : List Call) (stage : Stage) (at : Atom) →
+    stage_atom geom x stage ≡ Some at → TellsTouch base at st calls (Some (stores stage))
 work_tells geom x base st calls Rest at p = absurd (cc)
 work_tells geom x base st calls Begin at p = subst (λ z. TellsTouch base z st calls (Some false)) (same_Some _ _ p) (λ low. inl refl)
 work_tells geom x base st calls (Read count word) at p = subst (λ z. TellsTouch base z st calls (Some false)) (same_Some _ _ p) (λ low. inl refl)
 work_tells geom x base st calls (Journal made) at p = subst (λ z. TellsTouch base z st calls (Some true)) (same_Some _ _ p) (λ low. refl)
-work_tells geom x base st calls (Volume made) at p = subst (λ z. TellsTouch base z st calls (Some true)) (same_Some _ _ p) (by_write (slice_get x.writes made)) where
-  by_write : (o : Option Write) → TellsTouch base (write_atom (x.at + length x.entries) o) st calls (Some true)
-  by_write (Some w) = λ low. refl
-  by_write None = λ low. refl
+work_tells geom x base st calls (Volume made) at p = subst (λ z. TellsTouch base z st calls (Some true)) (same_Some _ _ p)
+    (by_write (slice_get x.writes made)) where
+      by_write : (o : Option Write) → TellsTouch base (write_atom (x.at + length x.entries) o) st calls (Some true)
+      by_write (Some w) = λ low. refl
+      by_write None = λ low. refl
 
 -- an atom that can be made on the first words of a list is made on them alone
 take_set_in : (n : ℕ) (l : List ℕ) (i v : ℕ) → i < n → take n (slice_set l i v) ≡ slice_set (take n l) i v
@@ -152,7 +155,8 @@ front_names base r home (atom.CardStore w v) ws cs p c = absurd p
 front_names base r home (atom.Leave n) ws cs p c = absurd p
 
 -- and it is an atom of the work
-front_atom : (site : Site) (behind r home : ℕ) (at : Atom) (ws cs : List ℕ) → lock_base site ≤ behind → IsPlain at → CanDo home r at (take (lock_base site) ws) cs → IsWorkAtom (locked_table site behind) at
+front_atom : (site : Site) (behind r home : ℕ) (at : Atom) (ws cs : List ℕ) → lock_base site ≤ behind → IsPlain at →
+    CanDo home r at (take (lock_base site) ws) cs → IsWorkAtom (locked_table site behind) at
 front_atom site behind r home (atom.Load w) ws cs le p c =
     let low : w < length (take (lock_base site) ws) = c in
     let here : w < lock_base site = omega (arith, length-take (lock_base site) ws) in
@@ -278,12 +282,16 @@ module _ (site : Site) (behind : ℕ) where
     makes : good (do_words at words) (slice_set sides r (side_after T r x got))
     makes =
         subst (λ z. WorkGood site z (slice_set sides r (side_after T r x got))) (sym on.front)
-        (subst (λ st. WorkGood site (do_words at (take (lock_base site) words)) (slice_set sides r (record { standing = st; work = turned.work }))) (sym (done_after turned.over x.standing holder))
-        (subst (λ n. WorkGood site (do_words at (take (lock_base site) words)) (slice_set sides r (locked_turned x.standing (work_after site.geom site.shard r x.work n)))) (sym on.got)
+        (subst (λ st. WorkGood site (do_words at (take (lock_base site) words))
+        (slice_set sides r (record { standing = st; work = turned.work }))) (sym (done_after turned.over x.standing holder))
+        (subst (λ n. WorkGood site (do_words at (take (lock_base site) words))
+        (slice_set sides r (locked_turned x.standing (work_after site.geom site.shard r x.work n)))) (sym on.got)
         (atom_keeps site (take (lock_base site) words) sides rule r x w.side.there (apart sides w.apart) holder at cards w.planned)))
 
     ended : Ends site.shard r x.work turned
-    ended = turn_ends site.geom site.shard r x.work x.work.stage got (few_replies site (take (lock_base site) words) sides rule r x w.side.there) (λ made st. entry_calls site (take (lock_base site) words) sides rule r x w.side.there made st)
+    ended = turn_ends site.geom site.shard r x.work x.work.stage got
+        (few_replies site (take (lock_base site) words) sides rule r x w.side.there)
+        (λ made st. entry_calls site (take (lock_base site) words) sides rule r x w.side.there made st)
 
     -- the block is open before the atom, and after it where its work isn't over
     was_open : has_work x.work.stage ≡ true
@@ -299,13 +307,16 @@ module _ (site : Site) (behind : ℕ) where
 
     still_open : (b : Bool) → turned.over ≡ b → b ≡ false → has_work turned.work.stage ≡ true
     still_open true e f = cc
-    still_open false e f = holder_open x.standing (has_work turned.work.stage) (work_atom site.geom turned.work) holder (subst (λ b. GoesOnAt (standing_after (follow_by b) x.standing) (has_work turned.work.stage) (work_atom site.geom turned.work)) e
+    still_open false e f = holder_open x.standing (has_work turned.work.stage) (work_atom site.geom turned.work) holder
+        (subst (λ b. GoesOnAt (standing_after (follow_by b) x.standing) (has_work turned.work.stage) (work_atom site.geom turned.work)) e
         (goes_on (do_words at words) (slice_set sides r (side_after T r x got)) r (side_after T r x got) after_is))
 
     now_closed : turned.over ≡ true → has_work turned.work.stage ≡ false
-    now_closed e = by_holder x.standing holder (subst (λ b. GoesOnAt (standing_after (follow_by b) x.standing) (has_work turned.work.stage) (work_atom site.geom turned.work)) e
+    now_closed e = by_holder x.standing holder
+        (subst (λ b. GoesOnAt (standing_after (follow_by b) x.standing) (has_work turned.work.stage) (work_atom site.geom turned.work)) e
         (goes_on (do_words at words) (slice_set sides r (side_after T r x got)) r (side_after T r x got) after_is)) where
-          by_holder : (st : Standing) → IsHolder st → GoesOnAt (standing_after Over st) (has_work turned.work.stage) (work_atom site.geom turned.work) → has_work turned.work.stage ≡ false
+          by_holder : (st : Standing) → IsHolder st → GoesOnAt (standing_after Over st) (has_work turned.work.stage)
+              (work_atom site.geom turned.work) → has_work turned.work.stage ≡ false
           by_holder Out h e = absurd h
           by_holder Asking h e = absurd h
           by_holder Writer h e = e
@@ -339,7 +350,8 @@ module _ (site : Site) (behind : ℕ) where
     own_work : AtomWork site.shard r (seen x.work) (seen turned.work)
     own_work = own_by turned.over refl
 
-    changes : (k : ℕ) (u y : WorkSide) → slice_get sides k ≡ Some u → slice_get (slice_set sides r (side_after T r x got)) k ≡ Some y → AtomWork site.shard k (seen u.work) (seen y.work)
+    changes : (k : ℕ) (u y : WorkSide) → slice_get sides k ≡ Some u → slice_get (slice_set sides r (side_after T r x got)) k ≡ Some y →
+        AtomWork site.shard k (seen u.work) (seen y.work)
     changes k u y was is =
         ⊎_elim
         (λ q.
@@ -349,7 +361,8 @@ module _ (site : Site) (behind : ℕ) where
         (subst (λ (z : WorkSide). AtomWork site.shard r (seen x.work) (seen z.work)) (sym q.1) own_work)))
         (λ q.
         let same : u ≡ y = one_at sides k u y was q.1 in
-        subst (λ (z : WorkSide). AtomWork site.shard k (seen u.work) (seen z.work)) same (inl (record { same_calls = refl; same_seq = refl; same_items = refl; same_room = refl; owes = refl })))
+        subst (λ (z : WorkSide). AtomWork site.shard k (seen u.work) (seen z.work)) same
+        (inl (record { same_calls = refl; same_seq = refl; same_items = refl; same_room = refl; owes = refl })))
         (get_set_cases sides r k (side_after T r x got) y is)
 
     asks_out : (b : Bool) → AsksOut (follow_by b) x.standing
@@ -369,10 +382,18 @@ module _ (site : Site) (behind : ℕ) where
     tenures_by shares s false e = ap (count_by (is_tenure shares)) (subst (EndsBy site.shard r x.work turned.work) e ended.kept) ∙ omega arith
     tenures_by shares s true e =
         let k : EndsBy site.shard r x.work turned.work true = subst (EndsBy site.shard r x.work turned.work) e ended.kept in
-        let some : 1 ≤ length k.0 = omega (arith, length-map k.0 (λ (e : Entry). e.call), ap length k.2, holder_asks site (take (lock_base site) words) sides rule r x w.side.there holder) in
+        let some : 1 ≤ length k.0 = omega (
+          arith,
+          length-map k.0 (λ (e : Entry). e.call),
+          ap length k.2,
+          holder_asks site
+              (take (lock_base site) words) sides rule r x w.side.there holder,
+        ) in
         let more : count_by (is_tenure shares) k.0 ≡ tenure_by x.standing =
-        block_counts shares x.standing k.0 holder some (tells_rise site.shard r (batch_in x.work) x.work.seq 0 k.0 k.3) (subst (λ c. Suits shares (mode_of c) x.standing) (sym k.2) s) in
-        ap (count_by (is_tenure shares)) k.1 ∙ count-append (is_tenure shares) x.work.transcript.items k.0 ∙ ap (λ n. count_by (is_tenure shares) x.work.transcript.items + n) more
+        block_counts shares x.standing k.0 holder some (tells_rise site.shard r (batch_in x.work) x.work.seq 0 k.0 k.3)
+        (subst (λ c. Suits shares (mode_of c) x.standing) (sym k.2) s) in
+        ap (count_by (is_tenure shares)) k.1 ∙ count-append (is_tenure shares) x.work.transcript.items k.0
+        ∙ ap (λ n. count_by (is_tenure shares) x.work.transcript.items + n) more
 
   first_good : (x : WorkSide) (r : ℕ) → IsFirst T r x → FirstLocked site.geom x
   first_good x r f =
@@ -408,16 +429,20 @@ module _ (site : Site) (behind : ℕ) where
         fronts = λ words sides r x at w told. fronts words [] sides r x at w;
         answers = λ words cards sides r x at w. tt;
         alone = λ words cards sides r x at one w. refl;
-        legal = λ words sides g laid. subst (IsLegal site.geom (journal_of site (take (lock_base site) words))) (same_transcripts words 0 sides) (always_legal site (take (lock_base site) words) sides g);
-        sorted = λ words sides g laid. subst (λ t. IsSorted (history (journal_of site (take (lock_base site) words)) t)) (same_transcripts words 0 sides) (always_sorted site (take (lock_base site) words) sides g);
-        short = λ words sides g laid. let short = journal_short site (take (lock_base site) words) sides g in let same = ap length (journal_is site (take (lock_base site) words) sides g) in omega arith;
+        legal = λ words sides g laid. subst (IsLegal site.geom (journal_of site (take (lock_base site) words)))
+            (same_transcripts words 0 sides) (always_legal site (take (lock_base site) words) sides g);
+        sorted = λ words sides g laid. subst (λ t. IsSorted (history (journal_of site (take (lock_base site) words)) t))
+            (same_transcripts words 0 sides) (always_sorted site (take (lock_base site) words) sides g);
+        short = λ words sides g laid. let short = journal_short site (take (lock_base site) words) sides g in
+            let same = ap length (journal_is site (take (lock_base site) words) sides g) in omega arith;
         own = λ words sides r x s. let g = s.is_good in g.own r x s.there;
         changes = λ words cards sides r x at w k u y was is. changes words cards sides r x at w k u y was is;
         turns = λ words cards sides r x at w. own_work words cards sides r x at w;
         tenures = λ words cards sides r x at w shares s. tenures_by words cards sides r x at w shares s _ refl;
         volume = λ words sides g laid closed.
             let same : volume_of site.geom (take (lock_base site) words) ≡ g.before = g.still (λ r x get. not_writing x.work.stage (closed r x get)) in
-            subst (λ j. IsVolume site.geom site.shard (volume_of site.geom (take (lock_base site) words)) (table_after site.geom finite.empty j)) (sym (journal_is site (take (lock_base site) words) sides g))
+            subst (λ j. IsVolume site.geom site.shard (volume_of site.geom (take (lock_base site) words))
+            (table_after site.geom finite.empty j)) (sym (journal_is site (take (lock_base site) words) sides g))
             (subst (λ l. IsVolume site.geom site.shard l (table_after site.geom finite.empty g.journal)) (sym same) g.volume);
       }
 

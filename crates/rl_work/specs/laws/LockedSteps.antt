@@ -44,7 +44,8 @@ either_few true p q a c = a
 either_few false p q a c = c
 
 put_few : (geom : Geom) (at : Words) (bucket key value : ℕ) (o : Option ℕ) → length (put_by geom at bucket key value o).0 ≤ 5
-put_few geom at bucket key value None = either_few (at (state_word bucket) == 0) _ (put_in_cell geom at bucket key value (named geom (at 0))) (omega arith) (cell_few geom at bucket key value (named geom (at 0)))
+put_few geom at bucket key value None = either_few (at (state_word bucket) == 0) _
+    (put_in_cell geom at bucket key value (named geom (at 0))) (omega arith) (cell_few geom at bucket key value (named geom (at 0)))
 put_few geom at bucket key value (Some word) = omega arith
 
 add_few : (at : Words) (by : ℕ) (o : Option ℕ) → length (add_by at by o).0 ≤ 5
@@ -70,7 +71,8 @@ entries_few shard rank batch seq at part [] rs = omega arith
 entries_few shard rank batch seq at part (c ∷ cs) [] = omega arith
 entries_few shard rank batch seq at part (c ∷ cs) (a ∷ rs) = let k = entries_few shard rank batch (seq + 1) (at + 1) (part + 1) cs rs in omega arith
 
-close_few : (volume shard rank : ℕ) (x : TheWork) (count : ℕ) (b : Bool) → far volume (block_close_by shard rank x count b).work ≤ 6 * length x.calls + length x.writes + 2
+close_few : (volume shard rank : ℕ) (x : TheWork) (count : ℕ) (b : Bool) →
+    far volume (block_close_by shard rank x count b).work ≤ 6 * length x.calls + length x.writes + 2
 close_few volume shard rank x count true = let k = entries_few shard rank (batch_in x) x.seq count 0 x.calls x.replies in omega arith
 close_few volume shard rank x count false = omega arith
 
@@ -82,15 +84,19 @@ module _ (geom : Geom) (shard rank count : ℕ) where
   volume : ℕ
   volume = volume_words geom
 
-  next_few : (x : TheWork) (o : Option ℕ) (on : WorkTurned) → far (volume_words geom) on.work ≤ reading (volume_words geom) x → far (volume_words geom) (read_next x count o on).work ≤ reading (volume_words geom) x
+  next_few : (x : TheWork) (o : Option ℕ) (on : WorkTurned) → far (volume_words geom) on.work ≤ reading (volume_words geom) x →
+      far (volume_words geom) (read_next x count o on).work ≤ reading (volume_words geom) x
   next_few x (Some word) on le = omega arith
   next_few x None on le = le
 
-  stops_few : (b : Bool) (x : TheWork) (p q : WorkTurned) → far (volume_words geom) p.work ≤ reading (volume_words geom) x → far (volume_words geom) q.work ≤ reading (volume_words geom) x → far (volume_words geom) (if b then p else q).work ≤ reading (volume_words geom) x
+  stops_few : (b : Bool) (x : TheWork) (p q : WorkTurned) → far (volume_words geom) p.work ≤ reading (volume_words geom) x →
+      far (volume_words geom) q.work ≤ reading (volume_words geom) x →
+      far (volume_words geom) (if b then p else q).work ≤ reading (volume_words geom) x
   stops_few true x p q a c = a
   stops_few false x p q a c = c
 
-  on_few : (rest : List Call) (x : TheWork) → length rest ≡ length x.calls - length x.replies → far (volume_words geom) (read_on geom shard rank count rest x).work ≤ reading (volume_words geom) x
+  on_few : (rest : List Call) (x : TheWork) → length rest ≡ length x.calls - length x.replies →
+      far (volume_words geom) (read_on geom shard rank count rest x).work ≤ reading (volume_words geom) x
   on_few [] x e = let k = close_few (volume_words geom) shard rank x count (asks_update x.calls) in omega arith
   on_few (c ∷ rest) x e =
       let d = decision_of geom x c in
@@ -98,22 +104,26 @@ module _ (geom : Geom) (shard rank count : ℕ) where
       let few : length d.0 ≤ 5 = decision_few geom c (value_or_zero x.seen.pairs) in
       let writes : length y.writes ≡ length x.writes + length d.0 = length-append x.writes d.0 in
       let replies : length y.replies ≡ length x.replies + 1 = length-append x.replies (d.1 ∷ []) in
-      let seen : words_unseen (volume_words geom) y.seen.pairs ≤ words_unseen (volume_words geom) x.seen.pairs = words_unseen_less (volume_words geom) x.seen.pairs (patched x.seen.pairs d.0) (patched_stays x.seen.pairs d.0) in
+      let seen : words_unseen (volume_words geom) y.seen.pairs ≤ words_unseen (volume_words geom) x.seen.pairs =
+      words_unseen_less (volume_words geom) x.seen.pairs (patched x.seen.pairs d.0) (patched_stays x.seen.pairs d.0) in
       let one_less : length rest ≡ length y.calls - length y.replies = omega arith in
       let then_on = on_few rest y one_less in
       let stop = close_few (volume_words geom) shard rank (with_stop x d.1 rest) count (asks_update x.calls) in
       next_few x (next_word geom c x.seen.pairs) _
-      (stops_few (stops_block (length x.calls) d.1) x (block_close shard rank (with_stop x d.1 rest) count) (read_on geom shard rank count rest y) (omega arith) (omega arith))
+      (stops_few (stops_block (length x.calls) d.1) x (block_close shard rank (with_stop x d.1 rest) count)
+      (read_on geom shard rank count rest y) (omega arith) (omega arith))
 
   seen_few : (x : TheWork) → far (volume_words geom) (seen_on geom shard rank x count).work ≤ reading (volume_words geom) x
   seen_few x = on_few (left_of x) x (length-drop (length x.replies) x.calls)
 
 module _ (geom : Geom) (shard rank : ℕ) where
-  journal_less : (volume : ℕ) (x : TheWork) (made : ℕ) (b : Bool) → made < 6 * length x.entries → far volume (if b then to_stage x (Volume 0) else to_stage x (Journal (made + 1))).work < far_at volume x (Journal made)
+  journal_less : (volume : ℕ) (x : TheWork) (made : ℕ) (b : Bool) → made < 6 * length x.entries →
+      far volume (if b then to_stage x (Volume 0) else to_stage x (Journal (made + 1))).work < far_at volume x (Journal made)
   journal_less volume x made true lt = omega arith
   journal_less volume x made false lt = omega arith
 
-  written_less : (volume : ℕ) (x : TheWork) (made : ℕ) (o : Option Write) → slice_get x.writes made ≡ o → far volume (written_on x made o).work < far_at volume x (Volume made)
+  written_less : (volume : ℕ) (x : TheWork) (made : ℕ) (o : Option Write) → slice_get x.writes made ≡ o →
+      far volume (written_on x made o).work < far_at volume x (Volume made)
   written_less volume x made (Some w) e = let k = slice_get_within x.writes made w e in omega arith
   written_less volume x made None e = omega arith
 
@@ -125,7 +135,8 @@ module _ (geom : Geom) (shard rank : ℕ) where
   BeginsAnew x (Journal made) = Unit {0}
   BeginsAnew x (Volume made) = Unit {0}
 
-  pub stage_less : (x : TheWork) (got : ℕ) (stage : Stage) → BeginsAnew x stage → CanTurn geom x got stage → far (volume_words geom) (stage_after geom shard rank x got stage).work < far_at (volume_words geom) x stage
+  pub stage_less : (x : TheWork) (got : ℕ) (stage : Stage) → BeginsAnew x stage → CanTurn geom x got stage →
+      far (volume_words geom) (stage_after geom shard rank x got stage).work < far_at (volume_words geom) x stage
   stage_less x got Rest new can = absurd new
   stage_less x got Begin new can =
       let k = seen_few geom shard rank got x in
@@ -139,7 +150,8 @@ module _ (geom : Geom) (shard rank : ℕ) where
       let decide = can.2 in
       let low : word < volume_words geom = subst (λ n. word < n) decide.seen_room can.0 in
       let fall : words_unseen (volume_words geom) y.seen.pairs + 1 ≤ words_unseen (volume_words geom) x.seen.pairs =
-      words_unseen_falls (volume_words geom) x.seen.pairs (x.seen.pairs ++ (word, got) ∷ []) word low (ap one_unless can.1) (appended_seen x.seen.pairs word got) (appended_stays x.seen.pairs word got) in
+      words_unseen_falls (volume_words geom) x.seen.pairs (x.seen.pairs ++ (word, got) ∷ []) word low (ap one_unless can.1)
+      (appended_seen x.seen.pairs word got) (appended_stays x.seen.pairs word got) in
       omega arith
   stage_less x got (Journal made) new can = journal_less (volume_words geom) x made (made + 1 == 6 * length x.entries) can
   stage_less x got (Volume made) new can = written_less (volume_words geom) x made (slice_get x.writes made) refl

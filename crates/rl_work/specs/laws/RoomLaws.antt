@@ -68,18 +68,33 @@ module _ (site : Site) (words : List ℕ) (sides : List WorkSide) (g : WorkGood 
   all_ranks : All (λ e. e.rank < length site.rooms) g.journal
   all_ranks = subst (λ m. All (λ e. e.rank < m) g.journal) (length-map sides transcript_of ∙ g.ranks) g.legal.ranks_are
 
-  pub place_left : (r : ℕ) (x : WorkSide) → slice_get sides r ≡ Some x → HasOpen site r x.work → asks_update x.work.calls ≡ true → length g.journal + length x.work.calls ≤ places site
+  pub place_left : (r : ℕ) (x : WorkSide) → slice_get sides r ≡ Some x → HasOpen site r x.work → asks_update x.work.calls ≡ true →
+      length g.journal + length x.work.calls ≤ places site
   place_left r x has o is =
       let n : ℕ = length site.rooms in
       let there : r < n = let h = slice_get_within sides r x has in let e = g.ranks in omega arith in
       let f : ℕ → ℕ = λ k. count_by (is_of k) g.journal in
       let m : ℕ = length x.work.calls in
-      let fewer : f r + m ≤ slice_index site.rooms r = let p = o.place in let yes : places_needed (asks_update x.work.calls) m ≡ m = ap (λ b. places_needed b m) is in omega (arith, made_by r x has) in
-      omega (arith, sum_less f (slice_index site.rooms) n r m few_made there fewer, sum_is site.rooms, sum_of_counts (λ (e : Entry). e.rank) n g.journal, all_below n g.journal all_ranks)
+      let fewer : f r + m ≤ slice_index site.rooms r = let p = o.place in
+      let yes : places_needed (asks_update x.work.calls) m ≡ m = ap (λ b. places_needed b m) is in omega (arith, made_by r x has) in
+      omega (
+        arith,
+        sum_less f (slice_index site.rooms) n r m few_made there fewer,
+        sum_is site.rooms,
+        sum_of_counts (λ (e : Entry). e.rank)
+            n g.journal,
+        all_below n g.journal all_ranks,
+      )
 
   -- the journal is never longer than its places
   pub journal_short : length g.journal ≤ places site
   journal_short =
       let n : ℕ = length site.rooms in
       let f : ℕ → ℕ = λ k. count_by (is_of k) g.journal in
-      omega (arith, sum_at_most f (slice_index site.rooms) n few_made, sum_is site.rooms, sum_of_counts (λ (e : Entry). e.rank) n g.journal, all_below n g.journal all_ranks)
+      omega (
+        arith,
+        sum_at_most f (slice_index site.rooms) n few_made,
+        sum_is site.rooms,
+        sum_of_counts (λ (e : Entry). e.rank) n g.journal,
+        all_below n g.journal all_ranks,
+      )

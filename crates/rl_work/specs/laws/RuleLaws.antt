@@ -17,9 +17,14 @@ use Rattle.rl_work.specs.WorkGood.{WorkSide, WorkGood, transcripts}
 -- what holds of all elements, one by one
 each_of : (shard rank r : ℕ) → rank ≡ r → (es : List Entry) → All (IsOwn shard rank) es → AllByRecursion (λ e. e.rank ≡ r) es
 each_of shard rank r same [] all = tt
-each_of shard rank r same (e ∷ es) all = ((All-head (IsOwn shard rank) e es all).rank_is ∙ same, each_of shard rank r same es (All-tail (IsOwn shard rank) e es all))
+each_of shard rank r same (e ∷ es) all = (
+  (All-head (IsOwn shard rank) e es all).rank_is
+      ∙ same,
+  each_of shard rank r same es (All-tail (IsOwn shard rank) e es all),
+)
 
-own_from : (site : Site) (r : ℕ) (sides : List WorkSide) → ((i : ℕ) (x : WorkSide) → slice_get sides i ≡ Some x → IsOwnTranscript site (r + i) x.work.transcript.items) → AreOwn r (transcripts sides)
+own_from : (site : Site) (r : ℕ) (sides : List WorkSide) → ((i : ℕ) (x : WorkSide) → slice_get sides i ≡ Some x →
+    IsOwnTranscript site (r + i) x.work.transcript.items) → AreOwn r (transcripts sides)
 own_from site r [] own = tt
 own_from site r (x ∷ sides) own =
     let q : IsOwnTranscript site (r + 0) x.work.transcript.items = own 0 x refl in (
@@ -42,4 +47,5 @@ module _ (site : Site) (words : List ℕ) (sides : List WorkSide) (g : WorkGood 
   always_legal = subst (λ j. IsLegal site.geom j (transcripts sides)) (sym journal_is) g.legal
 
   pub always_sorted : IsSorted (history (journal_of site words) (transcripts sides))
-  always_sorted = subst (λ j. IsSorted (history j (transcripts sides))) (sym journal_is) (history_sorted site.geom g.journal (transcripts sides) g.legal transcripts_own)
+  always_sorted = subst (λ j. IsSorted (history j (transcripts sides))) (sym journal_is)
+      (history_sorted site.geom g.journal (transcripts sides) g.legal transcripts_own)

@@ -24,13 +24,16 @@ module _ (site : Site) (words : List ℕ) (sides : List WorkSide) (g : WorkGood 
   the_transcript = get_map transcript_of sides r x has
 
   -- every earlier entry of the rank stands before the next one
-  pub stands : (seq : ℕ) → All (λ e. e.seq < seq) x.work.transcript.items → (i : ℕ) (d : Entry) → slice_get x.work.transcript.items i ≡ Some d → IsBefore seq (length g.journal) d
+  pub stands : (seq : ℕ) → All (λ e. e.seq < seq) x.work.transcript.items → (i : ℕ) (d : Entry) →
+      slice_get x.work.transcript.items i ≡ Some d → IsBefore seq (length g.journal) d
   stands seq fresh i d get =
-      let m : IsMarked g.journal d = all_at (IsMarked g.journal) x.work.transcript.items i d (marked site.geom g.journal (transcripts sides) g.legal r x.work.transcript.items the_transcript) get in
+      let m : IsMarked g.journal d = all_at (IsMarked g.journal) x.work.transcript.items i d
+      (marked site.geom g.journal (transcripts sides) g.legal r x.work.transcript.items the_transcript) get in
       record { number = all_at (λ z. z.seq < seq) x.work.transcript.items i d fresh get; low = m.low; beyond = m.within }
 
   -- a transcript with a get or hold more
-  own_read : (e : Entry) → IsOwn site.shard r e → updates e ≡ false → All (λ d. d.seq < e.seq) x.work.transcript.items → e.at ≡ length g.journal → IsOwnTranscript site r (x.work.transcript.items ++ e ∷ [])
+  own_read : (e : Entry) → IsOwn site.shard r e → updates e ≡ false → All (λ d. d.seq < e.seq) x.work.transcript.items →
+      e.at ≡ length g.journal → IsOwnTranscript site r (x.work.transcript.items ++ e ∷ [])
   own_read e own is fresh at =
       let t : List Entry = x.work.transcript.items in
       let q : IsOwnTranscript site r t = g.own r x has in
@@ -53,10 +56,13 @@ module _ (site : Site) (words : List ℕ) (sides : List WorkSide) (g : WorkGood 
   -- this rank's new side
   module _ (y : WorkSide) where
     -- by other words, too, which spell a journal and hold a volume: those that the others fit
-    pub one_moves : (vs : List ℕ) (k : List Entry) (c : List ℕ) → length vs ≡ length words → slice_index vs 0 ≡ slice_index words 0 → slice_index vs count_word ≡ length k →
+    pub one_moves : (vs : List ℕ) (k : List Entry) (c : List ℕ) → length vs ≡ length words → slice_index vs 0 ≡ slice_index words 0 →
+        slice_index vs count_word ≡ length k →
         Agrees vs (journal_base site.geom) (spelled k) → IsVolume site.geom site.shard c (table_after site.geom finite.empty k) →
-        (((i : ℕ) (u : WorkSide) → slice_get (slice_set sides r y) i ≡ Some u → is_writing u.work.stage ≡ false) → volume_of site.geom vs ≡ c) → All (λ e. IsOwn site.shard e.rank e) k →
-        IsLegal site.geom k (slice_set (transcripts sides) r y.work.transcript.items) → y.work.seen.room ≡ x.work.seen.room → IsOwnTranscript site r y.work.transcript.items → Fits site vs k c r y →
+        (((i : ℕ) (u : WorkSide) → slice_get (slice_set sides r y) i ≡ Some u → is_writing u.work.stage ≡ false) → volume_of site.geom vs ≡
+        c) → All (λ e. IsOwn site.shard e.rank e) k →
+        IsLegal site.geom k (slice_set (transcripts sides) r y.work.transcript.items) → y.work.seen.room ≡ x.work.seen.room →
+        IsOwnTranscript site r y.work.transcript.items → Fits site vs k c r y →
         ((i : ℕ) (u : WorkSide) → i ≢ r → slice_get sides i ≡ Some u → Fits site vs k c i u) → WorkGood site vs (slice_set sides r y)
     one_moves vs k c size fixed count spells volume still here legal room own fits others =
         record {
@@ -73,7 +79,8 @@ module _ (site : Site) (words : List ℕ) (sides : List WorkSide) (g : WorkGood 
           here = here;
           legal = subst (IsLegal site.geom k) (sym (map_set transcript_of sides r y)) legal;
           own = λ i u get. ⊎_elim
-              (λ q. subst (λ z. IsOwnTranscript site z u.work.transcript.items) (sym q.0) (subst (λ (z : WorkSide). IsOwnTranscript site r z.work.transcript.items) (sym q.1) own))
+              (λ q. subst (λ z. IsOwnTranscript site z u.work.transcript.items) (sym q.0)
+              (subst (λ (z : WorkSide). IsOwnTranscript site r z.work.transcript.items) (sym q.1) own))
               (λ q. g.own i u q.1)
               (get_set_cases sides r i y u get);
           seen_rooms = λ i u get. ⊎_elim
@@ -87,8 +94,10 @@ module _ (site : Site) (words : List ℕ) (sides : List WorkSide) (g : WorkGood 
         }
 
     -- by the same words: where the new side makes no writes, the one before made none
-    pub side_moves : (is_writing y.work.stage ≡ false → is_writing x.work.stage ≡ false) → IsLegal site.geom g.journal (slice_set (transcripts sides) r y.work.transcript.items) →
-        y.work.seen.room ≡ x.work.seen.room → IsOwnTranscript site r y.work.transcript.items → Fits site words g.journal g.before r y → WorkGood site words (slice_set sides r y)
+    pub side_moves : (is_writing y.work.stage ≡ false → is_writing x.work.stage ≡ false) →
+        IsLegal site.geom g.journal (slice_set (transcripts sides) r y.work.transcript.items) →
+        y.work.seen.room ≡ x.work.seen.room → IsOwnTranscript site r y.work.transcript.items → Fits site words g.journal g.before r y →
+        WorkGood site words (slice_set sides r y)
     side_moves calm legal room own fits =
         one_moves words g.journal g.before refl refl g.count g.spells g.volume
         (λ none. g.still (λ i u get. ⊎_elim
@@ -100,16 +109,20 @@ module _ (site : Site) (words : List ℕ) (sides : List WorkSide) (g : WorkGood 
         g.here legal room own fits (λ i u other get. g.fits i u get)
 
     -- and with the same transcript
-    pub side_stays : (is_writing y.work.stage ≡ false → is_writing x.work.stage ≡ false) → y.work.transcript ≡ x.work.transcript → y.work.seen.room ≡ x.work.seen.room → Fits site words g.journal g.before r y →
+    pub side_stays : (is_writing y.work.stage ≡ false → is_writing x.work.stage ≡ false) → y.work.transcript ≡ x.work.transcript →
+        y.work.seen.room ≡ x.work.seen.room → Fits site words g.journal g.before r y →
         WorkGood site words (slice_set sides r y)
     side_stays calm kept room fits = side_moves calm (legal_kept y.work.transcript kept) room (own_kept y.work.transcript kept) fits
 
     -- or with an entry more, of a get or hold that looked at the journal as it is, and was answered by its table
-    pub entry_joins : (e : Entry) → is_writing x.work.stage ≡ false → y.work.seen.room ≡ x.work.seen.room → y.work.transcript.items ≡ x.work.transcript.items ++ e ∷ [] →
-        IsOwn site.shard r e → updates e ≡ false → All (λ d. d.seq < e.seq) x.work.transcript.items → e.at ≡ length g.journal → e.reply ≡ (apply site.geom e.call (table_after site.geom finite.empty g.journal)).1 →
+    pub entry_joins : (e : Entry) → is_writing x.work.stage ≡ false → y.work.seen.room ≡ x.work.seen.room →
+        y.work.transcript.items ≡ x.work.transcript.items ++ e ∷ [] →
+        IsOwn site.shard r e → updates e ≡ false → All (λ d. d.seq < e.seq) x.work.transcript.items → e.at ≡ length g.journal → e.reply ≡
+        (apply site.geom e.call (table_after site.geom finite.empty g.journal)).1 →
         Fits site words g.journal g.before r y → WorkGood site words (slice_set sides r y)
     entry_joins e calm room items own is fresh at reply fits =
-        let answered : IsAnswered site.geom g.journal e = reply ∙ ap (λ m. (apply site.geom e.call m).1) (sym (ap (map_at site.geom g.journal) at ∙ map_end site.geom g.journal)) in
+        let answered : IsAnswered site.geom g.journal e = reply
+        ∙ ap (λ m. (apply site.geom e.call m).1) (sym (ap (map_at site.geom g.journal) at ∙ map_end site.geom g.journal)) in
         let past : Begins g.journal e.at = λ f get. let within = slice_get_within g.journal e.at f get in absurd (omega arith) in
         side_moves (λ _. calm)
         (subst (λ z. IsLegal site.geom g.journal (slice_set (transcripts sides) r z)) (sym items)

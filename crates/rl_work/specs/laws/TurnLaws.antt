@@ -40,10 +40,12 @@ any_append [] ys = refl
 any_append (x ∷ xs) ys = elim (stops x) as (λ b. (b || any_stops (xs ++ ys)) ≡ ((b || any_stops xs) || any_stops ys)) [ true ↦ refl | false ↦ any_append xs ys ]
 
 -- the first reply that stops a batch, behind others
-pub first_stop : (xs : List Reply) (a : Reply) (ys : List Reply) → any_stops xs ≡ false → stops a ≡ true → only_first (xs ++ a ∷ ys) ≡ undone xs ++ a ∷ undone ys
+pub first_stop : (xs : List Reply) (a : Reply) (ys : List Reply) → any_stops xs ≡ false → stops a ≡ true →
+    only_first (xs ++ a ∷ ys) ≡ undone xs ++ a ∷ undone ys
 first_stop [] a ys none is = ap (λ b. cond b (a ∷ undone ys) (Undone ∷ only_first ys)) is
 first_stop (x ∷ xs) a ys none is =
-    elim (stops x) as (λ b. (b || any_stops xs) ≡ false → cond b (x ∷ undone (xs ++ a ∷ ys)) (Undone ∷ only_first (xs ++ a ∷ ys)) ≡ Undone ∷ (undone xs ++ a ∷ undone ys)) [
+    elim (stops x) as (λ b. (b || any_stops xs) ≡ false → cond b (x ∷ undone (xs ++ a ∷ ys)) (Undone ∷ only_first (xs ++ a ∷ ys)) ≡ Undone ∷
+    (undone xs ++ a ∷ undone ys)) [
       | true ↦ λ n. absurd (cc)
       | false ↦ λ n. ap (λ z. Undone ∷ z) (first_stop xs a ys n is)
     ] none
@@ -59,7 +61,8 @@ undone_many [] = refl
 undone_many (x ∷ xs) = ap (λ z. Undone ∷ z) (undone_many xs)
 
 -- as many undone calls as there are replies, and as many as there are calls left
-pub undone_filled : {X : Type 0} (rs : List Reply) (a : Reply) (cs : List X) (before after : ℕ) → before ≡ length rs → after ≡ length cs → replicate before Undone ++ a ∷ replicate after Undone ≡ undone rs ++ a ∷ undone cs
+pub undone_filled : {X : Type 0} (rs : List Reply) (a : Reply) (cs : List X) (before after : ℕ) → before ≡ length rs → after ≡ length cs →
+    replicate before Undone ++ a ∷ replicate after Undone ≡ undone rs ++ a ∷ undone cs
 undone_filled rs a cs before after b l =
     ap (λ n. replicate n Undone ++ a ∷ replicate after Undone) b ∙ ap (λ n. replicate (length rs) Undone ++ a ∷ replicate n Undone) l
     ∙ ap (λ z. z ++ a ∷ replicate (length cs) Undone) (undone_many rs) ∙ ap (λ z. undone rs ++ a ∷ z) (undone_many cs)
@@ -101,7 +104,8 @@ module _ (geom : Geom) (t : Table) where
   as_batch (suc n) cs h = refl
 
   -- a block that nothing stops
-  pub block_runs : (cs : List Call) → 1 ≤ length cs → ((length cs ≡ 1 → ⊥) → any_stops (in_turn geom t cs).1 ≡ false) → apply_block geom (batch_number (length cs)) cs t ≡ in_turn geom t cs
+  pub block_runs : (cs : List Call) → 1 ≤ length cs → ((length cs ≡ 1 → ⊥) → any_stops (in_turn geom t cs).1 ≡ false) →
+      apply_block geom (batch_number (length cs)) cs t ≡ in_turn geom t cs
   block_runs cs some none =
       elim (length cs == 1) as (λ b. (length cs == 1) ≡ b → apply_block geom (batch_number (length cs)) cs t ≡ in_turn geom t cs) [
         | true ↦ λ e. let one : length cs ≡ 1 = grind (arith, nat_tests) in ap (λ n. apply_block geom n cs t) (batch_alone (length cs) one)
@@ -112,7 +116,8 @@ module _ (geom : Geom) (t : Table) where
       ] refl
 
   -- a batch that a call stops
-  pub block_stops : (first : List Call) (c : Call) (rest : List Call) → (length (first ++ c ∷ rest) ≡ 1 → ⊥) → any_stops (in_turn geom t first).1 ≡ false → stops (apply geom c (in_turn geom t first).0).1 ≡ true →
+  pub block_stops : (first : List Call) (c : Call) (rest : List Call) → (length (first ++ c ∷ rest) ≡ 1 → ⊥) →
+      any_stops (in_turn geom t first).1 ≡ false → stops (apply geom c (in_turn geom t first).0).1 ≡ true →
       apply_block geom (batch_number (length (first ++ c ∷ rest))) (first ++ c ∷ rest) t
       ≡ (t, undone (in_turn geom t first).1 ++ (apply geom c (in_turn geom t first).0).1 ∷ undone rest)
   block_stops first c rest other none is =
@@ -123,7 +128,8 @@ module _ (geom : Geom) (t : Table) where
       let some : 1 ≤ length cs = omega (arith, length-append first (c ∷ rest)) in
       let replies : (in_turn geom t cs).1 ≡ (in_turn geom t first).1 ++ a ∷ later = turn_replies geom t first (c ∷ rest) in
       let hit : any_stops (in_turn geom t cs).1 ≡ true =
-      ap any_stops replies ∙ any_append (in_turn geom t first).1 (a ∷ later) ∙ ap (λ b. b || (stops a || any_stops later)) none ∙ ap (λ b. b || any_stops later) is in
+      ap any_stops replies ∙ any_append (in_turn geom t first).1 (a ∷ later) ∙ ap (λ b. b || (stops a || any_stops later)) none
+      ∙ ap (λ b. b || any_stops later) is in
       ap (λ n. apply_block geom n cs t) (batch_more (length cs) other) ∙ as_batch (length cs) cs some
       ∙ ap (λ b. cond {A = Table × List Reply} b (t, only_first (in_turn geom t cs).1) (in_turn geom t cs)) hit
       ∙ ap (λ z. (t, only_first z)) replies ∙ ap (λ z. (t, z)) (first_stop (in_turn geom t first).1 a later none is)
@@ -146,30 +152,39 @@ goes_is n a e other =
 
 -- the entries of calls and replies
 module _ (shard rank batch : ℕ) where
-  pub entries_calls : (seq at part : ℕ) (cs : List Call) (rs : List Reply) → length rs ≡ length cs → calls_of (entries_of shard rank batch seq at part cs rs) ≡ cs
+  pub entries_calls : (seq at part : ℕ) (cs : List Call) (rs : List Reply) → length rs ≡ length cs →
+      calls_of (entries_of shard rank batch seq at part cs rs) ≡ cs
   entries_calls seq at part [] rs e = refl
   entries_calls seq at part (c ∷ cs) [] e = absurd (omega arith)
   entries_calls seq at part (c ∷ cs) (a ∷ rs) e = ap (λ z. c ∷ z) (entries_calls (seq + 1) (at + 1) (part + 1) cs rs (omega arith))
 
-  pub entries_replies : (seq at part : ℕ) (cs : List Call) (rs : List Reply) → length rs ≡ length cs → replies_of (entries_of shard rank batch seq at part cs rs) ≡ rs
+  pub entries_replies : (seq at part : ℕ) (cs : List Call) (rs : List Reply) → length rs ≡ length cs →
+      replies_of (entries_of shard rank batch seq at part cs rs) ≡ rs
   entries_replies seq at part [] [] e = refl
   entries_replies seq at part [] (a ∷ rs) e = absurd (omega arith)
   entries_replies seq at part (c ∷ cs) [] e = absurd (omega arith)
   entries_replies seq at part (c ∷ cs) (a ∷ rs) e = ap (λ z. a ∷ z) (entries_replies (seq + 1) (at + 1) (part + 1) cs rs (omega arith))
 
-  pub entries_length : (seq at part : ℕ) (cs : List Call) (rs : List Reply) → length rs ≡ length cs → length (entries_of shard rank batch seq at part cs rs) ≡ length cs
+  pub entries_length : (seq at part : ℕ) (cs : List Call) (rs : List Reply) → length rs ≡ length cs →
+      length (entries_of shard rank batch seq at part cs rs) ≡ length cs
   entries_length seq at part [] rs e = refl
   entries_length seq at part (c ∷ cs) [] e = absurd (omega arith)
   entries_length seq at part (c ∷ cs) (a ∷ rs) e = ap suc (entries_length (seq + 1) (at + 1) (part + 1) cs rs (omega arith))
 
-  pub entries_parts : (seq at part : ℕ) (cs : List Call) (rs : List Reply) → AreUpdates cs → AreParts rank batch seq at part (entries_of shard rank batch seq at part cs rs)
+  pub entries_parts : (seq at part : ℕ) (cs : List Call) (rs : List Reply) → AreUpdates cs →
+      AreParts rank batch seq at part (entries_of shard rank batch seq at part cs rs)
   entries_parts seq at part [] rs all = tt
   entries_parts seq at part (c ∷ cs) [] all = tt
-  entries_parts seq at part (c ∷ cs) (a ∷ rs) all =
-      (record { is_update = all.0; rank_is = refl; batch_is = refl; seq_is = refl; place = refl; part_is = refl }, entries_parts (seq + 1) (at + 1) (part + 1) cs rs all.1)
+  entries_parts seq at part (c ∷ cs) (a ∷ rs) all = (
+    record { is_update = all.0; rank_is = refl; batch_is = refl; seq_is = refl; place = refl; part_is = refl },
+    entries_parts (seq + 1)
+        (at + 1) (part + 1) cs rs all.1,
+  )
 
-  pub entries_own : (seq at part : ℕ) (cs : List Call) (rs : List Reply) → seq + length cs ≤ 2 ^ 32 → All (IsOwn shard rank) (entries_of shard rank batch seq at part cs rs)
+  pub entries_own : (seq at part : ℕ) (cs : List Call) (rs : List Reply) → seq + length cs ≤ 2 ^ 32 →
+      All (IsOwn shard rank) (entries_of shard rank batch seq at part cs rs)
   entries_own seq at part [] rs low = All-nil (IsOwn shard rank)
   entries_own seq at part (c ∷ cs) [] low = All-nil (IsOwn shard rank)
   entries_own seq at part (c ∷ cs) (a ∷ rs) low =
-      All-cons (IsOwn shard rank) _ (entries_of shard rank batch (seq + 1) (at + 1) (part + 1) cs rs) (record { shard_is = refl; rank_is = refl; small = omega arith }) (entries_own (seq + 1) (at + 1) (part + 1) cs rs (omega arith))
+      All-cons (IsOwn shard rank) _ (entries_of shard rank batch (seq + 1) (at + 1) (part + 1) cs rs)
+      (record { shard_is = refl; rank_is = refl; small = omega arith }) (entries_own (seq + 1) (at + 1) (part + 1) cs rs (omega arith))

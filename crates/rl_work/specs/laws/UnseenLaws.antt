@@ -40,7 +40,8 @@ put_there : (q : ℕ × ℕ) (ps : List (ℕ × ℕ)) (word value w : ℕ) (b : 
     one_unless (value_of (if b then (word, value) ∷ ps else q ∷ with_value ps word value) w) ≤ one_unless (value_of (q ∷ ps) w)
 put_there q ps word value w true same rest =
     let e : q.0 ≡ word = same refl in
-    subst (λ n. one_unless (cond (word == w) (Some value) (value_of ps w)) ≤ one_unless (cond (n == w) (Some q.1) (value_of ps w))) (sym e) (either (word == w)) where
+    subst (λ n. one_unless (cond (word == w) (Some value) (value_of ps w)) ≤ one_unless (cond (n == w) (Some q.1) (value_of ps w))) (sym e)
+    (either (word == w)) where
       either : (c : Bool) → one_unless (cond c (Some value) (value_of ps w)) ≤ one_unless (cond c (Some q.1) (value_of ps w))
       either true = omega arith
       either false = omega arith
@@ -61,7 +62,8 @@ pub words_unseen_less : (n : ℕ) (pairs more : List (ℕ × ℕ)) → StaySeen 
 words_unseen_less zero pairs more stay = omega arith
 words_unseen_less (suc n) pairs more stay = let a = stay n in let b = words_unseen_less n pairs more stay in omega arith
 
-pub words_unseen_falls : (n : ℕ) (pairs more : List (ℕ × ℕ)) (word : ℕ) → word < n → one_unless (value_of pairs word) ≡ 1 → one_unless (value_of more word) ≡ 0 → StaySeen pairs more → words_unseen n more + 1 ≤ words_unseen n pairs
+pub words_unseen_falls : (n : ℕ) (pairs more : List (ℕ × ℕ)) (word : ℕ) → word < n → one_unless (value_of pairs word) ≡ 1 →
+    one_unless (value_of more word) ≡ 0 → StaySeen pairs more → words_unseen n more + 1 ≤ words_unseen n pairs
 words_unseen_falls zero pairs more word low was is stay = absurd (omega arith)
 words_unseen_falls (suc n) pairs more word low was is stay =
     ⊎_elim

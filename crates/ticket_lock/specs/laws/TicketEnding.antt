@@ -26,9 +26,15 @@ Ready served Out = ⊥
 Ready served (Waiting x) = served ≡ x
 Ready served _ = Unit {0}
 
-ready_goes : (home : ℕ) (s : LockState TicketView) (r k : ℕ) (p : Phase) → slice_get s.views r ≡ Some (at_phase k p) → Ready (slice_index s.words 1) p → CanGoOn (ticket_table home) ticket_left s r
+ready_goes : (home : ℕ) (s : LockState TicketView) (r k : ℕ) (p : Phase) → slice_get s.views r ≡ Some (at_phase k p) →
+    Ready (slice_index s.words 1) p → CanGoOn (ticket_table home) ticket_left s r
 ready_goes home s r k Out has ready = absurd ready
-ready_goes home s r k Drawing has ready = record { view = _; has = has; way = inr (record { act = _; planned = refl; less = sum_falls acts_of s.views r (at_phase k Drawing) (at_phase k (Waiting _)) has (lit≤ tt) }) }
+ready_goes home s r k Drawing has ready = record {
+  view = _;
+  has = has;
+  way =
+      inr (record { act = _; planned = refl; less = sum_falls acts_of s.views r (at_phase k Drawing) (at_phase k (Waiting _)) has (lit≤ tt) });
+}
 ready_goes home s r k (Waiting x) has ready =
     record {
       view = _;
@@ -36,11 +42,18 @@ ready_goes home s r k (Waiting x) has ready =
       way = inr (record {
         act = _;
         planned = refl;
-        less = by_look (λ t. sum_by acts_of (slice_set s.views r t.view) < sum_by acts_of s.views) k x (slice_index s.words 1) (λ own. sum_falls acts_of s.views r (at_phase k (Waiting x)) (at_phase k (Inside x)) has (lit≤ tt)) (λ other. absurd (other ready));
+        less = by_look (λ t. sum_by acts_of (slice_set s.views r t.view) < sum_by acts_of s.views) k x (slice_index s.words 1)
+            (λ own. sum_falls acts_of s.views r (at_phase k (Waiting x)) (at_phase k (Inside x)) has (lit≤ tt))
+            (λ other. absurd (other ready));
       });
     }
 ready_goes home s r k (Inside x) has ready = record { view = _; has = has; way = inl tt }
-ready_goes home s r k (Releasing x) has ready = record { view = _; has = has; way = inr (record { act = _; planned = refl; less = sum_falls acts_of s.views r (at_phase k (Releasing x)) (at_phase k Out) has (lit≤ tt) }) }
+ready_goes home s r k (Releasing x) has ready = record {
+  view = _;
+  has = has;
+  way =
+      inr (record { act = _; planned = refl; less = sum_falls acts_of s.views r (at_phase k (Releasing x)) (at_phase k Out) has (lit≤ tt) });
+}
 
 -- who has the ticket that is served needn't wait; and where anybody isn't out, somebody needn't
 has_served : (served : ℕ) (p : Phase) → ticket_of p ≡ Some served → Ready served p
@@ -50,7 +63,8 @@ has_served served (Waiting x) e = sym (same_Some _ _ e)
 has_served served (Inside x) e = tt
 has_served served (Releasing x) e = tt
 
-somebody : (n : ℕ) (s : LockState TicketView) (r k : ℕ) (p : Phase) → TicketGood n s.words s.views s.modes → slice_get s.views r ≡ Some (at_phase k p) → (ticket_standing p ≡ standing.Out → ⊥) →
+somebody : (n : ℕ) (s : LockState TicketView) (r k : ℕ) (p : Phase) → TicketGood n s.words s.views s.modes →
+    slice_get s.views r ≡ Some (at_phase k p) → (ticket_standing p ≡ standing.Out → ⊥) →
     (i : ℕ) × (v : TicketView) × (slice_get s.views i ≡ Some v) × Ready (slice_index s.words 1) v.phase
 somebody n s r k Out g has busy = absurd (busy refl)
 somebody n s r k (Waiting x) g has busy =
@@ -64,9 +78,12 @@ somebody n s r k p g has busy = (r, at_phase k p, has, tt)
 pub ticket_ends : (n home : ℕ) → LockEnds (ticket_table home) ticket_left (λ t. TicketGood n t.words t.views t.modes) 2
 ticket_ends n home =
     record {
-      somebody = λ s g. ⊎_elim inl (λ b. let i = somebody n s b.0 b.1.view.rank b.1.view.phase g b.1.has b.1.busy in inr (i.0, ready_goes home s i.0 i.1.rank i.1.phase i.2 i.3)) (all_out_or_not (λ (v : TicketView). ticket_standing v.phase) s.views);
+      somebody = λ s g. ⊎_elim inl (λ b. let i = somebody n s b.0 b.1.view.rank b.1.view.phase g b.1.has b.1.busy in
+          inr (i.0, ready_goes home s i.0 i.1.rank i.1.phase i.2 i.3))
+          (all_out_or_not (λ (v : TicketView). ticket_standing v.phase) s.views);
       ask_adds = λ s r v m g has out. sum_grows acts_of s.views r 2 v (at_phase v.rank Drawing) has (lit≤ tt);
-      leave_adds = λ s r v g has holds. sum_grows acts_of s.views r 2 v (at_phase v.rank (ticket_leave v.phase)) has (elim v.phase as (λ p. acts_in (ticket_leave p) ≤ 2) [ Out ↦ lit≤ tt | _ ↦ lit≤ tt ]);
+      leave_adds = λ s r v g has holds. sum_grows acts_of s.views r 2 v (at_phase v.rank (ticket_leave v.phase)) has
+          (elim v.phase as (λ p. acts_in (ticket_leave p) ≤ 2) [ Out ↦ lit≤ tt | _ ↦ lit≤ tt ]);
     }
 
 -- who is urgent needn't wait
@@ -82,7 +99,9 @@ ticket_guides n home =
     record {
       few = λ words v k e. (urgent_ready (slice_index words 1) k v.phase e).1;
       goes = λ s r g c. ready_goes home s r c.view.rank c.view.phase c.has (urgent_ready (slice_index s.words 1) c.urgency c.view.phase c.is_urgent).0;
-      rest = λ s g none. ⊎_elim (λ out. out) (λ b. let i = somebody n s b.0 b.1.view.rank b.1.view.phase g b.1.has b.1.busy in absurd (ready_urgent (slice_index s.words 1) i.1.phase i.3 (none i.0 i.1 i.2))) (all_out_or_not (λ (v : TicketView). ticket_standing v.phase) s.views);
+      rest = λ s g none. ⊎_elim (λ out. out) (λ b. let i = somebody n s b.0 b.1.view.rank b.1.view.phase g b.1.has b.1.busy in absurd
+          (ready_urgent (slice_index s.words 1) i.1.phase i.3 (none i.0 i.1 i.2)))
+          (all_out_or_not (λ (v : TicketView). ticket_standing v.phase) s.views);
     } where
       -- and who needn't wait is urgent
       ready_urgent : (served : ℕ) (p : Phase) → Ready served p → urgent_in served p ≡ None → ⊥

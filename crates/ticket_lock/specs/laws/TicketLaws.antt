@@ -27,10 +27,12 @@ one o = cond (is_some o) 1 0
 -- how many ranks have a ticket once the rank with the ticket `old` has `new`
 drawn-set : (ts : List (Option ℕ)) (r : ℕ) (old new : Option ℕ) → slice_get ts r ≡ Some old → drawn (slice_set ts r new) + one old ≡ drawn ts + one new
 drawn-set ts r old new h =
-    subst (λ o. drawn (slice_set ts r new) + one o ≡ drawn ts + one new) (get_or_from_slice_get ts r old new h) (sum_by-set one ts r new new (slice_get_within ts r old h))
+    subst (λ o. drawn (slice_set ts r new) + one o ≡ drawn ts + one new) (get_or_from_slice_get ts r old new h)
+    (sum_by-set one ts r new new (slice_get_within ts r old h))
 
 -- a rank without a ticket draws the next one
-draws : (s : ℕ) (ts : List (Option ℕ)) (r x : ℕ) → IsLine s ts → slice_get ts r ≡ Some None → length ts < 2 ^ 64 → x ≡ (s + drawn ts) % 2 ^ 64 → IsLine s (slice_set ts r (Some x))
+draws : (s : ℕ) (ts : List (Option ℕ)) (r x : ℕ) → IsLine s ts → slice_get ts r ≡ Some None → length ts < 2 ^ 64 →
+    x ≡ (s + drawn ts) % 2 ^ 64 → IsLine s (slice_set ts r (Some x))
 draws s ts r x line none few is =
     let more = drawn-set ts r None (Some x) none in
     let all = count_by-le-length (λ o. is_some o) (slice_set ts r (Some x)) in
@@ -52,7 +54,8 @@ draws s ts r x line none few is =
     }
 
 -- the rank whose ticket is served gives it up, and the next one is served
-releases : (s : ℕ) (ts : List (Option ℕ)) (r : ℕ) → IsLine s ts → slice_get ts r ≡ Some (Some (s % 2 ^ 64)) → length ts < 2 ^ 64 → IsLine (s + 1) (slice_set ts r None)
+releases : (s : ℕ) (ts : List (Option ℕ)) (r : ℕ) → IsLine s ts → slice_get ts r ≡ Some (Some (s % 2 ^ 64)) → length ts < 2 ^ 64 →
+    IsLine (s + 1) (slice_set ts r None)
 releases s ts r line mine few =
     let less = drawn-set ts r (Some (s % 2 ^ 64)) None mine in
     let old : (i x : ℕ) → slice_get (slice_set ts r None) i ≡ Some (Some x) → (i ≢ r) × (slice_get ts i ≡ Some (Some x)) =
@@ -85,22 +88,26 @@ by_holder P inside (Inside x) h = inside x
 by_holder P inside _ h = absurd h
 
 -- what a load of the served ticket tells: it is the rank's own, or it isn't
-pub by_look : (P : Told TicketView → Type 0) (r x got : ℕ) → (got ≡ x → P (told_as r (Inside x) (EnterW r ∷ []) false)) → ((got ≡ x → ⊥) → P (told_as r (Waiting x) [] true)) →
+pub by_look : (P : Told TicketView → Type 0) (r x got : ℕ) → (got ≡ x → P (told_as r (Inside x) (EnterW r ∷ []) false)) →
+    ((got ≡ x → ⊥) → P (told_as r (Waiting x) [] true)) →
     P (ticket_learn r (Waiting x) got)
 by_look P r x got own other = cond_both (got == x) _ _ P (λ e. own (eqb-true got x e)) (λ e. other (eqb-false got x e))
 
 -- what is told by each act: how it shifts the standing, on what it waits, in which order its events stand, and what they name
 abbrev Tells : ℕ → Phase → Act → Told TicketView → Type 0
-Tells r p a t = Shift r (ticket_standing p) (ticket_standing t.view.phase) (holds_only t.events) × (t.waits ≡ true → IsLoad a × PlansLoad (ticket_plan t.view.phase)) ×
+Tells r p a t = Shift r (ticket_standing p) (ticket_standing t.view.phase) (holds_only t.events) ×
+    (t.waits ≡ true → IsLoad a × PlansLoad (ticket_plan t.view.phase)) ×
     (InOrder t.events × (length t.events ≤ 8)) × AllNamed [] (λ c. false) t.events
 
 tells : (r k got : ℕ) → k ≡ r → (p : Phase) (a : Act) → ticket_plan p ≡ Some a → Tells r p a (ticket_learn k p got)
 tells r k got e = by_act (λ p a. Tells r p a (ticket_learn k p got)) (refl, (λ w. cc), (tt, lit≤ tt), tt)
-    (λ x. by_look (Tells r (Waiting x) (Load 1)) k x got (λ own. (ap (λ i. EnterW i ∷ []) e, (λ w. cc), (tt, lit≤ tt), (tt, tt))) (λ other. (refl, (λ w. (tt, tt)), (tt, lit≤ tt), tt)))
+    (λ x. by_look (Tells r (Waiting x) (Load 1)) k x got (λ own. (ap (λ i. EnterW i ∷ []) e, (λ w. cc), (tt, lit≤ tt), (tt, tt)))
+    (λ other. (refl, (λ w. (tt, tt)), (tt, lit≤ tt), tt)))
     (λ x. (refl, (λ w. cc), (tt, lit≤ tt), tt))
 
 -- rank r's view, that of rank k in phase p, stands in a good state
-module _ {n : ℕ} {ws : List ℕ} {views : List TicketView} {modes : List Mode} (g : TicketGood n ws views modes) (r : ℕ) {k : ℕ} {p : Phase} (has : slice_get views r ≡ Some (at_phase k p)) where
+module _ {n : ℕ} {ws : List ℕ} {views : List TicketView} {modes : List Mode} (g : TicketGood n ws views modes)
+    (r : ℕ) {k : ℕ} {p : Phase} (has : slice_get views r ≡ Some (at_phase k p)) where
   -- so does the ticket that it has
   held : slice_get (tickets views) r ≡ Some (ticket_of p)
   held = get_map (λ z. ticket_of z.phase) views r _ has
@@ -108,10 +115,12 @@ module _ {n : ℕ} {ws : List ℕ} {views : List TicketView} {modes : List Mode}
   -- the state stays good where the rank goes to phase q, with the line, the words and the turns that this makes
   moves : {later_ws : List ℕ} {later_modes : List Mode} (q : Phase) (later : ℕ) → length later_modes ≡ n →
       later_ws ≡ words_at later (drawn (slice_set (tickets views) r (ticket_of q))) → IsLine later (slice_set (tickets views) r (ticket_of q)) →
-      (HasTurn q → ticket_of q ≡ Some (later % 2 ^ 64)) → ((i : ℕ) (u : TicketView) → i ≢ r → slice_get views i ≡ Some u → HasTurn u.phase → ticket_of u.phase ≡ Some (later % 2 ^ 64)) →
+      (HasTurn q → ticket_of q ≡ Some (later % 2 ^ 64)) → ((i : ℕ) (u : TicketView) → i ≢ r → slice_get views i ≡ Some u → HasTurn u.phase →
+      ticket_of u.phase ≡ Some (later % 2 ^ 64)) →
       TicketGood n later_ws (slice_set views r (at_phase k q)) later_modes
   moves q later all_modes words line turn others =
-      let same : slice_set (tickets views) r (ticket_of q) ≡ tickets (slice_set views r (at_phase k q)) = sym (map_set (λ v. ticket_of v.phase) views r (at_phase k q)) in
+      let same : slice_set (tickets views) r (ticket_of q) ≡ tickets (slice_set views r (at_phase k q)) =
+      sym (map_set (λ v. ticket_of v.phase) views r (at_phase k q)) in
       let cases = λ (i : ℕ) (v : TicketView). get_set_cases views r i (at_phase k q) v in
       record {
         few = g.few;
@@ -121,11 +130,13 @@ module _ {n : ℕ} {ws : List ℕ} {views : List TicketView} {modes : List Mode}
         served = later;
         two_words = words ∙ ap (λ ts. words_at later (drawn ts)) same;
         line = subst (IsLine later) same line;
-        turns = λ i v h. ⊎_elim (λ c. subst (λ z. HasTurn z.phase → ticket_of z.phase ≡ Some (later % 2 ^ 64)) (sym c.1) turn) (λ c. others i v c.0 c.1) (cases i v h);
+        turns = λ i v h. ⊎_elim (λ c. subst (λ z. HasTurn z.phase → ticket_of z.phase ≡ Some (later % 2 ^ 64)) (sym c.1) turn)
+            (λ c. others i v c.0 c.1) (cases i v h);
       }
 
   -- so it does where the rank keeps its ticket, or has none before and after, and the words are what they were
-  stays : {later_ws : List ℕ} {later_modes : List Mode} (q : Phase) → length later_modes ≡ n → later_ws ≡ words_at g.served (drawn (tickets views)) → ticket_of p ≡ ticket_of q →
+  stays : {later_ws : List ℕ} {later_modes : List Mode} (q : Phase) → length later_modes ≡ n →
+      later_ws ≡ words_at g.served (drawn (tickets views)) → ticket_of p ≡ ticket_of q →
       (HasTurn q → ticket_of q ≡ Some (g.served % 2 ^ 64)) → TicketGood n later_ws (slice_set views r (at_phase k q)) later_modes
   stays q all_modes words keeps turn =
       let same = sym (set_same_get (tickets views) r (ticket_of q) (held ∙ ap Some keeps)) in
@@ -134,12 +145,14 @@ module _ {n : ℕ} {ws : List ℕ} {views : List TicketView} {modes : List Mode}
 -- what an act of rank r in phase p leaves keeps the state good
 abbrev After : ℕ → List TicketView → List Mode → ℕ → ℕ → Phase → Act → List ℕ → Type 0
 After n views modes r k p a ws =
-    TicketGood n (slice_set ws (word_of a) (written a (slice_index ws (word_of a)))) (slice_set views r (ticket_learn k p (told a (slice_index ws (word_of a)))).view) modes
+    TicketGood n (slice_set ws (word_of a) (written a (slice_index ws (word_of a))))
+    (slice_set views r (ticket_learn k p (told a (slice_index ws (word_of a)))).view) modes
 
 act_keeps : (n : ℕ) (ws : List ℕ) (views : List TicketView) (modes : List Mode) (r k : ℕ) (p : Phase) (a : Act) → TicketGood n ws views modes →
     slice_get views r ≡ Some (at_phase k p) → ticket_plan p ≡ Some a → After n views modes r k p a ws
 act_keeps n ws views modes r k p a g has plans = subst (After n views modes r k p a) (sym g.two_words)
-    (by_act (λ p a. slice_get views r ≡ Some (at_phase k p) → After n views modes r k p a (words_at g.served (drawn (tickets views)))) draw look release p a plans has) where
+    (by_act (λ p a. slice_get views r ≡ Some (at_phase k p) → After n views modes r k p a (words_at g.served (drawn (tickets views)))) draw
+    look release p a plans has) where
       draw : slice_get views r ≡ Some (at_phase k Drawing) → After n views modes r k Drawing (CardAdd 0 1) (words_at g.served (drawn (tickets views)))
       draw has =
           let next : ℕ = (g.served + drawn (tickets views)) % 2 ^ 64 in
@@ -148,18 +161,22 @@ act_keeps n ws views modes r k p a g has plans = subst (After n views modes r k 
           (draws g.served (tickets views) r next g.line (held g r has) (omega (arith, length-map views (λ v. ticket_of v.phase), g.all_views, g.few)) refl)
           absurd (λ i u ne. g.turns i u)
 
-      look : (x : ℕ) → slice_get views r ≡ Some (at_phase k (Waiting x)) → After n views modes r k (Waiting x) (Load 1) (words_at g.served (drawn (tickets views)))
+      look : (x : ℕ) → slice_get views r ≡ Some (at_phase k (Waiting x)) →
+          After n views modes r k (Waiting x) (Load 1) (words_at g.served (drawn (tickets views)))
       look x has = by_look (λ t. TicketGood n (words_at g.served (drawn (tickets views))) (slice_set views r t.view) modes) k x (g.served % 2 ^ 64)
           (λ own. stays g r has (Inside x) g.all_modes refl refl (λ t. ap Some (sym own))) (λ other. stays g r has (Waiting x) g.all_modes refl refl absurd)
 
-      release : (x : ℕ) → slice_get views r ≡ Some (at_phase k (Releasing x)) → After n views modes r k (Releasing x) (Store 1 ((x + 1) % 2 ^ 64)) (words_at g.served (drawn (tickets views)))
+      release : (x : ℕ) → slice_get views r ≡ Some (at_phase k (Releasing x)) →
+          After n views modes r k (Releasing x) (Store 1 ((x + 1) % 2 ^ 64)) (words_at g.served (drawn (tickets views)))
       release x has =
           let turn = same_Some _ _ (g.turns r _ has tt) in
           let mine = held g r has ∙ ap (λ y. Some (Some y)) turn in
           let less = drawn-set (tickets views) r (Some (g.served % 2 ^ 64)) None mine in
-          let next : (g.served + drawn (tickets views)) % 2 ^ 64 ≡ (g.served + 1 + drawn (slice_set (tickets views) r None)) % 2 ^ 64 = ap (λ y. y % 2 ^ 64) (omega (arith, less)) in
+          let next : (g.served + drawn (tickets views)) % 2 ^ 64 ≡ (g.served + 1 + drawn (slice_set (tickets views) r None)) % 2 ^ 64 =
+          ap (λ y. y % 2 ^ 64) (omega (arith, less)) in
           let served : (x + 1) % 2 ^ 64 ≡ (g.served + 1) % 2 ^ 64 = omega (arith, turn) in
-          moves g r has Out (g.served + 1) g.all_modes (cc) (releases g.served (tickets views) r g.line mine (omega (arith, length-map views (λ v. ticket_of v.phase), g.all_views, g.few)))
+          moves g r has Out (g.served + 1) g.all_modes (cc) (releases g.served (tickets views) r g.line mine
+          (omega (arith, length-map views (λ v. ticket_of v.phase), g.all_views, g.few)))
           absurd (λ i u ne h t. absurd (ne (g.line.apart i r (g.served % 2 ^ 64) (held g i h ∙ ap Some (g.turns i u h t)) mine)))
 
 -- at first nobody has a ticket
@@ -179,15 +196,30 @@ begins_at n few =
       named = λ r v h. ap (λ z. z.rank) (first r v h) ∙ omega arith;
       served = 0;
       two_words = ap (λ c. words_at 0 c) (sym (none_at_first 0 n));
-      line = record { due = λ r x h. absurd (none r x h); apart = λ i j x hi hj. absurd (none i x hi); taken = λ k low. absurd (omega (arith, none_at_first 0 n)) };
+      line = record {
+        due = λ r x h. absurd (none r x h);
+        apart = λ i j x hi hj. absurd (none i x hi);
+        taken =
+            λ k low. absurd (omega (arith, none_at_first 0 n));
+      };
       turns = λ r v h. subst (λ z. HasTurn z.phase → ticket_of z.phase ≡ Some 0) (sym (first r v h)) absurd;
     }
 
 -- where there is one rank alone its ticket is served
-served_alone : (ws : List ℕ) (views : List TicketView) (modes : List Mode) (r k x : ℕ) → TicketGood 1 ws views modes → slice_get views r ≡ Some (at_phase k (Waiting x)) → slice_index ws 1 ≡ x
+served_alone : (ws : List ℕ) (views : List TicketView) (modes : List Mode) (r k x : ℕ) → TicketGood 1 ws views modes →
+    slice_get views r ≡ Some (at_phase k (Waiting x)) → slice_index ws 1 ≡ x
 served_alone ws views modes r k x g has =
     let d = g.line.due r x (held g r has) in
-    let here : d.number ≡ g.served = omega (arith, d.since, d.before, g.all_views, count_by-le-length (λ o. is_some o) (tickets views), length-map views (λ v. ticket_of v.phase)) in
+    let here : d.number ≡ g.served =
+    omega (
+      arith,
+      d.since,
+      d.before,
+      g.all_views,
+      count_by-le-length (λ o. is_some o) (tickets views),
+      length-map views
+          (λ v. ticket_of v.phase),
+    ) in
     ap (λ z. slice_index z 1) g.two_words ∙ ap (λ y. y % 2 ^ 64) (sym here) ∙ sym d.is
 
 pub ticket_laws : (home : ℕ) (layout : Layout) → home < layout.nodes → length layout.node_of < 2 ^ 64 →
@@ -199,17 +231,21 @@ ticket_laws home layout homed few =
       sized = λ s g. (ap length g.two_words, g.all_views, g.all_modes);
       few_words = lit≤ tt;
       homes = λ w lt. homed;
-      lawful = λ s r v a h. by_act (λ p b. IsLawful 2 (ticket_table home).spot layout r b × (no_local r b ≡ true)) (record { there = lit< tt; homed = homed; allowed = refl }, refl)
-          (λ x. (record { there = lit< tt; homed = homed; allowed = tt }, refl)) (λ x. (record { there = lit< tt; homed = homed; allowed = refl }, refl)) v.phase a h.planned;
+      lawful = λ s r v a h. by_act (λ p b. IsLawful 2 (ticket_table home).spot layout r b × (no_local r b ≡ true))
+          (record { there = lit< tt; homed = homed; allowed = refl }, refl)
+          (λ x. (record { there = lit< tt; homed = homed; allowed = tt }, refl))
+          (λ x. (record { there = lit< tt; homed = homed; allowed = refl }, refl)) v.phase a h.planned;
       keeps = λ s r v a h. act_keeps n s.words s.views s.modes r v.rank v.phase a h.is_good h.has h.planned;
       ask_keeps = λ s r v m g has out. stays g r has Drawing (length-set s.modes r m ∙ g.all_modes) g.two_words
           (elim v.phase as (λ p. ticket_standing p ≡ standing.Out → ticket_of p ≡ None) [ Out ↦ λ e. refl | _ ↦ λ e. cc ] out) absurd;
-      leave_keeps_writer = λ s r v g has writes. by_holder (λ p. slice_get s.views r ≡ Some (at_phase v.rank p) → TicketGood n s.words (slice_set s.views r (at_phase v.rank (ticket_leave p))) s.modes)
+      leave_keeps_writer = λ s r v g has writes. by_holder (λ p. slice_get s.views r ≡ Some (at_phase v.rank p) → TicketGood n s.words
+          (slice_set s.views r (at_phase v.rank (ticket_leave p))) s.modes)
           (λ x at. stays g r at (Releasing x) g.all_modes g.two_words refl (g.turns r _ at)) v.phase (subst IsHolder (sym writes) tt) has;
       leave_keeps_reader = λ s r v g has reads. absurd (elim v.phase as (λ p. ticket_standing p ≡ standing.Reader → ⊥) [ Out ↦ λ e. cc | _ ↦ λ e. cc ] reads);
       touch_keeps = λ s r w g. g;
       excludes = λ s i j v w g hi hj writes holds. let turn = by_holder HasTurn (λ x. tt) in
-          g.line.apart i j (g.served % 2 ^ 64) (held g i hi ∙ ap Some (g.turns i v hi (turn v.phase (subst IsHolder (sym writes) tt)))) (held g j hj ∙ ap Some (g.turns j w hj (turn w.phase holds)));
+          g.line.apart i j (g.served % 2 ^ 64) (held g i hi ∙ ap Some (g.turns i v hi (turn v.phase (subst IsHolder (sym writes) tt))))
+          (held g j hj ∙ ap Some (g.turns j w hj (turn w.phase holds)));
       suits = λ s r v m g has asked. elim v.phase as (λ p. Suits false m (ticket_standing p)) [ Out ↦ tt | _ ↦ tt ];
       first_out = λ r. refl;
       ask_asks = λ v m out. refl;
@@ -225,7 +261,8 @@ ticket_laws home layout homed few =
       counted = λ s q d g out has. cc;
       goes_further = λ s g. tt;
       finds = λ s r v a one h. by_act (λ p b. FindsOld b (found s b)) tt (λ x. tt) (λ x. tt) v.phase a h.planned;
-      moves_on = λ s r v a one h. by_act (λ p b. slice_get s.views r ≡ Some (at_phase v.rank p) → (ticket_learn v.rank p (told b (found s b))).waits ≡ false) (λ has. refl)
+      moves_on = λ s r v a one h. by_act (λ p b. slice_get s.views r ≡ Some (at_phase v.rank p) →
+          (ticket_learn v.rank p (told b (found s b))).waits ≡ false) (λ has. refl)
           (λ x has. by_look (λ t. t.waits ≡ false) v.rank x _ (λ own. refl)
           (λ other. absurd (other (served_alone s.words s.views s.modes r v.rank x (subst (λ m. TicketGood m s.words s.views s.modes) one h.is_good) has))))
           (λ x has. refl) v.phase a h.planned h.has;

@@ -1,4 +1,4 @@
-use Rattle.std.proofs.Common.{rules, ◌<◌, ◌≤◌, ap, sym, subst, ◌∙◌, length, arith, Some, None, length-set, refl}
+use Rattle.std.proofs.Common.{rules, ◌<◌, ◌≤◌, ap, sym, subst, ◌∙◌, length, arith, Some, None, length-set, refl, inl, inr}
 use Rattle.std.proofs.lemmas.List.{length-replicate}
 use Rattle.std.proofs.lemmas.Option.{slice_get-get_or}
 use Rattle.rl_ops.specs.Asked.{asked_of}
@@ -21,11 +21,36 @@ loop-number-init c =
 pub returns-then-number-calls : goal.returns-then-number-calls
 returns-then-number-calls c =
     let i = c.loop-number.invariant in
-    let asked = asked_of c.args.calls.now c.args.sizes.now in
-    (c.loop-number-test.true, i.called, past_calls asked c.args.own.now c.loop-number.number (past_asked c.args.calls.now c.args.sizes.now c.loop-number.number _ _ c.if-number-calls.true i.on))
+    let asked = asked_of c.args.calls.now c.args.sizes.now in (
+      c.loop-number.number,
+      c.loop-number-test.true,
+      i.called,
+      (
+        refl,
+        inl (
+          refl,
+          past_calls asked c.args.own.now c.loop-number.number
+              (past_asked c.args.calls.now c.args.sizes.now c.loop-number.number _ _ c.if-number-calls.true i.on),
+        ),
+      ),
+    )
 
 pub returns-in_default : goal.returns-in_default
-returns-in_default c = (c.loop-number-test.true, c.loop-number.invariant.called, not_this c.args.calls.now c.args.sizes.now c.requires.sized c.args.own.now c.in_ok-slots.slots.items c.in_ok-slots.ensures.slots c.in_ok-slots.ensures.each c.loop-number.number c.loop-number-test.true c.if-number-calls.false c.loop-number.part c.begun_by-here.result 0 c.begun_by-here.ensures c.loop-number.invariant.on _ c.index.result.now c.index.ensures c.called.result c.called.ensures.isnt c.in_default.is)
+returns-in_default c = (
+  c.loop-number.number,
+  c.loop-number-test.true,
+  c.loop-number.invariant.called,
+  (
+    refl,
+    inl (
+      refl,
+      not_this c.args.calls.now c.args.sizes.now c.requires.sized c.args.own.now c.in_ok-slots.slots.items
+          c.in_ok-slots.ensures.slots c.in_ok-slots.ensures.each c.loop-number.number c.loop-number-test.true c.if-number-calls.false
+          c.loop-number.part c.begun_by-here.result 0 c.begun_by-here.ensures c.loop-number.invariant.on _ c.index.result.now c.index.ensures
+          c.called.result c.called.ensures.isnt c.in_default.is,
+    ),
+  ),
+)
 
 pub index-requires-in-loop-number : goal.index-requires-in-loop-number
 index-requires-in-loop-number c =
@@ -45,10 +70,27 @@ returns-then-not-is_fresh c =
     let there = c.requires.there e (stands_there c.args.calls.now c.args.sizes.now c.requires.sized c.args.own.now c.in_ok-slots.slots.items c.in_ok-slots.ensures.slots c.in_ok-slots.ensures.each c.loop-number.number c.loop-number-test.true c.if-number-calls.false c.loop-number.part c.begun_by-here.result 0 c.begun_by-here.ensures c.loop-number.invariant.on _ c.index.result.now c.index.ensures c.called.result c.called.ensures.isnt e c.in-Some.ensures.is) in
     let low : e.shard < length c.loop-number.lasts.items = omega (arith, there, i.all_shards) in
     let at = slice_get-get_or c.loop-number.lasts.items e.shard _ low ∙ ap (λ z. Some z) (sym c.index-in-loop-number.ensures) in (
+      c.loop-number.number,
       c.loop-number-test.true,
       i.called,
-      this c.args.calls.now c.args.sizes.now c.requires.sized c.args.own.now c.in_ok-slots.slots.items c.in_ok-slots.ensures.slots c.in_ok-slots.ensures.each c.loop-number.number c.loop-number-test.true c.if-number-calls.false c.loop-number.part c.begun_by-here.result 0 c.begun_by-here.ensures c.loop-number.invariant.on _ c.index.result.now c.index.ensures c.called.result c.called.ensures.isnt e c.in-Some.ensures.is,
-      not_fresh asked c.args.own.now c.loop-number.number i.called e (alone_told c.args.calls.now c.args.sizes.now c.requires.sized c.args.own.now c.in_ok-slots.slots.items c.in_ok-slots.ensures.slots c.in_ok-slots.ensures.each c.loop-number.number c.loop-number-test.true c.if-number-calls.false c.loop-number.part c.begun_by-here.result 0 c.begun_by-here.ensures c.loop-number.invariant.on _ c.index.result.now c.index.ensures c.called.result c.called.ensures.isnt e c.in-Some.ensures.is) c.loop-number.lasts.items i.lasts _ at c.is_fresh.result c.is_fresh.ensures c.if-not-is_fresh.true,
+      (
+        refl,
+        inr (
+          this c.args.calls.now c.args.sizes.now c.requires.sized c.args.own.now c.in_ok-slots.slots.items
+              c.in_ok-slots.ensures.slots c.in_ok-slots.ensures.each c.loop-number.number c.loop-number-test.true c.if-number-calls.false
+              c.loop-number.part c.begun_by-here.result 0 c.begun_by-here.ensures c.loop-number.invariant.on _ c.index.result.now
+              c.index.ensures c.called.result c.called.ensures.isnt e c.in-Some.ensures.is,
+          (
+            refl,
+            not_fresh asked c.args.own.now c.loop-number.number i.called e
+                (alone_told c.args.calls.now c.args.sizes.now c.requires.sized c.args.own.now c.in_ok-slots.slots.items
+                c.in_ok-slots.ensures.slots c.in_ok-slots.ensures.each c.loop-number.number c.loop-number-test.true c.if-number-calls.false
+                c.loop-number.part c.begun_by-here.result 0 c.begun_by-here.ensures c.loop-number.invariant.on _ c.index.result.now
+                c.index.ensures c.called.result c.called.ensures.isnt e c.in-Some.ensures.is) c.loop-number.lasts.items i.lasts _ at
+                c.is_fresh.result c.is_fresh.ensures c.if-not-is_fresh.true,
+          ),
+        ),
+      ),
     )
 
 pub loop-number-preserved : goal.loop-number-preserved

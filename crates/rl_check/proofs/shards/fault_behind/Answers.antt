@@ -1,6 +1,8 @@
 use Rattle.std.proofs.Common.{◌≡◌, ap, sym, ◌∙◌, arith, length, slice_index, subst, Bool, List, IfOk}
 use Rattle.rl_step.specs.Queues.{QueueOf}
-use Rattle.rl_check.specs.Finding.{FoundOfReplay, FoundBehind}
+use Rattle.rl_check.specs.Finding.{replay_tests}
+use Rattle.rl_check.specs.Shards.{part_tests}
+use Rattle.rl_check.specs.Tests.{IsFirstOf}
 use Rattle.rl_check.specs.Watching.{IsThere}
 use Rattle.rl_report.proofs.NamingLaws.{few_queues}
 use Rattle.rl_report.proofs.QueueLaws.{queues_long}
@@ -22,8 +24,10 @@ fault_of_replay-requires-clause-there c i e get =
 pub returns-then-replay : goal.returns-then-replay
 returns-then-replay c =
     let home = slice_index c.args.place.now.homes c.args.shard in
-    subst (λ (b : Bool). IfOk c.fault_of_replay.result (FoundBehind c.args.place.now b home c.args.part.now c.args.table.now.table)) (sym c.if-replay.true)
-    (subst (λ (qs : List QueueOf). IfOk c.fault_of_replay.result (FoundOfReplay qs c.args.part.now)) c.of-queues.ensures.queues c.fault_of_replay.ensures)
+    subst (λ (b : Bool). IfOk c.fault_of_replay.result (IsFirstOf
+    (part_tests c.args.place.now b c.args.shard home c.args.part.now c.args.table.now.table))) (sym c.if-replay.true)
+    (subst (λ (qs : List QueueOf). IfOk c.fault_of_replay.result (IsFirstOf (replay_tests qs c.args.part.now))) c.of-queues.ensures.queues
+    c.fault_of_replay.ensures)
 
 pub fault_of_run-requires-clause-each : goal.fault_of_run-requires-clause-each
 fault_of_run-requires-clause-each c =

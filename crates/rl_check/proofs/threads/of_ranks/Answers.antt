@@ -4,9 +4,8 @@ use Rattle.rayon.specs.Numbers.{nat_range}
 use Rattle.rayon.proofs.ListFacts.{IfOk-then}
 use Rattle.rayon.proofs.ToStd.{nat_range-All}
 use Rattle.rl_check.specs.Threads.{Found}
-use Rattle.rl_check.specs.Faults.{IsFirstIn}
-use Rattle.rl_check.specs.Legal.{PassesBy, AreOfSomePlace}
-use Rattle.rl_check.specs.declared.illegal.Group.TheVariants as group
+use Rattle.rl_check.specs.Tests.{IsFirstOf}
+use Rattle.rl_check.specs.Legal.{AreOfSomePlace, tests_by}
 use Rattle.rl_check.proofs.threads.of_ranks.Goals as goal
 
 pub collect-requires-clause-ready : goal.collect-requires-clause-ready
@@ -24,4 +23,5 @@ returns g c =
     IfOk-then c.collect.result _ _ c.collect.ensures (λ v h.
     let chain = rw (c.map.ensures.base, c.map.ensures.f) at h.1 in
     let places = chain.1 ∙ (λ i. nat_range (ends.0 i) (ends.1 i)) ∙ ap (range_with_len 0) whole in
-    rw h.2 (subst (λ (z : List ℕ). AllZip (λ k (found : Found). IfOk found (IsFirstIn (PassesBy c.args.ops.now c.args.report.now k) (group.Rank k))) z h.0) places chain.2))
+    rw h.2 (subst (λ (z : List ℕ). AllZip (λ k (found : Found). IfOk found (IsFirstOf (tests_by c.args.ops.now c.args.report.now k))) z h.0)
+    places chain.2))

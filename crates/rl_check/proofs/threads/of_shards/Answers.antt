@@ -7,9 +7,8 @@ use Rattle.rl_place.specs.Places.{IsProper}
 use Rattle.rl_report.specs.Naming.{naming_of}
 use Rattle.rl_report.specs.Reports.{ReportFits}
 use Rattle.rl_check.specs.Threads.{Found}
-use Rattle.rl_check.specs.Faults.{IsFirstIn}
-use Rattle.rl_check.specs.Legal.{PassesOn}
-use Rattle.rl_check.specs.declared.illegal.Group.TheVariants as group
+use Rattle.rl_check.specs.Tests.{IsFirstOf}
+use Rattle.rl_check.specs.Legal.{tests_on}
 use Rattle.rl_check.proofs.threads.of_shards.Goals as goal
 
 pub collect-requires-clause-ready : goal.collect-requires-clause-ready
@@ -27,4 +26,5 @@ returns g c =
     IfOk-then c.collect.result _ _ c.collect.ensures (λ v h.
     let chain = rw (c.map.ensures.base, c.map.ensures.f) at h.1 in
     let places = chain.1 ∙ (λ i. nat_range (ends.0 i) (ends.1 i)) ∙ ap (range_with_len 0) (whole ∙ ap (λ p. p.geom.shards) c.place.view_is) in
-    rw h.2 (subst (λ (z : List ℕ). AllZip (λ s (found : Found). IfOk found (IsFirstIn (PassesOn c.args.place.now c.args.report.now s) (group.Shard s))) z h.0) places chain.2))
+    rw h.2 (subst (λ (z : List ℕ). AllZip (λ s (found : Found). IfOk found (IsFirstOf (tests_on c.args.place.now c.args.report.now s))) z
+    h.0) places chain.2))

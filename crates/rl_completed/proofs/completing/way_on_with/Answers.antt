@@ -40,7 +40,7 @@ replay-requires-clause-homes g c = homes_there c.args.place.now c.in_ok-shape.sh
 
 pub finish-requires-clause-few : goal.finish-requires-clause-few
 finish-requires-clause-few g c =
-    let run = ran g.C.ShardCore.defined c.args.place.now _ c.args.ops _ _ _ c.as_slice-turns.result.now c.args.schedule.now.turns (running g.C.ShardCore.shard_table c.in_ok-machine.machine) c.place.view_is c.in_ok-shape.ensures.exact c.knobs-knobs.ensures c.as_slice-homes.ensures.value c.as_slice-turns.ensures c.in_ok-machine.ensures.run in
+    let run = ran g.C.ShardCore.defined c.args.place.now _ c.args.ops _ _ _ c.as_slice-turns.result.now c.args.schedule.now.turns (running g.C.ShardCore.says c.in_ok-machine.machine) c.place.view_is c.in_ok-shape.ensures.exact c.knobs-knobs.ensures c.as_slice-homes.ensures.value c.as_slice-turns.ensures c.in_ok-machine.ensures.run in
     let at = reached g.C.ShardCore.defined c.args.place.now c.args.ops c.args.schedule.now.turns _ run c.requires.calls.ranks_there in
     let made = at.0 in
     let few = c.requires.schedule.few in
@@ -48,7 +48,7 @@ finish-requires-clause-few g c =
 
 pub finish-requires-clause-ranks : goal.finish-requires-clause-ranks
 finish-requires-clause-ranks g c =
-    let run = ran g.C.ShardCore.defined c.args.place.now _ c.args.ops _ _ _ c.as_slice-turns.result.now c.args.schedule.now.turns (running g.C.ShardCore.shard_table c.in_ok-machine.machine) c.place.view_is c.in_ok-shape.ensures.exact c.knobs-knobs.ensures c.as_slice-homes.ensures.value c.as_slice-turns.ensures c.in_ok-machine.ensures.run in
+    let run = ran g.C.ShardCore.defined c.args.place.now _ c.args.ops _ _ _ c.as_slice-turns.result.now c.args.schedule.now.turns (running g.C.ShardCore.says c.in_ok-machine.machine) c.place.view_is c.in_ok-shape.ensures.exact c.knobs-knobs.ensures c.as_slice-homes.ensures.value c.as_slice-turns.ensures c.in_ok-machine.ensures.run in
     let at = reached g.C.ShardCore.defined c.args.place.now c.args.ops c.args.schedule.now.turns _ run c.requires.calls.ranks_there in
     let ranks : length c.in_ok-machine.machine.calls ≡ length c.args.place.now.paths = at.1 in
     let most : length c.args.place.now.paths ≤ 32 = c.requires.proper.most_ranks in
@@ -58,7 +58,7 @@ pub returns-then-way : goal.returns-then-way
 returns-then-way g c = λ urgent defines.
     let place = c.args.place.now in
     let given = c.args.schedule.now.turns in
-    let run = ran g.C.ShardCore.defined place _ c.args.ops _ _ _ c.as_slice-turns.result.now given (running g.C.ShardCore.shard_table c.in_ok-machine.machine) c.place.view_is c.in_ok-shape.ensures.exact c.knobs-knobs.ensures c.as_slice-homes.ensures.value c.as_slice-turns.ensures c.in_ok-machine.ensures.run in
+    let run = ran g.C.ShardCore.defined place _ c.args.ops _ _ _ c.as_slice-turns.result.now given (running g.C.ShardCore.says c.in_ok-machine.machine) c.place.view_is c.in_ok-shape.ensures.exact c.knobs-knobs.ensures c.as_slice-homes.ensures.value c.as_slice-turns.ensures c.in_ok-machine.ensures.run in
     let at = reached g.C.ShardCore.defined place c.args.ops given _ run c.requires.calls.ranks_there in
     let more = c.in_ok-way.way.turns in
     let on = c.in_ok-way.ensures in
@@ -69,14 +69,14 @@ returns-then-way g c = λ urgent defines.
     let front : sum_by steps_of given ≤ 2000000 = c.requires.schedule.few in
     let behind = on.few in
     let few : steps_in given + steps_in more ≤ 2000000 = omega (arith, total, same, front, behind) in
-    let next = goes_next g.C.ShardCore.shard_table g.C.ShardGuiding.urgent g.C.ShardCore.defined urgent defines place c.args.ops given c.in_ok-machine.machine run (ranks_of_turns more) on.way in
-    completes g.C.ShardCore.defined urgent place c.args.ops c.args.schedule.now more (running g.C.ShardCore.shard_table c.finish.new.machine) c.requires.unstopped (on.run ∙ ap (λ z. run_of z (ranks_of_turns more)) run) next c.requires.schedule on.whole there few (on.ended.0 c.if-way.true)
+    let next = goes_next g.C.ShardCore.says g.C.ShardGuiding.urgent g.C.ShardCore.defined urgent defines place c.args.ops given c.in_ok-machine.machine run (ranks_of_turns more) on.way in
+    completes g.C.ShardCore.defined urgent place c.args.ops c.args.schedule.now more (running g.C.ShardCore.says c.finish.new.machine) c.requires.unstopped (on.run ∙ ap (λ z. run_of z (ranks_of_turns more)) run) next c.requires.schedule on.whole there few (on.ended.0 c.if-way.true)
 
 pub returns : goal.returns
 returns g c = λ urgent defines.
     let place = c.args.place.now in
     let given = c.args.schedule.now.turns in
-    let run = ran g.C.ShardCore.defined place _ c.args.ops _ _ _ c.as_slice-turns.result.now given (running g.C.ShardCore.shard_table c.in_ok-machine.machine) c.place.view_is c.in_ok-shape.ensures.exact c.knobs-knobs.ensures c.as_slice-homes.ensures.value c.as_slice-turns.ensures c.in_ok-machine.ensures.run in
+    let run = ran g.C.ShardCore.defined place _ c.args.ops _ _ _ c.as_slice-turns.result.now given (running g.C.ShardCore.says c.in_ok-machine.machine) c.place.view_is c.in_ok-shape.ensures.exact c.knobs-knobs.ensures c.as_slice-homes.ensures.value c.as_slice-turns.ensures c.in_ok-machine.ensures.run in
     let more = c.in_ok-way.way.turns in
     let on = c.in_ok-way.ensures in
     let total : c.total_steps-most.result ≡ sum_by steps_of given = c.total_steps-most.ensures ∙ ap (λ ts. sum_by steps_of ts) c.as_slice-turns.ensures in
@@ -84,6 +84,6 @@ returns g c = λ urgent defines.
     let front : sum_by steps_of given ≤ 2000000 = c.requires.schedule.few in
     let behind = on.all c.if-way.false in
     let full : steps_in given + steps_in more ≡ 2000000 = omega (arith, total, same, front, behind) in
-    let next = goes_next g.C.ShardCore.shard_table g.C.ShardGuiding.urgent g.C.ShardCore.defined urgent defines place c.args.ops given c.in_ok-machine.machine run (ranks_of_turns more) on.way in
-    too_long g.C.ShardCore.defined urgent place c.args.ops c.args.schedule.now more (running g.C.ShardCore.shard_table c.finish.new.machine) c.requires.unstopped (on.run ∙ ap (λ z. run_of z (ranks_of_turns more)) run) next full
+    let next = goes_next g.C.ShardCore.says g.C.ShardGuiding.urgent g.C.ShardCore.defined urgent defines place c.args.ops given c.in_ok-machine.machine run (ranks_of_turns more) on.way in
+    too_long g.C.ShardCore.defined urgent place c.args.ops c.args.schedule.now more (running g.C.ShardCore.says c.finish.new.machine) c.requires.unstopped (on.run ∙ ap (λ z. run_of z (ranks_of_turns more)) run) next full
     (λ done. let ended = on.ended.1 done in let not = c.if-way.false in cc)

@@ -5,7 +5,7 @@ pub returns-clause-ruled : goal.returns-clause-ruled
 returns-clause-ruled g c = g.met.C.ShardCore.ruled c.args.core.now
 
 pub returns-clause-begins : goal.returns-clause-begins
-returns-clause-begins g c = λ rooms may. (g.met.C.ShardCore.shard_laws c.args.core.now).begins rooms may.laid may.fits may.small may.updates may.few may.entries
+returns-clause-begins g c = (g.met.C.ShardCore.shard_laws c.args.core.now).begins
 
 pub returns-clause-atoms : goal.returns-clause-atoms
 returns-clause-atoms g c = (g.met.C.ShardCore.shard_laws c.args.core.now).atom_keeps

@@ -7,7 +7,7 @@ use Rattle.rl_core.proofs.opening.first_views.Goals as goal
 
 pub loop-rank-preserved : goal.loop-rank-preserved
 loop-rank-preserved g c =
-    let L = g.C.ShardCore.shard_table c.args.core.now in
+    let L = (g.C.ShardCore.says c.args.core.now).table in
     let rooms = c.args.rooms.now in
     let rank = c.loop-rank.rank in
     let at : 0 + rank ≡ rank = omega arith in
@@ -18,7 +18,7 @@ loop-rank-preserved g c =
 
 pub returns : goal.returns
 returns g c =
-    let L = g.C.ShardCore.shard_table c.args.core.now in
+    let L = (g.C.ShardCore.says c.args.core.now).table in
     let rooms = c.args.rooms.now in
     let all : c.loop-rank.rank ≡ length rooms = omega arith in
     c.loop-rank.invariant ∙ ap (λ n. first_views L 0 (take n rooms)) all ∙ ap (first_views L 0) (take-length rooms)

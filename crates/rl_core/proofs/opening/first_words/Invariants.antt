@@ -5,5 +5,5 @@ use Rattle.rl_core.proofs.opening.first_words.Given as goal
 
 abbrev pub invariant-loop-word : goal.invariant-loop-word
 invariant-loop-word g l =
-    let T = g.C.ShardCore.shard_table l.core in
+    let T = (g.C.ShardCore.says l.core).table in
     l.words.items ≡ opened_to T.site T.behind l.word

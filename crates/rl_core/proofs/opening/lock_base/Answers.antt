@@ -9,4 +9,4 @@ pub journal_end-requires-clause-few : goal.journal_end-requires-clause-few
 journal_end-requires-clause-few g c = subst (λ l. sum l ≤ 20000) (sym c.rooms.ensures) c.requires.few
 
 pub returns : goal.returns
-returns g c = c.journal_end.ensures (g.C.ShardCore.shard_table c.args.core.now).site (sym c.geom.ensures) (sym c.rooms.ensures)
+returns g c = c.journal_end.ensures ((g.C.ShardCore.says c.args.core.now).table).site (sym c.geom.ensures) (sym c.rooms.ensures)

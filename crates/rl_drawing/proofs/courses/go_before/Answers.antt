@@ -4,7 +4,8 @@ use Rattle.rl_step.specs.Answers.{steps_made}
 use Rattle.rl_ops.specs.declared.schedule.Turn.TheVariants as turn
 use Rattle.rl_machine.specs.Running.{running}
 use Rattle.rl_machine.specs.Run.{run_of, ranks_of_turns, steps_in}
-use Rattle.rl_drawing.specs.Drawing.{machine_of, IsFirst}
+use Rattle.rl_locks.specs.Runs.{start_with}
+use Rattle.rl_drawing.specs.Drawing.{IsFirst}
 use Rattle.rl_drawing.specs.Leads.{sees}
 use Rattle.rl_drawing.proofs.Leading.{steps_append, before_same}
 use Rattle.rl_drawing.proofs.Stages.{steps_at, there_at, stage_anew}
@@ -14,14 +15,14 @@ pub steps_before-requires-clause-there : goal.steps_before-requires-clause-there
 steps_before-requires-clause-there g c =
     let stage = c.args.stage.now in
     let low : c.args.rank < length stage.machine.calls =
-    there_at g.C.ShardCore.defined c.args.scene.place.now c.args.scene.ops.now (running g.C.ShardCore.shard_table stage.machine) stage.turns stage.left c.args.rank c.requires.scene.calls c.requires.stage c.requires.there in
+    there_at g.C.ShardCore.defined c.args.scene.place.now c.args.scene.ops.now (running g.C.ShardCore.says stage.machine) stage.turns stage.left c.args.rank c.requires.scene.calls c.requires.stage c.requires.there in
     omega arith
 
 pub steps_before-requires-clause-few : goal.steps_before-requires-clause-few
 steps_before-requires-clause-few g c =
     let stage = c.args.stage.now in
     let made : steps_made stage.machine.steps ≡ steps_in stage.turns =
-    steps_at g.C.ShardCore.defined c.args.scene.place.now c.args.scene.ops.now (running g.C.ShardCore.shard_table stage.machine) stage.turns stage.left c.requires.stage in
+    steps_at g.C.ShardCore.defined c.args.scene.place.now c.args.scene.ops.now (running g.C.ShardCore.says stage.machine) stage.turns stage.left c.requires.stage in
     let all : stage.left + steps_in stage.turns ≡ 2000000 = c.requires.stage.left_is in
     omega arith
 
@@ -40,12 +41,12 @@ returns-clause-stage g c =
     let stage = c.args.stage.now in
     let few : c.in_ok-count.count < stage.left + 1 = c.in_ok-count.ensures.few in
     let fewer : (stage.left - c.in_ok-count.count) + c.in_ok-count.count ≡ stage.left = omega (arith, few) in
-    stage_anew g.C.ShardCore.defined c.args.scene.place.now c.args.scene.ops.now (running g.C.ShardCore.shard_table stage.machine) _ stage.turns c.push.new.self (turn.Steps c.args.rank c.in_ok-count.count) stage.left (stage.left - c.in_ok-count.count)
-    c.requires.stage (c.in_ok-stage.ensures ∙ ap (λ ts. run_of (machine_of g.C.ShardCore.defined c.args.scene.place.now c.args.scene.ops.now) (ranks_of_turns ts)) c.as_slice.ensures) c.in_ok-push.ensures.ok fewer c.requires.there
+    stage_anew g.C.ShardCore.defined c.args.scene.place.now c.args.scene.ops.now (running g.C.ShardCore.says stage.machine) _ stage.turns c.push.new.self (turn.Steps c.args.rank c.in_ok-count.count) stage.left (stage.left - c.in_ok-count.count)
+    c.requires.stage (c.in_ok-stage.ensures ∙ ap (λ ts. run_of (start_with g.C.ShardCore.defined c.args.scene.place.now c.args.scene.ops.now) (ranks_of_turns ts)) c.as_slice.ensures) c.in_ok-push.ensures.ok fewer c.requires.there
 
 pub returns-clause-draws : goal.returns-clause-draws
 returns-clause-draws g c =
-    let m = running g.C.ShardCore.shard_table c.args.stage.now.machine in
+    let m = running g.C.ShardCore.says c.args.stage.now.machine in
     let shown = sees c.args.scene.place.now c.args.sought in
     let n = c.in_ok-count.count in
     let same : c.from.result ≡ c.args.rank = omega arith in

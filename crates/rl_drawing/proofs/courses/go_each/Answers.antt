@@ -16,8 +16,8 @@ loop-rank-init g c = (c.requires.stage, leads_none _ c.args.stage.now.turns)
 pub loop-rank-preserved : goal.loop-rank-preserved
 loop-rank-preserved g c =
     let Is = IsOf c.args.scene.place.now c.args.each in
-    let m = running g.C.ShardCore.shard_table c.loop-rank.stage.machine in
-    let now = running g.C.ShardCore.shard_table c.go_one.new.stage.machine in
+    let m = running g.C.ShardCore.says c.loop-rank.stage.machine in
+    let now = running g.C.ShardCore.says c.go_one.new.stage.machine in
     let ks = c.args.ranks.now in
     let i = c.loop-rank.rank-index in
     let one : suc i ≡ i + 1 = omega arith in
@@ -25,15 +25,15 @@ loop-rank-preserved g c =
     let d = c.in_ok-go_one.ensures.draws in
     let run = moved_by g.C.ShardCore.defined c.args.scene.place.now c.args.scene.ops.now m now c.loop-rank.stage.turns c.go_one.new.stage.turns d.0 c.loop-rank.stage.left c.go_one.new.stage.left c.loop-rank.invariant.0 c.in_ok-go_one.ensures.stage d.1 in (
       c.in_ok-go_one.ensures.stage,
-      each_on Is (AreEach Is (running g.C.ShardCore.shard_table c.args.stage.now.machine) ks) m now (get_or ks i 0) (drop i ks) (drop (i + 1) ks) c.args.stage.now.turns c.loop-rank.stage.turns c.go_one.new.stage.turns d.0 next c.loop-rank.invariant.1 d.1 d.2 d.3 run,
+      each_on Is (AreEach Is (running g.C.ShardCore.says c.args.stage.now.machine) ks) m now (get_or ks i 0) (drop i ks) (drop (i + 1) ks) c.args.stage.now.turns c.loop-rank.stage.turns c.go_one.new.stage.turns d.0 next c.loop-rank.invariant.1 d.1 d.2 d.3 run,
     )
 
 pub returns-in_err-go_one-clause-draws : goal.returns-in_err-go_one-clause-draws
 returns-in_err-go_one-clause-draws g c =
     let p = err_from_is_err_and c.from_residual.result c.from_residual.ensures.1 in
     let place = c.args.scene.place.now in
-    let first = running g.C.ShardCore.shard_table c.args.stage.now.machine in
-    let m = running g.C.ShardCore.shard_table c.loop-rank.stage.machine in
+    let first = running g.C.ShardCore.says c.args.stage.now.machine in
+    let m = running g.C.ShardCore.says c.loop-rank.stage.machine in
     let ks = c.args.ranks.now in
     let i = c.loop-rank.rank-index in
     let one : suc i ≡ i + 1 = omega arith in
@@ -45,8 +45,8 @@ returns-in_err-go_one-clause-draws g c =
 pub returns-clause-draws : goal.returns-clause-draws
 returns-clause-draws g c =
     let Is = IsOf c.args.scene.place.now c.args.each in
-    let whole = AreEach Is (running g.C.ShardCore.shard_table c.args.stage.now.machine) c.args.ranks.now in
-    let now = running g.C.ShardCore.shard_table c.loop-rank.stage.machine in
+    let whole = AreEach Is (running g.C.ShardCore.says c.args.stage.now.machine) c.args.ranks.now in
+    let now = running g.C.ShardCore.says c.loop-rank.stage.machine in
     let none = at_drop_all (λ z. z) c.args.ranks.now c.loop-rank.rank-index c.loop-rank-test.false in
     leads_as whole (AreEach Is now []) IsNone c.args.stage.now.turns c.loop-rank.stage.turns
     (subst (λ js. Leads whole (AreEach Is now js) c.args.stage.now.turns c.loop-rank.stage.turns) none c.loop-rank.invariant.1) (λ more r. r) (λ more r. r)

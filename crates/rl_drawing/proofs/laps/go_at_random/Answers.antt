@@ -38,8 +38,8 @@ pub returns-in_err-go_one-clause-draws : goal.returns-in_err-go_one-clause-draws
 returns-in_err-go_one-clause-draws g c =
     let p = err_from_is_err_and c.from_residual.result c.from_residual.ensures.1 in
     let place = c.args.scene.place.now in
-    let first = running g.C.ShardCore.shard_table c.args.stage.now.machine in
-    let m = running g.C.ShardCore.shard_table c.loop.stage.machine in
+    let first = running g.C.ShardCore.says c.args.stage.now.machine in
+    let m = running g.C.ShardCore.says c.loop.stage.machine in
     let n = c.args.count in
     let i = c.loop.counter in
     let ks = c.args.ranks.now in

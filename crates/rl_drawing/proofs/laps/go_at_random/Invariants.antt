@@ -2,11 +2,11 @@ use Rattle.std.proofs.Common.{◌≡◌, ◌-◌}
 use Rattle.rl_machine.specs.Running.{running}
 use Rattle.rl_chance.specs.Draws.{first_state}
 use Rattle.rl_drawing.specs.Drawing.{drawn_turns}
-use Rattle.rl_drawing.specs.Leads.{OnStage, Leads}
+use Rattle.rl_drawing.specs.Leads.{HasCome, Leads}
 use Rattle.rl_drawing.proofs.laps.go_at_random.Given as goal
 
 -- the turns so far lead to those that are drawn from here on
 abbrev pub invariant-loop : goal.invariant-loop
 invariant-loop g l =
-    OnStage g.C.ShardCore.defined l.scene.place.now l.scene.ops.now (running g.C.ShardCore.shard_table l.stage.machine) l.stage.turns l.stage.left
+    HasCome g.C.ShardCore.defined l.scene.place.now l.scene.ops.now (running g.C.ShardCore.says l.stage.machine) l.stage.turns l.stage.left
     × Leads (λ ts. ts ≡ drawn_turns (first_state l.seed) l.count l.ranks) (λ ts. ts ≡ drawn_turns l.generator.state (l.count - l.counter) l.ranks) l.fn.stage.turns l.stage.turns

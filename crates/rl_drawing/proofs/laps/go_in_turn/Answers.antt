@@ -22,7 +22,7 @@ returns-then-is_empty-clause-draws g c =
     let shown = sees c.args.scene.place.now c.args.sought in
     let zero = eqb-true (vec_len c.loop.waiting) 0 (sym c.is_empty.ensures ∙ c.if-is_empty.true) in
     let none : length c.loop.waiting.items ≡ 0 = omega (arith, zero) in
-    in_turn_end shown (AreInTurn shown (running g.C.ShardCore.shard_table c.args.stage.now.machine) c.args.ranks.items) (running g.C.ShardCore.shard_table c.loop.stage.machine) c.loop.waiting.items c.args.stage.now.turns c.loop.stage.turns none c.loop.invariant.1
+    in_turn_end shown (AreInTurn shown (running g.C.ShardCore.says c.args.stage.now.machine) c.args.ranks.items) (running g.C.ShardCore.says c.loop.stage.machine) c.loop.waiting.items c.args.stage.now.turns c.loop.stage.turns none c.loop.invariant.1
 
 pub go_once-requires-clause-there : goal.go_once-requires-clause-there
 go_once-requires-clause-there g c =
@@ -33,8 +33,8 @@ go_once-requires-clause-there g c =
 pub loop-preserved : goal.loop-preserved
 loop-preserved g c =
     let shown = sees c.args.scene.place.now c.args.sought in
-    let m = running g.C.ShardCore.shard_table c.loop.stage.machine in
-    let now = running g.C.ShardCore.shard_table c.go_once.new.stage.machine in
+    let m = running g.C.ShardCore.says c.loop.stage.machine in
+    let now = running g.C.ShardCore.says c.go_once.new.stage.machine in
     let ws = c.loop.waiting.items in
     let k = c.remove-rank.result in
     let zero = differ (vec_len c.loop.waiting) 0 (sym c.is_empty.ensures ∙ c.if-is_empty.false) in
@@ -48,7 +48,7 @@ loop-preserved g c =
     let one : steps_in c.go_once.new.stage.turns ≡ steps_in c.loop.stage.turns + (1 + 0) = ap steps_in d.1 ∙ steps_append c.loop.stage.turns (d.0 ∷ []) ∙ ap (λ t. steps_in c.loop.stage.turns + (steps_of t + 0)) d.2 in
     let count = c.loop.invariant.3 in (
       c.in_ok-shown.ensures.stage,
-      in_turn_on shown (AreInTurn shown (running g.C.ShardCore.shard_table c.args.stage.now.machine) c.args.ranks.items) m now ws (drop 1 ws) c.come_again.new.waiting.items k c.args.stage.now.turns c.loop.stage.turns c.go_once.new.stage.turns d.0
+      in_turn_on shown (AreInTurn shown (running g.C.ShardCore.says c.args.stage.now.machine) c.args.ranks.items) m now ws (drop 1 ws) c.come_again.new.waiting.items k c.args.stage.now.turns c.loop.stage.turns c.go_once.new.stage.turns d.0
           next c.loop.invariant.1 d.1 d.2 c.in_ok-shown.ensures.stepped left,
       subst (AllByRecursion (λ i. i < length c.args.scene.place.now.paths)) (sym left) (left_of (λ i. i < length c.args.scene.place.now.paths) (shown m k) k (drop 1 ws) (subst (AllByRecursion (λ i. i < length c.args.scene.place.now.paths)) next c.loop.invariant.2)),
       omega (arith, fewer, one, count),
@@ -58,8 +58,8 @@ pub returns-in_err-shown-clause-draws : goal.returns-in_err-shown-clause-draws
 returns-in_err-shown-clause-draws g c =
     let p = err_from_is_err_and c.from_residual.result c.from_residual.ensures.1 in
     let shown = sees c.args.scene.place.now c.args.sought in
-    let first = running g.C.ShardCore.shard_table c.args.stage.now.machine in
-    let m = running g.C.ShardCore.shard_table c.loop.stage.machine in
+    let first = running g.C.ShardCore.says c.args.stage.now.machine in
+    let m = running g.C.ShardCore.says c.loop.stage.machine in
     let ws = c.loop.waiting.items in
     let k = c.remove-rank.result in
     let zero = differ (vec_len c.loop.waiting) 0 (sym c.is_empty.ensures ∙ c.if-is_empty.false) in

@@ -23,15 +23,15 @@ loop-preserved g c =
     let ks = c.args.ranks.now in
     let next : n - i ≡ suc (n - (i + 1)) = omega arith in (
       c.in_ok-go_each.ensures.stage,
-      laps_on c.args.scene.place.now (λ ts. ts ≡ laps n ks) (running g.C.ShardCore.shard_table c.loop.stage.machine) ks (n - i) (n - (i + 1)) c.args.stage.now.turns c.loop.stage.turns c.go_each.new.stage.turns next c.loop.invariant.1 c.in_ok-go_each.ensures.draws,
+      laps_on c.args.scene.place.now (λ ts. ts ≡ laps n ks) (running g.C.ShardCore.says c.loop.stage.machine) ks (n - i) (n - (i + 1)) c.args.stage.now.turns c.loop.stage.turns c.go_each.new.stage.turns next c.loop.invariant.1 c.in_ok-go_each.ensures.draws,
     )
 
 pub returns-in_err-go_each-clause-draws : goal.returns-in_err-go_each-clause-draws
 returns-in_err-go_each-clause-draws g c =
     let p = err_from_is_err_and c.from_residual.result c.from_residual.ensures.1 in
     let place = c.args.scene.place.now in
-    let first = running g.C.ShardCore.shard_table c.args.stage.now.machine in
-    let m = running g.C.ShardCore.shard_table c.loop.stage.machine in
+    let first = running g.C.ShardCore.says c.args.stage.now.machine in
+    let m = running g.C.ShardCore.says c.loop.stage.machine in
     let n = c.args.count in
     let i = c.loop.counter in
     let ks = c.args.ranks.now in

@@ -5,4 +5,4 @@ use Rattle.rl_drawing.proofs.looking.make_steps.Given as goal
 
 -- so many steps were made
 abbrev pub invariant-loop : goal.invariant-loop
-invariant-loop g l = running g.C.ShardCore.shard_table l.machine ≡ run_of (running g.C.ShardCore.shard_table l.fn.machine) (replicate l.counter l.rank)
+invariant-loop g l = running g.C.ShardCore.says l.machine ≡ run_of (running g.C.ShardCore.says l.fn.machine) (replicate l.counter l.rank)

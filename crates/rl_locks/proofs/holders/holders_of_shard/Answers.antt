@@ -1,9 +1,8 @@
 -- The rule of the window has the rule of the core.
-use Rattle.std.proofs.Common.{map}
 use Rattle.rl_work.specs.laws.LockedLaws.{locked_laws}
 use Rattle.rl_site.specs.Site.{Site}
-use Rattle.rl_shard.specs.Counting.{whole_of}
 use Rattle.rl_shard.specs.Shards.{core_at}
+use Rattle.rl_shard.specs.Counting.{whole_moment}
 use Rattle.rl_locks.proofs.HolderLaws.{keeps_reads}
 use Rattle.rl_locks.proofs.holders.holders_of_shard.Goals as goal
 
@@ -12,4 +11,4 @@ returns g c = λ h vs rule.
     let core = core_at c.args.shard.now in
     let site : Site = record { geom = core.work.geom; shard = core.work.shard; rooms = core.work.rooms.items } in
     keeps_reads _ core.base (g.A.Algo.table core.algo) site core.work.behind (g.A.Algo.good core.algo) (g.A.Algo.further core.algo) (g.A.Algo.layout core.algo)
-    (record { lock = g.met.A.Algo.laws core.algo; work = locked_laws site core.work.behind }) core.home h (map whole_of vs) rule.trace rule.acts rule.is_good
+    (record { lock = g.met.A.Algo.laws core.algo; work = locked_laws site core.work.behind }) core.home (whole_moment h vs rule.trace rule.acts) rule.is_good

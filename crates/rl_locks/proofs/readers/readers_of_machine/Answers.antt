@@ -2,6 +2,7 @@
 use Rattle.std.proofs.Common.{sym, subst}
 use Rattle.rl_seq.specs.Place.{at_of}
 use Rattle.rl_seq.specs.laws.SeqLaws.{seq_laws}
+use Rattle.rl_machine.specs.Running.{moment_of}
 use Rattle.rl_locks.specs.Optimistic.{KeepsGets}
 use Rattle.rl_locks.proofs.ReaderLaws.{keeps_gets}
 use Rattle.rl_locks.proofs.readers.readers_of_machine.Goals as goal
@@ -12,7 +13,7 @@ returns-clause-now g c = λ s S has.
     let core = q.core in
     subst (λ z. KeepsGets z S.held S.views) (sym q.is.table_is)
     (keeps_gets _ core.base (g.A.Algo.table core.algo) (at_of core.work) core.work.home (g.A.Algo.good core.algo) (g.A.Algo.further core.algo) (g.A.Algo.layout core.algo)
-    (record { lock = g.met.A.Algo.laws core.algo; work = seq_laws (at_of core.work) core.work.home }) core.home S.held S.views _ q.acts q.is.is_good)
+    (record { lock = g.met.A.Algo.laws core.algo; work = seq_laws (at_of core.work) core.work.home }) core.home (moment_of S q.acts) q.is.is_good)
 
 pub returns-clause-stays : goal.returns-clause-stays
 returns-clause-stays g c = λ ks there s S has.
@@ -20,4 +21,4 @@ returns-clause-stays g c = λ ks there s S has.
     let core = q.core in
     subst (λ z. KeepsGets z S.held S.views) (sym q.is.table_is)
     (keeps_gets _ core.base (g.A.Algo.table core.algo) (at_of core.work) core.work.home (g.A.Algo.good core.algo) (g.A.Algo.further core.algo) (g.A.Algo.layout core.algo)
-    (record { lock = g.met.A.Algo.laws core.algo; work = seq_laws (at_of core.work) core.work.home }) core.home S.held S.views _ q.acts q.is.is_good)
+    (record { lock = g.met.A.Algo.laws core.algo; work = seq_laws (at_of core.work) core.work.home }) core.home (moment_of S q.acts) q.is.is_good)

@@ -1,9 +1,8 @@
 -- The rule of the window has the rule of the core.
-use Rattle.std.proofs.Common.{map}
 use Rattle.rl_seq.specs.Place.{at_of}
 use Rattle.rl_seq.specs.laws.SeqLaws.{seq_laws}
-use Rattle.rl_shard.specs.Counting.{whole_of}
 use Rattle.rl_shard.specs.Shards.{core_at}
+use Rattle.rl_shard.specs.Counting.{whole_moment}
 use Rattle.rl_locks.proofs.ReaderLaws.{keeps_gets}
 use Rattle.rl_locks.proofs.readers.readers_of_shard.Goals as goal
 
@@ -11,4 +10,4 @@ pub returns : goal.returns
 returns g c = λ h vs rule.
     let core = core_at c.args.shard.now in
     keeps_gets _ core.base (g.A.Algo.table core.algo) (at_of core.work) core.work.home (g.A.Algo.good core.algo) (g.A.Algo.further core.algo) (g.A.Algo.layout core.algo)
-    (record { lock = g.met.A.Algo.laws core.algo; work = seq_laws (at_of core.work) core.work.home }) core.home h (map whole_of vs) rule.trace rule.acts rule.is_good
+    (record { lock = g.met.A.Algo.laws core.algo; work = seq_laws (at_of core.work) core.work.home }) core.home (whole_moment h vs rule.trace rule.acts) rule.is_good

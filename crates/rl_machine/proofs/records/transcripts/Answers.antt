@@ -13,7 +13,7 @@ use Rattle.rl_machine.proofs.records.transcripts.Goals as goal
 pub loop-rank-preserved : goal.loop-rank-preserved
 loop-rank-preserved g c =
     let rank = c.loop-rank.rank in
-    let S = running_shard g.C.ShardCore.shard_table c.args.shard.now in
+    let S = running_shard g.C.ShardCore.says c.args.shard.now in
     let all = transcripts_on S in
     let there : rank < length S.views = let r = c.requires.all in let t = c.loop-rank-test.true in omega arith in
     let told = c.in_ok-told.told in
@@ -25,6 +25,6 @@ loop-rank-preserved g c =
 pub returns : goal.returns
 returns g c =
     let s = c.args.shard.now in
-    let all = transcripts_on (running_shard g.C.ShardCore.shard_table s) in
-    let long : c.loop-rank.rank ≡ length all = (let l = kept_long (g.C.ShardCore.shard_table s.core) s.flat.words.words 0 s.flat.views.items in let r = c.requires.all in omega arith) in
+    let all = transcripts_on (running_shard g.C.ShardCore.says s) in
+    let long : c.loop-rank.rank ≡ length all = (let l = kept_long (g.C.ShardCore.says s.core).table s.flat.words.words 0 s.flat.views.items in let r = c.requires.all in omega arith) in
     c.loop-rank.invariant ∙ ap (λ n. take n all) long ∙ take-length all

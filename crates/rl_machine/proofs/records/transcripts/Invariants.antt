@@ -5,4 +5,4 @@ use Rattle.rl_machine.specs.State.{running_shard}
 use Rattle.rl_machine.proofs.records.transcripts.Given as goal
 
 abbrev pub invariant-loop-rank : goal.invariant-loop-rank
-invariant-loop-rank g l = map (λ t. t.items) l.transcripts.items ≡ take l.rank (transcripts_on (running_shard g.C.ShardCore.shard_table l.shard))
+invariant-loop-rank g l = map (λ t. t.items) l.transcripts.items ≡ take l.rank (transcripts_on (running_shard g.C.ShardCore.says l.shard))

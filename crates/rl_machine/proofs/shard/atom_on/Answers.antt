@@ -1,17 +1,15 @@
 -- An advance, with its events noted, is one atom of the definition.
 use Rattle.std.proofs.Common.{◌≡◌, ◌∙◌, ◌++◌, Some, None, slice_set, ap, subst, sym}
 use Rattle.rl_step.specs.Do.{do_got}
-use Rattle.rl_machine.specs.Running.{shard_run}
-use Rattle.rl_machine.specs.State.{shard_view}
+use Rattle.rl_machine.specs.State.{running_shard}
 use Rattle.rl_machine.specs.ShardSteps.{numbered}
-use Rattle.rl_step.specs.Traces.{events_of}
 use Rattle.rl_machine.specs.laws.StepLaws.{Advances, advanced_shard, shard_by}
 use Rattle.rl_machine.proofs.shard.atom_on.Goals as goal
 use Rattle.rl_machine.proofs.shard.atom_on.Goals.{After-advance_flat-stepped}
 use Rattle.rl_machine.proofs.shard.atom_on.Given.{Over}
 
 advances : (g : Over) (c : After-advance_flat-stepped g) →
-    Advances (shard_run g.C.ShardCore.shard_table (shard_view c.args.shard.now)) c.args.rank
+    Advances (running_shard g.C.ShardCore.says c.args.shard.now) c.args.rank
     c.advance_flat-stepped.new.flat.words c.advance_flat-stepped.new.flat.views.items c.advance_flat-stepped.new.events.items c.advance_flat-stepped.result
 advances g c =
     let made = c.advance_flat-stepped.ensures in
@@ -34,11 +32,11 @@ advances g c =
 pub advance_flat-stepped-requires-clause-ruled : goal.advance_flat-stepped-requires-clause-ruled
 advance_flat-stepped-requires-clause-ruled g c =
     let s = c.args.shard.now in
-    g.met.C.ShardCore.ruled s.core s.flat.words s.flat.views.items (events_of s.events.items) c.requires.good.acts c.requires.good.is_good
+    g.met.C.ShardCore.ruled s.core _ c.requires.good.is_good
 
 pub returns-clause-made : goal.returns-clause-made
 returns-clause-made g c =
-    let S = shard_run g.C.ShardCore.shard_table (shard_view c.args.shard.now) in
+    let S = running_shard g.C.ShardCore.says c.args.shard.now in
     let h = c.advance_flat-stepped.new.flat.words in
     let vs = c.advance_flat-stepped.new.flat.views.items in
     let es = c.advance_flat-stepped.new.events.items in
@@ -49,6 +47,6 @@ returns-clause-made g c =
 
 pub returns-clause-answer : goal.returns-clause-answer
 returns-clause-answer g c =
-    (advanced_shard (shard_run g.C.ShardCore.shard_table (shard_view c.args.shard.now)) c.args.rank c.args.step
+    (advanced_shard (running_shard g.C.ShardCore.says c.args.shard.now) c.args.rank c.args.step
     c.advance_flat-stepped.new.flat.words c.advance_flat-stepped.new.flat.views.items c.advance_flat-stepped.new.events.items c.advance_flat-stepped.result
     (advances g (goal.at.returns-clause-answer g c).After-advance_flat-stepped)).1

@@ -1,14 +1,13 @@
 -- The rank's view with the block open stands in place of the one before.
 use Rattle.std.proofs.Common.{ap, sym, ◌∙◌}
 use Rattle.rl_word.specs.laws.Places.{some_at}
-use Rattle.rl_machine.specs.Running.{shard_run}
 use Rattle.rl_machine.specs.ShardSteps.{opened_at}
-use Rattle.rl_machine.specs.State.{shard_view}
+use Rattle.rl_machine.specs.State.{running_shard}
 use Rattle.rl_machine.proofs.shard.open_on.Goals as goal
 
 pub returns-clause-opened : goal.returns-clause-opened
 returns-clause-opened g c =
-    let S = shard_run g.C.ShardCore.shard_table (shard_view c.args.shard.now) in
+    let S = running_shard g.C.ShardCore.says c.args.shard.now in
     let k = c.args.rank in
     let x = some_at c.args.shard.now.flat.views.items k c.requires.there in
     let opened = ap (opened_at S k c.args.calls.now c.args.seq) x.1 in

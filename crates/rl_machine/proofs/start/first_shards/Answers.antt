@@ -1,21 +1,20 @@
 -- One shard more.
-use Rattle.std.proofs.Common.{◌≡◌, ℕ, refl, ◌+◌, ◌<◌, ◌≤◌, length, map, sum, slice_get, slice_index, take, Some, ap, sym, ◌∙◌, subst, arith}
+use Rattle.std.proofs.Common.{◌≡◌, ℕ, refl, ◌+◌, ◌<◌, ◌≤◌, length, sum, slice_get, slice_index, take, Some, ap, sym, ◌∙◌, subst, arith}
 use Rattle.std.proofs.lemmas.List.{length-map}
 use Rattle.std.proofs.lemmas.Option.{slice_get-get_or}
 use Rattle.rl_word.specs.Shapes.{layout_of}
 use Rattle.rl_step.specs.Batches.{HandsOn}
 use Rattle.rl_ops.specs.Room.{calls_on, updates_on, AreRooms}
 use Rattle.rl_ops.specs.laws.RoomLaws.{first_room}
-use Rattle.rl_machine.specs.Cores.{EachCore}
+use Rattle.rl_machine.specs.Cores.{EachSits, EachHandsOn}
 use Rattle.rl_machine.specs.laws.CoreLaws.{core_more, home_there}
 use Rattle.rl_machine.specs.laws.ShardsMore.{shards_more, cores_more, length_cores, length_more}
 use Rattle.rl_site.specs.Site.{Site}
 use Rattle.rl_core.specs.ShardTables.{site_with}
 use Rattle.std.proofs.Math.Seq.{take-length}
 use Rattle.rl_core.specs.laws.OpsBridge.{few_updates}
-use Rattle.rl_machine.specs.Running.{shard_run, shard_cores}
 use Rattle.rl_machine.specs.Start.{first_shard, first_shards, site_of}
-use Rattle.rl_machine.specs.State.{shard_view}
+use Rattle.rl_machine.specs.State.{running_shards, cores_in}
 use Rattle.rl_machine.proofs.start.first_shards.Goals as goal
 
 pub first_shard-requires-clause-home : goal.first_shard-requires-clause-home
@@ -55,20 +54,20 @@ loop-shard-preserved g c =
     let inv = c.loop-shard.invariant in
     let low : i < length homes = (let many = c.requires.many in let h = c.loop-shard-test.true in omega arith) in
     let at : slice_get homes i ≡ Some home = slice_get-get_or homes i 0 low in
-    let cores = shard_cores (map shard_view items) in
+    let cores = cores_in items in
     let here : slice_get homes (length cores) ≡ Some home = ap (slice_get homes) (length_cores items ∙ inv.1) ∙ at in
     let pushed = c.in_ok-push.ensures.items in
-    let grown = ap (λ t. shard_cores (map shard_view t)) pushed ∙ cores_more items first in
+    let grown = ap cores_in pushed ∙ cores_more items first in
     let taken = first_room c.args.geom c.args.ops.now.by_rank i c.loop-shard.rooms.items c.remove-room.result inv.5 inv.4 c.loop-shard-test.true c.remove-room.ensures.value in
     let run = made.made ∙ ap (λ l. first_shard (g.C.ShardCore.defined shape home c.args.knobs (site_with c.args.geom i l)) shape.nodes c.remove-room.result.calls.items) taken.0.updates
     ∙ ap (first_shard (g.C.ShardCore.defined shape home c.args.knobs (site_of c.args.geom c.args.ops.now.by_rank i)) shape.nodes) taken.0.calls in (
-      ap (λ t. map (shard_run g.C.ShardCore.shard_table) (map shard_view t)) pushed
-          ∙ shards_more g.C.ShardCore.shard_table (λ h site. g.C.ShardCore.defined shape h c.args.knobs site) shape.nodes c.args.geom c.args.ops.now.by_rank homes items i home first inv.0 low refl run,
+      ap (running_shards g.C.ShardCore.says) pushed
+          ∙ shards_more g.C.ShardCore.says (λ h site. g.C.ShardCore.defined shape h c.args.knobs site) shape.nodes c.args.geom c.args.ops.now.by_rank homes items i home first inv.0 low refl run,
       (let e = ap length pushed in let n = length_more items first in let o = inv.1 in omega arith),
-      subst (EachCore (λ (h : ℕ) (core : g.row.C.Denot). HandsOn (g.C.ShardCore.further core) (g.C.ShardCore.promised shape h c.args.knobs)) homes) (sym grown)
-          (core_more (λ (h : ℕ) (core : g.row.C.Denot). HandsOn (g.C.ShardCore.further core) (g.C.ShardCore.promised shape h c.args.knobs)) homes cores home first.core inv.2 here made.promised),
-      subst (EachCore (λ (h : ℕ) (core : g.row.C.Denot). g.C.ShardCore.layout core ≡ layout_of shape) homes) (sym grown)
-          (core_more (λ (h : ℕ) (core : g.row.C.Denot). g.C.ShardCore.layout core ≡ layout_of shape) homes cores home first.core inv.3 here made.layout),
+      subst (EachHandsOn g.C.ShardCore.says g.C.ShardCore.promised shape c.args.knobs homes) (sym grown)
+          (core_more (λ (h : ℕ) (core : g.row.C.Denot). HandsOn (g.C.ShardCore.says core).further (g.C.ShardCore.promised shape h c.args.knobs)) homes cores home first.core inv.2 here made.promised),
+      subst (EachSits g.C.ShardCore.says (layout_of shape) homes) (sym grown)
+          (core_more (λ (h : ℕ) (core : g.row.C.Denot). (g.C.ShardCore.says core).layout ≡ layout_of shape) homes cores home first.core inv.3 here made.layout),
       ap (λ l. length l + (i + 1)) c.remove-room.ensures.items ∙ taken.2,
       subst (AreRooms c.args.geom c.args.ops.now.by_rank (i + 1)) (sym c.remove-room.ensures.items) taken.1,
     )
@@ -79,7 +78,8 @@ returns-clause-made g c =
     let shape = c.args.shape.now in
     let all : c.loop-shard.shard ≡ length homes = (let many = c.requires.many in omega arith) in
     let T = λ (h : ℕ) (site : Site). g.C.ShardCore.defined shape h c.args.knobs site in
-    c.loop-shard.invariant.0 ∙ ap (λ n. first_shards T shape.nodes c.args.geom c.args.ops.now.by_rank 0 (take n homes)) all ∙ ap (first_shards T shape.nodes c.args.geom c.args.ops.now.by_rank 0) (take-length homes)
+    c.loop-shard.invariant.0 ∙ ap (λ n. first_shards T shape.nodes c.args.geom c.args.ops.now.by_rank 0 (take n homes)) all
+    ∙ ap (first_shards T shape.nodes c.args.geom c.args.ops.now.by_rank 0) (take-length homes)
 
 pub returns-clause-promised : goal.returns-clause-promised
 returns-clause-promised g c = c.loop-shard.invariant.2

@@ -2,10 +2,9 @@
 use Rattle.std.proofs.Common.{◌≡◌, slice_get, slice_set, Some, ap, sym, ◌∙◌, arith}
 use Rattle.std.proofs.lemmas.Option.{slice_get-get_or}
 use Rattle.std.proofs.lemmas.Result.{err_from_is_err_and}
-use Rattle.rl_machine.specs.Running.{running, shard_run}
 use Rattle.rl_machine.specs.Run.{place_of}
 use Rattle.rl_machine.specs.ShardSteps.{atom_on}
-use Rattle.rl_machine.specs.State.{shard_view, machine_view}
+use Rattle.rl_machine.specs.State.{running_machine, running_shard}
 use Rattle.rl_machine.specs.laws.MachineSteps.{machine_with, atom_is}
 use Rattle.rl_machine.specs.laws.StateLaws.{IsThere, is_there, shard_set, kept_set, core_set}
 use Rattle.rl_machine.proofs.state.step_at.Goals as goal
@@ -17,8 +16,8 @@ has g c =
     let items = c.args.state.now.shards.items in
     slice_get-get_or items c.args.place c.index_mut.result.now c.requires.place ∙ ap Some (sym c.index_mut.ensures.value)
 
-there : (g : Over) (c : After-index_mut g) → IsThere _ _ g.C.ShardCore.shard_table g.C.ShardCore.good c.args.state.now c.requires.good c.args.place c.index_mut.result.now
-there g c = is_there _ _ g.C.ShardCore.shard_table g.C.ShardCore.good c.args.state.now c.requires.good c.args.place c.index_mut.result.now (has g c)
+there : (g : Over) (c : After-index_mut g) → IsThere g.C.ShardCore.says c.args.state.now c.requires.good c.args.place c.index_mut.result.now
+there g c = is_there g.C.ShardCore.says c.args.state.now c.requires.good c.args.place c.index_mut.result.now (has g c)
 
 pub atom_at-requires-clause-there : goal.atom_at-requires-clause-there
 atom_at-requires-clause-there g c = let all = (there g c).ranks in let low = c.requires.there in omega arith
@@ -40,23 +39,23 @@ returns-in_err-answer-clause-kept g c =
 pub returns-clause-made : goal.returns-clause-made
 returns-clause-made g c =
     let state = c.args.state.now in
-    let m = running g.C.ShardCore.shard_table (machine_view state) in
+    let m = running_machine g.C.ShardCore.says state in
     let rank = c.args.rank in
-    let S = shard_run g.C.ShardCore.shard_table (shard_view c.index_mut.result.now) in
-    let S' = shard_run g.C.ShardCore.shard_table (shard_view c.atom_at.new.shard) in
+    let S = running_shard g.C.ShardCore.says c.index_mut.result.now in
+    let S' = running_shard g.C.ShardCore.says c.atom_at.new.shard in
     let place = c.requires.stands in
     let t = there g (goal.at.returns-clause-made g c).After-index_mut in
     let made = c.in_ok-answer.ensures.made ∙ ap (λ n. atom_on rank n S) c.made-step.ensures in
     let q = atom_is m rank S S' c.in_ok-answer.answer (ap (slice_get m.shards) (sym place) ∙ t.has) made c.in_ok-answer.ensures.answer in
-    ap (λ z. machine_with m z m.opened c.count.new.self) (shard_set g.C.ShardCore.shard_table state.shards.items c.args.place c.atom_at.new.shard ∙ ap (λ s. slice_set m.shards s S') place)
+    ap (λ z. machine_with m z m.opened c.count.new.self) (shard_set g.C.ShardCore.says state.shards.items c.args.place c.atom_at.new.shard ∙ ap (λ s. slice_set m.shards s S') place)
     ∙ ap (λ z. machine_with m (slice_set m.shards (place_of m rank) S') m.opened z) c.count.ensures ∙ q.0
 
 pub returns-clause-answer : goal.returns-clause-answer
 returns-clause-answer g c =
-    let m = running g.C.ShardCore.shard_table (machine_view c.args.state.now) in
+    let m = running_machine g.C.ShardCore.says c.args.state.now in
     let rank = c.args.rank in
-    let S = shard_run g.C.ShardCore.shard_table (shard_view c.index_mut.result.now) in
-    let S' = shard_run g.C.ShardCore.shard_table (shard_view c.atom_at.new.shard) in
+    let S = running_shard g.C.ShardCore.says c.index_mut.result.now in
+    let S' = running_shard g.C.ShardCore.says c.atom_at.new.shard in
     let t = there g (goal.at.returns-clause-answer g c).After-index_mut in
     let made = c.in_ok-answer.ensures.made ∙ ap (λ n. atom_on rank n S) c.made-step.ensures in
     (atom_is m rank S S' c.in_ok-answer.answer (ap (slice_get m.shards) (sym c.requires.stands) ∙ t.has) made c.in_ok-answer.ensures.answer).1

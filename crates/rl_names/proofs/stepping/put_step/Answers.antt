@@ -6,9 +6,9 @@ use Rattle.rl_names.proofs.stepping.put_step.Goals as goal
 
 pub returns-clause-text : goal.returns-clause-text
 returns-clause-text g c =
-    let m = running g.C.ShardCore.shard_table c.args.machine.now in
-    let n = running g.C.ShardCore.shard_table c.open_next.new.self in
-    let last = running g.C.ShardCore.shard_table c.step.new.self in
+    let m = running g.C.ShardCore.says c.args.machine.now in
+    let n = running g.C.ShardCore.says c.open_next.new.self in
+    let last = running g.C.ShardCore.says c.step.new.self in
     let opened = c.open_next.ensures.opened in
     let told = c.in_ok-answer.ensures.answer ∙ c.open_next.ensures.same_answer in
     let made = c.in_ok-answer.ensures.stepped ∙ c.open_next.ensures.same_step in

@@ -6,11 +6,11 @@ use Rattle.rl_place.specs.Places.{ThePlace, IsProper}
 use Rattle.rl_place.proofs.ElementLaws.{IsShort, short-place, short-elements}
 use Rattle.rl_place.proofs.shape.shape_in.Goals as goal
 
-pub elements_by_number-requires : goal.elements_by_number-requires
-elements_by_number-requires c =
+pub shape_under-requires : goal.shape_under-requires
+shape_under-requires c =
     let place : ThePlace = record { levels = c.place.inside.levels; lock = c.place.inside.lock; geom = c.place.inside.geom; paths = c.place.inside.paths.items; homes = c.place.inside.homes.items } in
     let proper : IsProper place = subst (λ (p : ThePlace). IsProper p) (sym c.place.view_is) c.requires in
     let value = c.as_slice-paths.ensures.value in
     let names = c.in_ok-names.ensures.names ∙ ap element_paths value in
     let short = subst (λ (names : List Path). AllByRecursion IsShort names) (sym names) (short-elements place.paths (short-place place proper)) in
-    (short, omega (arith, c.in_ok-nodes.ensures.few, ap length c.as_slice-2.ensures.keys, ap length value, proper.most_ranks), omega (arith, c.in_ok-names.ensures.few, ap length value, proper.most_ranks))
+    (short, omega (arith, c.in_ok-nodes.ensures.few, ap length value, proper.most_ranks), omega (arith, c.in_ok-names.ensures.few, ap length value, proper.most_ranks))

@@ -5,10 +5,11 @@ use Rattle.rl_machine.specs.Running.{running, shard_run}
 use Rattle.rl_machine.specs.Changes.{OnlyWritersChange}
 use Rattle.rl_machine.specs.Promises.{IsSound}
 use Rattle.rl_locks.specs.OnShards.{EachShard}
-use Rattle.rl_program.specs.Replay.{report_in, queue_count, run_with}
+use Rattle.rl_reporting.specs.Reported.{report_in, queue_count}
+use Rattle.rl_locks.specs.Runs.{machine_after}
 use Rattle.rl_inputs.proofs.SuitLaws.{sizes_suit}
-use Rattle.rl_program.proofs.RunLaws.{steps_are, where_ok}
-use Rattle.rl_program.proofs.KeptLaws.{ran, says_is, keeps_is, same_calls, each_shard, is_kept}
+use Rattle.rl_machine.specs.laws.Alike.{steps_are}
+use Rattle.rl_program.proofs.KeptLaws.{where_ok, ran, says_is, keeps_is, same_calls, each_shard, is_kept}
 use Rattle.rl_program.proofs.MachineOf.{machine_of}
 use Rattle.rl_program.proofs.ReplayReports.{lawful, lawful_ok}
 use Rattle.rl_program.proofs.replaying.report_with.Goals as goal
@@ -26,21 +27,21 @@ replay-requires-clause-batches g c = sizes_suit c.args.place.now c.args.ops g.C.
 pub report_of_machine-requires-clause-shards : goal.report_of_machine-requires-clause-shards
 report_of_machine-requires-clause-shards g c =
     let place = c.args.place.now in
-    let run = ran g.C.ShardCore.defined place c.args.ops c.args.schedule.now _ _ _ _ _ (running g.C.ShardCore.shard_table c.in_ok-machine.machine)
+    let run = ran g.C.ShardCore.defined place c.args.ops c.args.schedule.now _ _ _ _ _ (running g.C.ShardCore.says c.in_ok-machine.machine)
     c.place.view_is c.in_ok-shape.ensures.exact c.knobs-knobs.ensures c.as_slice-homes.ensures.value c.as_slice-turns.ensures c.in_ok-machine.ensures.run in
-    sym (length-map c.in_ok-machine.machine.shards (shard_run g.C.ShardCore.shard_table)) ∙ ap (λ m. length m.shards) run ∙ each_shard g.C.ShardCore.defined place c.args.ops c.args.schedule.now ∙ c.requires.proper.each_shard
+    sym (length-map c.in_ok-machine.machine.shards (shard_run g.C.ShardCore.says)) ∙ ap (λ m. length m.shards) run ∙ each_shard g.C.ShardCore.defined place c.args.ops c.args.schedule.now ∙ c.requires.proper.each_shard
 
 pub report_of_machine-requires-clause-ranks : goal.report_of_machine-requires-clause-ranks
 report_of_machine-requires-clause-ranks g c =
     let place = c.args.place.now in
-    let run = ran g.C.ShardCore.defined place c.args.ops c.args.schedule.now _ _ _ _ _ (running g.C.ShardCore.shard_table c.in_ok-machine.machine)
+    let run = ran g.C.ShardCore.defined place c.args.ops c.args.schedule.now _ _ _ _ _ (running g.C.ShardCore.says c.in_ok-machine.machine)
     c.place.view_is c.in_ok-shape.ensures.exact c.knobs-knobs.ensures c.as_slice-homes.ensures.value c.as_slice-turns.ensures c.in_ok-machine.ensures.run in
     ap (λ m. length m.calls) run ∙ ap length (same_calls g.C.ShardCore.defined place c.args.ops c.args.schedule.now) ∙ c.requires.calls.ranks_there
 
 pub returns-clause-report : goal.returns-clause-report
 returns-clause-report g c =
     let place = c.args.place.now in
-    let run = ran g.C.ShardCore.defined place c.args.ops c.args.schedule.now _ _ _ _ _ (running g.C.ShardCore.shard_table c.in_ok-machine.machine)
+    let run = ran g.C.ShardCore.defined place c.args.ops c.args.schedule.now _ _ _ _ _ (running g.C.ShardCore.says c.in_ok-machine.machine)
     c.place.view_is c.in_ok-shape.ensures.exact c.knobs-knobs.ensures c.as_slice-homes.ensures.value c.as_slice-turns.ensures c.in_ok-machine.ensures.run in
     subst (λ m. IfOk c.report_of_machine.result (λ report. report ≡ report_in (queue_count place) m)) run c.report_of_machine.ensures.report
 
@@ -48,7 +49,7 @@ pub returns-clause-kept : goal.returns-clause-kept
 returns-clause-kept g c =
     let place = c.args.place.now in
     let schedule = c.args.schedule.now in
-    let run = ran g.C.ShardCore.defined place c.args.ops c.args.schedule.now _ _ _ _ _ (running g.C.ShardCore.shard_table c.in_ok-machine.machine)
+    let run = ran g.C.ShardCore.defined place c.args.ops c.args.schedule.now _ _ _ _ _ (running g.C.ShardCore.says c.in_ok-machine.machine)
     c.place.view_is c.in_ok-shape.ensures.exact c.knobs-knobs.ensures c.as_slice-homes.ensures.value c.as_slice-turns.ensures c.in_ok-machine.ensures.run in
     let geom = ap (λ p. p.geom) c.place.view_is in
     let homes = c.as_slice-homes.ensures.value ∙ ap (λ p. p.homes) c.place.view_is in
@@ -61,9 +62,9 @@ pub returns-clause-lawful : goal.returns-clause-lawful
 returns-clause-lawful g c =
     let place = c.args.place.now in
     let schedule = c.args.schedule.now in
-    let run = ran g.C.ShardCore.defined place c.args.ops c.args.schedule.now _ _ _ _ _ (running g.C.ShardCore.shard_table c.in_ok-machine.machine)
+    let run = ran g.C.ShardCore.defined place c.args.ops c.args.schedule.now _ _ _ _ _ (running g.C.ShardCore.says c.in_ok-machine.machine)
     c.place.view_is c.in_ok-shape.ensures.exact c.knobs-knobs.ensures c.as_slice-homes.ensures.value c.as_slice-turns.ensures c.in_ok-machine.ensures.run in
     let of = machine_of g.C.ShardCore.defined g.C.ShardCore.name g.met.C.ShardCore.has_queues place c.args.ops schedule c.requires.kind g.met.C.ShardCore.has_cohorts c.requires.schedule in
-    lawful_ok place c.args.ops (run_with g.C.ShardCore.defined place c.args.ops schedule) c.report_of_machine.result
+    lawful_ok place c.args.ops (machine_after g.C.ShardCore.defined place c.args.ops schedule.turns) c.report_of_machine.result
     (subst (λ m. IfOk c.report_of_machine.result (λ report. report ≡ report_in (queue_count place) m)) run c.report_of_machine.ensures.report) c.report_of_machine.ensures.numbers
-    (λ numbers. lawful place c.args.ops c.requires.proper c.requires.calls (run_with g.C.ShardCore.defined place c.args.ops schedule) (subst IsSound run c.in_ok-machine.ensures.sound) of numbers)
+    (λ numbers. lawful place c.args.ops c.requires.proper c.requires.calls (machine_after g.C.ShardCore.defined place c.args.ops schedule.turns) (subst IsSound run c.in_ok-machine.ensures.sound) of numbers)

@@ -7,14 +7,14 @@ use Rattle.rl_replay.specs.laws.RestedLaws.{over_rests, counted_run, keeps_with}
 use Rattle.rl_replay.proofs.noted.rest.Goals as goal
 
 pub rest_waiting-requires-clause-rested : goal.rest_waiting-requires-clause-rested
-rest_waiting-requires-clause-rested g c = subst (Rested g.C.Resting.with_sight (running g.C.ShardCore.shard_table c.args.machine.now) c.args.rank) c.in-Waits.is c.requires.rested
+rest_waiting-requires-clause-rested g c = subst (Rested g.C.Resting.with_sight (running g.C.ShardCore.says c.args.machine.now) c.args.rank) c.in-Waits.is c.requires.rested
 
 pub returns-in-Finished-clause-run : goal.returns-in-Finished-clause-run
 returns-in-Finished-clause-run g c = λ _.
-    let m = running g.C.ShardCore.shard_table c.args.machine.now in
+    let m = running g.C.ShardCore.says c.args.machine.now in
     let over = subst (Rested g.C.Resting.with_sight m c.args.rank) c.in-Finished.is c.requires.rested in
-    counted_run m (running g.C.ShardCore.shard_table c.count_more.new.self) c.args.rank c.args.count Finished (over_rests m c.args.rank over) c.count_more.ensures.counted
+    counted_run m (running g.C.ShardCore.says c.count_more.new.self) c.args.rank c.args.count Finished (over_rests m c.args.rank over) c.count_more.ensures.counted
 
 pub returns-in-Finished-clause-noted : goal.returns-in-Finished-clause-noted
 returns-in-Finished-clause-noted g c =
-    keeps_with g.C.Resting.with_sight (running g.C.ShardCore.shard_table c.args.machine.now) (running g.C.ShardCore.shard_table c.count_more.new.self) _ c.count_more.ensures.counted
+    keeps_with g.C.Resting.with_sight (running g.C.ShardCore.says c.args.machine.now) (running g.C.ShardCore.says c.count_more.new.self) _ c.count_more.ensures.counted

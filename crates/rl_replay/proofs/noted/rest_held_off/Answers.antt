@@ -9,11 +9,11 @@ use Rattle.rl_replay.proofs.noted.rest_held_off.Goals.{After-words}
 use Rattle.rl_replay.proofs.noted.rest_held_off.Given.{Over}
 
 pub words-requires : goal.words-requires
-words-requires g c = shards_there g.C.ShardCore.shard_table c.args.machine.now c.args.shard c.requires.rested.shard c.requires.rested.has
+words-requires g c = shards_there g.C.ShardCore.says c.args.machine.now c.args.shard c.requires.rested.shard c.requires.rested.has
 
 -- the window is that of the shard
 held : (g : Over) (c : After-words g) → c.words.result.now ≡ c.requires.rested.shard.held
-held g c = window_at (running g.C.ShardCore.shard_table c.args.machine.now) c.args.shard c.requires.rested.shard c.words.result.now c.requires.rested.has c.words.ensures
+held g c = window_at (running g.C.ShardCore.says c.args.machine.now) c.args.shard c.requires.rested.shard c.words.result.now c.requires.rested.has c.words.ensures
 
 pub card-requires : goal.card-requires
 card-requires g c = subst (λ h. c.args.node < length h.cards) (sym (held g (goal.at.card-requires g c).After-words)) c.requires.rested.named
@@ -23,11 +23,12 @@ returns-clause-run g c = λ _.
     let h = c.words.result.now in
     let card : ℕ = slice_index h.cards c.args.node in
     let some : (card == 0) ≡ false = not_free card (λ none. c.if-card-eq0.false (c.card.ensures ∙ none)) in
-    let m = running g.C.ShardCore.shard_table c.args.machine.now in
+    let m = running g.C.ShardCore.says c.args.machine.now in
     let rests = still_rests m c.args._rank c.args.shard (Busy c.args.node 0) (Busy c.args.node (card - 1)) c.requires.rested
-    (subst (λ (w : TheWindow). ((slice_index w.cards c.args.node == 0) ≡ false) × (Busy c.args.node (card - 1) ≡ Busy c.args.node (slice_index w.cards c.args.node - 1))) (held g (goal.at.returns-clause-run g c).After-words) (some, refl)) in
-    counted_run m (running g.C.ShardCore.shard_table c.count_more.new.self) c.args._rank c.args.count (Busy c.args.node (card - 1)) rests c.count_more.ensures.counted
+    (subst (λ (w : TheWindow). ((slice_index w.cards c.args.node == 0) ≡ false) × (Busy c.args.node (card - 1) ≡ Busy c.args.node (slice_index w.cards c.args.node - 1)))
+    (held g (goal.at.returns-clause-run g c).After-words) (some, refl)) in
+    counted_run m (running g.C.ShardCore.says c.count_more.new.self) c.args._rank c.args.count (Busy c.args.node (card - 1)) rests c.count_more.ensures.counted
 
 pub returns-clause-noted : goal.returns-clause-noted
 returns-clause-noted g c =
-    keeps_with g.C.Resting.with_sight (running g.C.ShardCore.shard_table c.args.machine.now) (running g.C.ShardCore.shard_table c.count_more.new.self) _ c.count_more.ensures.counted
+    keeps_with g.C.Resting.with_sight (running g.C.ShardCore.says c.args.machine.now) (running g.C.ShardCore.says c.count_more.new.self) _ c.count_more.ensures.counted

@@ -7,7 +7,7 @@ use Rattle.rl_replay.proofs.noted.take_noted.Goals as goal
 
 pub rest_held_off-requires-clause-rested : goal.rest_held_off-requires-clause-rested
 rest_held_off-requires-clause-rested g c =
-    let m = running g.C.ShardCore.shard_table c.args.machine.now in
+    let m = running g.C.ShardCore.says c.args.machine.now in
     let there = c.requires.there in
     let many = c.requires.many in
     let low : c.args.rank < length c.args.rests.now.items = omega arith in
@@ -15,7 +15,7 @@ rest_held_off-requires-clause-rested g c =
 
 pub go_round-requires : goal.go_round-requires
 go_round-requires g c =
-    let m = running g.C.ShardCore.shard_table c.args.machine.now in
+    let m = running g.C.ShardCore.says c.args.machine.now in
     let there = c.requires.there in
     let many = c.requires.many in
     let low : c.args.rank < length c.args.rests.now.items = omega arith in
@@ -23,7 +23,7 @@ go_round-requires g c =
 
 pub rest-requires : goal.rest-requires
 rest-requires g c =
-    let m = running g.C.ShardCore.shard_table c.args.machine.now in
+    let m = running g.C.ShardCore.says c.args.machine.now in
     let there = c.requires.there in
     let many = c.requires.many in
     let low : c.args.rank < length c.args.rests.now.items = omega arith in
@@ -37,7 +37,7 @@ both false is isnt = isnt refl
 pub returns-in-Round-clause-rested : goal.returns-in-Round-clause-rested
 returns-in-Round-clause-rested g c =
     let see = g.C.Resting.with_sight in
-    let old = running g.C.ShardCore.shard_table c.args.machine.now in
+    let old = running g.C.ShardCore.says c.args.machine.now in
     let rests = c.args.rests.now.items in
     let rank = c.args.rank in
     let last = c.go_round.new.last in
@@ -47,5 +47,5 @@ returns-in-Round-clause-rested g c =
     subst (λ u. AllRested see u (slice_set rests rank last)) (sym (went.run went_on))
     (all_noted see old rests rank c.args.count last (subst (λ u. Rested see u rank last) (went.run went_on) went.in_round) c.requires.rested))
     (λ stood.
-    let kept = ap (running g.C.ShardCore.shard_table) (went.kept stood) in
+    let kept = ap (running g.C.ShardCore.says) (went.kept stood) in
     subst (λ u. AllRested see u (slice_set rests rank last)) (sym kept) (all_set see old rests rank last (subst (λ u. Rested see u rank last) kept went.in_round) c.requires.rested))

@@ -9,22 +9,24 @@ use Rattle.rl_replay.proofs.rounds.count_rounds.Goals.{After-count_more-2}
 use Rattle.rl_replay.proofs.rounds.count_rounds.Given.{Over}
 
 -- the machine with both answers counted
-now : (g : Over) (c : After-count_more-2 g) → running g.C.ShardCore.shard_table c.count_more-2.new.self ≡ with_steps (running g.C.ShardCore.shard_table c.args.machine.now) (counted_rounds c.args.round c.args.rounds c.args.machine.now.steps)
+now : (g : Over) (c : After-count_more-2 g) →
+    running g.C.ShardCore.says c.count_more-2.new.self ≡ with_steps (running g.C.ShardCore.says c.args.machine.now) (counted_rounds c.args.round c.args.rounds c.args.machine.now.steps)
 now g c =
-    let m = running g.C.ShardCore.shard_table c.args.machine.now in
+    let m = running g.C.ShardCore.says c.args.machine.now in
     let n = c.args.rounds in
     let here = c.count_more.ensures.counted ∙ ap (λ a. with_steps m (counted_more a n m.steps)) c.answer.ensures in
-    c.count_more-2.ensures.counted ∙ ap (λ a. with_steps (running g.C.ShardCore.shard_table c.count_more.new.self) (counted_more a n c.count_more.new.self.steps)) c.answer-2.ensures
+    c.count_more-2.ensures.counted ∙ ap (λ a. with_steps (running g.C.ShardCore.says c.count_more.new.self) (counted_more a n c.count_more.new.self.steps)) c.answer-2.ensures
     ∙ ap (λ z. with_steps z (counted_more (leg_answer c.args.round.there) n z.steps)) here
 
 pub returns-clause-run : goal.returns-clause-run
 returns-clause-run g c =
-    let m = running g.C.ShardCore.shard_table c.args.machine.now in
+    let m = running g.C.ShardCore.says c.args.machine.now in
     let shown = c.requires.shows in
-    now g (goal.at.returns-clause-run g c).After-count_more-2 ∙ sym (rounds_run g.C.Resting.with_sight c.args._rank c.args._shard c.args.round m shown.0 c.args.rounds c.args._count c.requires.within shown.1)
+    now g (goal.at.returns-clause-run g c).After-count_more-2
+    ∙ sym (rounds_run g.C.Resting.with_sight c.args._rank c.args._shard c.args.round m shown.0 c.args.rounds c.args._count c.requires.within shown.1)
 
 pub returns-clause-counted : goal.returns-clause-counted
 returns-clause-counted g c =
-    let m = running g.C.ShardCore.shard_table c.args.machine.now in
+    let m = running g.C.ShardCore.says c.args.machine.now in
     let is = now g (goal.at.returns-clause-counted g c).After-count_more-2 in
     is ∙ ap (with_steps m) (sym (ap (λ z. z.steps) is))

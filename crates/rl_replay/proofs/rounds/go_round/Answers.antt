@@ -11,16 +11,16 @@ use Rattle.rl_replay.specs.laws.RunLaws.{run_end}
 use Rattle.rl_replay.proofs.rounds.go_round.Goals as goal
 
 pub shows_round-requires : goal.shows_round-requires
-shows_round-requires g c = record { in_round = subst (Rested g.C.Resting.with_sight (running g.C.ShardCore.shard_table c.args.machine.now) c.args.rank) c.in-Round.is c.requires.in_round }
+shows_round-requires g c = record { in_round = subst (Rested g.C.Resting.with_sight (running g.C.ShardCore.says c.args.machine.now) c.args.rank) c.in-Round.is c.requires.in_round }
 
 pub make_leg-requires-clause-there : goal.make_leg-requires-clause-there
 make_leg-requires-clause-there g c =
-    let old = running g.C.ShardCore.shard_table c.args.machine.now in
+    let old = running g.C.ShardCore.says c.args.machine.now in
     subst (λ l. c.args.rank < length l) (sym (ap (λ m. m.calls) c.count_rounds.ensures.run ∙ (turn_counts old (c.args.count / 2 + c.args.count / 2) c.args.rank).1)) c.requires.there
 
 pub make_leg-requires-clause-few : goal.make_leg-requires-clause-few
 make_leg-requires-clause-few g c =
-    let old = running g.C.ShardCore.shard_table c.args.machine.now in
+    let old = running g.C.ShardCore.says c.args.machine.now in
     let n = c.args.count / 2 in
     let made : steps_made c.count_rounds.new.machine.steps ≡ steps_made old.steps + (n + n) = ap (λ m. steps_made m.steps) c.count_rounds.ensures.run ∙ (turn_counts old (n + n) c.args.rank).0 in
     let odd = c.if-count-eq0.false in
@@ -30,21 +30,23 @@ make_leg-requires-clause-few g c =
 pub make_leg-requires-clause-shows : goal.make_leg-requires-clause-shows
 make_leg-requires-clause-shows g c =
     let see = g.C.Resting.with_sight in
-    let m = running g.C.ShardCore.shard_table c.args.machine.now in
+    let m = running g.C.ShardCore.says c.args.machine.now in
     let shown = c.shows_round.ensures c.if-not-shows_round.false in
-    subst (λ u. GoesRound see u c.args.rank c.in-Round.shard c.in-Round.round 1) (sym c.count_rounds.ensures.counted) (goes_with see c.args.rank c.in-Round.shard c.in-Round.round m c.count_rounds.new.machine.steps c.args.count shown)
+    subst (λ u. GoesRound see u c.args.rank c.in-Round.shard c.in-Round.round 1) (sym c.count_rounds.ensures.counted)
+    (goes_with see c.args.rank c.in-Round.shard c.in-Round.round m c.count_rounds.new.machine.steps c.args.count shown)
 
 pub returns-then-count-eq0-clause-in_round : goal.returns-then-count-eq0-clause-in_round
 returns-then-count-eq0-clause-in_round g c =
     let see = g.C.Resting.with_sight in
-    let m = running g.C.ShardCore.shard_table c.args.machine.now in
+    let m = running g.C.ShardCore.says c.args.machine.now in
     let round = subst (Rested see m c.args.rank) c.in-Round.is c.requires.in_round in
-    let now = running g.C.ShardCore.shard_table c.count_rounds.new.machine in
-    subst (Rested see now c.args.rank) (sym c.in-Round.is) (subst (λ u. IsInRound see u c.args.rank c.in-Round.shard c.in-Round.round) (sym c.count_rounds.ensures.counted) (round_with see c.args.rank c.in-Round.shard c.in-Round.round m c.count_rounds.new.machine.steps round))
+    let now = running g.C.ShardCore.says c.count_rounds.new.machine in
+    subst (Rested see now c.args.rank) (sym c.in-Round.is) (subst (λ u. IsInRound see u c.args.rank c.in-Round.shard c.in-Round.round)
+    (sym c.count_rounds.ensures.counted) (round_with see c.args.rank c.in-Round.shard c.in-Round.round m c.count_rounds.new.machine.steps round))
 
 pub returns-clause-run : goal.returns-clause-run
 returns-clause-run g c =
-    let old = running g.C.ShardCore.shard_table c.args.machine.now in
+    let old = running g.C.ShardCore.says c.args.machine.now in
     let rank = c.args.rank in
     let n = c.args.count / 2 in
     let odd = c.if-count-eq0.false in

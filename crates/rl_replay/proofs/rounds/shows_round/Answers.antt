@@ -8,10 +8,10 @@ use Rattle.rl_replay.proofs.rounds.shows_round.Goals.{After-words}
 use Rattle.rl_replay.proofs.rounds.shows_round.Given.{Over}
 
 pub words-requires : goal.words-requires
-words-requires g c = shards_there g.C.ShardCore.shard_table c.args.machine.now c.args.shard c.requires.in_round.shard c.requires.in_round.has
+words-requires g c = shards_there g.C.ShardCore.says c.args.machine.now c.args.shard c.requires.in_round.shard c.requires.in_round.has
 
 held : (g : Over) (c : After-words g) → c.words.result.now ≡ c.requires.in_round.shard.held
-held g c = window_at (running g.C.ShardCore.shard_table c.args.machine.now) c.args.shard c.requires.in_round.shard c.words.result.now c.requires.in_round.has c.words.ensures
+held g c = window_at (running g.C.ShardCore.says c.args.machine.now) c.args.shard c.requires.in_round.shard c.words.result.now c.requires.in_round.has c.words.ensures
 
 pub shows-requires-clause-here : goal.shows-requires-clause-here
 shows-requires-clause-here g c = subst (λ h. c.args.round.here.word < length h.words) (sym (held g (goal.at.shows-requires-clause-here g c).After-words)) c.requires.in_round.is_round.word_here

@@ -9,6 +9,6 @@ use Rattle.rl_replay.proofs.runs.replay.Given as goal
 
 abbrev pub invariant-loop-turn : goal.invariant-loop-turn
 invariant-loop-turn g l =
-    (running g.C.ShardCore.shard_table l.machine ≡ run_of (start_of g.C.ShardCore.defined l.fn.shape l.fn.knobs l.fn.geom l.fn.homes l.fn.ops) (ranks_of_turns (take l.turn-index l.turns))) ×
+    (running g.C.ShardCore.says l.machine ≡ run_of (start_of g.C.ShardCore.defined l.fn.shape l.fn.knobs l.fn.geom l.fn.homes l.fn.ops) (ranks_of_turns (take l.turn-index l.turns))) ×
     (steps_made l.machine.steps ≡ steps_in (take l.turn-index l.turns)) × (length l.machine.calls ≡ length l.fn.shape.node_of) ×
-    (length l.rests.items ≡ length l.machine.calls) × AllRested g.C.Resting.with_sight (running g.C.ShardCore.shard_table l.machine) l.rests.items
+    (length l.rests.items ≡ length l.machine.calls) × AllRested g.C.Resting.with_sight (running g.C.ShardCore.says l.machine) l.rests.items

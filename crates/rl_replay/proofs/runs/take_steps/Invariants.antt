@@ -7,5 +7,5 @@ use Rattle.rl_replay.proofs.runs.take_steps.Given as goal
 
 abbrev pub invariant-loop-made : goal.invariant-loop-made
 invariant-loop-made g l =
-    (cores_of l.machine ≡ cores_of l.fn.machine) × (running g.C.ShardCore.shard_table l.machine ≡ run_of (running g.C.ShardCore.shard_table l.fn.machine) (replicate l.made l.rank)) ×
-    (length l.rests.items ≡ length l.fn.rests.items) × AllRested g.C.Resting.with_sight (running g.C.ShardCore.shard_table l.machine) l.rests.items
+    (cores_of l.machine ≡ cores_of l.fn.machine) × (running g.C.ShardCore.says l.machine ≡ run_of (running g.C.ShardCore.says l.fn.machine) (replicate l.made l.rank)) ×
+    (length l.rests.items ≡ length l.fn.rests.items) × AllRested g.C.Resting.with_sight (running g.C.ShardCore.says l.machine) l.rests.items

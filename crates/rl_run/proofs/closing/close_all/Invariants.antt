@@ -9,7 +9,7 @@ use Rattle.rl_run.proofs.closing.close_all.Given as goal
 
 abbrev pub invariant-loop-shard : goal.invariant-loop-shard
 invariant-loop-shard g l =
-    All (IsShardOf g.C.ShardCore.shard_table (vec_len l.left)) (into_iter_items l.shard-iterator)
-    × IsGrid (IsShutSeat g.C.ShardCore.shard_table g.C.ShardCore.good g.C.ShardCore.layout) (into_iter_items l.shard-iterator) (map into_iter_items l.left.items)
-    × EndsSoFar (IsEnd g.C.ShardCore.shard_table g.C.ShardCore.layout) l.fn.shards.items (map vec_items l.fn.rows.items) (into_iter_items l.shard-iterator) (map into_iter_items l.left.items) l.ends.items
+    All (IsShardOf g.C.ShardCore.says (vec_len l.left)) (into_iter_items l.shard-iterator)
+    × IsGrid (IsShutSeat g.C.ShardCore.says) (into_iter_items l.shard-iterator) (map into_iter_items l.left.items)
+    × EndsSoFar (IsEnd g.C.ShardCore.says) l.fn.shards.items (map vec_items l.fn.rows.items) (into_iter_items l.shard-iterator) (map into_iter_items l.left.items) l.ends.items
     × (into_iter_len l.shard-iterator + vec_len l.ends ≤ vec_capacity l.ends)

@@ -1,4 +1,4 @@
-use Rattle.std.proofs.Common.{rules, ◌≡◌, ◌≤◌, ◌∙◌, All, length, map, vec_len, vec_items, ap, sym, subst, arith}
+use Rattle.std.proofs.Common.{rules, ◌≡◌, ◌≤◌, ◌∙◌, length, map, vec_items, ap, sym, arith}
 use Rattle.std.proofs.lemmas.List.{length-map}
 use Rattle.rl_run.specs.Runs.{wanted, made_of}
 use Rattle.rl_run.proofs.WholeRun as whole
@@ -32,5 +32,5 @@ returns g c =
     let made : map made_of c.in_ok-callers.callers.items ≡ wanted c.args.place.now.geom 0 c.args.ops.by_rank c.args.ops.sizes rows =
     c.in_ok-callers.ensures.made ∙ ap (λ l. wanted c.place.inside.geom 0 l (map vec_items c.into_vec-2.result.items) rows) c.into_vec.ensures
     ∙ ap (λ l. wanted c.place.inside.geom 0 c.args.ops.by_rank l rows) c.into_vec-2.ensures ∙ ap (λ g. wanted g 0 c.args.ops.by_rank c.args.ops.sizes rows) geom in
-    whole.begun g.C.ShardCore.defined g.C.ShardCore.shard_table g.C.ShardCore.good g.C.ShardCore.layout c.args.place.now c.args.ops c.requires.proper c.requires.calls c.in_ok-shape.shape c.knobs.result c.place.inside.geom c.as_slice-homes.result.now c.in_ok-shape.ensures.exact c.knobs.ensures geom homes c.in_ok-shards.shards.items rows c.in_ok-shards.ensures.made c.in_ok-shards.ensures.all
+    whole.begun g.C.ShardCore.defined g.C.ShardCore.says c.args.place.now c.args.ops c.requires.proper c.requires.calls c.in_ok-shape.shape c.knobs.result c.place.inside.geom c.as_slice-homes.result.now c.in_ok-shape.ensures.exact c.knobs.ensures geom homes c.in_ok-shards.shards.items rows c.in_ok-shards.ensures.made c.in_ok-shards.ensures.all
     g.C.ShardCore.batches g.met.C.ShardCore.has_batches c.requires.batches c.in_ok-callers.callers.items made c.in_ok-callers.ensures.may

@@ -17,9 +17,9 @@ loop-geom-preserved g c =
     rw (c.remove-own.ensures.items, c.remove-own_sizes.ensures.items, c.remove-seats.ensures.items, c.push_reserved.ensures.items) (
       next_wanted made_of c.args.geom c.loop-geom.rank (map vec_items c.loop-geom.calls.items) _ (map vec_items c.loop-geom.sizes.items) _ (map vec_items c.loop-geom.rows.items) _ c.remove-own.result.items c.remove-own_sizes.result.items c.remove-seats.result.items c.loop-geom.callers.items c.new-caller.result _
           calls sizes rows made c.loop-geom.invariant.0,
-      All-push (CallerMayWork g.C.ShardCore.shard_table g.C.ShardCore.good g.C.ShardCore.layout) c.loop-geom.callers.items c.new-caller.result c.loop-geom.invariant.1
+      All-push (CallerMayWork g.C.ShardCore.says) c.loop-geom.callers.items c.new-caller.result c.loop-geom.invariant.1
           (λ shards ready. c.new-caller.ensures.caller shards
-          (subst (λ z. IsReady g.C.ShardCore.shard_table g.C.ShardCore.good g.C.ShardCore.layout shards z.0.3 z.0.0 z.0.1 z.0.2 z.1) made ready)),
+          (subst (λ z. IsReady g.C.ShardCore.says shards z.0.3 z.0.0 z.0.1 z.0.2 z.1) made ready)),
       search rules,
       search rules,
       search rules,

@@ -9,16 +9,17 @@ use Rattle.rl_shard.specs.Shards.{core_at, table_at, IsShardOf}
 use Rattle.rl_core.specs.laws.OpsBridge.{few_updates}
 use Rattle.rl_core.specs.ShardTables.{site_with}
 use Rattle.rl_run.specs.laws.RunLaws.{new_none, new_more, column_long}
-use Rattle.rl_run.specs.Runs.{AreNew}
+use Rattle.rl_run.specs.Runs.{AreNew, IsNewShard, table_for, site_in}
 use Rattle.rl_run.proofs.opening.open_all.Goals as goal
 
 pub loop-number-init : goal.loop-number-init
 loop-number-init g c =
-    let none : length c.new-shards.result.items ≡ 0 = ap length c.new-shards.ensures.items in (
+    let none : length c.new-shards.result.items ≡ 0 = ap length c.new-shards.ensures.items in
+    let K = table_for c.args.shape.now c.args.knobs c.args.geom c.args.homes.now c.args.ops.now.by_rank in
+    let rows = map vec_items c.in_ok-rows.rows.items in (
       none,
-      subst (λ l. AreNew g.C.ShardCore.defined g.C.ShardCore.shard_table g.C.ShardCore.good g.C.ShardCore.layout c.args.shape.now c.args.knobs c.args.geom c.args.homes.now c.args.ops.now.by_rank l (map vec_items c.in_ok-rows.rows.items)) (sym c.new-shards.ensures.items)
-          (new_none g.C.ShardCore.defined g.C.ShardCore.shard_table g.C.ShardCore.good g.C.ShardCore.layout c.args.shape.now c.args.knobs c.args.geom c.args.homes.now c.args.ops.now.by_rank (map vec_items c.in_ok-rows.rows.items) (length c.as_slice.result.now) c.in_ok-rows.ensures
-          (sym (length-map c.as_slice.result.now _) ∙ ap length c.as_slice.ensures)),
+      subst (λ l. AreNew g.C.ShardCore.defined g.C.ShardCore.says K l rows) (sym c.new-shards.ensures.items)
+          (new_none g.C.ShardCore.defined g.C.ShardCore.says K rows (length c.as_slice.result.now) c.in_ok-rows.ensures (sym (length-map c.as_slice.result.now _) ∙ ap length c.as_slice.ensures)),
       omega (arith, c.in_ok-rooms.ensures.all),
       c.in_ok-rooms.ensures.each,
     )
@@ -46,7 +47,7 @@ deal_seats-requires g c =
     let inv = c.loop-number.invariant in
     let taken = first_room c.args.geom c.args.ops.now.by_rank c.loop-number.number c.loop-number.rooms.items c.remove-room.result inv.3 inv.2 c.loop-number-test.true c.remove-room.ensures.value in
     let queues = length (queues_of g.C.ShardCore.name c.args.shape.now (slice_index c.args.homes.now c.loop-number.number) c.args.knobs) in
-    let column = column_long (table_at g.C.ShardCore.shard_table c.in_ok-shard.shard) queues c.remove-room.result.calls.items c.in_ok-shard.seats.items c.in_ok-shard.ensures.views in
+    let column = column_long (table_at g.C.ShardCore.says c.in_ok-shard.shard) queues c.remove-room.result.calls.items c.in_ok-shard.seats.items c.in_ok-shard.ensures.views in
     let calls : length c.remove-room.result.calls.items ≡ length c.args.ops.now.by_rank = ap length taken.0.calls ∙ length-map c.args.ops.now.by_rank (calls_on c.args.geom c.loop-number.number) in
     let rows = sym (length-map c.loop-number.rows.items vec_items) ∙ c.loop-number.invariant.1.ranks in
     let ok = c.in_ok-shard.seats.ok.0 in
@@ -62,15 +63,18 @@ loop-number-preserved g c =
     let low : i < length homes = (let many = c.requires.many in let h = c.loop-number-test.true in omega arith) in
     let made = c.in_ok-shard.ensures in
     let ranks : length c.args.shape.now.node_of ≡ length c.args.ops.now.by_rank = sym c.requires.ranks in
+    let K = table_for c.args.shape.now c.args.knobs c.args.geom homes c.args.ops.now.by_rank in
     let table_is = made.core ∙ ap (λ l. g.C.ShardCore.defined c.args.shape.now (slice_index homes i) c.args.knobs (site_with c.args.geom i l)) taken.0.updates in
-    let site_is = ap (λ T. T.site) table_is ∙ (g.met.C.ShardCore.laid c.args.shape.now (slice_index homes i) c.args.knobs (site_with c.args.geom i (map (updates_on c.args.geom i) c.args.ops.now.by_rank))).site_is in
+    let site_is = ap (λ T. T.site) table_is ∙ (g.met.C.ShardCore.laid c.args.shape.now (slice_index homes i) c.args.knobs (site_in K i)).site_is in
     let queues = length (queues_of g.C.ShardCore.name c.args.shape.now (slice_index homes i) c.args.knobs) in
-    let views = made.views ∙ ap (first_counted (table_at g.C.ShardCore.shard_table c.in_ok-shard.shard) queues) taken.0.calls in
-    let more = new_more g.C.ShardCore.defined g.C.ShardCore.shard_table g.C.ShardCore.good g.C.ShardCore.layout c.args.shape.now c.args.knobs c.args.geom homes c.args.ops.now.by_rank c.loop-number.shards.items (map vec_items c.loop-number.rows.items) c.in_ok-shard.shard c.in_ok-shard.seats.items i queues c.loop-number.invariant.1 c.loop-number.invariant.0
-    table_is site_is (g.met.C.ShardCore.shard_laws (core_at c.in_ok-shard.shard)).first_desk (subst (λ n. IsShardOf g.C.ShardCore.shard_table n c.in_ok-shard.shard) ranks made.shard) made.seats views made.closed (ap (λ l. l.nodes) made.layout) in (
+    let views = made.views ∙ ap (first_counted (table_at g.C.ShardCore.says c.in_ok-shard.shard) queues) taken.0.calls in
+    let is_shard = subst (λ n. IsShardOf g.C.ShardCore.says n c.in_ok-shard.shard) ranks made.shard in
+    let new : IsNewShard g.C.ShardCore.defined g.C.ShardCore.says K i c.in_ok-shard.shard = record { table_is = table_is; site_is = site_is; nodes_are = ap (λ l. l.nodes) made.layout; is_shard = is_shard } in
+    let more = new_more g.C.ShardCore.defined g.C.ShardCore.says K c.loop-number.shards.items (map vec_items c.loop-number.rows.items) c.in_ok-shard.shard c.in_ok-shard.seats.items i queues
+    c.loop-number.invariant.1 c.loop-number.invariant.0 new (g.met.C.ShardCore.shard_laws (core_at c.in_ok-shard.shard)).first_desk made.seats views made.closed in (
       ap length c.in_ok-push.ensures.items ∙ length-append c.loop-number.shards.items (c.in_ok-shard.shard ∷ []) ∙ ap (λ n. n + 1) c.loop-number.invariant.0,
-      subst (λ l. AreNew g.C.ShardCore.defined g.C.ShardCore.shard_table g.C.ShardCore.good g.C.ShardCore.layout c.args.shape.now c.args.knobs c.args.geom homes c.args.ops.now.by_rank l (map vec_items c.in_ok-rows-2.rows.items)) (sym c.in_ok-push.ensures.items)
-          (subst (λ l. AreNew g.C.ShardCore.defined g.C.ShardCore.shard_table g.C.ShardCore.good g.C.ShardCore.layout c.args.shape.now c.args.knobs c.args.geom homes c.args.ops.now.by_rank (c.loop-number.shards.items ++ c.in_ok-shard.shard ∷ []) l) (sym c.in_ok-rows-2.ensures) more),
+      subst (λ l. AreNew g.C.ShardCore.defined g.C.ShardCore.says K l (map vec_items c.in_ok-rows-2.rows.items)) (sym c.in_ok-push.ensures.items)
+          (subst (λ l. AreNew g.C.ShardCore.defined g.C.ShardCore.says K (c.loop-number.shards.items ++ c.in_ok-shard.shard ∷ []) l) (sym c.in_ok-rows-2.ensures) more),
       ap (λ l. length l + (i + 1)) c.remove-room.ensures.items ∙ taken.2,
       subst (AreRooms c.args.geom c.args.ops.now.by_rank (i + 1)) (sym c.remove-room.ensures.items) taken.1,
     )

@@ -10,9 +10,9 @@ use Rattle.rl_run.proofs.run.run_callers.Goals as goal
 
 pub work_all-requires : goal.work_all-requires
 work_all-requires g c =
-    let here : All (IsCaller g.C.ShardCore.shard_table g.C.ShardCore.good g.C.ShardCore.layout c.args.shards.items) c.args.callers.items = each_caller g.C.ShardCore.shard_table g.C.ShardCore.good g.C.ShardCore.layout c.args.shards.items c.args.callers.items c.requires.callers in
-    let lent : All (IsCaller g.C.ShardCore.shard_table g.C.ShardCore.good g.C.ShardCore.layout c.args.shards.items) c.as_mut_slice.result.now = subst (λ l. All (IsCaller g.C.ShardCore.shard_table g.C.ShardCore.good g.C.ShardCore.layout c.args.shards.items) l) (sym c.as_mut_slice.ensures.value) here in
-    let all : All (IsCaller g.C.ShardCore.shard_table g.C.ShardCore.good g.C.ShardCore.layout c.as_slice.result.now) c.as_mut_slice.result.now = subst (λ l. All (IsCaller g.C.ShardCore.shard_table g.C.ShardCore.good g.C.ShardCore.layout l) c.as_mut_slice.result.now) (sym c.as_slice.ensures.value) lent in
+    let here : All (IsCaller g.C.ShardCore.says c.args.shards.items) c.args.callers.items = each_caller g.C.ShardCore.says c.args.shards.items c.args.callers.items c.requires.callers in
+    let lent : All (IsCaller g.C.ShardCore.says c.args.shards.items) c.as_mut_slice.result.now = subst (λ l. All (IsCaller g.C.ShardCore.says c.args.shards.items) l) (sym c.as_mut_slice.ensures.value) here in
+    let all : All (IsCaller g.C.ShardCore.says c.as_slice.result.now) c.as_mut_slice.result.now = subst (λ l. All (IsCaller g.C.ShardCore.says l) c.as_mut_slice.result.now) (sym c.as_slice.ensures.value) lent in
     (search rules, (search rules, (search rules, (search rules, (search rules, (search rules, all))))))
 
 pub close_all-requires-clause-rooted : goal.close_all-requires-clause-rooted
@@ -20,30 +20,30 @@ close_all-requires-clause-rooted g c =
     let back : take c.args.callers.len (c.work_all.new.callers ++ drop (length c.work_all.new.callers) c.args.callers.items) ≡ c.work_all.new.callers = written_back c.args.callers.items c.work_all.new.callers c.args.callers.len (search rules) in
     let is : map vec_items c.in_ok-rows.rows.items ≡ map seats_of c.work_all.new.callers = c.in_ok-rows.ensures ∙ ap (map seats_of) back in
     let shards = c.as_slice.ensures.value in
-    let all : All (IsCaller g.C.ShardCore.shard_table g.C.ShardCore.good g.C.ShardCore.layout c.args.shards.items) c.work_all.new.callers = subst (λ l. All (IsCaller g.C.ShardCore.shard_table g.C.ShardCore.good g.C.ShardCore.layout l) c.work_all.new.callers) shards c.work_all.ensures.callers in
-    let done : All (IsAtEnd g.C.ShardCore.shard_table c.args.shards.items) c.work_all.new.callers = subst (λ l. All (IsAtEnd g.C.ShardCore.shard_table l) c.work_all.new.callers) shards c.work_all.ensures.all_done in
+    let all : All (IsCaller g.C.ShardCore.says c.args.shards.items) c.work_all.new.callers = subst (λ l. All (IsCaller g.C.ShardCore.says l) c.work_all.new.callers) shards c.work_all.ensures.callers in
+    let done : All (IsAtEnd g.C.ShardCore.says c.args.shards.items) c.work_all.new.callers = subst (λ l. All (IsAtEnd g.C.ShardCore.says l) c.work_all.new.callers) shards c.work_all.ensures.all_done in
     let same : map who c.work_all.new.callers ≡ map who c.args.callers.items = c.work_all.ensures.same ∙ ap (map who) c.as_mut_slice.ensures.value in
     let long : length c.in_ok-rows.rows.items ≡ length c.work_all.new.callers = sym (length-map c.in_ok-rows.rows.items vec_items) ∙ (ap length is ∙ length-map c.work_all.new.callers seats_of) in
     let n : vec_len c.in_ok-rows.rows ≡ vec_len c.args.callers = search rules in
-    subst (λ k. All (IsShardOf g.C.ShardCore.shard_table k) c.args.shards.items) (sym n) c.requires.rooted
+    subst (λ k. All (IsShardOf g.C.ShardCore.says k) c.args.shards.items) (sym n) c.requires.rooted
 
 pub close_all-requires-clause-grid : goal.close_all-requires-clause-grid
 close_all-requires-clause-grid g c =
     let back : take c.args.callers.len (c.work_all.new.callers ++ drop (length c.work_all.new.callers) c.args.callers.items) ≡ c.work_all.new.callers = written_back c.args.callers.items c.work_all.new.callers c.args.callers.len (search rules) in
     let is : map vec_items c.in_ok-rows.rows.items ≡ map seats_of c.work_all.new.callers = c.in_ok-rows.ensures ∙ ap (map seats_of) back in
     let shards = c.as_slice.ensures.value in
-    let all : All (IsCaller g.C.ShardCore.shard_table g.C.ShardCore.good g.C.ShardCore.layout c.args.shards.items) c.work_all.new.callers = subst (λ l. All (IsCaller g.C.ShardCore.shard_table g.C.ShardCore.good g.C.ShardCore.layout l) c.work_all.new.callers) shards c.work_all.ensures.callers in
-    let done : All (IsAtEnd g.C.ShardCore.shard_table c.args.shards.items) c.work_all.new.callers = subst (λ l. All (IsAtEnd g.C.ShardCore.shard_table l) c.work_all.new.callers) shards c.work_all.ensures.all_done in
+    let all : All (IsCaller g.C.ShardCore.says c.args.shards.items) c.work_all.new.callers = subst (λ l. All (IsCaller g.C.ShardCore.says l) c.work_all.new.callers) shards c.work_all.ensures.callers in
+    let done : All (IsAtEnd g.C.ShardCore.says c.args.shards.items) c.work_all.new.callers = subst (λ l. All (IsAtEnd g.C.ShardCore.says l) c.work_all.new.callers) shards c.work_all.ensures.all_done in
     let same : map who c.work_all.new.callers ≡ map who c.args.callers.items = c.work_all.ensures.same ∙ ap (map who) c.as_mut_slice.ensures.value in
-    callers_grid g.C.ShardCore.shard_table g.C.ShardCore.good g.C.ShardCore.layout vec_items c.args.shards.items c.args.callers.items c.work_all.new.callers c.in_ok-rows.rows.items c.requires.callers all done same is
+    callers_grid g.C.ShardCore.says vec_items c.args.shards.items c.args.callers.items c.work_all.new.callers c.in_ok-rows.rows.items c.requires.callers all done same is
 
 pub returns : goal.returns
 returns g c =
     let back : take c.args.callers.len (c.work_all.new.callers ++ drop (length c.work_all.new.callers) c.args.callers.items) ≡ c.work_all.new.callers = written_back c.args.callers.items c.work_all.new.callers c.args.callers.len (search rules) in
     let is : map vec_items c.in_ok-rows.rows.items ≡ map seats_of c.work_all.new.callers = c.in_ok-rows.ensures ∙ ap (map seats_of) back in
     let shards = c.as_slice.ensures.value in
-    let all : All (IsCaller g.C.ShardCore.shard_table g.C.ShardCore.good g.C.ShardCore.layout c.args.shards.items) c.work_all.new.callers = subst (λ l. All (IsCaller g.C.ShardCore.shard_table g.C.ShardCore.good g.C.ShardCore.layout l) c.work_all.new.callers) shards c.work_all.ensures.callers in
-    let done : All (IsAtEnd g.C.ShardCore.shard_table c.args.shards.items) c.work_all.new.callers = subst (λ l. All (IsAtEnd g.C.ShardCore.shard_table l) c.work_all.new.callers) shards c.work_all.ensures.all_done in
+    let all : All (IsCaller g.C.ShardCore.says c.args.shards.items) c.work_all.new.callers = subst (λ l. All (IsCaller g.C.ShardCore.says l) c.work_all.new.callers) shards c.work_all.ensures.callers in
+    let done : All (IsAtEnd g.C.ShardCore.says c.args.shards.items) c.work_all.new.callers = subst (λ l. All (IsAtEnd g.C.ShardCore.says l) c.work_all.new.callers) shards c.work_all.ensures.all_done in
     let same : map who c.work_all.new.callers ≡ map who c.args.callers.items = c.work_all.ensures.same ∙ ap (map who) c.as_mut_slice.ensures.value in
-    ok_more (λ ends. AreEnded (IsEnd g.C.ShardCore.shard_table g.C.ShardCore.layout) c.args.shards.items (map vec_items c.in_ok-rows.rows.items) ends.items) (λ ends. HasRun g.C.ShardCore.shard_table g.C.ShardCore.layout c.args.shards.items c.args.callers.items ends.items) c.close_all.result
-    (λ ends a. has_run g.C.ShardCore.shard_table g.C.ShardCore.good g.C.ShardCore.layout c.args.shards.items c.args.callers.items c.work_all.new.callers c.requires.callers all done same (map vec_items c.in_ok-rows.rows.items) ends.items is a) c.close_all.ensures
+    ok_more (λ ends. AreEnded (IsEnd g.C.ShardCore.says) c.args.shards.items (map vec_items c.in_ok-rows.rows.items) ends.items) (λ ends. HasRun g.C.ShardCore.says c.args.shards.items c.args.callers.items ends.items) c.close_all.result
+    (λ ends a. has_run g.C.ShardCore.says c.args.shards.items c.args.callers.items c.work_all.new.callers c.requires.callers all done same (map vec_items c.in_ok-rows.rows.items) ends.items is a) c.close_all.ensures

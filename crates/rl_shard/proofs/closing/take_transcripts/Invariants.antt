@@ -6,5 +6,5 @@ use Rattle.rl_shard.proofs.closing.take_transcripts.Given as goal
 
 abbrev pub invariant-loop-view : goal.invariant-loop-view
 invariant-loop-view g l =
-    (map vec_items l.transcripts.items ++ map (entries_in (g.C.ShardCore.shard_table l.core)) (into_iter_items l.view-iterator) ≡ map vec_items l.fn.transcripts.items ++ map (entries_in (g.C.ShardCore.shard_table l.core)) l.fn.views.items)
+    (map vec_items l.transcripts.items ++ map (entries_in (g.C.ShardCore.says l.core).table) (into_iter_items l.view-iterator) ≡ map vec_items l.fn.transcripts.items ++ map (entries_in (g.C.ShardCore.says l.core).table) l.fn.views.items)
     × (into_iter_len l.view-iterator + vec_len l.transcripts ≤ vec_capacity l.transcripts)

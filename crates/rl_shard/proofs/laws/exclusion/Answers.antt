@@ -7,6 +7,7 @@ use Rattle.rl_core.specs.laws.TouchLaws.{beside}
 use Rattle.rl_window.specs.declared.knows.Knows.TheVariants.{Rank}
 use Rattle.rl_shard.specs.declared.counting.CountedView.{CountedView}
 use Rattle.rl_shard.specs.Counting.{whole_of, standing_of, counting_rule}
+use Rattle.rl_shard.specs.laws.CountingLaws.{moment_of}
 use Rattle.rl_shard.specs.Shards.{core_at}
 use Rattle.rl_shard.proofs.laws.exclusion.Goals as goal
 
@@ -17,15 +18,15 @@ all_stand T (x ∷ vs) = ap (λ z. standing_of T x ∷ z) (all_stand T vs)
 pub returns-clause-states : goal.returns-clause-states
 returns-clause-states g c = λ h vs rule.
     let core = core_at c.args.shard.now in
-    subst AloneIn (all_stand (g.C.ShardCore.shard_table core) vs) ((g.met.C.ShardCore.shard_laws core).alone_in h (map whole_of vs) rule.trace rule.acts rule.is_good)
+    subst AloneIn (all_stand (g.C.ShardCore.says core).table vs) ((g.met.C.ShardCore.shard_laws core).alone_in (moment_of (g.C.ShardCore.says core) h vs rule) rule.is_good)
 
 pub returns-clause-live : goal.returns-clause-live
 returns-clause-live g c = λ key s ruled same i j r q first second writer holder.
     let shard = c.args.shard.now in
     let core = core_at shard in
-    let T = g.C.ShardCore.shard_table core in
-    let rule = subst (λ k. counting_rule g.C.ShardCore.shard_table g.C.ShardCore.good g.C.ShardCore.layout k ruled.held ruled.views) same ruled.kept.0 in
-    let alone = subst AloneIn (all_stand T ruled.views) ((g.met.C.ShardCore.shard_laws core).alone_in ruled.held (map whole_of ruled.views) rule.trace rule.acts rule.is_good) in
+    let T = (g.C.ShardCore.says core).table in
+    let rule = subst (λ k. counting_rule g.C.ShardCore.says k ruled.held ruled.views) same ruled.kept.0 in
+    let alone = subst AloneIn (all_stand T ruled.views) ((g.met.C.ShardCore.shard_laws core).alone_in (moment_of (g.C.ShardCore.says core) ruled.held ruled.views rule) rule.is_good) in
     let here = ruled.each i (Rank r) first in
     let there = ruled.each j (Rank q) second in
     let ranks : r.rank ≡ q.rank = beside (map (standing_of T) ruled.views) r.rank q.rank (standing_of T q.view) alone

@@ -4,4 +4,4 @@ use Rattle.rl_shard.specs.Counting.{first_counted}
 use Rattle.rl_shard.proofs.opening.first_views.Given as goal
 
 abbrev pub invariant-loop-rank : goal.invariant-loop-rank
-invariant-loop-rank g l = l.views.items ≡ first_counted (g.C.ShardCore.shard_table l.core) l.queues (take l.rank l.rooms)
+invariant-loop-rank g l = l.views.items ≡ first_counted (g.C.ShardCore.says l.core).table l.queues (take l.rank l.rooms)

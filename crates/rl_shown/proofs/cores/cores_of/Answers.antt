@@ -45,8 +45,8 @@ loop-shard-preserved g c =
     let nth : 0 + i ≡ i = omega arith in
     let taken = first_room place.geom calls i c.loop-shard.rooms.items c.remove-room.result inv.2 inv.1 (subst (λ (p : ThePlace). c.loop-shard.shard < p.geom.shards) c.place.view_is c.loop-shard-test.true) c.remove-room.ensures.value in
     let made = c.in_ok-core_of.ensures ∙ ap (λ l. T home (site_with place.geom i l)) taken.0.updates ∙ ap (λ n. T home (site_of place.geom calls n)) (sym nth) in (
-      ap (map g.C.ShardCore.shard_table) c.in_ok-push.ensures.items ∙ cores_more g.C.ShardCore.shard_table c.loop-shard.cores.items core
-          ∙ ap (λ z. z ++ g.C.ShardCore.shard_table core ∷ []) inv.0 ∙ ap (λ z. map (λ (S : ShardRun _). S.table) (first_shards T (shape_of place).nodes place.geom calls 0 (take i homes)) ++ z ∷ []) made
+      ap (map (λ k. (g.C.ShardCore.says k).table)) c.in_ok-push.ensures.items ∙ cores_more (λ k. (g.C.ShardCore.says k).table) c.loop-shard.cores.items core
+          ∙ ap (λ z. z ++ (g.C.ShardCore.says core).table ∷ []) inv.0 ∙ ap (λ z. map (λ (S : ShardRun _). S.table) (first_shards T (shape_of place).nodes place.geom calls 0 (take i homes)) ++ z ∷ []) made
           ∙ sym (tables_more T (shape_of place).nodes place.geom calls 0 homes i home at),
       ap (λ l. length l + (i + 1)) c.remove-room.ensures.items ∙ taken.2,
       subst (AreRooms place.geom calls (i + 1)) (sym c.remove-room.ensures.items) taken.1,

@@ -8,5 +8,5 @@ use Rattle.rl_shown.proofs.cores.cores_of.Given as goal
 
 abbrev pub invariant-loop-shard : goal.invariant-loop-shard
 invariant-loop-shard g l =
-    (map g.C.ShardCore.shard_table l.cores.items ≡ map (λ (S : ShardRun _). S.table) (first_shards (λ home site. g.C.ShardCore.defined (shape_of l.place) home (knobs_of l.place.lock) site) (shape_of l.place).nodes l.place.geom l.ops.by_rank 0 (take l.shard l.place.homes)))
+    (map (λ k. (g.C.ShardCore.says k).table) l.cores.items ≡ map (λ (S : ShardRun _). S.table) (first_shards (λ home site. g.C.ShardCore.defined (shape_of l.place) home (knobs_of l.place.lock) site) (shape_of l.place).nodes l.place.geom l.ops.by_rank 0 (take l.shard l.place.homes)))
     × (length l.rooms.items + l.shard ≡ l.place.geom.shards) × AreRooms l.place.geom l.ops.by_rank l.shard l.rooms.items

@@ -53,8 +53,8 @@ loop-turn-preserved g c =
     let t : Turn = slice_index_or ts i (Steps 0 0) in
     let at : slice_get ts i ≡ Some t = slice_get-get_or ts i (Steps 0 0) c.loop-turn-test.true in
     let first = start_of g.C.ShardCore.defined (shape_of place) (knobs_of place.lock) place.geom place.homes c.args.ops in
-    let mid = running g.C.ShardCore.shard_table c.loop-turn.machine in
-    let now = running g.C.ShardCore.shard_table c.take_turn.new.machine in
+    let mid = running g.C.ShardCore.says c.loop-turn.machine in
+    let now = running g.C.ShardCore.says c.take_turn.new.machine in
     let was = c.loop-turn.invariant in
     let took = c.in_ok-take_turn.ensures in (
       took.text ∙ ap (λ n. c.loop-turn.out.items ++ text_of (step_lines place n c.args.window mid (turn_ranks t))) c.in_ok-naming.ensures.named

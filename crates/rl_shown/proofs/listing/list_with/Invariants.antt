@@ -15,5 +15,5 @@ invariant-loop-turn g l =
     let place = l.fn.place in
     let start = start_of g.C.ShardCore.defined (shape_of place) (knobs_of place.lock) place.geom place.homes l.fn.ops in
     (l.out.items ≡ text_of (head_lines (naming_of place)) ++ text_of (step_lines place (naming_of place) l.fn.window start (ranks_of_turns (take l.turn-index l.turns))))
-    × (running g.C.ShardCore.shard_table l.machine ≡ run_of start (ranks_of_turns (take l.turn-index l.turns)))
+    × (running g.C.ShardCore.says l.machine ≡ run_of start (ranks_of_turns (take l.turn-index l.turns)))
     × (steps_made l.machine.steps ≡ steps_in (take l.turn-index l.turns)) × (length l.machine.calls ≡ length place.paths)

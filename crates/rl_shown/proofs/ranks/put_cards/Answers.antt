@@ -6,4 +6,4 @@ use Rattle.rl_shown.proofs.ranks.put_cards.Goals as goal
 
 pub loop-rank-preserved : goal.loop-rank-preserved
 loop-rank-preserved g c =
-    lines_more (card_lines (running g.C.ShardCore.shard_table c.args.machine.now)) c.args.out.now.items c.loop-rank.out.items c.put_card_of.new.out.items c.loop-rank.rank c.loop-rank.invariant c.in_ok-put_card_of.ensures
+    lines_more (card_lines (running g.C.ShardCore.says c.args.machine.now)) c.args.out.now.items c.loop-rank.out.items c.put_card_of.new.out.items c.loop-rank.rank c.loop-rank.invariant c.in_ok-put_card_of.ensures

@@ -8,4 +8,4 @@ use Rattle.rl_shown.specs.State.{card_lines}
 use Rattle.rl_shown.proofs.ranks.put_cards.Given as goal
 
 abbrev pub invariant-loop-rank : goal.invariant-loop-rank
-invariant-loop-rank g l = l.out.items ≡ l.fn.out.items ++ text_of (flat_map (card_lines (running g.C.ShardCore.shard_table l.machine)) (range_with_len 0 l.rank))
+invariant-loop-rank g l = l.out.items ≡ l.fn.out.items ++ text_of (flat_map (card_lines (running g.C.ShardCore.says l.machine)) (range_with_len 0 l.rank))

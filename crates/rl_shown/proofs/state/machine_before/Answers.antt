@@ -23,5 +23,5 @@ replay-requires-clause-there g c =
 pub returns : goal.returns
 returns g c =
     let ranks = ap ranks_of_turns c.as_slice-3.ensures.value ∙ c.in_ok-front.ensures.front ∙ ap (λ ts. take c.args.step (ranks_of_turns ts)) c.as_slice.ensures in
-    run_first (running g.C.ShardCore.shard_table) c.replay.result g.C.ShardCore.defined c.args.place.now _ c.args.ops c.args.shape.now c.knobs.result c.as_slice-2.result.now c.as_slice-3.result.now c.args.schedule.now.turns c.args.step
+    run_first (running g.C.ShardCore.says) c.replay.result g.C.ShardCore.defined c.args.place.now _ c.args.ops c.args.shape.now c.knobs.result c.as_slice-2.result.now c.as_slice-3.result.now c.args.schedule.now.turns c.args.step
     c.place.view_is c.requires.shape c.knobs.ensures c.as_slice-2.ensures.value ranks c.replay.ensures.run

@@ -20,7 +20,7 @@ pub machine_text-requires-clause-cores : goal.machine_text-requires-clause-cores
 machine_text-requires-clause-cores g c =
     let place = c.args.place.now in
     let first = start_of g.C.ShardCore.defined (shape_of place) (knobs_of place.lock) place.geom place.homes c.args.ops in
-    ap (map g.C.ShardCore.shard_table) c.as_slice-2.ensures.value ∙ c.in_ok-cores.ensures ∙ sym (run_tables first (take c.args.step (ranks_of_turns c.args.schedule.now.turns))).0 ∙ ap tables_of (sym c.in_ok-machine.ensures)
+    ap (map (λ k. (g.C.ShardCore.says k).table)) c.as_slice-2.ensures.value ∙ c.in_ok-cores.ensures ∙ sym (run_tables first (take c.args.step (ranks_of_turns c.args.schedule.now.turns))).0 ∙ ap tables_of (sym c.in_ok-machine.ensures)
 
 pub returns : goal.returns
 returns g c =
@@ -28,4 +28,4 @@ returns g c =
     let total = c.total_steps-total.ensures ∙ ap (sum_by steps_of) c.as_slice.ensures in
     let before = machine_before g.C.ShardCore.defined place c.args.ops c.args.schedule.now c.args.step in
     subst (λ m. IfOk c.machine_text.result (λ text. text.items ≡ state_spelling place c.args.step (sum_by steps_of c.args.schedule.now.turns) m)) c.in_ok-machine.ensures
-    (subst (λ n. IfOk c.machine_text.result (λ text. text.items ≡ state_spelling place c.args.step n (running g.C.ShardCore.shard_table c.in_ok-machine.machine))) total c.machine_text.ensures)
+    (subst (λ n. IfOk c.machine_text.result (λ text. text.items ≡ state_spelling place c.args.step n (running g.C.ShardCore.says c.in_ok-machine.machine))) total c.machine_text.ensures)

@@ -12,7 +12,7 @@ use Rattle.rl_shown.proofs.stepping.list_step.Goals as goal
 pub returns-clause-text : goal.returns-clause-text
 returns-clause-text g c =
     let out = c.args.out.now.items in
-    let m = running g.C.ShardCore.shard_table c.args.machine.now in
+    let m = running g.C.ShardCore.says c.args.machine.now in
     let k = c.args.rank in
     let words = step_words c.args.scene.place.now c.args.scene.naming.now m k in
     let after = c.standing.ensures ∙ ap (λ n. standing_by n k) c.in_ok-put_step.ensures.stepped in

@@ -9,4 +9,4 @@ use Rattle.rl_shown.proofs.words.put_words.Given as goal
 
 abbrev pub invariant-loop-shard : goal.invariant-loop-shard
 invariant-loop-shard g l =
-    l.out.items ≡ l.fn.out.items ++ text_of (flat_map (lines_of_shard l.place l.naming (running g.C.ShardCore.shard_table l.machine)) (range_with_len 0 l.shard))
+    l.out.items ≡ l.fn.out.items ++ text_of (flat_map (lines_of_shard l.place l.naming (running g.C.ShardCore.says l.machine)) (range_with_len 0 l.shard))

@@ -11,12 +11,12 @@ use Rattle.rl_shown.proofs.words.put_words_of.Goals as goal
 
 pub home-node-requires : goal.home-node-requires
 home-node-requires g c =
-    let low : c.loop-word.word < (g.C.ShardCore.shard_table c.args.core.now).core.size = (let test = c.loop-word-test.true in let sized = c.requires.sized in let all = c.requires.all in let many = c.words.ensures in omega arith) in
+    let low : c.loop-word.word < (g.C.ShardCore.says c.args.core.now).table.core.size = (let test = c.loop-word-test.true in let sized = c.requires.sized in let all = c.requires.all in let many = c.words.ensures in omega arith) in
     subst (λ (T : CoreTable _). c.loop-word.word < T.size) (g.met.C.ShardCore.same_table c.args.core.now) low
 
 pub loop-word-preserved : goal.loop-word-preserved
 loop-word-preserved g c =
-    let T = g.C.ShardCore.shard_table c.args.core.now in
+    let T = (g.C.ShardCore.says c.args.core.now).table in
     let w = c.loop-word.word in
     let naming = c.args.naming.now in
     let shard = c.args.shard in
@@ -32,6 +32,6 @@ loop-word-preserved g c =
 
 pub returns : goal.returns
 returns g c =
-    let T = g.C.ShardCore.shard_table c.args.core.now in
+    let T = (g.C.ShardCore.says c.args.core.now).table in
     let done : c.loop-word.word ≡ length c.args.words.now.words = omega arith in
     c.loop-word.invariant ∙ ap (λ n. c.args.out.now.items ++ text_of (flat_map (λ w. word_lines c.args.naming.now c.args.shard (T.core.home w) (name_of c.args.map.now w) (slice_index c.args.words.now.words w)) (range_with_len 0 n))) done

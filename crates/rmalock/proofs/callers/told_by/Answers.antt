@@ -10,7 +10,7 @@ begin_all-requires-clause-batches g c = sizes_suit c.args.place.now c.args.ops g
 
 pub loop-digit-init : goal.loop-digit-init
 loop-digit-init g c =
-    subst (λ ws. AreCallers g.C.ShardCore.shard_table g.C.ShardCore.good g.C.ShardCore.layout ws c.in_ok-shards.callers.items) (sym c.as_slice-shared.ensures.value) c.in_ok-shards.ensures.callers
+    subst (λ ws. AreCallers g.C.ShardCore.says ws c.in_ok-shards.callers.items) (sym c.as_slice-shared.ensures.value) c.in_ok-shards.ensures.callers
 
 pub loop-digit-preserved : goal.loop-digit-preserved
 loop-digit-preserved g c =

@@ -3,4 +3,4 @@ use Rattle.rl_run.specs.Runs.{AreCallers}
 use Rattle.rmalock.proofs.callers.told_by.Given as goal
 
 abbrev pub invariant-loop-digit : goal.invariant-loop-digit
-invariant-loop-digit g l = AreCallers g.C.ShardCore.shard_table g.C.ShardCore.good g.C.ShardCore.layout l.shared l.callers.items
+invariant-loop-digit g l = AreCallers g.C.ShardCore.says l.shared l.callers.items

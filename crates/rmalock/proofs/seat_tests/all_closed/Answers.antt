@@ -19,9 +19,9 @@ loop-seat-preserved g c = λ r s h has.
     let low : i < length seats = omega arith in
     let get : slice_get seats i ≡ Some seat = slice_get-get_or seats i seat low ∙ ap Some (sym c.seat-item.is) in
     let off : c.is_open.result ≡ false = search rules in
-    let closed : IsClosed g.C.ShardCore.shard_table c.args.shard.now seat = sym c.is_open.ensures ∙ off in
+    let closed : IsClosed g.C.ShardCore.says c.args.shard.now seat = sym c.is_open.ensures ∙ off in
     ⊎_elim
-    (λ (e : r ≡ i). subst (IsClosed g.C.ShardCore.shard_table c.args.shard.now) (one_at seats i seat s get (subst (λ k. slice_get seats k ≡ Some s) e has)) closed)
+    (λ (e : r ≡ i). subst (IsClosed g.C.ShardCore.says c.args.shard.now) (one_at seats i seat s get (subst (λ k. slice_get seats k ≡ Some s) e has)) closed)
     (λ (ne : r ≢ i). let below : r < i = grind arith in c.loop-seat.invariant r s below has)
     (same_or_not r i)
 

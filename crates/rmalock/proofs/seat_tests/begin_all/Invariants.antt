@@ -6,5 +6,5 @@ use Rattle.rmalock.proofs.seat_tests.begin_all.Given as goal
 
 abbrev pub invariant-loop-rank : goal.invariant-loop-rank
 invariant-loop-rank g l =
-    AreOf g.C.ShardCore.shard_table g.C.ShardCore.good g.C.ShardCore.layout l.shard l.seats.items × (vec_len l.seats ≡ vec_len l.fn.seats)
-    × ((r : ℕ) (s : _) → l.rank ≤ r → slice_get l.seats.items r ≡ Some s → IsFresh g.C.ShardCore.shard_table g.C.ShardCore.good g.C.ShardCore.layout l.geom 0 1 l.shard s)
+    AreOf g.C.ShardCore.says l.shard l.seats.items × (vec_len l.seats ≡ vec_len l.fn.seats)
+    × ((r : ℕ) (s : _) → l.rank ≤ r → slice_get l.seats.items r ≡ Some s → IsFresh g.C.ShardCore.says l.geom 0 1 l.shard s)

@@ -29,13 +29,13 @@ pub begin-requires-clause-open : goal.begin-requires-clause-open
 begin-requires-clause-open g c =
     let low : c.args.rank < length c.args.seats.now.items = search rules in
     let has : slice_get c.args.seats.now.items c.args.rank ≡ Some c.index_mut-seat.result.now = slice_get-get_or c.args.seats.now.items c.args.rank c.index_mut-seat.result.now low ∙ ap Some (sym c.index_mut-seat.ensures.value) in
-    fresh_opens g.C.ShardCore.shard_table g.C.ShardCore.good g.C.ShardCore.layout c.args.geom 0 1 c.args.shard.now c.index_mut-seat.result.now c.args.call (c.requires.fresh c.index_mut-seat.result.now has) c.requires.here (one_needed (is_update c.args.call))
+    fresh_opens g.C.ShardCore.says c.args.geom 0 1 c.args.shard.now c.index_mut-seat.result.now c.args.call (c.requires.fresh c.index_mut-seat.result.now has) c.requires.here (one_needed (is_update c.args.call))
 
 pub returns-clause-seats : goal.returns-clause-seats
 returns-clause-seats g c =
     let low : c.args.rank < length c.args.seats.now.items = search rules in
     let has : slice_get c.args.seats.now.items c.args.rank ≡ Some c.index_mut-seat.result.now = slice_get-get_or c.args.seats.now.items c.args.rank c.index_mut-seat.result.now low ∙ ap Some (sym c.index_mut-seat.ensures.value) in
-    one_changed g.C.ShardCore.shard_table g.C.ShardCore.good g.C.ShardCore.layout c.args.shard.now c.args.seats.now.items c.args.rank c.index_mut-seat.result.now c.begin.new.self c.requires.seats has c.begin.ensures.rank c.begin.ensures.seat
+    one_changed g.C.ShardCore.says c.args.shard.now c.args.seats.now.items c.args.rank c.index_mut-seat.result.now c.begin.new.self c.requires.seats has c.begin.ensures.rank c.begin.ensures.seat
 
 pub returns-clause-others : goal.returns-clause-others
 returns-clause-others g c = λ r above.

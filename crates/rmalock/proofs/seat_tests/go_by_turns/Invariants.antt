@@ -4,4 +4,4 @@ use Rattle.rl_shard.specs.Shards.{AreOf}
 use Rattle.rmalock.proofs.seat_tests.go_by_turns.Given as goal
 
 abbrev pub invariant-loop : goal.invariant-loop
-invariant-loop g l = AreOf g.C.ShardCore.shard_table g.C.ShardCore.good g.C.ShardCore.layout l.shard l.seats.items × (vec_len l.seats ≡ vec_len l.fn.seats)
+invariant-loop g l = AreOf g.C.ShardCore.says l.shard l.seats.items × (vec_len l.seats ≡ vec_len l.fn.seats)

@@ -41,9 +41,9 @@ returns-clause-shard g c =
     let calls : c.in_ok-room.room.calls.items ≡ replicate (length c.args.place.now.paths) 1 = c.in_ok-room.ensures.calls ∙ ap (λ (n : ℕ). replicate n 1) there in
     let long : length c.in_ok-shape.shape.node_of ≡ length c.args.place.now.paths = ap (λ (s : TheShape). length s.node_of) c.in_ok-shape.ensures.exact ∙ length-map c.args.place.now.paths _ in
     let seats : length c.in_ok-shard.seats.items ≡ length c.args.place.now.paths =
-    new_long (table_at g.C.ShardCore.shard_table shard) queues (length c.args.place.now.paths) c.in_ok-shard.seats.items (c.in_ok-shard.ensures.views ∙ ap (first_counted (table_at g.C.ShardCore.shard_table shard) queues) calls) in
+    new_long (table_at g.C.ShardCore.says shard) queues (length c.args.place.now.paths) c.in_ok-shard.seats.items (c.in_ok-shard.ensures.views ∙ ap (first_counted (table_at g.C.ShardCore.says shard) queues) calls) in
     let many : vec_len c.in_ok-shard.seats ≡ length c.in_ok-shape.shape.node_of = search rules in
-    subst (λ n. IsShardOf g.C.ShardCore.shard_table n shard) (sym many) c.in_ok-shard.ensures.shard
+    subst (λ n. IsShardOf g.C.ShardCore.says n shard) (sym many) c.in_ok-shard.ensures.shard
 
 pub returns-clause-fresh : goal.returns-clause-fresh
 returns-clause-fresh g c = λ r s get.
@@ -55,12 +55,12 @@ returns-clause-fresh g c = λ r s get.
     let there : c.len-ranks.result ≡ length c.args.place.now.paths = counted ∙ ap (λ (p : ThePlace). length p.paths) c.place.view_is in
     let calls : c.in_ok-room.room.calls.items ≡ replicate (length c.args.place.now.paths) 1 = c.in_ok-room.ensures.calls ∙ ap (λ (n : ℕ). replicate n 1) there in
     let updates : c.in_ok-room.room.updates.items ≡ replicate (length c.args.place.now.paths) 1 = c.in_ok-room.ensures.updates ∙ ap (λ (n : ℕ). replicate n 1) there in
-    let views = c.in_ok-shard.ensures.views ∙ ap (first_counted (table_at g.C.ShardCore.shard_table shard) queues) calls in
-    let seats : length c.in_ok-shard.seats.items ≡ ranks = new_long (table_at g.C.ShardCore.shard_table shard) queues ranks c.in_ok-shard.seats.items views in
+    let views = c.in_ok-shard.ensures.views ∙ ap (first_counted (table_at g.C.ShardCore.says shard) queues) calls in
+    let seats : length c.in_ok-shard.seats.items ≡ ranks = new_long (table_at g.C.ShardCore.says shard) queues ranks c.in_ok-shard.seats.items views in
     let within : r < length c.in_ok-shard.seats.items = slice_get_within c.in_ok-shard.seats.items r s get in
     let low : r < ranks = omega arith in
     let site = ap (λ T. T.site) c.in_ok-shard.ensures.core ∙ (g.met.C.ShardCore.laid c.in_ok-shape.shape 0 c.knobs.result (site_with c.place.inside.geom 0 c.in_ok-room.room.updates.items)).site_is
     ∙ ap (site_with c.place.inside.geom 0) updates ∙ ap (λ z. site_with z 0 (replicate ranks 1)) geom in
     let one : slice_index (replicate ranks 1) r ≡ 1 = get_or-replicate ranks r 1 0 low in
-    fresh_at g.C.ShardCore.shard_table g.C.ShardCore.good g.C.ShardCore.layout shard c.in_ok-shard.seats.items c.args.place.now.geom 0 queues (replicate ranks 1) (replicate ranks 1) site (g.met.C.ShardCore.shard_laws (core_at shard)).first_desk
+    fresh_at g.C.ShardCore.says shard c.in_ok-shard.seats.items c.args.place.now.geom 0 queues (replicate ranks 1) (replicate ranks 1) site (g.met.C.ShardCore.shard_laws (core_at shard)).first_desk
     c.in_ok-shard.ensures.seats c.in_ok-shard.ensures.closed views r 1 s one one get

@@ -7,7 +7,7 @@ use Rattle.rmalock.proofs.seat_tests.seats_told.Goals.{then-rank-len+in_ok-answe
 
 pub begin_all-requires-clause-fresh : goal.begin_all-requires-clause-fresh
 begin_all-requires-clause-fresh g c = λ r s get.
-    subst (λ z. IsFresh g.C.ShardCore.shard_table g.C.ShardCore.good g.C.ShardCore.layout z 0 1 c.in_ok-shard.shard s) (sym (ap (λ (p : ThePlace). p.geom) c.place.view_is)) (c.in_ok-shard.ensures.fresh r s get)
+    subst (λ z. IsFresh g.C.ShardCore.says z 0 1 c.in_ok-shard.shard s) (sym (ap (λ (p : ThePlace). p.geom) c.place.view_is)) (c.in_ok-shard.ensures.fresh r s get)
 
 pub loop-digit-preserved : goal.loop-digit-preserved
 loop-digit-preserved g c =

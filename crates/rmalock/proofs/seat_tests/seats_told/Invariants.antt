@@ -3,4 +3,4 @@ use Rattle.rl_shard.specs.Shards.{AreOf}
 use Rattle.rmalock.proofs.seat_tests.seats_told.Given as goal
 
 abbrev pub invariant-loop-digit : goal.invariant-loop-digit
-invariant-loop-digit g l = AreOf g.C.ShardCore.shard_table g.C.ShardCore.good g.C.ShardCore.layout l.shard l.seats.items
+invariant-loop-digit g l = AreOf g.C.ShardCore.says l.shard l.seats.items

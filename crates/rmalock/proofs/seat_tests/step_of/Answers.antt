@@ -14,4 +14,4 @@ pub returns-clause-seats : goal.returns-clause-seats
 returns-clause-seats g c =
     let low : c.args.rank < length c.args.seats.now.items = search rules in
     let has : slice_get c.args.seats.now.items c.args.rank ≡ Some c.index_mut-seat.result.now = slice_get-get_or c.args.seats.now.items c.args.rank c.index_mut-seat.result.now low ∙ ap Some (sym c.index_mut-seat.ensures.value) in
-    one_changed g.C.ShardCore.shard_table g.C.ShardCore.good g.C.ShardCore.layout c.args.shard.now c.args.seats.now.items c.args.rank c.index_mut-seat.result.now c.step.new.self c.requires.seats has c.step.ensures.rank c.step.ensures.seat
+    one_changed g.C.ShardCore.says c.args.shard.now c.args.seats.now.items c.args.rank c.index_mut-seat.result.now c.step.new.self c.requires.seats has c.step.ensures.step.rank c.step.ensures.step.seat

@@ -9,4 +9,4 @@ pub invariant_of-self : goal.invariant_of-self
 invariant_of-self g c =
     let more = ap steps_made c.count_more.ensures ∙ counts_more c.args.answer c.args.count c.self.inside.state.steps in
     let later : steps_made c.self.inside.state.steps ≤ steps_made c.count_more.new.steps = omega arith in
-    machine_with_steps _ _ g.C.ShardCore.shard_table g.C.ShardCore.good (machine_view c.self.inside.state) c.count_more.new.steps later c.self.invariant
+    machine_with_steps g.C.ShardCore.says (machine_view c.self.inside.state) c.count_more.new.steps later c.self.invariant

@@ -8,10 +8,10 @@ use Rattle.rl_machine.proofs.machine.Machine.make_leg.Goals as goal
 
 pub make_leg-requires-clause-shows : goal.make_leg-requires-clause-shows
 make_leg-requires-clause-shows g c =
-    subst (λ m. GoesRound g.C.Resting.with_sight (running g.C.ShardCore.shard_table m) c.args.rank c.args.shard c.args.round 1) (sym c.self.view_is) c.requires.shows
+    subst (λ m. GoesRound g.C.Resting.with_sight (running g.C.ShardCore.says m) c.args.rank c.args.shard c.args.round 1) (sym c.self.view_is) c.requires.shows
 
 pub invariant_of-self : goal.invariant_of-self
 invariant_of-self g c =
     let low = subst (λ m. c.args.rank < length m.calls) (sym c.self.view_is) c.requires.there in
-    step_keeps _ _ g.C.ShardCore.shard_table g.C.ShardCore.good g.C.ShardCore.cause g.C.ShardCore.further g.C.ShardCore.layout g.met.C.ShardCore.shard_laws (machine_view c.self.inside.state) (machine_view c.make_leg.new.state) c.args.rank
+    step_keeps g.C.ShardCore.says g.met.C.ShardCore.shard_laws (machine_view c.self.inside.state) (machine_view c.make_leg.new.state) c.args.rank
     c.self.invariant low c.make_leg.ensures.made c.make_leg.ensures.cores

@@ -7,25 +7,25 @@ use Rattle.rl_machine.proofs.machine.Machine.open_next.Goals as goal
 pub invariant_of-self : goal.invariant_of-self
 invariant_of-self g c =
     let low = subst (λ m. c.args.rank < length m.calls) (sym c.self.view_is) c.requires.there in
-    open_keeps _ _ g.C.ShardCore.shard_table g.C.ShardCore.good g.C.ShardCore.cause g.C.ShardCore.further g.C.ShardCore.layout g.met.C.ShardCore.shard_laws (machine_view c.self.inside.state) (machine_view c.open_next.new.state) c.args.rank
+    open_keeps g.C.ShardCore.says g.met.C.ShardCore.shard_laws (machine_view c.self.inside.state) (machine_view c.open_next.new.state) c.args.rank
     c.self.invariant low c.open_next.ensures.made c.open_next.ensures.cores
 
 pub returns-clause-opened : goal.returns-clause-opened
 returns-clause-opened g c =
-    opened_told _ _ g.C.ShardCore.shard_table g.C.ShardCore.good g.C.ShardCore.cause g.C.ShardCore.further g.C.ShardCore.layout g.met.C.ShardCore.shard_laws _ _ c.self.view_is c.args.rank c.self.invariant c.requires.there (machine_view c.open_next.new.state) c.open_next.ensures.made
+    opened_told g.C.ShardCore.says g.met.C.ShardCore.shard_laws _ _ c.self.view_is c.args.rank c.self.invariant c.requires.there (machine_view c.open_next.new.state) c.open_next.ensures.made
 
 pub returns-clause-calls : goal.returns-clause-calls
 returns-clause-calls g c =
-    opened_calls_told _ _ g.C.ShardCore.shard_table g.C.ShardCore.good g.C.ShardCore.cause g.C.ShardCore.further g.C.ShardCore.layout g.met.C.ShardCore.shard_laws _ _ c.self.view_is c.args.rank c.self.invariant c.requires.there (machine_view c.open_next.new.state) c.open_next.ensures.made
+    opened_calls_told g.C.ShardCore.says g.met.C.ShardCore.shard_laws _ _ c.self.view_is c.args.rank c.self.invariant c.requires.there (machine_view c.open_next.new.state) c.open_next.ensures.made
 
 pub returns-clause-no_step : goal.returns-clause-no_step
 returns-clause-no_step g c =
-    opened_steps_told _ _ g.C.ShardCore.shard_table g.C.ShardCore.good g.C.ShardCore.cause g.C.ShardCore.further g.C.ShardCore.layout g.met.C.ShardCore.shard_laws _ _ c.self.view_is c.args.rank c.self.invariant c.requires.there (machine_view c.open_next.new.state) c.open_next.ensures.made
+    opened_steps_told g.C.ShardCore.says g.met.C.ShardCore.shard_laws _ _ c.self.view_is c.args.rank c.self.invariant c.requires.there (machine_view c.open_next.new.state) c.open_next.ensures.made
 
 pub returns-clause-same_step : goal.returns-clause-same_step
 returns-clause-same_step g c =
-    same_step_told _ _ g.C.ShardCore.shard_table g.C.ShardCore.good g.C.ShardCore.cause g.C.ShardCore.further g.C.ShardCore.layout g.met.C.ShardCore.shard_laws _ _ c.self.view_is c.args.rank c.self.invariant c.requires.there (machine_view c.open_next.new.state) c.open_next.ensures.made
+    same_step_told g.C.ShardCore.says g.met.C.ShardCore.shard_laws _ _ c.self.view_is c.args.rank c.self.invariant c.requires.there (machine_view c.open_next.new.state) c.open_next.ensures.made
 
 pub returns-clause-same_answer : goal.returns-clause-same_answer
 returns-clause-same_answer g c =
-    same_answer_told _ _ g.C.ShardCore.shard_table g.C.ShardCore.good g.C.ShardCore.cause g.C.ShardCore.further g.C.ShardCore.layout g.met.C.ShardCore.shard_laws _ _ c.self.view_is c.args.rank c.self.invariant c.requires.there (machine_view c.open_next.new.state) c.open_next.ensures.made
+    same_answer_told g.C.ShardCore.says g.met.C.ShardCore.shard_laws _ _ c.self.view_is c.args.rank c.self.invariant c.requires.there (machine_view c.open_next.new.state) c.open_next.ensures.made

@@ -1,46 +1,48 @@
 -- A step keeps all that is true of a machine, and its answer has its cause.
 use Rattle.std.proofs.Common.{◌<◌, length, sym, subst}
-use Rattle.rl_machine.specs.Running.{running}
-use Rattle.rl_machine.specs.State.{machine_view}
+use Rattle.rl_machine.specs.State.{machine_view, running_machine}
 use Rattle.rl_machine.specs.laws.StateSteps.{step_keeps, cause_told, tells_told, finished_told, busy_told, held_told, over_told, counted_told, calls_told}
 use Rattle.rl_machine.proofs.machine.Machine.step.Goals as goal
 
 pub invariant_of-self-2 : goal.invariant_of-self-2
 invariant_of-self-2 g c =
     let low = subst (λ m. c.args.rank < length m.calls) (sym c.self.view_is) c.requires.there in
-    step_keeps _ _ g.C.ShardCore.shard_table g.C.ShardCore.good g.C.ShardCore.cause g.C.ShardCore.further g.C.ShardCore.layout g.met.C.ShardCore.shard_laws (machine_view c.self.inside.state) (machine_view c.step.new.state) c.args.rank
+    step_keeps g.C.ShardCore.says g.met.C.ShardCore.shard_laws (machine_view c.self.inside.state) (machine_view c.step.new.state) c.args.rank
     c.self.invariant low c.in_ok-made.ensures.made c.in_ok-made.ensures.cores
 
 pub returns-clause-cause : goal.returns-clause-cause
-returns-clause-cause g c = cause_told _ _ g.C.ShardCore.shard_table g.C.ShardCore.good g.C.ShardCore.cause g.C.ShardCore.further g.C.ShardCore.layout g.met.C.ShardCore.shard_laws _ _ c.self.view_is c.args.rank c.in_ok-made.made.answer c.self.invariant c.requires.there c.in_ok-made.ensures.answer
+returns-clause-cause g c =
+    cause_told g.C.ShardCore.says g.met.C.ShardCore.shard_laws _ _ c.self.view_is c.args.rank c.in_ok-made.made.answer c.self.invariant c.requires.there c.in_ok-made.ensures.answer
 
 pub returns-clause-tells : goal.returns-clause-tells
-returns-clause-tells g c = tells_told _ _ g.C.ShardCore.shard_table g.C.ShardCore.good g.C.ShardCore.cause g.C.ShardCore.further g.C.ShardCore.layout g.met.C.ShardCore.shard_laws _ _ c.self.view_is c.args.rank c.in_ok-made.made.answer c.self.invariant c.requires.there c.in_ok-made.ensures.answer
+returns-clause-tells g c =
+    tells_told g.C.ShardCore.says g.met.C.ShardCore.shard_laws _ _ c.self.view_is c.args.rank c.in_ok-made.made.answer c.self.invariant c.requires.there c.in_ok-made.ensures.answer
 
 pub returns-clause-finished : goal.returns-clause-finished
-returns-clause-finished g c = finished_told _ _ g.C.ShardCore.shard_table g.C.ShardCore.good g.C.ShardCore.cause g.C.ShardCore.further g.C.ShardCore.layout g.met.C.ShardCore.shard_laws _ _ c.self.view_is c.args.rank c.in_ok-made.made.answer c.self.invariant c.requires.there c.in_ok-made.ensures.answer
+returns-clause-finished g c =
+    finished_told g.C.ShardCore.says g.met.C.ShardCore.shard_laws _ _ c.self.view_is c.args.rank c.in_ok-made.made.answer c.self.invariant c.requires.there c.in_ok-made.ensures.answer
 
 pub returns-clause-busy : goal.returns-clause-busy
 returns-clause-busy g c =
-    busy_told _ _ g.C.ShardCore.shard_table g.C.ShardCore.good g.C.ShardCore.cause g.C.ShardCore.further g.C.ShardCore.layout g.met.C.ShardCore.shard_laws _ _ c.self.view_is c.args.rank c.in_ok-made.made.answer c.self.invariant c.requires.there c.in_ok-made.ensures.answer
-    (running g.C.ShardCore.shard_table (machine_view c.step.new.state)) c.in_ok-made.ensures.made
+    busy_told g.C.ShardCore.says g.met.C.ShardCore.shard_laws _ _ c.self.view_is c.args.rank c.in_ok-made.made.answer c.self.invariant c.requires.there c.in_ok-made.ensures.answer
+    (running_machine g.C.ShardCore.says c.step.new.state) c.in_ok-made.ensures.made
 
 pub returns-clause-held_off : goal.returns-clause-held_off
 returns-clause-held_off g c = λ node holder is.
-    held_told _ _ g.C.ShardCore.shard_table g.C.ShardCore.good g.C.ShardCore.cause g.C.ShardCore.further g.C.ShardCore.layout g.met.C.ShardCore.shard_laws _ _ c.self.view_is c.args.rank c.in_ok-made.made.answer c.self.invariant c.requires.there c.in_ok-made.ensures.answer
-    (running g.C.ShardCore.shard_table (machine_view c.step.new.state)) c.in_ok-made.ensures.made node holder is
+    held_told g.C.ShardCore.says g.met.C.ShardCore.shard_laws _ _ c.self.view_is c.args.rank c.in_ok-made.made.answer c.self.invariant c.requires.there c.in_ok-made.ensures.answer
+    (running_machine g.C.ShardCore.says c.step.new.state) c.in_ok-made.ensures.made node holder is
 
 pub returns-clause-over : goal.returns-clause-over
 returns-clause-over g c = λ is.
-    over_told _ _ g.C.ShardCore.shard_table g.C.ShardCore.good g.C.ShardCore.cause g.C.ShardCore.further g.C.ShardCore.layout g.met.C.ShardCore.shard_laws _ _ c.self.view_is c.args.rank c.in_ok-made.made.answer c.self.invariant c.requires.there c.in_ok-made.ensures.answer
-    (running g.C.ShardCore.shard_table (machine_view c.step.new.state)) c.in_ok-made.ensures.made is
+    over_told g.C.ShardCore.says g.met.C.ShardCore.shard_laws _ _ c.self.view_is c.args.rank c.in_ok-made.made.answer c.self.invariant c.requires.there c.in_ok-made.ensures.answer
+    (running_machine g.C.ShardCore.says c.step.new.state) c.in_ok-made.ensures.made is
 
 pub returns-clause-counted : goal.returns-clause-counted
 returns-clause-counted g c =
-    counted_told _ _ g.C.ShardCore.shard_table g.C.ShardCore.good g.C.ShardCore.cause g.C.ShardCore.further g.C.ShardCore.layout g.met.C.ShardCore.shard_laws _ _ c.self.view_is c.args.rank c.in_ok-made.made.answer c.self.invariant c.requires.there c.in_ok-made.ensures.answer
-    (running g.C.ShardCore.shard_table (machine_view c.step.new.state)) c.in_ok-made.ensures.made
+    counted_told g.C.ShardCore.says g.met.C.ShardCore.shard_laws _ _ c.self.view_is c.args.rank c.in_ok-made.made.answer c.self.invariant c.requires.there c.in_ok-made.ensures.answer
+    (running_machine g.C.ShardCore.says c.step.new.state) c.in_ok-made.ensures.made
 
 pub returns-clause-calls : goal.returns-clause-calls
 returns-clause-calls g c =
-    calls_told _ _ g.C.ShardCore.shard_table g.C.ShardCore.good g.C.ShardCore.cause g.C.ShardCore.further g.C.ShardCore.layout g.met.C.ShardCore.shard_laws _ _ c.self.view_is c.args.rank c.in_ok-made.made.answer c.self.invariant c.requires.there c.in_ok-made.ensures.answer
-    (running g.C.ShardCore.shard_table (machine_view c.step.new.state)) c.in_ok-made.ensures.made
+    calls_told g.C.ShardCore.says g.met.C.ShardCore.shard_laws _ _ c.self.view_is c.args.rank c.in_ok-made.made.answer c.self.invariant c.requires.there c.in_ok-made.ensures.answer
+    (running_machine g.C.ShardCore.says c.step.new.state) c.in_ok-made.ensures.made

@@ -10,11 +10,11 @@ use Rattle.rl_machine.proofs.machine.Machine.transcript_of.Goals as goal
 
 pub returns-clause-among : goal.returns-clause-among
 returns-clause-among g c =
-    let table = g.C.ShardCore.shard_table in
+    let says = g.C.ShardCore.says in
     let shard = c.args.shard in
     let rank = c.args.rank in
-    let S = running_shard table c.shard.result.now in
-    let has : slice_get (running table c.args.self.now).shards shard ≡ Some S = subst (λ m. slice_get (running table m).shards shard ≡ Some S) c.self.view_is c.shard.ensures.has in
+    let S = running_shard says c.shard.result.now in
+    let has : slice_get (running says c.args.self.now).shards shard ≡ Some S = subst (λ m. slice_get (running says m).shards shard ≡ Some S) c.self.view_is c.shard.ensures.has in
     let low = subst (λ m. rank < length m.calls) (sym c.self.view_is) c.requires.rank in
     let there : rank < length S.views = let all = c.shard.ensures.ranks in omega arith in
     IfOk-weaker c.transcript_of.result _ _ (λ told is. ap (λ o. slice_get (on_shard [] transcripts_on o) rank) has ∙ kept_among S rank there ∙ ap Some (sym is)) c.transcript_of.ensures

@@ -7,5 +7,5 @@ use Rattle.rl_machine.proofs.machine.Machine.words.Goals as goal
 
 pub returns : goal.returns
 returns g c =
-    subst (λ m. window_of (running g.C.ShardCore.shard_table m) c.args.shard ≡ Some c.words.result.now) c.self.view_is
+    subst (λ m. window_of (running g.C.ShardCore.says m) c.args.shard ≡ Some c.words.result.now) c.self.view_is
     (ap (on_shard None (λ S. Some S.held)) c.shard.ensures.has ∙ ap Some (sym c.words.ensures))

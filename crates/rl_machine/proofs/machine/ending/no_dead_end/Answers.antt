@@ -11,24 +11,24 @@ pub returns-clause-now : goal.returns-clause-now
 returns-clause-now g c =
     let m = machine_view c.machine.inside.state in
     let is = c.machine.invariant in
-    subst (λ z. CanFinish (running g.C.ShardCore.shard_table z)) c.machine.view_is
-    (can_finish _ _ g.C.ShardCore.shard_table g.C.ShardCore.good g.C.ShardCore.cause g.C.ShardCore.further g.C.ShardCore.layout g.met.C.ShardCore.shard_laws
-    g.C.ShardEnding.left g.C.ShardEnding.most g.met.C.ShardEnding.ends (cores_of m) is.acts (running g.C.ShardCore.shard_table m) is.is_good)
+    subst (λ z. CanFinish (running g.C.ShardCore.says z)) c.machine.view_is
+    (can_finish g.C.ShardCore.says g.met.C.ShardCore.shard_laws
+    g.C.ShardEnding.left g.C.ShardEnding.most g.met.C.ShardEnding.ends (cores_of m) is.acts (running g.C.ShardCore.says m) is.is_good)
 
 pub returns-clause-later : goal.returns-clause-later
 returns-clause-later g c = λ ks there.
     let m = machine_view c.machine.inside.state in
-    let run = running g.C.ShardCore.shard_table m in
+    let run = running g.C.ShardCore.says m in
     let is = c.machine.invariant in
     let low = subst (λ z. AreThere (length z.calls) ks) (sym c.machine.view_is) there in
-    subst (λ z. CanFinish (run_of (running g.C.ShardCore.shard_table z) ks)) c.machine.view_is
-    (still_can _ _ g.C.ShardCore.shard_table g.C.ShardCore.good g.C.ShardCore.cause g.C.ShardCore.further g.C.ShardCore.layout g.met.C.ShardCore.shard_laws
+    subst (λ z. CanFinish (run_of (running g.C.ShardCore.says z) ks)) c.machine.view_is
+    (still_can g.C.ShardCore.says g.met.C.ShardCore.shard_laws
     g.C.ShardEnding.left g.C.ShardEnding.most g.met.C.ShardEnding.ends (cores_of m) is.acts run ks is.is_good low)
 
 pub returns-clause-soon : goal.returns-clause-soon
 returns-clause-soon g c =
     let m = machine_view c.machine.inside.state in
     let is = c.machine.invariant in
-    subst (λ z. CanFinishIn (machine_left g.C.ShardEnding.left g.C.ShardEnding.most (cores_of z) (running g.C.ShardCore.shard_table z)) (running g.C.ShardCore.shard_table z)) c.machine.view_is
-    (can_finish_in _ _ g.C.ShardCore.shard_table g.C.ShardCore.good g.C.ShardCore.cause g.C.ShardCore.further g.C.ShardCore.layout g.met.C.ShardCore.shard_laws
-    g.C.ShardEnding.left g.C.ShardEnding.most g.met.C.ShardEnding.ends (cores_of m) is.acts (running g.C.ShardCore.shard_table m) is.is_good)
+    subst (λ z. CanFinishIn (machine_left g.C.ShardEnding.left g.C.ShardEnding.most (cores_of z) (running g.C.ShardCore.says z)) (running g.C.ShardCore.says z)) c.machine.view_is
+    (can_finish_in g.C.ShardCore.says g.met.C.ShardCore.shard_laws
+    g.C.ShardEnding.left g.C.ShardEnding.most g.met.C.ShardEnding.ends (cores_of m) is.acts (running g.C.ShardCore.says m) is.is_good)

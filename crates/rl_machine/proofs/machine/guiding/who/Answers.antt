@@ -14,7 +14,7 @@ returns-in-Some-clause-next g c =
     (λ r chosen. inl (record {
       rank = c.in-Some.rank;
       in_call = c.in-Some.ensures.first;
-      chosen = record { core = s.core; has_core = there.core; state = running_shard g.C.ShardCore.shard_table s; has = there.has; chosen = chosen };
+      chosen = record { core = s.core; has_core = there.core; state = running_shard g.C.ShardCore.says s; has = there.has; chosen = chosen };
     }))
 
 pub returns-in-Some-clause-over : goal.returns-in-Some-clause-over
@@ -24,9 +24,9 @@ returns-in-Some-clause-over g c =
     let is = c.requires.good in
     let s = c.shard_of_rank.result.now in
     let first = c.in-Some.ensures.first in
-    absurd (some_chosen _ _ g.C.ShardCore.shard_table g.C.ShardCore.good g.C.ShardCore.cause g.C.ShardCore.further g.C.ShardCore.layout g.met.C.ShardCore.shard_laws
-    g.C.ShardEnding.left g.C.ShardEnding.most g.met.C.ShardEnding.ends g.C.ShardGuiding.urgent g.met.C.ShardGuiding.guides (cores_of m) is.acts (running g.C.ShardCore.shard_table m) is.is_good
-    c.in-Some.rank s.core (running_shard g.C.ShardCore.shard_table s) first.there first.has c.shard_of_rank.ensures.core c.shard_of_rank.ensures.has (c.chosen_on.ensures.none e))
+    absurd (some_chosen g.C.ShardCore.says g.met.C.ShardCore.shard_laws
+    g.C.ShardEnding.left g.C.ShardEnding.most g.met.C.ShardEnding.ends g.C.ShardGuiding.urgent g.met.C.ShardGuiding.guides (cores_of m) is.acts (running g.C.ShardCore.says m) is.is_good
+    c.in-Some.rank s.core (running_shard g.C.ShardCore.says s) first.there first.has c.shard_of_rank.ensures.core c.shard_of_rank.ensures.has (c.chosen_on.ensures.none e))
 
 pub returns-in-None-clause-next : goal.returns-in-None-clause-next
 returns-in-None-clause-next g c = IfSome_then c.first_to_open.result c.first_to_open.ensures.first (λ r first. inr (record { closed = c.first_open.ensures.none c.in-None.is; first = first }))
@@ -36,6 +36,6 @@ returns-in-None-clause-over g c =
     λ e.
     let m = machine_view c.args.state.now in
     let is = c.requires.good in
-    none_left _ _ g.C.ShardCore.shard_table g.C.ShardCore.good g.C.ShardCore.cause g.C.ShardCore.further g.C.ShardCore.layout g.met.C.ShardCore.shard_laws
-    g.C.ShardEnding.left g.C.ShardEnding.most g.met.C.ShardEnding.ends g.C.ShardGuiding.urgent g.met.C.ShardGuiding.guides (cores_of m) is.acts (running g.C.ShardCore.shard_table m) is.is_good
+    none_left g.C.ShardCore.says g.met.C.ShardCore.shard_laws
+    g.C.ShardEnding.left g.C.ShardEnding.most g.met.C.ShardEnding.ends g.C.ShardGuiding.urgent g.met.C.ShardGuiding.guides (cores_of m) is.acts (running g.C.ShardCore.says m) is.is_good
     (c.first_open.ensures.none c.in-None.is) (c.first_to_open.ensures.none e)

@@ -13,13 +13,13 @@ has g c = slice_get-get_or c.args.self.now.shards.items c.args.shard c.index.res
 
 pub behind_on-requires-clause-good : goal.behind_on-requires-clause-good
 behind_on-requires-clause-good g c =
-    (is_there _ _ g.C.ShardCore.shard_table g.C.ShardCore.good c.args.self.now c.requires.good c.args.shard c.index.result.now (has g (goal.at.behind_on-requires-clause-good g c).After-index)).is_good
+    (is_there g.C.ShardCore.says c.args.self.now c.requires.good c.args.shard c.index.result.now (has g (goal.at.behind_on-requires-clause-good g c).After-index)).is_good
 
 pub behind_on-requires-clause-few : goal.behind_on-requires-clause-few
 behind_on-requires-clause-few g c =
-    few_places _ _ g.C.ShardCore.shard_table g.C.ShardCore.good c.args.self.now c.requires.good c.args.shard c.index.result.now (has g (goal.at.behind_on-requires-clause-few g c).After-index)
+    few_places g.C.ShardCore.says c.args.self.now c.requires.good c.args.shard c.index.result.now (has g (goal.at.behind_on-requires-clause-few g c).After-index)
 
 pub returns : goal.returns
 returns g c =
     c.behind_on.ensures
-    ∙ sym (ap (on_shard 0 (λ S. lock_base S.table.site)) (is_there _ _ g.C.ShardCore.shard_table g.C.ShardCore.good c.args.self.now c.requires.good c.args.shard c.index.result.now (has g (goal.at.returns g c).After-index)).has)
+    ∙ sym (ap (on_shard 0 (λ S. lock_base S.table.site)) (is_there g.C.ShardCore.says c.args.self.now c.requires.good c.args.shard c.index.result.now (has g (goal.at.returns g c).After-index)).has)

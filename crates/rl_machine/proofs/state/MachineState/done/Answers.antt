@@ -15,20 +15,22 @@ has g c =
     ap (λ xs. slice_get xs c.loop-shard.shard-index) (sym c.deref-shard-items.ensures.value)
     ∙ slice_get-get_or c.deref-shard-items.result.now c.loop-shard.shard-index c.shard-item.result c.loop-shard-test.true ∙ ap Some (sym c.shard-item.is)
 
-there : (g : Over) (c : After-shard-item g) → IsThere _ _ g.C.ShardCore.shard_table g.C.ShardCore.good c.args.self.now c.requires.good c.loop-shard.shard-index c.shard-item.result
-there g c = is_there _ _ g.C.ShardCore.shard_table g.C.ShardCore.good c.args.self.now c.requires.good c.loop-shard.shard-index c.shard-item.result (has g c)
+there : (g : Over) (c : After-shard-item g) → IsThere g.C.ShardCore.says c.args.self.now c.requires.good c.loop-shard.shard-index c.shard-item.result
+there g c = is_there g.C.ShardCore.says c.args.self.now c.requires.good c.loop-shard.shard-index c.shard-item.result (has g c)
 
 pub view-requires : goal.view-requires
 view-requires g c = let all = (there g (goal.at.view-requires g c).After-shard-item).ranks in let low = c.requires.there in omega arith
 
 -- the count with this shard's entries
 next : (g : Over) (c : After-entries g) →
-    (c.loop-shard.done + length c.entries.result.now ≡ entries_in (map (kept_in g.C.ShardCore.shard_table c.args.rank) (take (c.loop-shard.shard-index + 1) c.args.self.now.shards.items))) × (c.loop-shard.done + length c.entries.result.now ≤ 20000)
+    (c.loop-shard.done + length c.entries.result.now ≡ entries_in
+    (map (kept_in g.C.ShardCore.says c.args.rank) (take (c.loop-shard.shard-index + 1) c.args.self.now.shards.items))) × (c.loop-shard.done + length c.entries.result.now ≤ 20000)
 next g c =
     let item = c.shard-item.result in
-    let same : c.entries.result.now ≡ kept_in g.C.ShardCore.shard_table c.args.rank item = c.entries.ensures ∙ ap desk_entries (sym (g.met.C.TellsAll.tells_all item.core item.flat.words.words c.args.rank c.view.result.now))
-    ∙ sym (ap (λ o. desk_entries (desk_at (g.C.ShardCore.shard_table item.core) item.flat.words.words c.args.rank o)) c.view.ensures) in
-    one_shard_more _ _ g.C.ShardCore.shard_table g.C.ShardCore.good g.C.ShardCore.cause g.C.ShardCore.further g.C.ShardCore.layout g.met.C.ShardCore.shard_laws c.args.self.now c.requires.good c.args.rank c.requires.there
+    let same : c.entries.result.now ≡ kept_in g.C.ShardCore.says c.args.rank item = c.entries.ensures
+    ∙ ap desk_entries (sym (g.met.C.TellsAll.tells_all item.core item.flat.words.words c.args.rank c.view.result.now))
+    ∙ sym (ap (λ o. desk_entries (desk_at (g.C.ShardCore.says item.core).table item.flat.words.words c.args.rank o)) c.view.ensures) in
+    one_shard_more g.C.ShardCore.says g.met.C.ShardCore.shard_laws c.args.self.now c.requires.good c.args.rank c.requires.there
     c.loop-shard.shard-index item c.loop-shard.done (length c.entries.result.now) (has g (goal.at.After-entries g c).After-shard-item) c.loop-shard.invariant (ap length same)
 
 pub overflow_cast-done : goal.overflow_cast-done
@@ -43,4 +45,4 @@ loop-shard-preserved g c = (next g (goal.at.loop-shard-preserved g c).After-entr
 pub returns : goal.returns
 returns g c =
     let all : c.loop-shard.shard-index ≡ length c.args.self.now.shards.items = (let e = ap length c.deref-shard-items.ensures.value in omega arith) in
-    on_all_shards g.C.ShardCore.shard_table c.args.self.now c.args.rank c.loop-shard.shard-index c.loop-shard.done all c.loop-shard.invariant
+    on_all_shards g.C.ShardCore.says c.args.self.now c.args.rank c.loop-shard.shard-index c.loop-shard.done all c.loop-shard.invariant

@@ -13,8 +13,8 @@ has g c =
     ap (λ xs. slice_get xs c.loop-shard.shard-index) (sym c.deref-shard-items.ensures.value)
     ∙ slice_get-get_or c.deref-shard-items.result.now c.loop-shard.shard-index c.shard-item.result c.loop-shard-test.true ∙ ap Some (sym c.shard-item.is)
 
-there : (g : Over) (c : After-shard-item g) → IsThere _ _ g.C.ShardCore.shard_table g.C.ShardCore.good c.args.self.now c.requires.good c.loop-shard.shard-index c.shard-item.result
-there g c = is_there _ _ g.C.ShardCore.shard_table g.C.ShardCore.good c.args.self.now c.requires.good c.loop-shard.shard-index c.shard-item.result (has g c)
+there : (g : Over) (c : After-shard-item g) → IsThere g.C.ShardCore.says c.args.self.now c.requires.good c.loop-shard.shard-index c.shard-item.result
+there g c = is_there g.C.ShardCore.says c.args.self.now c.requires.good c.loop-shard.shard-index c.shard-item.result (has g c)
 
 pub transcript_of-requires-clause-good : goal.transcript_of-requires-clause-good
 transcript_of-requires-clause-good g c = (there g (goal.at.transcript_of-requires-clause-good g c).After-shard-item).is_good
@@ -24,10 +24,12 @@ transcript_of-requires-clause-there g c = let all = (there g (goal.at.transcript
 
 -- the count with this shard's entries
 next : (g : Over) (c : In_ok-told g) →
-    (c.loop-shard.done + length c.in_ok-told.told.items ≡ entries_in (map (kept_in g.C.ShardCore.shard_table c.args.rank) (take (c.loop-shard.shard-index + 1) c.args.self.now.shards.items))) × (c.loop-shard.done + length c.in_ok-told.told.items ≤ 20000)
+    (c.loop-shard.done + length c.in_ok-told.told.items ≡ entries_in
+    (map (kept_in g.C.ShardCore.says c.args.rank) (take (c.loop-shard.shard-index + 1) c.args.self.now.shards.items))) × (c.loop-shard.done + length c.in_ok-told.told.items ≤ 20000)
 next g c =
-    one_shard_more _ _ g.C.ShardCore.shard_table g.C.ShardCore.good g.C.ShardCore.cause g.C.ShardCore.further g.C.ShardCore.layout g.met.C.ShardCore.shard_laws c.args.self.now c.requires.good c.args.rank c.requires.there
-    c.loop-shard.shard-index c.shard-item.result c.loop-shard.done (length c.in_ok-told.told.items) (has g (goal.at.In_ok-told g c).After-shard-item) c.loop-shard.invariant (ap length c.in_ok-told.ensures)
+    one_shard_more g.C.ShardCore.says g.met.C.ShardCore.shard_laws c.args.self.now c.requires.good c.args.rank c.requires.there
+    c.loop-shard.shard-index c.shard-item.result c.loop-shard.done (length c.in_ok-told.told.items)
+    (has g (goal.at.In_ok-told g c).After-shard-item) c.loop-shard.invariant (ap length c.in_ok-told.ensures)
 
 pub overflow_cast-done : goal.overflow_cast-done
 overflow_cast-done g c = let few = (next g (goal.at.overflow_cast-done g c).In_ok-told).1 in omega arith
@@ -41,4 +43,4 @@ loop-shard-preserved g c = let more = (next g (goal.at.loop-shard-preserved g c)
 pub returns : goal.returns
 returns g c =
     let all : c.loop-shard.shard-index ≡ length c.args.self.now.shards.items = (let e = ap length c.deref-shard-items.ensures.value in omega arith) in
-    on_all_shards g.C.ShardCore.shard_table c.args.self.now c.args.rank c.loop-shard.shard-index c.loop-shard.done all c.loop-shard.invariant
+    on_all_shards g.C.ShardCore.says c.args.self.now c.args.rank c.loop-shard.shard-index c.loop-shard.done all c.loop-shard.invariant

@@ -7,9 +7,9 @@ use Rattle.rl_machine.proofs.state.MachineState.shard.Goals as goal
 use Rattle.rl_machine.proofs.state.MachineState.shard.Goals.{After-index}
 use Rattle.rl_machine.proofs.state.MachineState.shard.Given.{Over}
 
-there : (g : Over) (c : After-index g) → IsThere _ _ g.C.ShardCore.shard_table g.C.ShardCore.good c.args.self.now c.requires.good c.args.shard c.index.result.now
+there : (g : Over) (c : After-index g) → IsThere g.C.ShardCore.says c.args.self.now c.requires.good c.args.shard c.index.result.now
 there g c =
-    is_there _ _ g.C.ShardCore.shard_table g.C.ShardCore.good c.args.self.now c.requires.good c.args.shard c.index.result.now
+    is_there g.C.ShardCore.says c.args.self.now c.requires.good c.args.shard c.index.result.now
     (slice_get-get_or c.args.self.now.shards.items c.args.shard c.index.result.now c.requires.there ∙ ap Some (sym c.index.ensures))
 
 pub returns-clause-has : goal.returns-clause-has
@@ -25,4 +25,4 @@ pub returns-clause-good : goal.returns-clause-good
 returns-clause-good g c = (there g (goal.at.returns-clause-good g c).After-index).is_good
 
 pub returns-clause-few : goal.returns-clause-few
-returns-clause-few g c = few_ranks _ _ g.C.ShardCore.shard_table g.C.ShardCore.good g.C.ShardCore.cause g.C.ShardCore.further g.C.ShardCore.layout g.met.C.ShardCore.shard_laws c.index.result.now (there g (goal.at.returns-clause-few g c).After-index).is_good
+returns-clause-few g c = few_ranks g.C.ShardCore.says g.met.C.ShardCore.shard_laws c.index.result.now (there g (goal.at.returns-clause-few g c).After-index).is_good

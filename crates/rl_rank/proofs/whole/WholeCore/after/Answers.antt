@@ -2,6 +2,7 @@
 use Rattle.std.proofs.Common.{◌≡◌, ◌++◌, ℕ, List, [], Bool, Option, ap, sym, ◌∙◌, subst}
 use Rattle.rl_step.specs.Core.{turned_with}
 use Rattle.rl_step.specs.declared.events.Event.{Event}
+use Rattle.rl_step.specs.declared.cores.Plan.{Plan}
 use Rattle.rl_step.specs.declared.events.Standing.{Standing}
 use Rattle.rl_work.specs.declared.follow.WorkStep.{WorkStep}
 use Rattle.rl_work.specs.Ways.{AsksOut, Worked, worked_with}
@@ -15,7 +16,8 @@ use Rattle.rl_rank.specs.laws.HomeLaws.{act_effect, act_holder, learnt_act}
 use Rattle.rl_rank.specs.Split.{plan_home, effect_at, answer_of, HolderFits}
 use Rattle.rl_rank.specs.laws.WholeOwes.{may_turn, work_asks, may_be, holder_fits, may_learn, answer_fits}
 use Rattle.rl_rank.specs.laws.AnswerLaws.{stays_answer}
-use Rattle.rl_rank.specs.Whole.{touch_by, departure_by, followed, work_turned, shifted_answer, after_of, effect_turned, IsAnswerShiftable}
+use Rattle.rl_rank.specs.laws.KeptLaws.{learnt_keeps}
+use Rattle.rl_rank.specs.Whole.{touch_by, departure_by, followed, work_turned, shifted_answer, after_of, effect_turned, planned_in, plan_kept, IsAnswerShiftable}
 use Rattle.rl_rank.specs.laws.Whole.{after_effect}
 use Rattle.rl_rank.proofs.whole.WholeCore.after.Goals as goal
 use Rattle.rl_rank.proofs.whole.WholeCore.after.Goals.{After-effect}
@@ -55,10 +57,12 @@ pub returns-in-Stay : goal.returns-in-Stay
 returns-in-Stay g c =
     let d = (goal.at.returns-in-Stay g c).After-effect in
     let x = c.args.view.now in
-    let view : WholeView _ _ = record { side = record { view = x.side.view; card = c.in-Stay.card }; rank = x.rank; work = x.work } in
-    ap (λ es. turned_with view es c.in-Stay.stepped) c.requires.none
-    ∙ ap (turned_with view []) (sym (stays_answer c.args.self.now.base _ _ _ c.args.got c.in-Stay.card c.in-Stay.stepped (the_effect g d ∙ c.in-Stay.is)))
-    ∙ the_after g d (Stay c.in-Stay.card c.in-Stay.stepped) c.in-Stay.is
+    let card = c.in-Stay.card in
+    let with : Plan → WholeView _ _ = λ kept. record { side = record { view = x.side.view; card = card }; kept = kept; rank = x.rank; work = x.work } in
+    ap (λ es. turned_with (with c.keep.new.kept) es c.in-Stay.stepped) c.requires.none
+    ∙ ap (λ kept. turned_with (with kept) [] c.in-Stay.stepped) (c.keep.ensures ∙ ap (λ plan. plan_kept card plan x.kept) c.requires.plan)
+    ∙ ap (turned_with (with (plan_kept card (planned_in (g.A.Algo.table c.args.self.now.algo) x) x.kept)) []) (sym (stays_answer c.args.self.now.base _ _ _ c.args.got card c.in-Stay.stepped (the_effect g d ∙ c.in-Stay.is)))
+    ∙ the_after g d (Stay card c.in-Stay.stepped) c.in-Stay.is
 
 pub returns-in-Learn : goal.returns-in-Learn
 returns-in-Learn g c =
@@ -69,19 +73,23 @@ returns-in-Learn g c =
     let card = c.in-Learn.card in
     let told = c.in-Learn.told in
     let lost = c.in-Learn.lost in
-    let with : g.row.A-View.Denot → WholeView _ _ = λ v. record { side = record { view = v; card = card }; rank = x.rank; work = x.work } in
-    ap (turned_with (with c.learn-waits.new.view) c.learn-waits.new.events.items)
+    let plan = planned_in T x in
+    let learnt = T.learn x.side.view told in
+    let with : Plan → g.row.A-View.Denot → WholeView _ _ = λ kept v. record { side = record { view = v; card = card }; kept = kept; rank = x.rank; work = x.work } in
+    ap (turned_with (with x.kept c.learn-waits.new.view) c.learn-waits.new.events.items)
     (c.shift_answer.ensures ∙ ap (shifted_answer base) (c.answer.ensures ∙ ap (λ p. answer_of p told lost c.learn-waits.result) (learnt_plan g d card told lost c.in-Learn.is)))
-    ∙ ap (λ z. turned_with (with z.view) z.events (shifted_answer base (answer_of (T.plan x.side.view) told lost z.waits))) c.learn-waits.ensures
+    ∙ ap (λ z. turned_with (with x.kept z.view) z.events (shifted_answer base (answer_of (T.plan x.side.view) told lost z.waits))) c.learn-waits.ensures
+    ∙ ap (λ kept. turned_with (with kept learnt.view) learnt.events (shifted_answer base (answer_of (T.plan x.side.view) told lost learnt.waits)))
+    (sym (learnt_keeps plan x.kept _ (T.plan x.side.view) x.side.card c.args.got card told lost (the_effect g d ∙ c.in-Learn.is)))
     ∙ the_after g d (Learn card told lost) c.in-Learn.is
 
 -- an atom of the work: its touch, and what follows
 work_leaves : {V K : Type 0} (L : LockAt V K) (x : WholeView V K) (t : Worked K) (v : V) (w : K) (es : List Event) (st : Standing) (touch : Option Bool) (step : WorkStep) →
     worked_with w step ≡ t → v ≡ followed L.table x.side.view step.follow → touch ≡ L.work.touch x.work → st ≡ L.table.standing x.side.view → es ≡ touch_by x.rank touch ++ departure_by x.rank st step.follow →
-    turned_with (record { side = record { view = v; card = Free }; rank = x.rank; work = w }) es step.stepped ≡ effect_turned L x t Work
+    turned_with (record { side = record { view = v; card = Free }; kept = x.kept; rank = x.rank; work = w }) es step.stepped ≡ effect_turned L x t Work
 work_leaves L x t v w es st touch step same moved same_touch same_standing told =
-    ap (λ z. turned_with (record { side = record { view = z; card = Free }; rank = x.rank; work = w }) es step.stepped) moved
-    ∙ ap (λ z. turned_with (record { side = record { view = followed L.table x.side.view step.follow; card = Free }; rank = x.rank; work = w }) z step.stepped)
+    ap (λ z. turned_with (record { side = record { view = z; card = Free }; kept = x.kept; rank = x.rank; work = w }) es step.stepped) moved
+    ∙ ap (λ z. turned_with (record { side = record { view = followed L.table x.side.view step.follow; card = Free }; kept = x.kept; rank = x.rank; work = w }) z step.stepped)
     (told ∙ ap (λ b. touch_by x.rank b ++ departure_by x.rank st step.follow) same_touch ∙ ap (λ s. touch_by x.rank (L.work.touch x.work) ++ departure_by x.rank s step.follow) same_standing)
     ∙ ap (work_turned L x) same
 

@@ -3,4 +3,4 @@ use Rattle.rl_run.specs.Callers.{IsCallerWith}
 use Rattle.rl_run.proofs.caller.Caller.finish_block.Given as goal
 
 abbrev pub invariant-loop : goal.invariant-loop
-invariant-loop g l = IsCallerWith g.C.ShardCore.shard_table g.C.ShardCore.good g.C.ShardCore.layout l.fn.shards l.fn.self l.seat × (l.events.items ≡ [])
+invariant-loop g l = IsCallerWith g.C.ShardCore.says l.fn.shards l.fn.self l.seat × (l.events.items ≡ [])

@@ -9,12 +9,12 @@ use Rattle.rl_run.proofs.caller.Caller.open_next.Goals.{After-block_shard-at, Af
 use Rattle.rl_run.proofs.caller.Caller.open_next.Given.{Over}
 
 pub block_from-block-requires-clause-sized : goal.block_from-block-requires-clause-sized
-block_from-block-requires-clause-sized g c = subst (λ l. c.args.self.now.opened < length l) (sym c.as_slice-2.ensures.value) (next_there g.C.ShardCore.shard_table g.C.ShardCore.good g.C.ShardCore.cause g.C.ShardCore.further g.C.ShardCore.layout g.met.C.ShardCore.shard_laws c.args.shards.now c.args.self.now c.requires.caller c.requires.closed c.requires.left).sized
+block_from-block-requires-clause-sized g c = subst (λ l. c.args.self.now.opened < length l) (sym c.as_slice-2.ensures.value) (next_there g.C.ShardCore.says g.met.C.ShardCore.shard_laws c.args.shards.now c.args.self.now c.requires.caller c.requires.closed c.requires.left).sized
 
 pub block_from-block-requires-clause-within : goal.block_from-block-requires-clause-within
 block_from-block-requires-clause-within g c =
     subst (λ l. c.args.self.now.opened + slice_index l c.args.self.now.opened ≤ length c.as_slice.result.now) (sym c.as_slice-2.ensures.value)
-    (subst (λ l. c.args.self.now.opened + slice_index c.args.self.now.sizes.items c.args.self.now.opened ≤ length l) (sym c.as_slice.ensures.value) (next_there g.C.ShardCore.shard_table g.C.ShardCore.good g.C.ShardCore.cause g.C.ShardCore.further g.C.ShardCore.layout g.met.C.ShardCore.shard_laws c.args.shards.now c.args.self.now c.requires.caller c.requires.closed c.requires.left).within)
+    (subst (λ l. c.args.self.now.opened + slice_index c.args.self.now.sizes.items c.args.self.now.opened ≤ length l) (sym c.as_slice.ensures.value) (next_there g.C.ShardCore.says g.met.C.ShardCore.shard_laws c.args.shards.now c.args.self.now c.requires.caller c.requires.closed c.requires.left).within)
 
 -- the block, and its shard
 block_is : (g : Over) (c : After-block_shard-at g) → c.block_from-block.result.now ≡ block_from c.args.self.now.calls.items c.args.self.now.sizes.items c.args.self.now.opened
@@ -24,7 +24,7 @@ place_is : (g : Over) (c : After-block_shard-at g) → c.block_shard-at.result �
 place_is g c = c.block_shard-at.ensures ∙ ap (block_shard c.args.self.now.geom) (block_is g c)
 
 low : (g : Over) (c : After-block_shard-at g) → c.block_shard-at.result < length c.args.shards.now
-low g c = subst (λ z. z < length c.args.shards.now) (sym (place_is g c)) (next_there g.C.ShardCore.shard_table g.C.ShardCore.good g.C.ShardCore.cause g.C.ShardCore.further g.C.ShardCore.layout g.met.C.ShardCore.shard_laws c.args.shards.now c.args.self.now c.requires.caller c.requires.closed c.requires.left).there
+low g c = subst (λ z. z < length c.args.shards.now) (sym (place_is g c)) (next_there g.C.ShardCore.says g.met.C.ShardCore.shard_laws c.args.shards.now c.args.self.now c.requires.caller c.requires.closed c.requires.left).there
 
 low_seat : (g : Over) (c : After-block_shard-at g) → c.block_shard-at.result < length c.args.self.now.seats.items
 low_seat g c = let l = c.requires.caller.row.long in let h = low g c in omega arith
@@ -49,7 +49,7 @@ begin_batch-requires-clause-seat g c =
     let at = goal.at.begin_batch-requires-clause-seat g c in
     let d = at.After-index-shards-place in
     let e = at.After-block_shard-at in
-    seat_is g.C.ShardCore.shard_table g.C.ShardCore.good g.C.ShardCore.cause g.C.ShardCore.further g.C.ShardCore.layout g.met.C.ShardCore.shard_laws c.args.shards.now c.args.self.now c.requires.caller c.block_shard-at.result c.index-shards-place.result c.index_mut-seat.result.now (has_shard g d (low g e)) (has_seat g d (low_seat g e))
+    seat_is g.C.ShardCore.says g.met.C.ShardCore.shard_laws c.args.shards.now c.args.self.now c.requires.caller c.block_shard-at.result c.index-shards-place.result c.index_mut-seat.result.now (has_shard g d (low g e)) (has_seat g d (low_seat g e))
 
 pub begin_batch-requires-clause-closed : goal.begin_batch-requires-clause-closed
 begin_batch-requires-clause-closed g c =
@@ -63,31 +63,31 @@ begin_batch-requires-clause-open g c =
     let at = goal.at.begin_batch-requires-clause-open g c in
     let d = at.After-index-shards-place in
     let e = at.After-block_shard-at in
-    (can_open g.C.ShardCore.shard_table g.C.ShardCore.good g.C.ShardCore.cause g.C.ShardCore.further g.C.ShardCore.layout g.met.C.ShardCore.shard_laws c.args.shards.now c.args.self.now c.requires.caller c.requires.closed c.requires.left c.block_from-block.result.now c.block_shard-at.result c.index-shards-place.result c.index_mut-seat.result.now (block_is g e) c.block_shard-at.ensures (has_shard g d (low g e)) (has_seat g d (low_seat g e))).fits
+    (can_open g.C.ShardCore.says g.met.C.ShardCore.shard_laws c.args.shards.now c.args.self.now c.requires.caller c.requires.closed c.requires.left c.block_from-block.result.now c.block_shard-at.result c.index-shards-place.result c.index_mut-seat.result.now (block_is g e) c.block_shard-at.ensures (has_shard g d (low g e)) (has_seat g d (low_seat g e))).fits
 
 pub begin_batch-requires-clause-takes : goal.begin_batch-requires-clause-takes
 begin_batch-requires-clause-takes g c =
     let at = goal.at.begin_batch-requires-clause-takes g c in
     let d = at.After-index-shards-place in
     let e = at.After-block_shard-at in
-    (can_open g.C.ShardCore.shard_table g.C.ShardCore.good g.C.ShardCore.cause g.C.ShardCore.further g.C.ShardCore.layout g.met.C.ShardCore.shard_laws c.args.shards.now c.args.self.now c.requires.caller c.requires.closed c.requires.left c.block_from-block.result.now c.block_shard-at.result c.index-shards-place.result c.index_mut-seat.result.now (block_is g e) c.block_shard-at.ensures (has_shard g d (low g e)) (has_seat g d (low_seat g e))).takes
+    (can_open g.C.ShardCore.says g.met.C.ShardCore.shard_laws c.args.shards.now c.args.self.now c.requires.caller c.requires.closed c.requires.left c.block_from-block.result.now c.block_shard-at.result c.index-shards-place.result c.index_mut-seat.result.now (block_is g e) c.block_shard-at.ensures (has_shard g d (low g e)) (has_seat g d (low_seat g e))).takes
 
 pub overflow_cast-self : goal.overflow_cast-self
 overflow_cast-self g c =
     let e = (goal.at.overflow_cast-self g c).After-block_shard-at in
-    let n = next_there g.C.ShardCore.shard_table g.C.ShardCore.good g.C.ShardCore.cause g.C.ShardCore.further g.C.ShardCore.layout g.met.C.ShardCore.shard_laws c.args.shards.now c.args.self.now c.requires.caller c.requires.closed c.requires.left in let f = n.fits in let l = n.long in let b = ap length (block_is g e) in omega arith
+    let n = next_there g.C.ShardCore.says g.met.C.ShardCore.shard_laws c.args.shards.now c.args.self.now c.requires.caller c.requires.closed c.requires.left in let f = n.fits in let l = n.long in let b = ap length (block_is g e) in omega arith
 
 pub overflow_add-self : goal.overflow_add-self
 overflow_add-self g c =
     let e = (goal.at.overflow_add-self g c).After-block_shard-at in
-    let n = next_there g.C.ShardCore.shard_table g.C.ShardCore.good g.C.ShardCore.cause g.C.ShardCore.further g.C.ShardCore.layout g.met.C.ShardCore.shard_laws c.args.shards.now c.args.self.now c.requires.caller c.requires.closed c.requires.left in let f = n.fits in let l = n.long in let b = ap length (block_is g e) in omega arith
+    let n = next_there g.C.ShardCore.says g.met.C.ShardCore.shard_laws c.args.shards.now c.args.self.now c.requires.caller c.requires.closed c.requires.left in let f = n.fits in let l = n.long in let b = ap length (block_is g e) in omega arith
 
 pub returns-clause-caller : goal.returns-clause-caller
 returns-clause-caller g c =
     let at = goal.at.returns-clause-caller g c in
     let d = at.After-index-shards-place in
     let e = at.After-block_shard-at in
-    ((can_open g.C.ShardCore.shard_table g.C.ShardCore.good g.C.ShardCore.cause g.C.ShardCore.further g.C.ShardCore.layout g.met.C.ShardCore.shard_laws c.args.shards.now c.args.self.now c.requires.caller c.requires.closed c.requires.left c.block_from-block.result.now c.block_shard-at.result c.index-shards-place.result c.index_mut-seat.result.now (block_is g e) c.block_shard-at.ensures (has_shard g d (low g e)) (has_seat g d (low_seat g e))).opens
+    ((can_open g.C.ShardCore.says g.met.C.ShardCore.shard_laws c.args.shards.now c.args.self.now c.requires.caller c.requires.closed c.requires.left c.block_from-block.result.now c.block_shard-at.result c.index-shards-place.result c.index_mut-seat.result.now (block_is g e) c.block_shard-at.ensures (has_shard g d (low g e)) (has_seat g d (low_seat g e))).opens
     c.begin_batch.new.self c.begin_batch.ensures.seat c.begin_batch.ensures.rank c.begin_batch.ensures.opened).0
 
 pub returns-clause-is_open : goal.returns-clause-is_open
@@ -95,7 +95,7 @@ returns-clause-is_open g c =
     let at = goal.at.returns-clause-is_open g c in
     let d = at.After-index-shards-place in
     let e = at.After-block_shard-at in
-    λ all. ((can_open g.C.ShardCore.shard_table g.C.ShardCore.good g.C.ShardCore.cause g.C.ShardCore.further g.C.ShardCore.layout g.met.C.ShardCore.shard_laws c.args.shards.now c.args.self.now c.requires.caller c.requires.closed c.requires.left c.block_from-block.result.now c.block_shard-at.result c.index-shards-place.result c.index_mut-seat.result.now (block_is g e) c.block_shard-at.ensures (has_shard g d (low g e)) (has_seat g d (low_seat g e))).opens
+    λ all. ((can_open g.C.ShardCore.says g.met.C.ShardCore.shard_laws c.args.shards.now c.args.self.now c.requires.caller c.requires.closed c.requires.left c.block_from-block.result.now c.block_shard-at.result c.index-shards-place.result c.index_mut-seat.result.now (block_is g e) c.block_shard-at.ensures (has_shard g d (low g e)) (has_seat g d (low_seat g e))).opens
     c.begin_batch.new.self c.begin_batch.ensures.seat c.begin_batch.ensures.rank c.begin_batch.ensures.opened).1
     (all c.block_shard-at.result c.index-shards-place.result c.begin_batch.new.self (has_shard g d (low g e)) (get_set_same c.args.self.now.seats.items c.block_shard-at.result c.index_mut-seat.result.now c.begin_batch.new.self (has_seat g d (low_seat g e))))
 
@@ -104,7 +104,7 @@ returns-clause-opens g c =
     let at = goal.at.returns-clause-opens g c in
     let d = at.After-index-shards-place in
     let e = at.After-block_shard-at in
-    let n = next_there g.C.ShardCore.shard_table g.C.ShardCore.good g.C.ShardCore.cause g.C.ShardCore.further g.C.ShardCore.layout g.met.C.ShardCore.shard_laws c.args.shards.now c.args.self.now c.requires.caller c.requires.closed c.requires.left in
+    let n = next_there g.C.ShardCore.says g.met.C.ShardCore.shard_laws c.args.shards.now c.args.self.now c.requires.caller c.requires.closed c.requires.left in
     record {
       closed = c.requires.closed;
       left = c.requires.left;
@@ -115,10 +115,10 @@ returns-clause-opens g c =
       new = c.begin_batch.new.self;
       has_shard = has_shard g d (low g e);
       has_old = has_seat g d (low_seat g e);
-      view_is = c.begin_batch.ensures.opened ∙ ap (λ b. (table_at g.C.ShardCore.shard_table c.index-shards-place.result).opened b c.args.self.now.opened (view_at c.index_mut-seat.result.now)) (block_is g e);
+      view_is = c.begin_batch.ensures.opened ∙ ap (λ b. (table_at g.C.ShardCore.says c.index-shards-place.result).opened b c.args.self.now.opened (view_at c.index_mut-seat.result.now)) (block_is g e);
       no_step = c.begin_batch.ensures.no_step;
       seats_are = refl;
-      is_open = λ all. ((can_open g.C.ShardCore.shard_table g.C.ShardCore.good g.C.ShardCore.cause g.C.ShardCore.further g.C.ShardCore.layout g.met.C.ShardCore.shard_laws c.args.shards.now c.args.self.now c.requires.caller c.requires.closed c.requires.left c.block_from-block.result.now c.block_shard-at.result c.index-shards-place.result c.index_mut-seat.result.now (block_is g e) c.block_shard-at.ensures (has_shard g d (low g e)) (has_seat g d (low_seat g e))).opens
+      is_open = λ all. ((can_open g.C.ShardCore.says g.met.C.ShardCore.shard_laws c.args.shards.now c.args.self.now c.requires.caller c.requires.closed c.requires.left c.block_from-block.result.now c.block_shard-at.result c.index-shards-place.result c.index_mut-seat.result.now (block_is g e) c.block_shard-at.ensures (has_shard g d (low g e)) (has_seat g d (low_seat g e))).opens
           c.begin_batch.new.self c.begin_batch.ensures.seat c.begin_batch.ensures.rank c.begin_batch.ensures.opened).1
           (all c.block_shard-at.result c.index-shards-place.result c.begin_batch.new.self (has_shard g d (low g e)) (get_set_same c.args.self.now.seats.items c.block_shard-at.result c.index_mut-seat.result.now c.begin_batch.new.self (has_seat g d (low_seat g e))));
     }

@@ -9,7 +9,7 @@ use Rattle.rl_run.proofs.caller.Caller.work.Goals.{in-None, in-Some+then-not-ope
 pub returns-clause-caller : goal.returns-clause-caller
 returns-clause-caller g c = elim c.match-next.branch [
   | in-None w ↦ let bad = subst IsSome w.in-None.is c.next.ensures.steps in absurd (cc)
-  | in-Some+then-not-open_due w ↦ subst (IsCaller g.C.ShardCore.shard_table g.C.ShardCore.good g.C.ShardCore.layout c.args.shards.now) (sym w.self-is) w.open_due.ensures.caller
+  | in-Some+then-not-open_due w ↦ subst (IsCaller g.C.ShardCore.says c.args.shards.now) (sym w.self-is) w.open_due.ensures.caller
 ]
 
 pub returns-clause-same : goal.returns-clause-same
@@ -24,6 +24,6 @@ returns-clause-all_done g c = elim c.match-next.branch [
   | in-Some+then-not-open_due w ↦
       let rests = w.finish_block.ensures.closed in
       let none = w.open_due.ensures.none w.if-not-open_due.true in
-      subst (IsAtEnd g.C.ShardCore.shard_table c.args.shards.now) (sym none.stays ∙ sym w.self-is)
-      (ended g.C.ShardCore.shard_table g.C.ShardCore.good g.C.ShardCore.cause g.C.ShardCore.further g.C.ShardCore.layout g.met.C.ShardCore.shard_laws c.args.shards.now w.finish_block.new.self w.finish_block.ensures.caller rests (none.none_left rests))
+      subst (IsAtEnd g.C.ShardCore.says c.args.shards.now) (sym none.stays ∙ sym w.self-is)
+      (ended g.C.ShardCore.says g.met.C.ShardCore.shard_laws c.args.shards.now w.finish_block.new.self w.finish_block.ensures.caller rests (none.none_left rests))
 ]

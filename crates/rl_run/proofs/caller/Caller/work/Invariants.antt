@@ -4,4 +4,4 @@ use Rattle.rl_run.proofs.caller.Caller.work.Given as goal
 
 abbrev pub invariant-loop : goal.invariant-loop
 invariant-loop g l =
-    (goal.iterator-loop g).can_next l.iterator' × (goal.iterator-loop g).is_finite l.iterator' × IsCaller g.C.ShardCore.shard_table g.C.ShardCore.good g.C.ShardCore.layout l.fn.shards l.self × (who l.self ≡ who l.fn.self)
+    (goal.iterator-loop g).can_next l.iterator' × (goal.iterator-loop g).is_finite l.iterator' × IsCaller g.C.ShardCore.says l.fn.shards l.self × (who l.self ≡ who l.fn.self)

@@ -6,7 +6,8 @@ use Rattle.rl_shard.specs.Tallies.{all_noted}
 use Rattle.rl_shard.proofs.counting.CountingCore.after.Goals as goal
 
 pub after-stepped-requires-clause-may : goal.after-stepped-requires-clause-may
-after-stepped-requires-clause-may g c = let core = c.args.self.now.whole in whole_may_get _ (g.C.ShardCore.shard_table core) (g.C.ShardCore.good core) (g.C.ShardCore.cause core) (g.C.ShardCore.further core) (g.C.ShardCore.layout core) (g.met.C.ShardCore.shard_laws core) (g.C.Core.rule core) (g.met.C.ShardCore.ruled core) (g.C.Core.table core) (g.met.C.ShardCore.same_table core) c.args.view.now c.args.got c.requires.may
+after-stepped-requires-clause-may g c =
+    whole_may_get g.C.ShardCore.says g.met.C.ShardCore.shard_laws g.C.Core.rule g.met.C.ShardCore.ruled g.C.Core.table g.met.C.ShardCore.same_table c.args.self.now c.args.view.now c.args.got c.requires.may
 
 pub returns : goal.returns
 returns g c =

@@ -1,9 +1,8 @@
 -- The window takes the seats, and what it gives is filled in.
-use Rattle.std.proofs.Common.{◌≡◌, ◌<◌, ◌∙◌, ◌++◌, length, map, slice_get, Some, vec_len, sym, ap, subst, rules, arith}
+use Rattle.std.proofs.Common.{◌≡◌, ◌<◌, ◌∙◌, ◌++◌, length, map, vec_len, sym, ap, subst, rules, arith}
 use Rattle.rl_window.specs.Seats.{view_of}
 use Rattle.rl_core.specs.ShardTables.{journal_at}
-use Rattle.rl_shard.specs.Shards.{tallies_at}
-use Rattle.rl_shard.specs.Closing.{inner_of, seated, IsLeft, AreTotals, entries_in, pairs_left}
+use Rattle.rl_shard.specs.Closing.{inner_of, seated, IsLeft, AreAllTotals, all_entries, pairs_left}
 use Rattle.rl_shard.proofs.SeatLists.{all_inner, kept_inner, inner_views, seated_inner}
 use Rattle.rl_shard.proofs.Ended.{is_left, is_end}
 use Rattle.rl_shard.proofs.shard.Shard.close.Goals as goal
@@ -12,19 +11,19 @@ pub close-requires-clause-all : goal.close-requires-clause-all
 close-requires-clause-all g c =
     let is : c.take_seats.new.inner.items ≡ map inner_of c.args.seats.items = c.take_seats.ensures.inner ∙ ap (λ l. l ++ map inner_of c.args.seats.items) c.in-Ok.ensures.inner.0 in
     let long : vec_len c.args.seats ≡ length c.args.seats.items = search rules in
-    all_inner g.C.ShardCore.shard_table g.C.ShardCore.good g.C.ShardCore.layout c.args.self c.args.seats.items c.take_seats.new.inner.items is c.requires.seats (vec_len c.args.seats) c.requires.shard.seats long
+    all_inner g.C.ShardCore.says c.args.self c.args.seats.items c.take_seats.new.inner.items is c.requires.seats (vec_len c.args.seats) c.requires.shard.seats long
 
 pub close-requires-clause-kept : goal.close-requires-clause-kept
 close-requires-clause-kept g c =
     let is : c.take_seats.new.inner.items ≡ map inner_of c.args.seats.items = c.take_seats.ensures.inner ∙ ap (λ l. l ++ map inner_of c.args.seats.items) c.in-Ok.ensures.inner.0 in
-    kept_inner g.C.ShardCore.shard_table g.C.ShardCore.good g.C.ShardCore.layout c.args.self c.args.seats.items c.take_seats.new.inner.items is c.requires.seats
+    kept_inner g.C.ShardCore.says c.args.self c.args.seats.items c.take_seats.new.inner.items is c.requires.seats
 
 pub finish-requires-clause-left : goal.finish-requires-clause-left
 finish-requires-clause-left g c =
     let is : c.take_seats.new.inner.items ≡ map inner_of c.args.seats.items = c.take_seats.ensures.inner ∙ ap (λ l. l ++ map inner_of c.args.seats.items) c.in-Ok.ensures.inner.0 in
     let views = c.in-Ok-close.ensures.views ∙ ap (map view_of) is ∙ inner_views c.args.seats.items in
-    subst (IsLeft (g.C.ShardCore.shard_table c.in-Ok-close.core.whole) (g.C.ShardCore.good c.in-Ok-close.core.whole)) (sym c.as_slice-in-Ok-close.ensures.value)
-    (is_left _ _ g.C.ShardCore.shard_table g.C.ShardCore.good g.C.ShardCore.cause g.C.ShardCore.further g.C.ShardCore.layout g.met.C.ShardCore.shard_laws c.args.self c.args.seats.items c.requires.closed c.in-Ok-close.words.items c.in-Ok-close.ensures.rule.0 c.in-Ok-close.views.items c.in-Ok-close.ensures.rule.1 views
+    subst (IsLeft (g.C.ShardCore.says c.in-Ok-close.core.whole)) (sym c.as_slice-in-Ok-close.ensures.value)
+    (is_left g.C.ShardCore.says g.met.C.ShardCore.shard_laws c.args.self c.args.seats.items c.requires.closed c.in-Ok-close.words.items c.in-Ok-close.ensures.rule.0 c.in-Ok-close.views.items c.in-Ok-close.ensures.rule.1 views
     c.in-Ok-close.core c.in-Ok-close.ensures.core)
 
 pub returns-in-Ok-close-clause-end : goal.returns-in-Ok-close-clause-end
@@ -33,15 +32,14 @@ returns-in-Ok-close-clause-end g c =
     let views = c.in-Ok-close.ensures.views ∙ ap (map view_of) is ∙ inner_views c.args.seats.items in
     let core = c.in-Ok-close.ensures.core in
     let words = c.as_slice-in-Ok-close.ensures.value in
-    let sums =
-    subst (λ l. (s : _) → slice_get l 0 ≡ Some s → AreTotals l (length (tallies_at s)) c.in-Ok.parts.closed.queues.items) c.as_slice.ensures.value c.in-Ok.ensures.queues in
+    let sums = subst (λ l. AreAllTotals l c.in-Ok.parts.closed.queues.items) c.as_slice.ensures.value c.in-Ok.ensures.queues in
     let some : 0 < length c.args.seats.items = (let long : vec_len c.args.seats ≡ length c.args.seats.items = search rules in let n = c.requires.shard.some in omega arith) in
-    is_end _ _ g.C.ShardCore.shard_table g.C.ShardCore.good g.C.ShardCore.cause g.C.ShardCore.further g.C.ShardCore.layout g.met.C.ShardCore.shard_laws c.args.self c.args.seats.items c.requires.closed c.in-Ok-close.words.items c.in-Ok-close.ensures.rule.0 c.in-Ok-close.views.items c.in-Ok-close.ensures.rule.1 views
+    is_end g.C.ShardCore.says g.met.C.ShardCore.shard_laws c.args.self c.args.seats.items c.requires.closed c.in-Ok-close.words.items c.in-Ok-close.ensures.rule.0 c.in-Ok-close.views.items c.in-Ok-close.ensures.rule.1 views
     c.finish.result
-    (c.finish.ensures.journal ∙ ap (journal_at (g.C.ShardCore.shard_table c.in-Ok-close.core.whole)) words ∙ ap (λ k. journal_at (g.C.ShardCore.shard_table k.whole) c.in-Ok-close.words.items) core)
-    (c.finish.ensures.pairs ∙ ap (pairs_left (g.C.ShardCore.shard_table c.in-Ok-close.core.whole)) words ∙ ap (λ k. pairs_left (g.C.ShardCore.shard_table k.whole) c.in-Ok-close.words.items) core)
-    (c.finish.ensures.transcripts ∙ ap (λ k. map (entries_in (g.C.ShardCore.shard_table k.whole)) c.in-Ok-close.views.items) core)
-    (λ s get. subst (λ q. AreTotals c.args.seats.items (length (tallies_at s)) q.items) (sym c.finish.ensures.queues) (sums s get))
+    (c.finish.ensures.journal ∙ ap (journal_at (g.C.ShardCore.says c.in-Ok-close.core.whole).table) words ∙ ap (λ k. journal_at (g.C.ShardCore.says k.whole).table c.in-Ok-close.words.items) core)
+    (c.finish.ensures.pairs ∙ ap (pairs_left (g.C.ShardCore.says c.in-Ok-close.core.whole).table) words ∙ ap (λ k. pairs_left (g.C.ShardCore.says k.whole).table c.in-Ok-close.words.items) core)
+    (c.finish.ensures.transcripts ∙ ap (λ k. all_entries (g.C.ShardCore.says k.whole).table c.in-Ok-close.views.items) core)
+    (subst (λ q. AreAllTotals c.args.seats.items q.items) (sym c.finish.ensures.queues) sums)
     some
 
 pub returns-in-Err-clause-refused : goal.returns-in-Err-clause-refused

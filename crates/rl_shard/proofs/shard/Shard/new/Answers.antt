@@ -21,23 +21,23 @@ start-requires g c =
     let many : queues ≡ length (queues_of g.C.ShardCore.name shape c.args.home c.args.knobs) =
     c.queue_count-queues.ensures c.args.home c.args.knobs ∙ ap (λ n. length (queues_of n shape c.args.home c.args.knobs)) c.lock_name.ensures in
     let start =
-    is_placed _ _ g.C.ShardCore.shard_table g.C.ShardCore.good g.C.ShardCore.cause g.C.ShardCore.further g.C.ShardCore.layout g.met.C.ShardCore.shard_laws core g.C.ShardCore.name (g.C.ShardCore.defined shape c.args.home c.args.knobs site) shape c.args.home c.args.knobs c.args.geom c.args.shard
+    is_placed g.C.ShardCore.says g.met.C.ShardCore.shard_laws core g.C.ShardCore.name (g.C.ShardCore.defined shape c.args.home c.args.knobs site) shape c.args.home c.args.knobs c.args.geom c.args.shard
     c.args.room.updates.items c.args.room.calls.items queues (g.met.C.ShardCore.has_queues shape c.args.home c.args.knobs site) c.in_ok-core.ensures.defined (g.met.C.ShardCore.laid shape c.args.home c.args.knobs site) c.in_ok-core.ensures.layout
     c.requires.fits c.requires.updates.1 updates calls c.requires.proper.some c.requires.proper.few many in
     record {
-      start = subst (λ n. IsStart g.C.ShardCore.shard_table g.C.ShardCore.good g.C.ShardCore.layout core n queues c.as_slice.result.now) (sym nodes)
-          (subst (IsStart g.C.ShardCore.shard_table g.C.ShardCore.good g.C.ShardCore.layout core shape.nodes queues) (sym c.as_slice.ensures.value) start);
+      start = subst (λ n. IsStart g.C.ShardCore.says core n queues c.as_slice.result.now) (sym nodes)
+          (subst (IsStart g.C.ShardCore.says core shape.nodes queues) (sym c.as_slice.ensures.value) start);
     }
 
 pub returns-clause-shard : goal.returns-clause-shard
 returns-clause-shard g c =
     let calls : length c.args.room.calls.items ≡ length c.args.shape.now.node_of = search rules in
-    subst (λ n. IfOk c.start.result (λ p. IsShardOf g.C.ShardCore.shard_table n p.0)) (ap length c.as_slice.ensures.value ∙ calls) c.start.ensures.shard
+    subst (λ n. IfOk c.start.result (λ p. IsShardOf g.C.ShardCore.says n p.0)) (ap length c.as_slice.ensures.value ∙ calls) c.start.ensures.shard
 
 pub returns-clause-views : goal.returns-clause-views
 returns-clause-views g c =
     let shape = c.args.shape.now in
     let many : c.queue_count-queues.result ≡ length (queues_of g.C.ShardCore.name shape c.args.home c.args.knobs) =
     c.queue_count-queues.ensures c.args.home c.args.knobs ∙ ap (λ n. length (queues_of n shape c.args.home c.args.knobs)) c.lock_name.ensures in
-    subst (λ q. IfOk c.start.result (λ p. map counted_at p.1.items ≡ first_counted (table_at g.C.ShardCore.shard_table p.0) q c.args.room.calls.items)) many
-    (subst (λ l. IfOk c.start.result (λ p. map counted_at p.1.items ≡ first_counted (table_at g.C.ShardCore.shard_table p.0) c.queue_count-queues.result l)) c.as_slice.ensures.value c.start.ensures.views)
+    subst (λ q. IfOk c.start.result (λ p. map counted_at p.1.items ≡ first_counted (table_at g.C.ShardCore.says p.0) q c.args.room.calls.items)) many
+    (subst (λ l. IfOk c.start.result (λ p. map counted_at p.1.items ≡ first_counted (table_at g.C.ShardCore.says p.0) c.queue_count-queues.result l)) c.as_slice.ensures.value c.start.ensures.views)

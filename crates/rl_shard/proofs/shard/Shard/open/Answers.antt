@@ -17,7 +17,7 @@ returns-clause-seats g c =
     let long : vec_len c.args.views ≡ length c.args.views.items = search rules in
     let n : length seats ≡ vec_len c.args.views = ap length is ∙ length-map inner seated ∙ sym (length-map inner view_of) ∙ ap length c.in_ok-window.ensures.views ∙ sym long in
     let shard : Shard _ _ = record { window = c.in_ok-window.window; alloc = c.args.alloc } in
-    let q = all_seated g.C.ShardCore.shard_table g.C.ShardCore.good g.C.ShardCore.layout shard seats inner back c.in_ok-window.ensures.seats.0 c.in_ok-window.ensures.seats.2 in
+    let q = all_seated g.C.ShardCore.says shard seats inner back c.in_ok-window.ensures.seats.0 c.in_ok-window.ensures.seats.2 in
     (subst (HasSeats c.in_ok-window.window) n q.0, q.1)
 
 pub returns-clause-views : goal.returns-clause-views

@@ -1,6 +1,7 @@
-use Rattle.std.proofs.Common.{◌≡◌, ◌∙◌, ◌≤◌, sym, ap, subst, ℕ, List, eqb, Some}
+use Rattle.std.proofs.Common.{◌≡◌, ◌∙◌, sym, ap, subst, arith, ℕ, List, eqb, Some}
 use Rattle.std.specs.List.{position}
 use Rattle.rl_volume.specs.Seen.{AreApart, with_value}
+use Rattle.rl_volume.specs.Words.{volume_words}
 use Rattle.rl_volume.proofs.Patches.{replaced, apart_replaced}
 use Rattle.rl_volume.proofs.seen.Seen.replace.Goals as goal
 
@@ -9,8 +10,13 @@ invariant_of-self c =
     let s = c.self.inside in
     let at : position (λ (q : ℕ × ℕ). eqb q.0 c.args.word) s.pairs.items ≡ Some c.args.index = ap (λ v. position (λ (q : ℕ × ℕ). eqb q.0 c.args.word) v.pairs) c.self.view_is ∙ c.requires.there in
     let new = replaced s.pairs.items c.args.word c.args.value c.args.index at in
-    let P : List (ℕ × ℕ) → Type 0 = λ ps. AreApart ps s.room × (s.room ≤ s.pairs.cap) in
-    subst P (sym new.1) (apart_replaced s.pairs.items s.room c.args.word c.args.value c.self.invariant.0 new.2, c.self.invariant.1)
+    let P : List (ℕ × ℕ) → Type 0 = λ ps. AreApart ps (volume_words s.geom) in (
+      subst P (sym new.1) (apart_replaced s.pairs.items (volume_words s.geom) c.args.word c.args.value c.self.invariant.0 new.2),
+      c.self.invariant.1,
+      c.self.invariant.2,
+      omega arith,
+      λ some. absurd (omega (arith, some)),
+    )
 
 pub returns-clause-written : goal.returns-clause-written
 returns-clause-written c =

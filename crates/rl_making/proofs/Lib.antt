@@ -1,0 +1,7 @@
+mod DrawLaws
+mod DealtLaws
+mod MadePlaceLaws
+mod LapLaws
+mod CountLaws
+mod SummaryLaws
+mod MakeLaws

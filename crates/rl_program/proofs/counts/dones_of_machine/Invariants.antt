@@ -1,8 +1,0 @@
-use Rattle.std.proofs.Common.{◌≡◌, take}
-use Rattle.rl_machine.specs.Running.{running}
-use Rattle.rl_program.specs.Replay.{dones_from}
-use Rattle.rl_program.proofs.counts.dones_of_machine.Given as goal
-
--- the ranks so far are told
-abbrev pub invariant-loop-rank : goal.invariant-loop-rank
-invariant-loop-rank g l = l.dones.items ≡ dones_from (running g.C.ShardCore.shard_table l.machine) 0 (take l.rank l.machine.calls)

@@ -1,8 +1,0 @@
-use Rattle.std.proofs.Common.{◌≡◌, map, take}
-use Rattle.rl_machine.specs.Running.{running}
-use Rattle.rl_program.specs.Replay.{part_of_replay}
-use Rattle.rl_program.proofs.reporting.parts_of.Given as goal
-
--- the parts of the shards so far
-abbrev pub invariant-loop-shard : goal.invariant-loop-shard
-invariant-loop-shard g l = l.parts.items ≡ take l.shard (map (part_of_replay l.queues) (running g.C.ShardCore.shard_table l.machine).shards)

@@ -1,6 +1,0 @@
-use Rattle.std.proofs.Common.{All, subst}
-use Rattle.rl_program.specs.Replay.{NumbersFit}
-use Rattle.rl_program.proofs.reporting.report_of_machine.Goals as goal
-
-pub returns-clause-numbers : goal.returns-clause-numbers
-returns-clause-numbers g c = subst (All NumbersFit) c.as_slice-2.ensures.value c.parts_fit.ensures
