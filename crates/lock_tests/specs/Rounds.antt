@@ -5,6 +5,9 @@ use Rattle.rl_word.specs.declared.acts.Atom.TheVariants.{Load, Store, LocalCas, 
 use Rattle.rl_step.specs.declared.events.Stepped.TheVariants.{Moved, Lost}
 use Rattle.rl_step.specs.Do.{TheWindow, CanDo}
 use Rattle.rl_step.specs.Core.{Turned, CoreTable}
+use Rattle.rl_window.specs.declared.window.Window.{Window}
+use Rattle.rl_window.specs.declared.window.WinSeat.{WinSeat}
+use Rattle.rl_window.specs.Seats.{IsSeatOf, IsKept}
 
 abbrev pub moved_to : Option Atom → Turned (Option Atom)
 moved_to next = record { view = next; events = []; stepped = Moved }
@@ -43,3 +46,7 @@ pub record GoOn (h : TheWindow) (vs : List (Option Atom)) : Type 0 where
 
 abbrev pub rounds_rule : {C : Type 0} → C → TheWindow → List (Option Atom) → Type 0
 rounds_rule c h vs = GoOn h vs
+
+-- what was one seat of the window is still one, of the same rank
+abbrev pub StaysSeated : {C : Type 0} → Window C (Option Atom) → WinSeat C (Option Atom) → WinSeat C (Option Atom) → Type 0
+StaysSeated w old new = IsSeatOf rounds_rule w new × IsKept rounds_rule w new × (new.rank ≡ old.rank)

@@ -1,12 +1,10 @@
 //! Atoms on a window without classes, counts of answers, and a flat machine.
 
-ghost use Rattle.std.specs.Prelude.{◌≡◌, length, [], None, Some};
-ghost use Rattle.rl_word.specs.declared.acts.Atom.TheVariants.{Load};
-ghost use Rattle.rl_step.specs.declared.events.Stepped.TheVariants.{Moved};
-ghost use Rattle.lock_tests.specs.laws.Loader.{can_load, load_keeps, goes_on};
+ghost use Rattle.std.specs.Prelude.{◌≡◌, length, None};
+ghost use Rattle.lock_tests.specs.Loader.{loader_table};
+ghost use Rattle.lock_tests.specs.laws.Loader.{loader_laws};
 
-use arrayvec::ArrayVec;
-use rl_step::{Core, Event, Flat, Plan, Stepped, Steps, Words, advance, advance_flat};
+use rl_step::{Core, Events, Flat, Plan, Stepped, Steps, Words, advance, advance_flat};
 use rl_word::Atom;
 use std::alloc::AllocError;
 
@@ -72,7 +70,7 @@ struct Loader;
 impl Core for Loader {
     type View = u64;
 
-    ghost table = { λ c. record { next = λ v. Some (Load 0); after = λ v got. record { view = got; events = []; stepped = Moved }; size = 1; home = λ w. 0 } };
+    ghost table = { λ c. loader_table };
 
     ghost plan_of = { λ c v. record { act = None; home = 0 } };
 
@@ -83,13 +81,7 @@ impl Core for Loader {
         Some((Atom::Load { word: 0 }, plan))
     }
 
-    fn after(
-        &self,
-        view: &mut u64,
-        _plan: Plan,
-        got: u64,
-        _events: &mut ArrayVec<Event, 8>,
-    ) -> Stepped {
+    fn after(&self, view: &mut u64, _plan: Plan, got: u64, _events: &mut Events) -> Stepped {
         *view = got;
         Stepped::Moved
     }
@@ -98,7 +90,7 @@ impl Core for Loader {
         0
     }
 
-    ghost laws = { λ c. record { sized = λ h vs e. e; can = λ h vs r v at p. can_load h r at p.is_ruled p.planned; keeps = λ h vs r v at p low. load_keeps h r at p.is_ruled p.planned; goes_on = λ h vs r v at p e. goes_on e } };
+    ghost laws = { λ c. loader_laws };
 }
 
 #[test]
@@ -108,7 +100,7 @@ fn each_rank_of_a_flat_machine_has_its_view(rt: HostRuntime) -> Result<(), Alloc
     let mut flat: Flat<Loader> = Flat::new(window, vec![in rt.alloc(); 5, 7]?);
     *flat.view_mut(0) = 9;
     assert_eq!(rt; *flat.view(0), 9);
-    let mut events = ArrayVec::new();
+    let mut events = Events::new();
     let stepped = advance_flat(&Loader, &mut flat, 1, &mut events);
     assert_eq!(rt; stepped, Stepped::Moved);
     assert_eq!(rt; *flat.view(0), 9);

@@ -4,9 +4,8 @@ ghost use Rattle.std.specs.Prelude.{◌≡◌, None, IfOk};
 ghost use Rattle.lock_tests.specs.Tower.{tower as the_tower};
 
 use crate::shapes::ROOT;
-use arrayvec::ArrayVec;
 use rl_queue::Phase;
-use rl_step::{Event, Standing};
+use rl_step::{Event, Events, Standing};
 use rl_tree::{Tree, TreeView, tree_enter, tree_laws};
 use rl_word::{Act, Class, Element, Shape, Spot};
 use std::alloc::{AllocError as OutOfMemory, Global};
@@ -55,11 +54,11 @@ fn comes_in_over_three_levels(rt: HostRuntime) -> Result<(), OutOfMemory> {
     let asks = out.join();
     assert_eq!(rt; asks.standing(), Standing::Asking);
     assert_eq!(rt; tree.plan(asks), Some(Act::Store { word: 7, value: 0 }));
-    let mut events = ArrayVec::new();
+    let mut events = Events::new();
     let mut joins = asks.at_level(0, Phase::Swing { guess: 0 });
     assert!(rt; !tree.learn(&mut joins, 0, &mut events));
     assert_eq!(rt;
-        events[0],
+        events.as_slice()[0],
         Event::Join {
             queue: 2,
             member: 0
@@ -68,7 +67,7 @@ fn comes_in_over_three_levels(rt: HostRuntime) -> Result<(), OutOfMemory> {
     assert_eq!(rt; joins, asks.at_level(1, Phase::Clear));
     let mut head = asks.at_level(2, Phase::Settle);
     assert!(rt; head.is_at_hook());
-    let mut events = ArrayVec::new();
+    let mut events = Events::new();
     tree.resume(&mut head, &mut events);
     tree_enter(&head, &mut events);
     let told = [
@@ -99,11 +98,11 @@ fn gives_up_what_is_above_before_it_leaves(rt: HostRuntime) -> Result<(), OutOfM
     let mut view = inside.leave();
     assert_eq!(rt; view.standing(), Standing::Leaving);
     assert_eq!(rt; tree.plan(view), Some(Act::Load { word: 7 }));
-    assert!(rt; !tree.learn(&mut view, 0, &mut ArrayVec::new()));
+    assert!(rt; !tree.learn(&mut view, 0, &mut Events::new()));
     assert!(rt; view.query);
     assert_eq!(rt; view.level, 1);
     assert_eq!(rt; tree.plan(view), Some(Act::Load { word: 6 }));
-    assert!(rt; !tree.learn(&mut view, 3, &mut ArrayVec::new()));
+    assert!(rt; !tree.learn(&mut view, 3, &mut Events::new()));
     assert_eq!(rt;
         view.phase,
         Phase::Look {

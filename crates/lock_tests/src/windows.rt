@@ -2,11 +2,10 @@
 
 ghost use Rattle.std.specs.Prelude.{◌≡◌, ℕ, ◌+◌, List, length, Option, None, Some, IfOk, vec_len};
 ghost use Rattle.rl_window.specs.Seats.{IsSeatOf, IsKept, IsAll, AreKept, seat_rank};
-ghost use Rattle.lock_tests.specs.Rounds.{rounds_table, rounds_rule, after_found};
+ghost use Rattle.lock_tests.specs.Rounds.{rounds_table, rounds_rule, after_found, StaysSeated};
 ghost use Rattle.lock_tests.specs.laws.Rounds.{rounds_laws};
 
-use arrayvec::ArrayVec;
-use rl_step::{Core, Event, Plan, Stepped, advance};
+use rl_step::{Core, Events, Plan, Stepped, advance};
 use rl_window::{WinSeat, Window};
 use rl_word::Atom;
 use std::alloc::{AllocError as OutOfMemory, Global};
@@ -97,7 +96,7 @@ impl Core for Rounds {
         view: &mut Option<Atom>,
         _plan: Plan,
         got: u64,
-        _events: &mut ArrayVec<Event, 8>,
+        _events: &mut Events,
     ) -> Stepped {
         let (next, stepped) = went_on(*view, got);
         *view = next;
@@ -129,7 +128,7 @@ fn step(window: &Window<Rounds>, seat: &mut WinSeat<Rounds>) -> Stepped
     ensures rank { seat_rank seat.new ≡ seat_rank seat.old }
 {
     let mut port = window.port(seat);
-    advance(window.core(), &mut port, &mut ArrayVec::new())
+    advance(window.core(), &mut port, &mut Events::new())
 }
 
 /// Begins a round, where none is under way, and says whether it did.
@@ -157,8 +156,8 @@ fn step_either(
 ) -> (Stepped, Option<Atom>)
     requires first { IsSeatOf rounds_rule window.now first.old × IsKept rounds_rule window.now first.old }
     requires second { IsSeatOf rounds_rule window.now second.old × IsKept rounds_rule window.now second.old }
-    ensures first { IsSeatOf rounds_rule window.now first.new × IsKept rounds_rule window.now first.new × (seat_rank first.new ≡ seat_rank first.old) }
-    ensures second { IsSeatOf rounds_rule window.now second.new × IsKept rounds_rule window.now second.new × (seat_rank second.new ≡ seat_rank second.old) }
+    ensures first { StaysSeated window.now first.old first.new }
+    ensures second { StaysSeated window.now second.old second.new }
 {
     if is_second {
         (step(window, second), *second.view())
@@ -223,8 +222,8 @@ fn first_difference(
 ) -> Option<usize>
     requires first { IsSeatOf rounds_rule window.now first.old × IsKept rounds_rule window.now first.old }
     requires second { IsSeatOf rounds_rule window.now second.old × IsKept rounds_rule window.now second.old }
-    ensures first { IsSeatOf rounds_rule window.now first.new × IsKept rounds_rule window.now first.new × (seat_rank first.new ≡ seat_rank first.old) }
-    ensures second { IsSeatOf rounds_rule window.now second.new × IsKept rounds_rule window.now second.new × (seat_rank second.new ≡ seat_rank second.old) }
+    ensures first { StaysSeated window.now first.old first.new }
+    ensures second { StaysSeated window.now second.old second.new }
 {
     for (number, turn) in turns.iter().enumerate() {
         let (stepped, view) = step_either(window, first, second, turn.is_second);
@@ -316,18 +315,18 @@ fn go_both<R: Threads>(
 ) -> u64
     requires first { IsSeatOf rounds_rule window.now first.old × IsKept rounds_rule window.now first.old }
     requires second { IsSeatOf rounds_rule window.now second.old × IsKept rounds_rule window.now second.old }
-    ensures first { IsSeatOf rounds_rule window.now first.new × IsKept rounds_rule window.now first.new × (seat_rank first.new ≡ seat_rank first.old) }
-    ensures second { IsSeatOf rounds_rule window.now second.new × IsKept rounds_rule window.now second.new × (seat_rank second.new ≡ seat_rank second.old) }
+    ensures first { StaysSeated window.now first.old first.new }
+    ensures second { StaysSeated window.now second.old second.new }
 {
     let (ones, others) = join_mut(
         rt,
         &mut ||
             requires { IsSeatOf rounds_rule window.now first.now × IsKept rounds_rule window.now first.now }
-            ensures { IsSeatOf rounds_rule window.entry.now first.exit.now × IsKept rounds_rule window.entry.now first.exit.now × (seat_rank first.exit.now ≡ seat_rank first.entry.now) }
+            ensures { StaysSeated window.entry.now first.entry.now first.exit.now }
         { go_round(window, first, steps) },
         &mut ||
             requires { IsSeatOf rounds_rule window.now second.now × IsKept rounds_rule window.now second.now }
-            ensures { IsSeatOf rounds_rule window.entry.now second.exit.now × IsKept rounds_rule window.entry.now second.exit.now × (seat_rank second.exit.now ≡ seat_rank second.entry.now) }
+            ensures { StaysSeated window.entry.now second.entry.now second.exit.now }
         { go_round(window, second, steps) },
     );
     ones.wrapping_add(others)
@@ -337,8 +336,8 @@ fn go_both<R: Threads>(
 fn end_rounds(window: &Window<Rounds>, first: &mut WinSeat<Rounds>, second: &mut WinSeat<Rounds>)
     requires first { IsSeatOf rounds_rule window.now first.old × IsKept rounds_rule window.now first.old }
     requires second { IsSeatOf rounds_rule window.now second.old × IsKept rounds_rule window.now second.old }
-    ensures first { IsSeatOf rounds_rule window.now first.new × IsKept rounds_rule window.now first.new × (seat_rank first.new ≡ seat_rank first.old) }
-    ensures second { IsSeatOf rounds_rule window.now second.new × IsKept rounds_rule window.now second.new × (seat_rank second.new ≡ seat_rank second.old) }
+    ensures first { StaysSeated window.now first.old first.new }
+    ensures second { StaysSeated window.now second.old second.new }
 {
     for _ in 0..40 {
         step(window, first);

@@ -1,5 +1,7 @@
 -- ALock as plain functions: two queues of ranks, by where they sit, and the entry in which their heads meet.
 use Rattle.std.specs.Prelude.{◌≡◌, ℕ, zero, suc, ◌+◌, ◌*◌, ◌/◌, ◌==◌, ◌||◌, Bool, true, false, not, List, [], ◌∷◌, ◌++◌, length, if◌then◌else◌, slice_index, Option, Some}
+use Rattle.rl_word.specs.Shapes.{TheShape}
+use Rattle.rl_word.specs.declared.shapes.Knobs.{Knobs}
 use Rattle.rl_word.specs.declared.classes.Spot.{Spot}
 use Rattle.rl_word.specs.declared.classes.Class.{Class}
 use Rattle.rl_word.specs.declared.classes.Class.TheVariants as class
@@ -40,6 +42,10 @@ budget_in K Remote = K.remote
 -- those whose queues have these names
 abbrev pub cohorts_of : ℕ → List ℕ → TheNames → TheNames → Cohorts
 cohorts_of home node_of local remote = record { home = home; node_of = node_of; local = full_budget local.budget; remote = full_budget remote.budget }
+
+-- those of a shape, for a shard with this home
+abbrev pub cohorts_in : ℕ → TheShape → Knobs → Cohorts
+cohorts_in home shape knobs = record { home = home; node_of = shape.node_of; local = knobs.local; remote = knobs.remote }
 
 -- a rank is local where it sits on the shard's home
 abbrev pub sits_at_home : Cohorts → ℕ → Bool

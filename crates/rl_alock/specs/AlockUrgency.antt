@@ -1,5 +1,5 @@
 -- Who goes on at ALock: who needn't wait in its queue, nor at the entry.
-use Rattle.std.specs.Prelude.{ℕ, ◌==◌, List, if◌then◌else◌, slice_index, Option, Some, None}
+use Rattle.std.specs.Prelude.{ℕ, ◌+◌, ◌==◌, List, if◌then◌else◌, slice_index, Option, Some, None}
 use Rattle.rl_queue.specs.declared.view.Phase.{Phase}
 use Rattle.rl_queue.specs.declared.view.Phase.TheVariants.{Settle}
 use Rattle.rl_queue.specs.Queue.{plan_at}
@@ -16,6 +16,10 @@ abbrev pub head_urgent : Cohort → SettleStage → ℕ → ℕ → Option ℕ
 head_urgent c Announce tail victim = Some 0
 head_urgent c Tail tail victim = if tail == 0 then Some 0 else if victim == cohort_no c then None else Some 0
 head_urgent c Victim tail victim = Some 0
+
+-- by the words of the lock, which stand in a window from base on
+abbrev pub head_urgent_in : List ℕ → ℕ → Cohort → SettleStage → Option ℕ
+head_urgent_in words base c st = head_urgent c st (slice_index words (base + tail_no (other c))) (slice_index words (base + victim_no))
 
 -- rank m
 abbrev pub rank_urgent : Cohorts → List ℕ → ℕ → Phase → SettleStage → Option ℕ

@@ -2,23 +2,23 @@
 
 ghost use Rattle.std.specs.Prelude.{◌≡◌, ◌<◌, ◌≤◌, [], ◌∷◌, ◌++◌, false, if◌then◌else◌, length, refl, IfOk};
 ghost use Rattle.rl_word.specs.declared.locks.LockName.TheVariants as TheName;
+ghost use Rattle.rl_step.specs.Lock.{told_as};
 ghost use Rattle.rl_step.specs.LockQueues.{sits_at};
 ghost use Rattle.rl_queue.specs.Queue.{full_budget};
 ghost use Rattle.rl_queue.specs.RankWords.{Seated};
 ghost use Rattle.rl_alock.specs.declared.cohort.Cohort.TheVariants.{Local, Remote};
-ghost use Rattle.rl_alock.specs.Alock.{cohort_names, cohort_no, cohorts_of, names_of, entry_act as the_entry_act, settles_now, entry_told, entry_events, alock_table, BoundsOvertaking};
+ghost use Rattle.rl_alock.specs.Alock.{cohort_names, cohort_no, cohorts_of, cohorts_in, names_of, entry_act as the_entry_act, settles_now, entry_told, entry_events, alock_table, BoundsOvertaking};
 ghost use Rattle.rl_alock.specs.laws.SameViews.{same_alock};
 ghost use Rattle.rl_alock.specs.Overtakes.{AlockBounded};
 ghost use Rattle.rl_alock.specs.laws.AlockBounded.{bounded_laws};
 
 use crate::cohort::Cohort;
 use crate::view::{AlockView, SettleStage};
-use arrayvec::ArrayVec;
 use rl_queue::{
     Phase, QueueNames, QueueView, queue_idle, queue_join, queue_learn, queue_leave, queue_plan,
     queue_settled, queue_standing, rank_words,
 };
-use rl_step::{Algo, Event, Learnt, Standing};
+use rl_step::{Algo, Event, Events, Learnt, Standing};
 use rl_word::{Act, Class, Knobs, LockName, Mode, Shape, Spot};
 use std::alloc::{AllocError as OutOfMemory, Global};
 
@@ -97,7 +97,7 @@ fn entry_act(cohort: Cohort, entry: SettleStage) -> Act
 }
 
 /// A head has settled, and enters.
-fn settle(view: &mut AlockView, names: &QueueNames, events: &mut ArrayVec<Event, 8>)
+fn settle(view: &mut AlockView, names: &QueueNames, events: &mut Events)
     requires head { view.old.queue.phase ≡ Phase.Settle }
     requires none { events.old.items ≡ [] }
     ensures { record { view = view.new; events = events.new.items; waits = false } ≡ settles_now names.now view.old.queue.member }
@@ -115,7 +115,7 @@ fn settle(view: &mut AlockView, names: &QueueNames, events: &mut ArrayVec<Event,
 }
 
 /// A head has named its cohort the victim, and looks at the other's tail next.
-fn announce(view: &mut AlockView, cohort: Cohort, events: &mut ArrayVec<Event, 8>)
+fn announce(view: &mut AlockView, cohort: Cohort, events: &mut Events)
     requires { events.old.items ≡ [] }
     ensures view { view.new ≡ record { queue = view.old.queue; entry = SettleStage.Tail } }
     ensures events { events.new.items ≡ Event.Announce (cohort_no cohort) ∷ [] }
@@ -132,11 +132,11 @@ fn entry_turn(
     cohort: Cohort,
     names: &QueueNames,
     got: u64,
-    events: &mut ArrayVec<Event, 8>,
+    events: &mut Events,
 ) -> bool
     requires head { view.old.queue.phase ≡ Phase.Settle }
     requires none { events.old.items ≡ [] }
-    ensures { record { view = view.new; events = events.new.items; waits = result } ≡ entry_told names.now cohort view.old.queue.member view.old.entry got }
+    ensures { told_as view.new events.new.items result ≡ entry_told names.now cohort view.old.queue.member view.old.entry got }
 {
     match view.entry {
         SettleStage::Announce => announce(view, cohort, events),
@@ -159,7 +159,7 @@ fn entry_turn(
 }
 
 /// Who has been given its queue enters. Whether it has to make a load again.
-fn enter(view: &mut AlockView, turn: Learnt<QueueView>, events: &mut ArrayVec<Event, 8>) -> bool
+fn enter(view: &mut AlockView, turn: Learnt<QueueView>, events: &mut Events) -> bool
     requires { length events.old.items ≤ 1 }
     ensures view { view.new ≡ record { queue = turn.view; entry = SettleStage.Announce } }
     ensures waits { result ≡ turn.waits }
@@ -212,9 +212,9 @@ impl Algo for Alock {
 
     ghost layout = { λ s. record { node_of = s.node_of.items; nodes = s.nodes } };
 
-    ghost defined = { λ shape home knobs. alock_table (record { home = home; node_of = shape.node_of; local = knobs.local; remote = knobs.remote }) };
+    ghost defined = { λ shape home knobs. alock_table (cohorts_in home shape knobs) };
 
-    ghost promised = { λ shape home knobs. BoundsOvertaking (record { home = home; node_of = shape.node_of; local = knobs.local; remote = knobs.remote }) };
+    ghost promised = { λ shape home knobs. BoundsOvertaking (cohorts_in home shape knobs) };
 
     ghost name = { TheName.Alock };
 
@@ -295,7 +295,7 @@ impl Algo for Alock {
     }
 
     #[inline(always)]
-    fn learn(&self, view: &mut AlockView, got: u64, events: &mut ArrayVec<Event, 8>) -> bool {
+    fn learn(&self, view: &mut AlockView, got: u64, events: &mut Events) -> bool {
         let cohort = self.cohort_of(view.queue.member);
         let names = self.names_of(cohort);
         match view.queue.phase {

@@ -1,8 +1,8 @@
 //! ALock says who goes on.
 
-ghost use Rattle.std.specs.Prelude.{◌≡◌, ◌+◌, ◌^◌, ◌≤◌, length, slice_index};
-ghost use Rattle.rl_alock.specs.Alock.{cohorts_of, tail_no, victim_no, other};
-ghost use Rattle.rl_alock.specs.AlockUrgency.{head_urgent, alock_urgent};
+ghost use Rattle.std.specs.Prelude.{◌≡◌, ◌+◌, ◌^◌, ◌≤◌, length};
+ghost use Rattle.rl_alock.specs.Alock.{cohorts_of};
+ghost use Rattle.rl_alock.specs.AlockUrgency.{head_urgent_in, alock_urgent};
 ghost use Rattle.rl_alock.specs.laws.AlockGuiding.{alock_guides};
 
 use crate::alock::{Alock, VICTIM};
@@ -16,7 +16,7 @@ use rl_step::Words;
 fn head_urgency(cohort: Cohort, entry: SettleStage, words: &Words, base: u32) -> Option<u32>
     requires there { base + 3 ≤ length words.now.words }
     requires fits { base + 3 ≤ 2 ^ 32 }
-    ensures { result ≡ head_urgent cohort entry (slice_index words.now.words (base + tail_no (other cohort))) (slice_index words.now.words (base + victim_no)) }
+    ensures { result ≡ head_urgent_in words.now.words base cohort entry }
 {
     match entry {
         SettleStage::Announce | SettleStage::Victim => Some(0),

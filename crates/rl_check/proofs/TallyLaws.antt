@@ -1,17 +1,17 @@
 -- What the tests of tallies tell, by what the code has counted.
-use Rattle.std.proofs.Common.{◌≡◌, ℕ, zero, suc, ◌+◌, ◌<◌, ◌≤◌, Bool, true, false, cond, List, length, get_or, Option, Some, None, refl, sym, ap, subst, ◌∙◌, arith, nat_eq}
+use Rattle.std.proofs.Common.{◌≡◌, ℕ, zero, suc, ◌+◌, ◌<◌, ◌≤◌, Bool, true, false, cond, List, length, get_or, Option, Some, refl, sym, ap, subst, ◌∙◌, arith, nat_eq}
 use Rattle.std.proofs.lemmas.Bool.Decides.{nat_tests}
 use Rattle.std.specs.Prelude.{slice_get}
 use Rattle.std.proofs.lemmas.Option.{same_Some, slice_get-get_or, slice_get_within}
-use Rattle.rl_word.specs.declared.locks.LockName.{LockName}
-use Rattle.rl_word.specs.declared.locks.LockName.TheVariants.{Spin, Dmcs, Alock, Mcs, Rw, Seq, Combine}
+use Rattle.rl_word.specs.declared.locks.QueueKind.{QueueKind}
+use Rattle.rl_word.specs.declared.locks.QueueKind.TheVariants.{NoQueue, OneForAll, TwoCohorts, Elements}
 use Rattle.rl_word.specs.declared.shapes.Knobs.{Knobs}
 use Rattle.rl_word.specs.Shapes.{TheShape}
 use Rattle.rl_model.specs.declared.entry.Entry.{Entry}
 use Rattle.rl_model.specs.Table.{sum_below}
 use Rattle.rl_step.specs.declared.tallies.Tally.{Tally}
 use Rattle.rl_step.specs.Queues.{QueueOf}
-use Rattle.rl_step.specs.LockQueues.{queues_of, element_queue, element_queues, cohort_queues}
+use Rattle.rl_step.specs.LockQueues.{queues_of_kind, root_budget, element_queue, element_queues, cohort_queues}
 use Rattle.rl_journal.specs.Tenures.{AreTallied, tally_at, settled_if, tenures_of}
 use Rattle.rl_check.specs.Tallying.{queue_in, IsTallied, cohort_in}
 
@@ -49,36 +49,33 @@ cohort_is shape home knobs zero d e = same_Some _ _ e
 cohort_is shape home knobs (suc zero) d e = same_Some _ _ e
 cohort_is shape home knobs (suc (suc q)) d e = absurd (cc)
 
-pub queue_is : (name : LockName) (shape : TheShape) (home : ℕ) (knobs : Knobs) (q : ℕ) (d : QueueOf) → slice_get (queues_of name shape home knobs) q ≡ Some d → queue_in name shape home knobs q ≡ d
-queue_is Spin shape home knobs q d e = absurd (cc)
-queue_is Dmcs shape home knobs zero d e = same_Some _ _ e
-queue_is Dmcs shape home knobs (suc q) d e = absurd (cc)
-queue_is Alock shape home knobs q d e = cohort_is shape home knobs q d e
-queue_is Seq shape home knobs q d e = cohort_is shape home knobs q d e
-queue_is Combine shape home knobs q d e = cohort_is shape home knobs q d e
-queue_is Mcs shape home knobs q d e = element_there shape None (length shape.elements) q d e
-queue_is Rw shape home knobs q d e = element_there shape (Some knobs.writers) (length shape.elements) q d e
+pub queue_is : (kind : QueueKind) (shape : TheShape) (home : ℕ) (knobs : Knobs) (q : ℕ) (d : QueueOf) → slice_get (queues_of_kind kind shape home knobs) q ≡ Some d → queue_in kind shape home knobs q ≡ d
+queue_is NoQueue shape home knobs q d e = absurd (cc)
+queue_is OneForAll shape home knobs zero d e = same_Some _ _ e
+queue_is OneForAll shape home knobs (suc q) d e = absurd (cc)
+queue_is TwoCohorts shape home knobs q d e = cohort_is shape home knobs q d e
+queue_is (Elements root) shape home knobs q d e = element_there shape (root_budget root knobs) (length shape.elements) q d e
 
 -- ---- all queues
 
-module _ (name : LockName) (shape : TheShape) (home : ℕ) (knobs : Knobs) (shares : Bool) (entries : List Entry) (tallies : List Tally) where
+module _ (kind : QueueKind) (shape : TheShape) (home : ℕ) (knobs : Knobs) (shares : Bool) (entries : List Entry) (tallies : List Tally) where
   abbrev queues : List QueueOf
-  queues = queues_of name shape home knobs
+  queues = queues_of_kind kind shape home knobs
 
   abbrev Holds : ℕ → Type 0
-  Holds q = IsTallied shares entries tallies q (queue_in name shape home knobs q)
+  Holds q = IsTallied shares entries tallies q (queue_in kind shape home knobs q)
 
   pub all_tallied : length tallies ≡ length queues → (n : ℕ) → length tallies ≤ n → ((q : ℕ) → q < n → Holds q) → AreTallied queues shares entries tallies
   all_tallied each n past holds =
       record {
         each = each;
-        budgets = λ q budget d at has. let h = slice_get_within queues q d at in (holds q (omega arith)).budget budget (ap (λ (z : QueueOf). z.budget) (queue_is name shape home knobs q d at) ∙ has);
-        tenures = λ q d at. let h = slice_get_within queues q d at in (holds q (omega arith)).tenures ∙ ap (tenures_of shares entries tallies) (queue_is name shape home knobs q d at);
+        budgets = λ q budget d at has. let h = slice_get_within queues q d at in (holds q (omega arith)).budget budget (ap (λ (z : QueueOf). z.budget) (queue_is kind shape home knobs q d at) ∙ has);
+        tenures = λ q d at. let h = slice_get_within queues q d at in (holds q (omega arith)).tenures ∙ ap (tenures_of shares entries tallies) (queue_is kind shape home knobs q d at);
       }
 
   pub one_not : length tallies ≡ length queues → (q : ℕ) → q < length tallies → (Holds q → ⊥) → AreTallied queues shares entries tallies → ⊥
   one_not each q low not all =
-      let o : QueueOf = queue_in name shape home knobs q in
+      let o : QueueOf = queue_in kind shape home knobs q in
       let at : slice_get queues q ≡ Some (get_or queues q o) = slice_get-get_or queues q o (omega arith) in
-      let same : o ≡ get_or queues q o = queue_is name shape home knobs q (get_or queues q o) at in
+      let same : o ≡ get_or queues q o = queue_is kind shape home knobs q (get_or queues q o) at in
       not (subst (IsTallied shares entries tallies q) (sym same) (record { budget = λ B has. all.budgets q B (get_or queues q o) at has; tenures = all.tenures q (get_or queues q o) at }))

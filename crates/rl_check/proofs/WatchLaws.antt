@@ -16,10 +16,10 @@ use Rattle.std.specs.Bool.{MatchBool}
 use Rattle.rl_check.specs.Shards.{KeepsRules}
 use Rattle.std.proofs.lemmas.List.{map-append}
 use Rattle.std.proofs.Math.Seq.{take-add}
-use Rattle.rl_word.specs.declared.locks.LockName.{LockName}
+use Rattle.rl_word.specs.declared.locks.QueueKind.{QueueKind}
 use Rattle.rl_word.specs.declared.shapes.Knobs.{Knobs}
 use Rattle.rl_word.specs.Shapes.{TheShape}
-use Rattle.rl_step.specs.LockQueues.{queues_of}
+use Rattle.rl_step.specs.LockQueues.{queues_of_kind}
 use Rattle.rl_step.specs.Traces.{events_of}
 use Rattle.rl_check.specs.Shards.{event_tests}
 use Rattle.rl_check.specs.Tests.{IsFirstOf}
@@ -379,12 +379,12 @@ nothing_seen queues ranks reads budgets room none each are rooms =
       off (suc n) (suc k) = off n k
 
 -- the budgets that the code lists
-pub budgets_listed : (name : LockName) (shape : TheShape) (home : ℕ) (knobs : Knobs) (budgets : List (Option ℕ)) → length budgets ≡ length (queues_of name shape home knobs) →
-    ((q : ℕ) (o : Option ℕ) → slice_get budgets q ≡ Some o → o ≡ (queue_in name shape home knobs q).budget) → AreBudgets (queues_of name shape home knobs) budgets
-budgets_listed name shape home knobs budgets each are q o at =
-    let queues : List QueueOf = queues_of name shape home knobs in
+pub budgets_listed : (kind : QueueKind) (shape : TheShape) (home : ℕ) (knobs : Knobs) (budgets : List (Option ℕ)) → length budgets ≡ length (queues_of_kind kind shape home knobs) →
+    ((q : ℕ) (o : Option ℕ) → slice_get budgets q ≡ Some o → o ≡ (queue_in kind shape home knobs q).budget) → AreBudgets (queues_of_kind kind shape home knobs) budgets
+budgets_listed kind shape home knobs budgets each are q o at =
+    let queues : List QueueOf = queues_of_kind kind shape home knobs in
     let d = some_at queues q (let h = slice_get_within budgets q o at in omega arith) in
-    (d.0, d.1, ap (λ (z : QueueOf). z.budget) (sym (queue_is name shape home knobs q d.0 d.1)) ∙ sym (are q o at))
+    (d.0, d.1, ap (λ (z : QueueOf). z.budget) (sym (queue_is kind shape home knobs q d.0 d.1)) ∙ sym (are q o at))
 
 -- ---- beginnings of traces
 

@@ -1,11 +1,13 @@
 -- What is told of the entries by one thread that makes their calls, up to a place.
-use Rattle.std.specs.Prelude.{◌≡◌, ◌↔◌, ℕ, ◌+◌, ◌<◌, Bool, true, false, not, List, [], length, slice_get, take, Option, Some, None}
+use Rattle.std.specs.Prelude.{◌≡◌, ◌↔◌, ℕ, ◌+◌, ◌<◌, Bool, true, false, not, List, [], ◌∷◌, ◌++◌, length, map, slice_get, take, Option, Some, None}
 use Rattle.std.specs.FinMap as finite
+use Rattle.rl_model.specs.declared.call.Call.{Call}
 use Rattle.rl_model.specs.declared.entry.Entry.{Entry}
 use Rattle.rl_model.specs.declared.entry.Reply.{Reply}
 use Rattle.rl_model.specs.declared.geom.Geom.{Geom}
-use Rattle.rl_model.specs.Table.{Table}
-use Rattle.rl_journal.specs.Blocks.{half_after, is_last}
+use Rattle.rl_model.specs.Table.{Table, apply}
+use Rattle.rl_model.specs.Plain.{OneTable}
+use Rattle.rl_journal.specs.Blocks.{apply_batch, half_after, is_last}
 use Rattle.rl_report.specs.Lawful.{journal_among}
 use Rattle.rl_check.specs.Entries.{before, IsInBatch, EntryIsAnswered, HasReply, IsWholeBatch}
 
@@ -35,3 +37,10 @@ pub record IsToldTo (geom : Geom) (entries : List Entry) (i : ℕ) (replies : Li
   pub tells : (p : ℕ) (o : Option Reply) → slice_get replies p ≡ Some o → BatchesFit entries (p + 1) → Tells geom entries p o
   pub table_is : BatchesFit entries i → is_begun (before entries i) ≡ false → half_after geom finite.empty [] (journal_among (take i entries)) ≡ (table, [])
   pub broken : BatchesFit entries i → is_begun (before entries i) ≡ true → IsBroken entries i
+
+-- the replies that were told, with that of a call alone, and with those of a whole batch
+abbrev pub with_call : OneTable → List (Option Reply) → Call → List (Option Reply)
+with_call p replies call = replies ++ Some (apply p.geom call p.table).1 ∷ []
+
+abbrev pub with_batch : OneTable → List (Option Reply) → List Call → List (Option Reply)
+with_batch p replies calls = replies ++ map (λ (r : Reply). Some r) (apply_batch p.geom calls p.table).1

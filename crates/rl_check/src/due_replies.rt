@@ -1,10 +1,10 @@
 //! What one thread gets for the entries of a shard.
-ghost use Rattle.std.specs.Prelude.{◌≡◌, ◌<◌, ◌≤◌, ◌+◌, ◌++◌, ◌∷◌, [], length, map, drop, take, slice_index, slice_get, Some, None, IfOk, OnOk, ℕ};
+ghost use Rattle.std.specs.Prelude.{◌≡◌, ◌<◌, ◌≤◌, ◌+◌, ◌++◌, length, map, drop, take, slice_index, slice_get, Some, None, IfOk, OnOk, ℕ};
 ghost use Rattle.rl_model.specs.Geom.{GeomFits};
 ghost use Rattle.rl_model.specs.declared.entry.Reply.{Reply};
 ghost use Rattle.rl_model.specs.Table.{apply};
 ghost use Rattle.rl_journal.specs.Blocks.{apply_batch, calls_of};
-ghost use Rattle.rl_check.specs.OneThread.{IsToldTo};
+ghost use Rattle.rl_check.specs.OneThread.{IsToldTo, with_call, with_batch};
 
 use crate::blocks::{apply_batch, is_whole_batch};
 use rl_model::{Entry, Geom, Plain, Reply};
@@ -23,7 +23,7 @@ impl OneThread {
     // Makes a call alone.
     fn take_call(&mut self, entry: &Entry) -> Result<(), OutOfMemory>
         ensures size { OnOk result (self.new.table.geom ≡ self.old.table.geom) }
-        ensures told { OnOk result (self.new.replies.items ≡ self.old.replies.items ++ Some (apply self.old.table.geom entry.now.call self.old.table.table).1 ∷ []) }
+        ensures told { OnOk result (self.new.replies.items ≡ with_call self.old.table self.old.replies.items entry.now.call) }
         ensures table { OnOk result (self.new.table.table ≡ (apply self.old.table.geom entry.now.call self.old.table.table).0) }
     {
         let reply = self.table.call(entry.call)?;
@@ -45,7 +45,7 @@ impl OneThread {
     // Makes a whole batch.
     fn take_batch(&mut self, alloc: Global, block: &[Entry]) -> Result<(), OutOfMemory>
         ensures size { OnOk result (self.new.table.geom ≡ self.old.table.geom) }
-        ensures told { OnOk result (self.new.replies.items ≡ self.old.replies.items ++ map (λ (r : Reply). Some r) (apply_batch self.old.table.geom (calls_of block.now) self.old.table.table).1) }
+        ensures told { OnOk result (self.new.replies.items ≡ with_batch self.old.table self.old.replies.items (calls_of block.now)) }
         ensures table { OnOk result (self.new.table.table ≡ (apply_batch self.old.table.geom (calls_of block.now) self.old.table.table).0) }
     {
         let replies = apply_batch(alloc, &mut self.table, block)?;

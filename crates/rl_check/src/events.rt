@@ -5,7 +5,7 @@ ghost use Rattle.rl_step.specs.declared.events.Event.{Event};
 ghost use Rattle.rl_check.specs.Finding.{of_event};
 ghost use Rattle.rl_check.specs.Shards.{event_tests};
 ghost use Rattle.rl_check.specs.Tests.{IsFirstOf};
-ghost use Rattle.rl_check.specs.QueuesOf.{queue_of, queues_all};
+ghost use Rattle.rl_check.specs.QueuesOf.{queues_all, AreBudgetsOf};
 ghost use Rattle.rl_check.specs.Watching.{IsThere, Sees, StepsOn, budget_in};
 
 use crate::queues::Queues;
@@ -32,7 +32,7 @@ fn budgets_of(
     count: usize,
 ) -> Result<Vec<Option<u32>>, OutOfMemory>
     ensures each { IfOk result (λ budgets. length budgets.items ≡ count) }
-    ensures budgets { IfOk result (λ budgets. (q : ℕ) (o : Option ℕ) → slice_get budgets.items q ≡ Some o → o ≡ (queue_of queues.now q).budget) }
+    ensures budgets { IfOk result (λ budgets. AreBudgetsOf queues.now budgets.items) }
 {
     let mut budgets = Vec::with_capacity(alloc, count)?;
     for queue in 0..count {

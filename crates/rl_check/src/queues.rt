@@ -1,8 +1,9 @@
 //! The queues of a shard's lock, and their tallies beside the history.
 ghost use Rattle.std.specs.Prelude.{◌≡◌, ◌↔◌, ◌<◌, ◌+◌, ◌==◌, ℕ, count_by, length, nat_lt, slice_get, slice_index, Some, None, IsTrue, true, false, if◌then◌else◌, ◌&&◌};
 ghost use Rattle.std.specs.Option.{option_copied};
+ghost use Rattle.rl_word.specs.LockFacts.{facts_of};
 ghost use Rattle.rl_word.specs.Shapes.{IsProper};
-ghost use Rattle.rl_step.specs.LockQueues.{spares_gets, element_budget, is_at, parent_of, leaf_of, stands, same, sits_at};
+ghost use Rattle.rl_step.specs.LockQueues.{root_budget, element_budget, is_at, parent_of, leaf_of, stands, same, sits_at};
 ghost use Rattle.rl_step.specs.Queues.{IsWithinBudget};
 ghost use Rattle.rl_journal.specs.Blocks.{is_tenure};
 ghost use Rattle.rl_journal.specs.Tenures.{AreTallied, is_had_by, settled_if};
@@ -18,19 +19,30 @@ use rl_model::Entry;
 use rl_place::Place;
 use rl_report::within;
 use rl_step::Tally;
-use rl_word::{Element, Knobs, LockName, Shape};
+use rl_word::{Element, Knobs, LockFacts, QueueKind, Shape};
 
 /// What tells the queues of the lock of one shard.
 #[derive(Clone, Copy)]
 pub struct Queues<'a> {
-    /// The lock's name.
-    pub name: LockName,
+    /// What the lock's name decides.
+    pub facts: LockFacts,
     /// The shape of the placement.
     pub shape: &'a Shape,
     /// The lock's settings.
     pub knobs: Knobs,
     /// The node on which the shard's words live.
     pub home: u32,
+}
+
+// The budget of the root's queue, if it has one.
+fn root_budget(has_budget: bool, knobs: Knobs) -> Option<u32>
+    ensures { result ≡ root_budget has_budget knobs }
+{
+    if has_budget {
+        Some(knobs.writers)
+    } else {
+        None
+    }
 }
 
 // The budget of an element's queue; that of the root's is told apart.
@@ -105,12 +117,12 @@ impl<'a> Queues<'a> {
         requires proper { IsProperPlace place.now }
         requires shape { shape.now ≡ shape_of place.now }
         requires there { shard < place.now.geom.shards }
-        ensures name { result.name ≡ name_of place.now.lock }
+        ensures facts { result.facts ≡ facts_of (name_of place.now.lock) }
         ensures shape { result.shape.now ≡ shape_of place.now }
         ensures queues { queues_all result ≡ queues_at place.now (slice_index place.now.homes shard) }
     {
         Queues {
-            name: place.lock.name(),
+            facts: place.lock.name().facts(),
             shape,
             knobs: place.knobs(),
             home: place.homes[shard as usize],
@@ -123,17 +135,19 @@ impl Queues<'_> {
     pub fn budget(&self, queue: usize) -> Option<u32>
         ensures { result ≡ (queue_of self.now queue).budget }
     {
-        match self.name {
-            LockName::Spin | LockName::Dmcs => None,
-            LockName::Alock | LockName::Seq | LockName::Combine => {
+        match self.facts.queues {
+            QueueKind::NoQueue | QueueKind::OneForAll => None,
+            QueueKind::TwoCohorts => {
                 if queue == 0 {
                     Some(self.knobs.local)
                 } else {
                     Some(self.knobs.remote)
                 }
             }
-            LockName::Mcs => element_budget(self.shape, None, queue),
-            LockName::Rw => element_budget(self.shape, Some(self.knobs.writers), queue),
+            QueueKind::Elements { root_has_budget } => {
+                let root = root_budget(root_has_budget, self.knobs);
+                element_budget(self.shape, root, queue)
+            }
         }
     }
 
@@ -142,10 +156,9 @@ impl Queues<'_> {
         ensures { result ≡ (queue_of self.now queue).of_ranks }
     {
         let shape = self.shape;
-        match self.name {
-            LockName::Spin | LockName::Dmcs | LockName::Alock | LockName::Seq | LockName::Combine =>
-                true,
-            LockName::Mcs | LockName::Rw => stands(shape.leaf_of.as_slice(), queue),
+        match self.facts.queues {
+            QueueKind::NoQueue | QueueKind::OneForAll | QueueKind::TwoCohorts => true,
+            QueueKind::Elements { .. } => stands(shape.leaf_of.as_slice(), queue),
         }
     }
 
@@ -156,13 +169,11 @@ impl Queues<'_> {
         ensures { result ≡ (queue_of self.now queue).members rank }
     {
         let shape = self.shape;
-        match self.name {
-            LockName::Spin => false,
-            LockName::Dmcs => (rank as usize) < shape.node_of.len(),
-            LockName::Alock | LockName::Seq | LockName::Combine => {
-                is_in_cohort(shape, self.home, queue == 0, rank)
-            }
-            LockName::Mcs | LockName::Rw => is_under(shape, queue, rank),
+        match self.facts.queues {
+            QueueKind::NoQueue => false,
+            QueueKind::OneForAll => (rank as usize) < shape.node_of.len(),
+            QueueKind::TwoCohorts => is_in_cohort(shape, self.home, queue == 0, rank),
+            QueueKind::Elements { .. } => is_under(shape, queue, rank),
         }
     }
 
@@ -176,9 +187,9 @@ impl Queues<'_> {
 
     // Whether the entry begins a tenure of the lock by a writer.
     fn is_tenure(&self, entry: &Entry) -> bool
-        ensures { result ≡ is_tenure (spares_gets self.now.name) entry.now }
+        ensures { result ≡ is_tenure self.now.facts.spares entry.now }
     {
-        let spared = matches!(self.name, LockName::Rw | LockName::Seq) && entry.call.reads();
+        let spared = self.facts.spares && entry.call.reads();
         entry.part == 0 && !spared
     }
 
@@ -186,7 +197,7 @@ impl Queues<'_> {
     pub fn had_by_ranks(&self, queue: usize, entries: &[Entry]) -> usize
         requires proper { IsProper self.now.shape.now }
         requires ranks { (queue_of self.now queue).of_ranks ≡ true }
-        ensures { result ≡ count_by (is_had_by (queue_of self.now queue) (spares_gets self.now.name)) entries.now }
+        ensures { result ≡ count_by (is_had_by (queue_of self.now queue) self.now.facts.spares) entries.now }
     {
         let mut had = 0;
         for entry in entries {
@@ -228,7 +239,7 @@ impl Queues<'_> {
     pub fn is_tallied(&self, queue: usize, entries: &[Entry], tallies: &[Tally]) -> bool
         requires proper { IsProper self.now.shape.now }
         requires there { queue < length tallies.now }
-        ensures { IsTrue result ↔ IsTallied (spares_gets self.now.name) entries.now tallies.now queue (queue_of self.now queue) }
+        ensures { IsTrue result ↔ IsTallied self.now.facts.spares entries.now tallies.now queue (queue_of self.now queue) }
     {
         let tally = tallies[queue];
         if !self.is_within(queue, tally) {
@@ -248,7 +259,7 @@ impl Queues<'_> {
     pub fn are_tallied(&self, entries: &[Entry], tallies: &[Tally]) -> bool
         requires proper { IsProper self.now.shape.now }
         requires each { length tallies.now ≡ length (queues_all self.now) }
-        ensures { IsTrue result ↔ AreTallied (queues_all self.now) (spares_gets self.now.name) entries.now tallies.now }
+        ensures { IsTrue result ↔ AreTallied (queues_all self.now) self.now.facts.spares entries.now tallies.now }
     {
         for queue in 0..tallies.len() {
             if !self.is_tallied(queue, entries, tallies) {

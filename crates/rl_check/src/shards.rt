@@ -2,7 +2,6 @@
 ghost use Rattle.std.specs.Prelude.{◌≡◌, ◌<◌, ◌^◌, ℕ, length, slice_get, slice_index, Some, IsTrue, ◌↔◌, IfOk};
 ghost use Rattle.rl_word.specs.Shapes.{IsProper as IsProperShape};
 ghost use Rattle.rl_step.specs.declared.events.Event.{Event};
-ghost use Rattle.rl_step.specs.LockQueues.{spares_gets};
 ghost use Rattle.rl_place.specs.Places.{IsProper};
 ghost use Rattle.rl_report.specs.Naming.{naming_of};
 ghost use Rattle.rl_report.specs.Reports.{ReportFits, ShardFits};
@@ -47,7 +46,7 @@ fn fault_of_run(
 ) -> Result<Option<Test>, OutOfMemory>
     requires proper { IsProperShape queues.now.shape.now }
     requires each { length part.now.queues ≡ length (queues_all queues.now) }
-    ensures { IfOk result (IsFirstOf (run_tests (queues_all queues.now) (spares_gets queues.now.name) part.now table.now.table)) }
+    ensures { IfOk result (IsFirstOf (run_tests (queues_all queues.now) queues.now.facts.spares part.now table.now.table)) }
 {
     if !queues.are_tallied(part.entries.as_slice(), part.queues.as_slice()) {
         return Ok(Some(Test::Tally));

@@ -1,13 +1,12 @@
 //! The tests of a whole report, in threads.
 ghost use Rattle.std.specs.Prelude.{◌≡◌, ◌↔◌, ◌<◌, ◌≤◌, length, IsTrue, Ok, None, IfOk};
-ghost use Rattle.std.specs.List.{AllZip, range_with_len};
 ghost use Rattle.rl_place.specs.Places.{IsProper};
 ghost use Rattle.rl_ops.specs.Ops.{OpsFit};
 ghost use Rattle.rl_report.specs.Naming.{naming_of};
 ghost use Rattle.rl_report.specs.Reports.{ReportFits};
 ghost use Rattle.rl_check.specs.Legal.{AreOfSomePlace, report_tests, tests_by, tests_on};
 ghost use Rattle.rl_check.specs.Tests.{IsFirstOf};
-ghost use Rattle.rl_check.specs.Threads.{answer_tests, something};
+ghost use Rattle.rl_check.specs.Threads.{AreFirstOf, answer_tests, something};
 
 use crate::illegal::Illegal;
 use crate::ranks::check_rank;
@@ -50,7 +49,7 @@ fn of_shards(
 ) -> Result<Vec<Found>, OutOfMemory>
     requires proper { IsProper place.now }
     requires fits { ReportFits (naming_of place.now) report.now }
-    ensures { IfOk result (λ all. AllZip (λ s found. IfOk found (IsFirstOf (tests_on place.now report.now s))) (range_with_len 0 place.now.geom.shards) all.items) }
+    ensures { IfOk result (λ all. AreFirstOf (tests_on place.now report.now) place.now.geom.shards all.items) }
 {
     (0..place.geom.shards)
         .into_par_iter()
@@ -73,7 +72,7 @@ fn of_ranks(
 ) -> Result<Vec<Found>, OutOfMemory>
     requires fit { AreOfSomePlace ops.now report.now }
     requires there { ranks ≤ length report.now.done }
-    ensures { IfOk result (λ all. AllZip (λ k found. IfOk found (IsFirstOf (tests_by ops.now report.now k))) (range_with_len 0 ranks) all.items) }
+    ensures { IfOk result (λ all. AreFirstOf (tests_by ops.now report.now) ranks all.items) }
 {
     (0..ranks)
         .into_par_iter()

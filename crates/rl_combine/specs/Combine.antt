@@ -25,7 +25,7 @@ use Rattle.rl_work.specs.Work.{write_atom, more_entries}
 use Rattle.rl_step.specs.declared.events.Stepped.TheVariants.{Moved}
 use Rattle.rl_combine.specs.declared.stage.CombineStage.{CombineStage}
 use Rattle.rl_combine.specs.declared.stage.CombineStage.TheVariants.{Rest, Post, Raise, Look, Count, Sweep, Copy, Read, Journal, Volume, Answer, Mark, Collect, Lower}
-use Rattle.rl_combine.specs.Posts.{ThePost, combine_ranks, post_word, flag_word, post_of, post_spelling, posted_call, posted_seq, answer_spelling, answered_entry}
+use Rattle.rl_combine.specs.Posts.{ThePost, TheCombineWork, node_in, combine_ranks, post_word, flag_word, post_of, post_spelling, posted_call, posted_seq, answer_spelling, answered_entry}
 
 -- a rank's side of the work
 pub record TheCombineSide : Type 0 where
@@ -57,6 +57,10 @@ pub record Opened : Type 0 where
 abbrev pub opened_of : TheCombineSide → Opened
 opened_of x = record { call = x.call; seq = x.seq; kept = x.kept }
 
+-- the store of a word of the journal, for a call that is decided
+abbrev pub journal_atom : WaySite → TheCombineSide → ℕ → Option Atom
+journal_atom S x made = Some (Store (journal_base S.site.geom + (6 * x.count + made)) (slice_index (spelling x.entry) made))
+
 -- the atom of a stage
 abbrev pub combine_stage_atom : WaySite → ℕ → TheCombineSide → CombineStage → Option Atom
 combine_stage_atom S rank x Rest = None
@@ -67,7 +71,7 @@ combine_stage_atom S rank x Count = Some (Load count_word)
 combine_stage_atom S rank x (Sweep owner) = Some (Load (flag_word S owner))
 combine_stage_atom S rank x (Copy owner made) = Some (Load (post_word S owner (1 + made)))
 combine_stage_atom S rank x (Read owner word) = Some (Load (volume_base + word))
-combine_stage_atom S rank x (Journal owner made) = Some (Store (journal_base S.site.geom + (6 * x.count + made)) (slice_index (spelling x.entry) made))
+combine_stage_atom S rank x (Journal owner made) = journal_atom S x made
 combine_stage_atom S rank x (Volume owner made) = Some (write_atom (x.count + 1) (slice_get x.writes made))
 combine_stage_atom S rank x (Answer owner made) = Some (Store (post_word S owner (6 + made)) (slice_index (answer_spelling x.entry) made))
 combine_stage_atom S rank x (Mark owner) = Some (Store (flag_word S owner) 2)
@@ -131,9 +135,17 @@ to_collect x = combine_to_stage (with_nothing x) (Collect 0)
 abbrev pub sweep_on : WaySite → TheCombineSide → ℕ → Worked TheCombineSide
 sweep_on S x owner = if owner == combine_ranks S then to_collect x else combine_to_stage x (Sweep owner)
 
+-- one word more of the own answer is copied
+abbrev pub collect_on : TheCombineSide → ℕ → ℕ → Worked TheCombineSide
+collect_on x got made = if made + 1 == 3 then combine_to_stage (with_copied x got) Lower else combine_to_stage (with_copied x got) (Collect (made + 1))
+
+-- the posted call of a shard whose words were copied is in hand
+abbrev pub with_post : ℕ → TheCombineSide → TheCombineSide
+with_post shard x = record x { posted = posted_call shard x.copied; posted_number = posted_seq x.copied; seen = record x.seen { pairs = [] } }
+
 -- all words of a rank's posted call are copied
 abbrev pub with_posted : WaySite → TheCombineSide → TheCombineSide
-with_posted S x = record x { posted = posted_call S.site.shard x.copied; posted_number = posted_seq x.copied; seen = record x.seen { pairs = [] } }
+with_posted S x = with_post S.site.shard x
 
 -- the entry of the posted call, with its reply
 abbrev pub posted_entry : WaySite → TheCombineSide → ℕ → Reply → Entry
@@ -186,8 +198,7 @@ combine_stage_after S rank x got (Journal owner made) = if made + 1 == 6 then co
 combine_stage_after S rank x got (Volume owner made) = combine_written_on x owner made (slice_get x.writes made)
 combine_stage_after S rank x got (Answer owner made) = if made + 1 == 3 then combine_to_stage x (Mark owner) else combine_to_stage x (Answer owner (made + 1))
 combine_stage_after S rank x got (Mark owner) = sweep_on S x (owner + 1)
-combine_stage_after S rank x got (Collect made) = if made + 1 == 3 then combine_to_stage (with_copied x got) Lower else combine_to_stage
-    (with_copied x got) (Collect (made + 1))
+combine_stage_after S rank x got (Collect made) = collect_on x got made
 combine_stage_after S rank x got Lower = turned (with_own S rank x) Over
 
 -- what an atom that gave got leaves of rank's side
@@ -226,9 +237,13 @@ in_hand _ = None
 abbrev pub is_call : ℕ → ℕ → Entry → Bool
 is_call rank seq e = is_of rank e && (e.seq == seq)
 
+-- the entry of the open call, by the answer in its post
+abbrev pub entry_by : WaySite → ThePost → ℕ → TheCombineSide → Entry
+entry_by S p rank x = answered_entry S.site.shard rank x.seq x.call p.answer
+
 -- the entry of a get or hold, by its post
 abbrev pub early_read : WaySite → ThePost → ℕ → TheCombineSide → List Entry
-early_read S p rank x = if p.flag == 2 then answered_entry S.site.shard rank x.seq x.call p.answer ∷ [] else []
+early_read S p rank x = if p.flag == 2 then entry_by S p rank x ∷ [] else []
 
 -- Entries of the open call that are done by the words, and not kept yet: an update is done where the journal has its entry, a get or
 -- hold where the rank's flag is 2.
@@ -271,6 +286,10 @@ combine_table S node =
       spares = λ shares. false;
       batches = false;
     }
+
+-- the way of working of a shard
+abbrev pub combine_of : TheCombineWork → WorkTable TheCombineSide
+combine_of p = combine_table p.here (node_in p)
 
 -- the rank whose flag the sweep has found 1, and not made 2 yet
 abbrev pub found : CombineStage → Option ℕ

@@ -6,7 +6,7 @@ use Rattle.rl_model.specs.declared.entry.Entry.{Entry}
 use Rattle.rl_model.specs.declared.entry.Reply.{Reply}
 use Rattle.rl_model.specs.declared.entry.Reply.TheVariants.{Val, Held}
 use Rattle.rl_journal.specs.Journal.{kind_of, key_of, code_of, first_of, second_of, value_in, call_of, reply_of}
-use Rattle.rl_site.specs.Site.{WaySite}
+use Rattle.rl_site.specs.Site.{Site, WaySite}
 
 abbrev pub combine_ranks : WaySite → ℕ
 combine_ranks S = length S.site.rooms
@@ -105,6 +105,10 @@ post_of S words rank =
 pub record TheCombineWork : Type 0 where
   pub here : WaySite
   pub nodes : List ℕ
+
+-- by a site, the number of the first word behind the lock's, and the nodes of the ranks
+abbrev pub work_at : Site → ℕ → List ℕ → TheCombineWork
+work_at site behind nodes = record { here = record { site = site; behind = behind }; nodes = nodes }
 
 -- the node of a rank; beyond the ranks it is 0
 abbrev pub node_in : TheCombineWork → ℕ → ℕ

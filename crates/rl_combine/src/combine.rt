@@ -3,7 +3,6 @@
 ghost use Rattle.std.specs.Prelude.{◌≡◌, ◌<◌, ◌≤◌, ◌^◌, ◌+◌, ◌*◌, ◌==◌, length, slice_index, if◌then◌else◌, IfOk};
 ghost use Rattle.rl_word.specs.declared.acts.Atom.TheVariants as atom;
 ghost use Rattle.rl_combine.specs.declared.stage.CombineStage.TheVariants as stage;
-ghost use Rattle.rl_journal.specs.Journal.{spelling};
 ghost use Rattle.rl_site.specs.Site.{journal_base};
 ghost use Rattle.rl_model.specs.Geom.{GeomFits};
 ghost use Rattle.rl_combine.specs.Combine as model;
@@ -46,7 +45,7 @@ impl Model for CombineWork {
 
     ghost Value = { posts.TheCombineWork };
 
-    ghost view = { λ w. record { here = record { site = record { geom = w.geom; shard = w.shard; rooms = w.rooms.items }; behind = w.behind }; nodes = w.nodes.items } };
+    ghost view = { λ w. posts.work_at (record { geom = w.geom; shard = w.shard; rooms = w.rooms.items }) w.behind w.nodes.items };
 
     ghost invariant = { λ w. GeomFits w.geom × (length w.rooms.items ≤ 32) × (length w.nodes.items ≡ length w.rooms.items) };
 }
@@ -94,7 +93,7 @@ impl CombineWork {
     fn store_journal(&self, side: &CombineSide, made: u32) -> Option<Atom>
         requires few { made < 6 }
         requires low { journal_base self.now.here.site.geom + (6 * side.now.count + made) < 2 ^ 32 }
-        ensures { result ≡ Some (atom.Store (journal_base self.now.here.site.geom + (6 * side.now.count + made)) (slice_index (spelling side.now.entry) made)) }
+        ensures { result ≡ model.journal_atom self.now.here side.now made }
     {
         Some(Atom::Store {
             word: journal_base(self.geom) + (ENTRY_WORDS * side.count + made),
@@ -195,7 +194,7 @@ impl CombineWork {
         requires has { fits.HasPost self.now.here rank }
         requires there { length words.now.words ≡ self.now.here.behind + 9 * posts.combine_ranks self.now.here }
         requires small { slice_index (posts.post_of self.now.here words.now.words rank).answer 0 < 2 ^ 32 }
-        ensures { result ≡ posts.answered_entry self.now.here.site.shard rank side.now.seq side.now.call (posts.post_of self.now.here words.now.words rank).answer }
+        ensures { result ≡ model.entry_by self.now.here (posts.post_of self.now.here words.now.words rank) rank side.now }
     {
         let at = words.value(self.post_word(rank, ANSWER));
         let code = words.value(self.post_word(rank, ANSWER + 1));
@@ -256,11 +255,11 @@ impl Work for CombineWork {
 
     type Side = CombineSide;
 
-    ghost table = { λ w. model.combine_table w.here (posts.node_in w) };
+    ghost table = { λ w. model.combine_of w };
 
     ghost good = { λ w. CombineGood w.here };
 
-    ghost defined = { λ shape home site behind. model.combine_table (record { site = site; behind = behind }) (posts.node_in (record { here = record { site = site; behind = behind }; nodes = shape.node_of })) };
+    ghost defined = { λ shape home site behind. model.combine_of (posts.work_at site behind shape.node_of) };
 
     ghost placed = { λ shape home site behind. (refl, refl) };
 

@@ -1,11 +1,10 @@
 //! What a rank knows of its call, and of the posted call that it does.
 
-ghost use Rattle.std.specs.Prelude.{◌≡◌, ◌<◌, ◌≤◌, ◌^◌, ◌+◌, ◌∷◌, ◌++◌, ◌==◌, [], length, slice_get, slice_index, if◌then◌else◌, IfOk, IfSome};
+ghost use Rattle.std.specs.Prelude.{◌≡◌, ◌<◌, ◌≤◌, ◌^◌, ◌+◌, ◌∷◌, ◌++◌, ◌==◌, length, slice_get, slice_index, if◌then◌else◌, IfOk, IfSome};
 ghost use Rattle.std.specs.List.{All};
 ghost use Rattle.rl_model.specs.Geom.{GeomFits};
 ghost use Rattle.rl_combine.specs.declared.stage.CombineStage.TheVariants as stage;
 ghost use Rattle.rl_combine.specs.Combine as model;
-ghost use Rattle.rl_combine.specs.Posts.{posted_call as called, posted_seq};
 ghost use Rattle.rl_site.specs.Site.{WaySite};
 
 use crate::posts::{ANSWER_WORDS, DONE, answered_reply, posted_call};
@@ -46,7 +45,20 @@ impl Model for CombineSide {
 
     ghost Value = { model.TheCombineSide };
 
-    ghost view = { λ s. record { stage = s.stage; call = s.call; seq = s.seq; count = s.count; copied = s.copied.items; posted = s.posted; posted_number = s.posted_number; seen = s.seen; entry = s.entry; writes = s.writes.items; kept = s.kept } };
+    ghost view = { λ s.
+        record {
+          stage = s.stage;
+          call = s.call;
+          seq = s.seq;
+          count = s.count;
+          copied = s.copied.items;
+          posted = s.posted;
+          posted_number = s.posted_number;
+          seen = s.seen;
+          entry = s.entry;
+          writes = s.writes.items;
+          kept = s.kept;
+        } };
 }
 
 impl CombineSide {
@@ -154,7 +166,7 @@ impl CombineSide {
     pub(crate) fn collect_on(&mut self, made: u32, got: u64)
         requires few { made < 3 }
         requires so_far { length self.old.copied ≡ made }
-        ensures { self.new ≡ (if made + 1 == 3 then model.combine_to_stage (model.with_copied self.old got) stage.Lower else model.combine_to_stage (model.with_copied self.old got) (stage.Collect (made + 1))).work }
+        ensures { self.new ≡ (model.collect_on self.old got made).work }
     {
         self.add_copied(got);
         self.stage = if made + 1 == ANSWER_WORDS {
@@ -185,7 +197,7 @@ impl CombineSide {
     pub(crate) fn take_post(&mut self, shard: u32)
         requires whole { length self.old.copied ≡ 5 }
         requires small { slice_index self.old.copied 4 < 2 ^ 32 }
-        ensures { self.new ≡ record self.old { posted = called shard self.old.copied; posted_number = posted_seq self.old.copied; seen = record self.old.seen { pairs = [] } } }
+        ensures { self.new ≡ model.with_post shard self.old }
     {
         self.posted = posted_call(shard, self.copied.as_slice());
         self.posted_number = self.copied[4] as u32;

@@ -26,7 +26,6 @@ use Rattle.rl_machine.specs.laws.ReplayLaws.{stepped_one, run_append}
 use Rattle.rl_machine.specs.Start.{start_of}
 use Rattle.rl_locks.specs.Kinds.{Defined}
 use Rattle.rl_locks.specs.Urgencies.{Urgent}
-use Rattle.rl_inputs.specs.declared.complaint.Which.TheVariants as which
 use Rattle.rl_inputs.specs.Reading.{refused_in, scheduled}
 use Rattle.rl_finish.specs.WayOn.{HasSteps, AreWhole}
 use Rattle.rl_locks.specs.Runs.{machine_after}
@@ -160,17 +159,17 @@ module _ {V : Type 0} (defined : Defined V) (urgent : Urgent V) (place : ThePlac
 -- ---- the text
 
 -- a text of few bytes that is read as a schedule of the placement is so where it stands in a file
-taken : (place : ThePlace) (whole : Schedule) (text : List ℕ) → length text ≤ 16777216 → schedule_at (length place.paths) text ≡ Ok whole → scheduled place text ≡ Ok whole
+taken : (name : List ℕ) (place : ThePlace) (whole : Schedule) (text : List ℕ) → length text ≤ 16777216 → schedule_at (length place.paths) text ≡ Ok whole → scheduled name place text ≡ Ok whole
 unfolding scheduled
-taken place whole text few read =
+taken name place whole text few read =
     let test : nat_le (length text) 16777216 ≡ true = grind (arith, few) in
-    rw test (ap (refused_in which.Schedule) read)
+    rw test (ap (refused_in name) read)
 
 -- the text of a schedule that is another one made complete
 module _ {V : Type 0} (defined : Defined V) (urgent : Urgent V) (place : ThePlace) (ops : Ops) (given whole : Schedule) (ranks : length place.paths ≤ 32) (all : Completes defined urgent place ops given whole) where
   is_complete : (text : List ℕ) → text ≡ schedule_spelling whole → length text ≤ 16777216 → IsReadAsSchedule text whole → IsComplete defined urgent place ops given text
   is_complete text spells few read =
-      record { whole = whole; completes = all; spells = spells; again = taken place whole text few (read (length place.paths) (omega (arith, ranks)) all.fits) }
+      record { whole = whole; completes = all; spells = spells; again = λ name. taken name place whole text few (read (length place.paths) (omega (arith, ranks)) all.fits) }
 
   pub complete_ok : {E : Type 0} (result : Result (Vec ℕ) E) → IfOk result (λ text. (text.items ≡ schedule_spelling whole) × (length text.items ≤ 16777216)) → IfOk result (λ text. IsReadAsSchedule text.items whole) →
       IfOk result (λ text. IsComplete defined urgent place ops given text.items)

@@ -82,12 +82,12 @@ module _ {V : Type 0} (defined : Defined V) (urgent : Urgent V) (place : ThePlac
   ComeBehind given (Err (Refused Bytes)) = ⊥
   ComeBehind given (Err Memory) = Unit {0}
 
-  -- A text is a schedule made complete: it spells it, and is read as it where it stands in a file.
+  -- A text is a schedule made complete: it spells it, and is read as it where it stands in a file, of whatever name.
   pub record IsComplete (given : Schedule) (text : List ℕ) : Type 0 where
     pub whole : Schedule
     pub completes : Completes given whole
     pub spells : text ≡ schedule_spelling whole
-    pub again : scheduled place text ≡ Ok whole
+    pub again : (name : List ℕ) → scheduled name place text ≡ Ok whole
 
   -- The schedule that is complete has a text that is too long for a file.
   pub record HasLongText (given : Schedule) : Type 0 where

@@ -21,7 +21,8 @@ pub record IsBlockOf (geom : Geom) (block : List Call) : Type 0 where
 -- calls and their sizes are those of blocks, one after the other
 pub data AreBlocks (geom : Geom) : List Call → List ℕ → Type 0 where
   none : AreBlocks geom [] []
-  more : (block calls : List Call) (sizes : List ℕ) → IsBlockOf geom block → AreBlocks geom calls sizes → AreBlocks geom (block ++ calls) (sizes_of block ++ sizes)
+  more : (block calls : List Call) (sizes : List ℕ) → IsBlockOf geom block → AreBlocks geom calls sizes →
+      AreBlocks geom (block ++ calls) (sizes_of block ++ sizes)
 
 -- the calls of the block that begins with the call of this number
 abbrev pub block_from : List Call → List ℕ → ℕ → List Call

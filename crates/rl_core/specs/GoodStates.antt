@@ -24,7 +24,8 @@ module _ {V : Type 0} (S : CoreSays V) where
   -- a rank opens a block that it may open: that leaves a good moment, and nothing has happened
   abbrev pub OpeningsKeepGood : Type 0
   OpeningsKeepGood =
-      (m : Moment V) (r : ℕ) (v : V) (calls : List Call) (seq : ℕ) → IsSeated S m r v → MayOpen S.table r v calls seq → S.good (after_opening S.table m r v calls seq)
+      (m : Moment V) (r : ℕ) (v : V) (calls : List Call) (seq : ℕ) → IsSeated S m r v → MayOpen S.table r v calls seq → S.good
+      (after_opening S.table m r v calls seq)
 
   -- at a good moment one rank at most is in as a writer, and none as a reader beside it
   abbrev pub GoodExcludes : Type 0
@@ -42,9 +43,11 @@ module _ {V : Type 0} (S : CoreSays V) where
   -- who stands as a writer or a reader is who is one by what has happened
   abbrev pub StandAsTold : Type 0
   StandAsTold =
-      (m : Moment V) (r : ℕ) (v : V) → IsSeated S m r v → ((S.table.standing v ≡ Writer) ↔ writers m.trace r) × ((S.table.standing v ≡ Reader) ↔ readers m.trace r)
+      (m : Moment V) (r : ℕ) (v : V) → IsSeated S m r v → ((S.table.standing v ≡ Writer) ↔ writers m.trace r) ×
+      ((S.table.standing v ≡ Reader) ↔ readers m.trace r)
 
   -- a rank comes to count, volume and journal only as the lock lets it, and each such atom, and no other, is told as a touch
   abbrev pub TouchesAreTold : Type 0
   TouchesAreTold =
-      (m : Moment V) (r : ℕ) (v : V) (at : Atom) → IsNext S m r v at → IsGuarded (lock_base S.table.site) r at (S.table.standing v) (S.table.own v).calls (turned_by S.table m.held v at).events
+      (m : Moment V) (r : ℕ) (v : V) (at : Atom) → IsNext S m r v at → IsGuarded (lock_base S.table.site) r at (S.table.standing v)
+      (S.table.own v).calls (turned_by S.table m.held v at).events

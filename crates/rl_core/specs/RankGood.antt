@@ -13,7 +13,8 @@ use Rattle.rl_core.specs.Desks.{Desk, desk_entries}
 -- the calls of a block are the next ones that are asked for, from a number on
 abbrev pub AsksNext : ℕ → ℕ → List Asked → ℕ → List Call → Type 0
 AsksNext batch part asked n [] = Unit {0}
-AsksNext batch part asked n (call ∷ calls) = (slice_get asked n ≡ Some (record { call = call; batch = batch; part = part })) × AsksNext batch (part + 1) asked (n + 1) calls
+AsksNext batch part asked n (call ∷ calls) = (slice_get asked n ≡ Some (record { call = call; batch = batch; part = part })) × AsksNext
+    batch (part + 1) asked (n + 1) calls
 
 -- a rank is at work on shard s, on this block, whose first call has this number: its next calls after the first `done`, up to those
 -- that it has opened

@@ -26,7 +26,8 @@ turned_round round = record { here = round.there; there = round.here }
 abbrev pub Makes : {V S : Type 0} → ShardTable V → (V → S → V) → TheWindow → ℕ → V → Leg S → Option Atom → Type 0
 Makes T seeing h k x leg None = ⊥
 Makes T seeing h k x leg (Some at) =
-    (do_atom k at h ≡ h) × ((T.core.after x (do_got at h.words h.cards)).view ≡ seeing x leg.sight) × ((T.core.after x (do_got at h.words h.cards)).events ≡ []) ×
+    (do_atom k at h ≡ h) × ((T.core.after x (do_got at h.words h.cards)).view ≡ seeing x leg.sight) ×
+    ((T.core.after x (do_got at h.words h.cards)).events ≡ []) ×
     ((T.core.after x (do_got at h.words h.cards)).stepped ≡ leg_answer leg)
 
 -- it is so whatever the window is, while the leg's word has its value
@@ -43,3 +44,7 @@ pub record IsRound {V S : Type 0} (T : ShardTable V) (seeing : V → S → V) (w
   pub word_there : round.there.word < words
   pub first : GoesBy T seeing k x round.here
   pub second : GoesBy T seeing k (seeing x round.here.sight) round.there
+
+-- of every rank with this view it is a round
+abbrev pub IsRoundOfAll : {V S : Type 0} → ShardTable V → (V → S → V) → ℕ → V → Round S → Type 0
+IsRoundOfAll T seeing size x round = (k : ℕ) → IsRound T seeing size k x round

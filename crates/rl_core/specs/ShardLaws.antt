@@ -110,29 +110,35 @@ module _ {V : Type 0} (S : CoreSays V) where
     pub turns_own : (m : Moment V) (r : ℕ) (v : V) (at : Atom) → IsNext m r v at →
         Turns S.table.site.shard r (S.table.own v) (S.table.own (turned_by S.table m.held v at).view)
     pub turns_told : (m : Moment V) (r : ℕ) (v : V) (at : Atom) → IsNext m r v at →
-        (j : ℕ) (u w : V) → slice_get m.views j ≡ Some u → slice_get (after_atom S.table m r v at).views j ≡ Some w → Turns S.table.site.shard j (S.table.desk m.held.words j u) (S.table.desk (after_atom S.table m r v at).held.words j w)
+        (j : ℕ) (u w : V) → slice_get m.views j ≡ Some u → slice_get
+        (after_atom S.table m r v at).views j ≡ Some w → Turns S.table.site.shard j (S.table.desk m.held.words j u)
+        (S.table.desk (after_atom S.table m r v at).held.words j w)
     -- ---- what is known of a good state
 
     pub exclusive : (m : Moment V) → S.good m → IsExclusive m.trace
     pub alone_in : (m : Moment V) → S.good m → AloneIn (map S.table.standing m.views)
     -- who stands as a writer or a reader is who is one by the events so far
-    pub stands : (m : Moment V) (r : ℕ) (v : V) → IsSeated m r v → ((S.table.standing v ≡ Writer) ↔ writers m.trace r) × ((S.table.standing v ≡ Reader) ↔ readers m.trace r)
+    pub stands : (m : Moment V) (r : ℕ) (v : V) → IsSeated m r v →
+        ((S.table.standing v ≡ Writer) ↔ writers m.trace r) × ((S.table.standing v ≡ Reader) ↔ readers m.trace r)
     pub legal : (m : Moment V) → S.good m → IsLegal S.table.site.geom (journal_at S.table m.held.words) (kept_in S.table m.held.words 0 m.views)
     pub sorted : (m : Moment V) → S.good m → IsSorted (history (journal_at S.table m.held.words) (kept_in S.table m.held.words 0 m.views))
     -- the journal has a place for each update; and while no block is open the volume is that of the table after it
     pub short : (m : Moment V) → S.good m → length (journal_at S.table m.held.words) ≤ places S.table.site
     pub volume_left : (m : Moment V) → S.good m → AllShut S.table m.views →
-        IsVolume S.table.site.geom S.table.site.shard (volume_of S.table.site.geom m.held.words) (table_after S.table.site.geom finite.empty (journal_at S.table m.held.words))
+        IsVolume S.table.site.geom S.table.site.shard (volume_of S.table.site.geom m.held.words)
+        (table_after S.table.site.geom finite.empty (journal_at S.table m.held.words))
     -- the queues keep their promises; while no block is open each was settled and passed as often as it was had, and a rank whose block is
     -- over has left as a writer as often as its entries say
     pub queues : (m : Moment V) → S.good m → KeepQueues S.table.queues m.trace
     pub counted : (m : Moment V) → S.good m → AllShut S.table m.views → CountTenures S.table.queues m.trace
-    pub left_as : (m : Moment V) (r : ℕ) (v : V) → IsSeated m r v → (S.table.own v).is_open ≡ false → leaves r m.trace ≡ count_by S.table.tenure (desk_entries (S.table.own v))
+    pub left_as : (m : Moment V) (r : ℕ) (v : V) → IsSeated m r v → (S.table.own v).is_open ≡ false →
+        leaves r m.trace ≡ count_by S.table.tenure (desk_entries (S.table.own v))
     -- the events name queues, members and cohorts that the lock has, and ranks that there are; those of one atom stand in the order of
     -- their kinds
     pub named : (m : Moment V) → S.good m → AllNamed S.table.queues S.table.cohort m.trace
     pub by_ranks : (m : Moment V) → S.good m → AreByRanks (length m.views) m.trace
-    pub orders : (m : Moment V) (r : ℕ) (v : V) (at : Atom) → IsNext m r v at → InOrder (turned_by S.table m.held v at).events × (length (turned_by S.table m.held v at).events ≤ 8)
+    pub orders : (m : Moment V) (r : ℕ) (v : V) (at : Atom) → IsNext m r v at →
+        InOrder (turned_by S.table m.held v at).events × (length (turned_by S.table m.held v at).events ≤ 8)
     -- what the lock guards only its holders touch; each such access is told, and nothing else is told as one
     pub guards : (m : Moment V) (r : ℕ) (v : V) (at : Atom) → IsNext m r v at →
         IsGuarded (lock_base S.table.site) r at (S.table.standing v) (S.table.own v).calls (turned_by S.table m.held v at).events
@@ -147,14 +153,16 @@ module _ {V : Type 0} (S : CoreSays V) where
     pub busy : (m : Moment V) (r : ℕ) (v : V) (at : Atom) (node holder : ℕ) → IsNext m r v at → (turned_by S.table m.held v at).stepped ≡ Busy node holder →
         (at ≡ atom.Take node) × (slice_index m.held.cards node ≡ holder + 1)
     pub held : (m : Moment V) (r : ℕ) (v : V) (node : ℕ) (k : TheWindow) → IsNext m r v (atom.Take node) → (slice_index k.cards node == 0) ≡ false →
-        ((turned_by S.table k v (atom.Take node)).view ≡ v) × ((turned_by S.table k v (atom.Take node)).events ≡ []) × ((turned_by S.table k v (atom.Take node)).stepped ≡ Busy node (slice_index k.cards node - 1))
+        ((turned_by S.table k v (atom.Take node)).view ≡ v) × ((turned_by S.table k v (atom.Take node)).events ≡ []) ×
+        ((turned_by S.table k v (atom.Take node)).stepped ≡ Busy node (slice_index k.cards node - 1))
     -- each answer says of its atom and of what it found what it has to say, whatever the core
     pub answers : (m : Moment V) (r : ℕ) (v : V) (at : Atom) → IsNext m r v at → AnswersTo m.held at (turned_by S.table m.held v at).stepped
     -- and has its cause, as the core tells it; Finished, where there is no atom, too
     pub causes : (m : Moment V) (r : ℕ) (v : V) (at : Atom) → IsNext m r v at → S.cause m.held v (Some at) (turned_by S.table m.held v at).stepped
     pub rests : (h : TheWindow) (v : V) → S.cause h v None Finished
     -- nobody is in the way of a rank that is alone
-    pub unhindered : (m : Moment V) (r : ℕ) (v : V) (answer : Stepped) → length S.layout.node_of ≡ 1 → IsSeated m r v → S.cause m.held v (S.table.core.next v) answer → IsUnhindered answer
+    pub unhindered : (m : Moment V) (r : ℕ) (v : V) (answer : Stepped) → length S.layout.node_of ≡ 1 → IsSeated m r v →
+        S.cause m.held v (S.table.core.next v) answer → IsUnhindered answer
     -- ---- what the lock says further
 
     pub says : (m : Moment V) → S.good m → S.further m.trace m.acts

@@ -1,6 +1,8 @@
 -- A rank's machine on one shard as plain functions, with what machines, shards, seats and callers read of it: the wall between a lock
 -- with its work and all that stands above.
 use Rattle.std.specs.Prelude.{◌≡◌, ℕ, ◌+◌, Bool, false, List, [], ◌∷◌, ◌++◌, replicate, take, drop, slice_get, Option, Some}
+use Rattle.rl_word.specs.Shapes.{TheShape}
+use Rattle.rl_word.specs.declared.shapes.Knobs.{Knobs}
 use Rattle.rl_word.specs.declared.acts.Act.{Act}
 use Rattle.rl_word.specs.declared.acts.Atom.{Atom}
 use Rattle.rl_model.specs.declared.call.Call.{Call}
@@ -85,3 +87,15 @@ module _ {V : Type 0} (T : ShardTable V) where
   abbrev pub kept_in : List ℕ → ℕ → List V → List (List Entry)
   kept_in words rank [] = []
   kept_in words rank (v ∷ vs) = desk_entries (T.desk words rank v) ∷ kept_in words (rank + 1) vs
+
+-- it is so of each shard as it is defined
+abbrev pub OfDefined : {V : Type 0} → (TheShape → ℕ → Knobs → Site → ShardTable V) → (TheShape → ℕ → Knobs → ShardTable V → Type 0) → Type 0
+OfDefined defined P = (shape : TheShape) (home : ℕ) (knobs : Knobs) (site : Site) → P shape home knobs (defined shape home knobs site)
+
+-- by whatever words, the desk of a rank is the one that its view tells
+abbrev pub HasOwnDesks : {V : Type 0} → ShardTable V → Type 0
+HasOwnDesks T = (words : List ℕ) (rank : ℕ) (v : _) → T.desk words rank v ≡ T.own v
+
+-- the words at the start
+abbrev pub words_at_first : {V : Type 0} → ShardTable V → List ℕ
+words_at_first T = opening_words T.site ++ replicate T.behind 0

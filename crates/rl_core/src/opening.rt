@@ -1,10 +1,9 @@
 //! A shard before its first block: its words, where those behind its journal begin, and the views of its ranks.
 
-ghost use Rattle.std.specs.Prelude.{◌≡◌, ◌+◌, ◌<◌, ◌≤◌, ◌^◌, ◌++◌, length, replicate, sum, IfOk};
+ghost use Rattle.std.specs.Prelude.{◌≡◌, ◌+◌, ◌<◌, ◌≤◌, ◌^◌, length, sum, IfOk};
 ghost use Rattle.rl_model.specs.Geom.{GeomFits};
 ghost use Rattle.rl_site.specs.Site.{Site, lock_base};
-ghost use Rattle.rl_site.specs.Opens.{opening_words};
-ghost use Rattle.rl_core.specs.ShardTables.{first_views};
+ghost use Rattle.rl_core.specs.ShardTables.{first_views, words_at_first};
 
 use crate::shard_core::ShardCore;
 use rl_model::Geom;
@@ -36,7 +35,7 @@ pub fn first_words<C: ShardCore>(alloc: Global, core: &C) -> Result<Vec<u64>, Ou
     requires fits { GeomFits (C.says core.now).table.site.geom }
     requires rooms { sum (C.says core.now).table.site.rooms ≤ 20000 }
     requires few { lock_base (C.says core.now).table.site + (C.says core.now).table.behind < 2 ^ 32 }
-    ensures { IfOk result (λ words. words.items ≡ opening_words (C.says core.now).table.site ++ replicate (C.says core.now).table.behind 0) }
+    ensures { IfOk result (λ words. words.items ≡ words_at_first (C.says core.now).table) }
 {
     let geom = core.geom();
     let base = lock_base(core);

@@ -1,9 +1,9 @@
 //! Cores that see beforehand that a rank waits.
 
-ghost use Rattle.std.specs.Prelude.{◌≡◌, ℕ, length, IfSome};
+ghost use Rattle.std.specs.Prelude.{◌≡◌, length, IfSome};
 ghost use Rattle.rl_step.specs.Core.{MayBe};
 ghost use Rattle.rl_core.specs.Idle.{SeenWaiting};
-ghost use Rattle.rl_core.specs.Rounds.{IsRound};
+ghost use Rattle.rl_core.specs.Rounds.{IsRoundOfAll};
 
 use crate::round::Round;
 use crate::shard_core::ShardCore;
@@ -28,7 +28,7 @@ pub trait Resting: ShardCore {
     /// The round of two loads in which a rank with this view goes on these words, if it is seen to be in one. `None` says nothing of it.
     fn round(&self, view: &Self::View, words: &Words) -> Option<Round<Self::Sight>>
         requires { (s : MayBe (Self.rule self.now) view.now) × (s.held ≡ words.now) }
-        ensures { IfSome result (λ round. (k : ℕ) → IsRound (Self.says self.now).table with_sight (length words.now.words) k view.now round) };
+        ensures { IfSome result (IsRoundOfAll (Self.says self.now).table with_sight (length words.now.words) view.now) };
 
     /// Exchanges the part of a view that the loads of a round change.
     fn set_sight(view: &mut Self::View, sight: Self::Sight)

@@ -13,7 +13,7 @@ ghost use Rattle.rl_step.specs.Batches.{HandsOn};
 ghost use Rattle.rl_step.specs.LockQueues.{queues_of, readers_share, cohorts_of};
 ghost use Rattle.rl_site.specs.Site.{Site as TheSite, site_of};
 ghost use Rattle.rl_core.specs.Desks.{desk_entries};
-ghost use Rattle.rl_core.specs.ShardTables.{ShardTable, journal_at};
+ghost use Rattle.rl_core.specs.ShardTables.{ShardTable, OfDefined, HasOwnDesks, journal_at};
 ghost use Rattle.rl_core.specs.Moments.{Moment, CoreSays};
 ghost use Rattle.rl_core.specs.ShardLaws.{LawsOf, IsLaidAtSite};
 
@@ -152,20 +152,20 @@ pub trait ShardCore: Core {
     ghost laid: { (shape : TheShape) (home : ℕ) (knobs : TheKnobs) (site : TheSite) → IsLaidAtSite (defined shape home knobs site) site };
 
     /// Its queues are those of the lock of that name: so their members and budgets are the placement's, and not the lock's own word.
-    ghost has_queues: { (shape : TheShape) (home : ℕ) (knobs : TheKnobs) (site : TheSite) → (defined shape home knobs site).queues ≡ queues_of name shape home knobs };
+    ghost has_queues: { OfDefined defined (λ shape home knobs shard. shard.queues ≡ queues_of name shape home knobs) };
 
     /// And its cohorts are those of the lock of that name.
-    ghost has_cohorts: { (shape : TheShape) (home : ℕ) (knobs : TheKnobs) (site : TheSite) → (defined shape home knobs site).cohort ≡ cohorts_of name };
+    ghost has_cohorts: { OfDefined defined (λ shape home knobs shard. shard.cohort ≡ cohorts_of name) };
 
     /// And the entries that stand for tenures by a writer are as it is said, by whether readers share the lock of that name.
-    ghost has_tenures: { (shape : TheShape) (home : ℕ) (knobs : TheKnobs) (site : TheSite) → (defined shape home knobs site).tenure ≡ is_tenure (spares (readers_share name)) };
+    ghost has_tenures: { OfDefined defined (λ shape home knobs shard. shard.tenure ≡ is_tenure (spares (readers_share name))) };
 
     /// It does batches as it is said.
-    ghost has_batches: { (shape : TheShape) (home : ℕ) (knobs : TheKnobs) (site : TheSite) → (defined shape home knobs site).batches ≡ batches };
+    ghost has_batches: { OfDefined defined (λ shape home knobs shard. shard.batches ≡ batches) };
 }
 
 /// A core whose views hold all entries of their ranks: none is to be found in the words alone.
 pub trait TellsAll: ShardCore {
     /// The desk as the words tell it is the view's own.
-    ghost tells_all: { (c : Self) (words : List ℕ) (rank : ℕ) (v : Self.View) → (Self.says c).table.desk words rank v ≡ (Self.says c).table.own v };
+    ghost tells_all: { (c : Self) → HasOwnDesks (Self.says c).table };
 }

@@ -26,5 +26,7 @@ module _ {V : Type 0} (T : LockTable V) (left : List ℕ → List V → ℕ) whe
   -- The laws of a lock without a dead end: of its good states. Asking and leaving add so much at most to what is left.
   pub record LockEnds (good : LockState V → Type 0) (most : ℕ) : Type 0 where
     pub somebody : (s : LockState V) → good s → AllOut T s ⊎ ((r : ℕ) × CanGoOn s r)
-    pub ask_adds : (s : LockState V) (r : ℕ) (v : V) (m : Mode) → good s → slice_get s.views r ≡ Some v → T.standing v ≡ Out → left s.words (slice_set s.views r (T.ask v m)) ≤ left_in s + most
-    pub leave_adds : (s : LockState V) (r : ℕ) (v : V) → good s → slice_get s.views r ≡ Some v → IsHolder (T.standing v) → left s.words (slice_set s.views r (T.leave v)) ≤ left_in s + most
+    pub ask_adds : (s : LockState V) (r : ℕ) (v : V) (m : Mode) → good s → slice_get s.views r ≡ Some v → T.standing v ≡ Out →
+        left s.words (slice_set s.views r (T.ask v m)) ≤ left_in s + most
+    pub leave_adds : (s : LockState V) (r : ℕ) (v : V) → good s → slice_get s.views r ≡ Some v → IsHolder (T.standing v) →
+        left s.words (slice_set s.views r (T.leave v)) ≤ left_in s + most

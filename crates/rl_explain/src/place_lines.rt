@@ -4,7 +4,7 @@ use crate::kinds::{Known, LineKind, Standing};
 use crate::table::small_in;
 use rl_place::lock_named;
 use rl_text::Line;
-use rl_word::LockName;
+use rl_word::{LockName, QueueKind};
 
 /// Behind the line of the lock: the first line of its settings.
 fn after_lock<'a>(here: Standing<'a>, line: Line<'_>) -> Standing<'a> {
@@ -12,10 +12,10 @@ fn after_lock<'a>(here: Standing<'a>, line: Line<'_>) -> Standing<'a> {
         return here;
     };
     let known = Known { lock, ..here.known };
-    let kind = match lock {
-        LockName::Spin | LockName::Dmcs => LineKind::Shards,
-        LockName::Alock | LockName::Seq | LockName::Combine => LineKind::Cohorts,
-        LockName::Mcs | LockName::Rw => LineKind::Budgets,
+    let kind = match lock.facts().queues {
+        QueueKind::NoQueue | QueueKind::OneForAll => LineKind::Shards,
+        QueueKind::TwoCohorts => LineKind::Cohorts,
+        QueueKind::Elements { .. } => LineKind::Budgets,
     };
     Standing { kind, known }
 }

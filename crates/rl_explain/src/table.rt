@@ -6,7 +6,6 @@ use crate::wanted::Wanted;
 use rl_place::lock_word;
 use rl_report::QueueName;
 use rl_text::{Line, Why, number};
-use rl_word::LockName;
 
 /// A word of a line, if it is there.
 fn word_of<'a>(line: Option<Line<'a>>, word: u32) -> &'a [u8]
@@ -358,11 +357,10 @@ fn event_step<'a>(why: Why, known: &Known<'a>) -> Wanted<'a> {
 
 /// What the cohort of an event has to be.
 fn cohort<'a>(known: &Known<'a>) -> Wanted<'a> {
-    match known.lock {
-        LockName::Alock | LockName::Seq | LockName::Combine => {
-            Wanted::Text("\"local\" or \"remote\"")
-        }
-        _ => Wanted::Text("another event, since this lock has no cohorts"),
+    if known.lock.facts().queues.has_cohorts() {
+        Wanted::Text("\"local\" or \"remote\"")
+    } else {
+        Wanted::Text("another event, since this lock has no cohorts")
     }
 }
 

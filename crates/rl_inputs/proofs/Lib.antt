@@ -1,3 +1,4 @@
 pub mod ReadLemmas
 mod ReplayLemmas
 pub mod SuitLaws
+pub mod TellingLaws

@@ -1,3 +1,5 @@
 -- to be believed, in reading order
 pub mod Reading
 pub mod Files
+pub mod Done
+pub mod laws

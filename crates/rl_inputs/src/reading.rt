@@ -1,20 +1,18 @@
-// How the files of a replay are read.
-ghost use Rattle.std.specs.Prelude.{◌≡◌, ◌≢◌, ◌≤◌, ◌<◌, IsTrue, IfOk, length, Ok, Err};
+//! How the files of a replay are read.
+ghost use Rattle.std.specs.Prelude.{◌≡◌, ◌≤◌, ◌<◌, IsTrue, IfOk, length, Ok, Err, IfErr, false};
 ghost use Rattle.rl_io.specs.Outside.{SameFiles};
+ghost use Rattle.rl_io.specs.Whole.{RisesWithFault};
 ghost use Rattle.rl_step.specs.LockQueues.{does_batches};
 ghost use Rattle.rl_place.specs.LockWords.{name_of};
 ghost use Rattle.rl_place.specs.Places.{IsProper};
 ghost use Rattle.rl_ops.specs.Ops.{OpsFit};
 ghost use Rattle.rl_ops.specs.Schedule.{ScheduleFits};
-ghost use Rattle.rl_inputs.specs.declared.complaint.Stop.TheVariants.{Fault};
-ghost use Rattle.rl_inputs.specs.Reading.{WasRead, Ends, RisesWithFault, stopped_in, within, as_done, placed, called, scheduled, SuitsLock};
+ghost use Rattle.rl_inputs.specs.Reading.{WasRead, Ends, stopped_by_fault, within, as_done, placed, called, scheduled, SuitsLock};
 
-use crate::complaint::{Complaint, Stop, Trouble, Which};
+use crate::stop::{Stop, refuse, stopped};
 use rl_io::{ReadErr, Source, read_file};
 use rl_ops::{Ops, Schedule, read_ops, read_schedule};
 use rl_place::{Place, read_place};
-use rl_text::TextErr;
-use rl_word::LockName;
 use std::alloc::Global;
 
 /// A placement or a calls file has at most this many bytes.
@@ -23,41 +21,24 @@ pub const MOST_WORDS: u32 = 4_194_304;
 /// A schedule has at most this many bytes.
 pub const MOST_SCHEDULE: u32 = 16_777_216;
 
-/// The bytes of a file that isn't longer than a file of its kind may be.
-fn read_within<S: Source>(
+/// The bytes of a file that isn't longer than this.
+pub fn read_within<S: Source>(
     alloc: Global,
     source: &mut S,
     name: &str,
-    which: Which,
     most: u32,
 ) -> Result<Vec<u8>, Stop>
     requires { IsTrue (S.may_open source.old name.now) }
-    ensures read { WasRead (S.file source.old name.now) (λ bytes. bytes.items) (within which most) result }
+    ensures read { WasRead (S.file source.old name.now) (λ bytes. bytes.items) (within name.now most) result }
     ensures short { IfOk result (λ bytes. length bytes.items ≤ most) }
-    ensures faults { RisesWithFault result (S.faults source.old) (S.faults source.new) }
+    ensures faults { RisesWithFault stopped_by_fault result (S.faults source.old) (S.faults source.new) }
     ensures same { SameFiles S.file S.may_open source.old source.new }
 {
     match read_file(alloc, source, name, most) {
         Ok(bytes) => Ok(bytes),
         Err(ReadErr::Fault) => Err(Stop::Fault),
-        Err(ReadErr::TooLong { .. }) => Err(Stop::Refused(Complaint {
-            which,
-            trouble: Trouble::TooLong,
-        })),
+        Err(ReadErr::TooLong { .. }) => Err(refuse(alloc, name, "toolong")),
         Err(ReadErr::Memory) => Err(Stop::Memory),
-    }
-}
-
-/// What reading a file ended with, as what ends the replay.
-fn stopped(which: Which, error: TextErr) -> Stop
-    ensures { result ≡ stopped_in which error }
-{
-    match error {
-        TextErr::Refused(refusal) => Stop::Refused(Complaint {
-            which,
-            trouble: Trouble::Refused(refusal),
-        }),
-        TextErr::Memory => Stop::Memory,
     }
 }
 
@@ -65,15 +46,15 @@ fn stopped(which: Which, error: TextErr) -> Stop
 #[tactic(auto, unfolding(crate::specs::Reading::placed))]
 pub fn read_placed<S: Source>(alloc: Global, source: &mut S, name: &str) -> Result<Place, Stop>
     requires { IsTrue (S.may_open source.old name.now) }
-    ensures read { WasRead (S.file source.old name.now) (λ place. place) placed result }
+    ensures read { WasRead (S.file source.old name.now) (λ place. place) (placed name.now) result }
     ensures proper { IfOk result (λ place. IsProper place) }
-    ensures faults { RisesWithFault result (S.faults source.old) (S.faults source.new) }
+    ensures faults { RisesWithFault stopped_by_fault result (S.faults source.old) (S.faults source.new) }
     ensures same { SameFiles S.file S.may_open source.old source.new }
 {
-    let bytes = read_within(alloc, source, name, Which::Place, MOST_WORDS)?;
+    let bytes = read_within(alloc, source, name, MOST_WORDS)?;
     match read_place(alloc, bytes.as_slice()) {
         Ok(place) => Ok(place),
-        Err(error) => Err(stopped(Which::Place, error)),
+        Err(error) => Err(stopped(alloc, name, error)),
     }
 }
 
@@ -81,21 +62,18 @@ pub fn read_placed<S: Source>(alloc: Global, source: &mut S, name: &str) -> Resu
 fn does_batches(place: &Place) -> bool
     ensures { result ≡ does_batches (name_of place.now.lock) }
 {
-    !matches!(place.lock.name(), LockName::Combine)
+    place.lock.name().facts().batches
 }
 
-/// The calls of a file, if the placement's lock can do them.
-fn as_done(place: &Place, ops: Ops) -> Result<Ops, Stop>
-    ensures done { Ends (λ ops. ops) result (as_done place.now ops) }
+/// The calls of the file of this name, if the placement's lock can do them.
+fn as_done(alloc: Global, name: &str, place: &Place, ops: Ops) -> Result<Ops, Stop>
+    ensures done { Ends (λ ops. ops) result (as_done name.now place.now ops) }
     ensures same { IfOk result (λ taken. taken ≡ ops) }
-    ensures no_fault { result ≢ Err Fault }
+    ensures no_fault { IfErr result (λ why. stopped_by_fault why ≡ false) }
     ensures suits { IfOk result (λ ops. SuitsLock place.now ops) }
 {
     if !does_batches(place) && ops.has_batch() {
-        return Err(Stop::Refused(Complaint {
-            which: Which::Calls,
-            trouble: Trouble::Batch,
-        }));
+        return Err(refuse(alloc, name, "word"));
     }
     Ok(ops)
 }
@@ -110,17 +88,17 @@ pub fn read_called<S: Source>(
 ) -> Result<Ops, Stop>
     requires may_open { IsTrue (S.may_open source.old name.now) }
     requires proper { IsProper place.now }
-    ensures read { WasRead (S.file source.old name.now) (λ ops. ops) (called place.now) result }
+    ensures read { WasRead (S.file source.old name.now) (λ ops. ops) (called name.now place.now) result }
     ensures fits { IfOk result (λ ops. OpsFit (length place.now.paths) place.now.geom.shards ops) }
     ensures suits { IfOk result (λ ops. SuitsLock place.now ops) }
-    ensures faults { RisesWithFault result (S.faults source.old) (S.faults source.new) }
+    ensures faults { RisesWithFault stopped_by_fault result (S.faults source.old) (S.faults source.new) }
     ensures same { SameFiles S.file S.may_open source.old source.new }
 {
-    let bytes = read_within(alloc, source, name, Which::Calls, MOST_WORDS)?;
+    let bytes = read_within(alloc, source, name, MOST_WORDS)?;
     let ranks = place.paths.len() as u32;
     match read_ops(alloc, ranks, place.geom.shards, bytes.as_slice()) {
-        Ok(ops) => as_done(place, ops),
-        Err(error) => Err(stopped(Which::Calls, error)),
+        Ok(ops) => as_done(alloc, name, place, ops),
+        Err(error) => Err(stopped(alloc, name, error)),
     }
 }
 
@@ -135,15 +113,15 @@ pub fn read_scheduled<S: Source>(
 ) -> Result<Schedule, Stop>
     requires may_open { IsTrue (S.may_open source.old name.now) }
     requires proper { IsProper place.now }
-    ensures read { WasRead (S.file source.old name.now) (λ schedule. schedule) (scheduled place.now) result }
+    ensures read { WasRead (S.file source.old name.now) (λ schedule. schedule) (scheduled name.now place.now) result }
     ensures fits { IfOk result (λ schedule. ScheduleFits (length place.now.paths) schedule) }
-    ensures faults { RisesWithFault result (S.faults source.old) (S.faults source.new) }
+    ensures faults { RisesWithFault stopped_by_fault result (S.faults source.old) (S.faults source.new) }
     ensures same { SameFiles S.file S.may_open source.old source.new }
 {
-    let bytes = read_within(alloc, source, name, Which::Schedule, MOST_SCHEDULE)?;
+    let bytes = read_within(alloc, source, name, MOST_SCHEDULE)?;
     let ranks = place.paths.len() as u8;
     match read_schedule(alloc, ranks, bytes.as_slice()) {
         Ok(schedule) => Ok(schedule),
-        Err(error) => Err(stopped(Which::Schedule, error)),
+        Err(error) => Err(stopped(alloc, name, error)),
     }
 }

@@ -1,14 +1,15 @@
 //! The three files of a replay, read one after the other.
 ghost use Rattle.std.specs.Prelude.{◌≡◌, length, IfOk};
+ghost use Rattle.rl_io.specs.Whole.{RisesWithFault};
 ghost use Rattle.rl_place.specs.Places.{IsProper};
 ghost use Rattle.rl_ops.specs.Ops.{OpsFit};
 ghost use Rattle.rl_ops.specs.Schedule.{ScheduleFits};
-ghost use Rattle.rl_inputs.specs.Reading.{RisesWithFault, SuitsLock};
+ghost use Rattle.rl_inputs.specs.Reading.{SuitsLock, stopped_by_fault};
 ghost use Rattle.rl_inputs.specs.Files.{named, MayOpenFiles, WereRead};
 
-use crate::complaint::Stop;
 use crate::files::Files;
 use crate::reading::{read_called, read_placed, read_scheduled};
+use crate::stop::Stop;
 use rl_io::Source;
 use rl_ops::{Ops, Schedule};
 use rl_place::Place;
@@ -23,8 +24,8 @@ pub struct Replay {
 }
 
 /// Reads the placement, then the calls, then the schedule; each is parsed before the next is opened. The first that is too
-/// long or refused ends it (`Stop::Refused`), as calls with a batch do where the placement's lock does none; `Stop::Fault` comes exactly where the source's count of faults rose. The calls
-/// and the schedule are of the placement's ranks.
+/// long or refused ends it (`Stop::Refused`), as calls with a batch do where the placement's lock does none; `Stop::Fault` comes exactly where
+/// the source's count of faults rose. The calls and the schedule are of the placement's ranks.
 #[tactic(auto, unfolding(crate::specs::Files::spelled))]
 pub fn read_replay<S: Source>(
     alloc: Global,
@@ -37,7 +38,7 @@ pub fn read_replay<S: Source>(
     ensures calls { IfOk result (λ replay. OpsFit (length replay.place.paths) replay.place.geom.shards replay.ops) }
     ensures suits { IfOk result (λ replay. SuitsLock replay.place replay.ops) }
     ensures schedule { IfOk result (λ replay. ScheduleFits (length replay.place.paths) replay.schedule) }
-    ensures faults { RisesWithFault result (S.faults source.old) (S.faults source.new) }
+    ensures faults { RisesWithFault stopped_by_fault result (S.faults source.old) (S.faults source.new) }
 {
     let place = read_placed(alloc, source, files.place)?;
     let ops = read_called(alloc, source, files.calls, &place)?;

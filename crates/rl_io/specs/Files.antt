@@ -1,9 +1,9 @@
 -- Files in memory.
-use Rattle.std.specs.Prelude.{ℕ, List, [], Option, Some, None, slice_get, String, length, unwrap_or, string_bytes}
+use Rattle.std.specs.Prelude.{◌≡◌, ◌⊎◌, ℕ, List, [], Option, Some, None, slice_get, String, length, unwrap_or, string_bytes}
 use Rattle.std.specs.Global.{Global, Vec}
 use Rattle.std.specs.List.{position}
 use Rattle.std.specs.Str.{bytes_eq}
-use Rattle.rl_io.specs.Script.{TheFailing}
+use Rattle.rl_io.specs.Script.{TheFailing, FailsNext}
 
 -- a file has a name and bytes
 abbrev pub File : Type 0
@@ -37,3 +37,7 @@ pub record TheMemFiles : Type 0 where
   pub left : List ℕ
   pub piece : ℕ
   pub script : TheFailing
+
+-- a name can't be opened: the call is to fail, or no file has it
+abbrev pub FailsToOpen : TheMemFiles → List ℕ → Type 0
+FailsToOpen s name = FailsNext s.script ⊎ (place_of s.files name ≡ None)

@@ -41,6 +41,10 @@ abbrev pub IsWhole : Option (List ℕ) → List ℕ → Option (List ℕ) → Ty
 IsWhole None bytes left = left ≡ None
 IsWhole (Some text) bytes left = (text ≡ bytes) × (left ≡ Some [])
 
+-- and there are no more of them than a limit
+abbrev pub IsWholeWithin : ℕ → Option (List ℕ) → List ℕ → Option (List ℕ) → Type 0
+IsWholeWithin most file bytes left = (length bytes ≤ most) × IsWhole file bytes left
+
 -- the file, where told, is longer than a limit, and what is left comes after one byte more
 abbrev pub IsLonger : Option (List ℕ) → ℕ → Option (List ℕ) → Type 0
 IsLonger None most left = left ≡ None

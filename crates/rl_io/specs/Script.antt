@@ -7,6 +7,10 @@ pub record TheFailing : Type 0 where
   pub calls : ℕ
   pub faults : ℕ
 
+-- with no call made
+abbrev pub unbegun : List ℕ → TheFailing
+unbegun numbers = record { numbers = numbers; calls = 0; faults = 0 }
+
 -- the next call is one of those that are to fail
 abbrev pub FailsNext : TheFailing → Type 0
 FailsNext script = Contains script.numbers script.calls

@@ -1,4 +1,4 @@
-// Calls that are to fail, by their number.
+//! Calls that are to fail, by their number.
 ghost use Rattle.std.specs.Prelude.{◌≡◌, ◌<◌, ◌-◌, ◌⊎◌, ◌↔◌, ◌^◌, Contains, IsErr, IsTrue, OnOk, OnErr, false};
 ghost use Rattle.rl_io.specs.Script.{FailsNext, Counts};
 

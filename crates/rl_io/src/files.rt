@@ -1,7 +1,7 @@
-// Files in memory: some that never fail, and some that fail on call.
-ghost use Rattle.std.specs.Prelude.{◌≡◌, ◌≤◌, ◌<◌, ◌-◌, ◌^◌, ◌⊎◌, [], Some, None, true, drop, is_some, length, IfOk, IsErr, OnOk, OnErr};
-ghost use Rattle.rl_io.specs.Script.{FailsNext, Counts};
-ghost use Rattle.rl_io.specs.Files.{place_of, bytes_at, bytes_of};
+//! Files in memory: some that never fail, and some that fail on call.
+ghost use Rattle.std.specs.Prelude.{◌≡◌, ◌≤◌, ◌<◌, ◌-◌, ◌^◌, [], Some, None, true, drop, is_some, length, IfOk, IsErr, OnOk, OnErr};
+ghost use Rattle.rl_io.specs.Script.{unbegun, FailsNext, Counts};
+ghost use Rattle.rl_io.specs.Files.{place_of, bytes_at, bytes_of, FailsToOpen};
 ghost use Rattle.rl_io.specs.Outside.{Comes, Reads, SameFiles};
 
 use crate::failing::Failing;
@@ -154,7 +154,7 @@ impl MemFiles {
     /// gives at most `piece` bytes.
     pub fn new(files: Vec<(String, Vec<u8>)>, piece: u32, failing: Vec<u32>) -> MemFiles
         requires { 1 ≤ piece }
-        ensures { result ≡ record { files = files.items; left = []; piece = piece; script = record { numbers = failing.items; calls = 0; faults = 0 } } }
+        ensures { result ≡ record { files = files.items; left = []; piece = piece; script = unbegun failing.items } }
     {
         MemFiles {
             shelf: SureFiles::new(files),
@@ -178,8 +178,8 @@ impl Source for MemFiles {
 
     /// Fails exactly where the number of the call is to fail, or no file has the name.
     fn open_file(&mut self, name: &str) -> Result<(), Failed>
-        ensures fails { self.old.script.calls < 2 ^ 64 - 1 → FailsNext self.old.script ⊎ (place_of self.old.files name.now ≡ None) → IsErr result }
-        ensures cause { IsErr result → FailsNext self.old.script ⊎ (place_of self.old.files name.now ≡ None) }
+        ensures fails { self.old.script.calls < 2 ^ 64 - 1 → FailsToOpen self.old name.now → IsErr result }
+        ensures cause { IsErr result → FailsToOpen self.old name.now }
         ensures counts { Counts self.old.script self.new.script }
         // As every source.
         ensures opened { OnOk result (Some self.new.left ≡ Some (bytes_of self.old.files name.now)) }

@@ -1,4 +1,4 @@
-// Who is told of the calls and the steps of running ranks.
+//! Who is told of the calls and the steps of running ranks.
 
 /// Stands at the calls and the steps of ranks that run in threads: a test lets each rank on in an order of its own, and looks at
 /// the answers.

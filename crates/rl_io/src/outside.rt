@@ -1,4 +1,4 @@
-// What a source of files and a sink of bytes are.
+//! What a source of files and a sink of bytes are.
 ghost use Rattle.std.specs.Prelude.{◌≡◌, ◌≤◌, ◌<◌, ℕ, ◌+◌, List, [], Option, Some, length, take, IfOk, OnOk, OnErr, IsSome, Bool, IsTrue};
 ghost use Rattle.rl_io.specs.Outside.{Reads, Appends, GoesOn, SameFiles};
 

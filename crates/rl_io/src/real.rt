@@ -1,4 +1,4 @@
-// The real files and the real standard output: the edge that is trusted.
+//! The real files and the real standard output: the edge that is trusted.
 ghost use Rattle.std.specs.Prelude.{◌≡◌, ◌≢◌, ◌≤◌, ◌<◌, [], Some, None, false, OnOk, OnErr};
 
 use crate::outside::{Failed, Sink, Source};

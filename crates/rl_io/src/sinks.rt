@@ -1,4 +1,4 @@
-// Sinks in memory: one that never fails, and one that fails on call.
+//! Sinks in memory: one that never fails, and one that fails on call.
 ghost use Rattle.std.specs.Prelude.{◌≡◌, ◌≤◌, ◌<◌, ◌-◌, ◌^◌, [], true, length, take, min, IfOk, IsErr, OnOk, OnErr, Ok as ok};
 ghost use Rattle.rl_io.specs.Script.{FailsNext, Counts};
 ghost use Rattle.rl_io.specs.Outside.{Appends, GoesOn};

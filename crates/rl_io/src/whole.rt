@@ -1,6 +1,6 @@
-// Files that are read whole, and texts that are written whole.
+//! Files that are read whole, and texts that are written whole.
 ghost use Rattle.std.specs.Prelude.{◌≡◌, ◌≤◌, ◌<◌, ◌+◌, ℕ, List, [], ◌++◌, ◌⊎◌, Some, length, take, IfOk, OnOk, OnErr, IsErrOf, IsTrue};
-ghost use Rattle.rl_io.specs.Outside.{Appends, GoesOn, Gave, IsTail, IsWhole, IsLonger, SameFiles};
+ghost use Rattle.rl_io.specs.Outside.{Appends, GoesOn, Gave, IsTail, IsWholeWithin, IsLonger, SameFiles};
 ghost use Rattle.rl_io.specs.Whole.{RisesWithFault, is_fault};
 
 use crate::outside::{Failed, Sink, Source};
@@ -88,8 +88,9 @@ pub fn read_file<S: Source>(
     max: u32,
 ) -> Result<Vec<u8>, ReadErr>
     requires { IsTrue (S.may_open source.old name.now) }
-    ensures whole { IfOk result (λ bytes. (length bytes.items ≤ max) × IsWhole (S.file source.old name.now) bytes.items (S.left source.new)) }
-    ensures too_long { (limit : ℕ) → IsErrOf result (ReadErr.TooLong limit) → (limit ≡ max) × IsLonger (S.file source.old name.now) max (S.left source.new) }
+    ensures whole { IfOk result (λ bytes. IsWholeWithin max (S.file source.old name.now) bytes.items (S.left source.new)) }
+    ensures too_long { (limit : ℕ) → IsErrOf result (ReadErr.TooLong limit) →
+        (limit ≡ max) × IsLonger (S.file source.old name.now) max (S.left source.new) }
     ensures faults { RisesWithFault is_fault result (S.faults source.old) (S.faults source.new) }
     // After an error the rest of the file is left, or no file is open.
     ensures tail { OnErr result (IsTail (S.file source.old name.now) (S.left source.new) ⊎ (S.left source.new ≡ Some [])) }

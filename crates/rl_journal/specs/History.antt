@@ -4,7 +4,7 @@ use Rattle.std.specs.List.{AllByRecursion}
 use Rattle.rl_model.specs.declared.entry.Entry.{Entry}
 use Rattle.rl_model.specs.declared.geom.Geom.{Geom}
 use Rattle.rl_model.specs.Table.{Table, apply}
-use Rattle.rl_journal.specs.Legal.{updates, table_after, blocks_joined, IsLegalBlock}
+use Rattle.rl_journal.specs.Legal.{updates, table_after, blocks_joined, IsLegalBlock, IsLegal}
 use Rattle.rl_journal.specs.Ranks.{IsInOrder}
 
 -- the entry is no update, and looked at this count
@@ -36,7 +36,8 @@ pub record IsReadAlone (geom : Geom) (t : Table) (n : ℕ) (b : List Entry) : Ty
 abbrev pub IsReplayed : Geom → Table → ℕ → List (List Entry) → Type 0
 IsReplayed geom t n [] = Unit {0}
 IsReplayed geom t n (b ∷ bs) =
-    ((r : IsReadAlone geom t n b) × IsReplayed geom (apply geom r.entry.call t).0 n bs) ⊎ (IsLegalBlock geom t n b × IsReplayed geom (table_after geom t b) (n + length b) bs)
+    ((r : IsReadAlone geom t n b) × IsReplayed geom (apply geom r.entry.call t).0 n bs) ⊎
+    (IsLegalBlock geom t n b × IsReplayed geom (table_after geom t b) (n + length b) bs)
 
 -- entries split wholly into such blocks
 pub record IsReplayedByOneThread (geom : Geom) (t : Table) (n : ℕ) (es : List Entry) : Type 0 where
@@ -65,3 +66,7 @@ IsSorted (e ∷ es) = AllByRecursion (Precedes e) es × IsSorted es
 abbrev pub AreOwn : ℕ → List (List Entry) → Type 0
 AreOwn r [] = Unit {0}
 AreOwn r (t ∷ ts) = (AllByRecursion (λ e. e.rank ≡ r) t × IsInOrder t) × AreOwn (r + 1) ts
+
+-- it is so of every legal journal with the transcripts of the ranks
+abbrev pub OfLegal : (Geom → List Entry → List (List Entry) → Type 0) → Type 0
+OfLegal P = (geom : Geom) (journal : List Entry) (ts : List (List Entry)) → IsLegal geom journal ts → P geom journal ts

@@ -134,7 +134,8 @@ Agrees words from list = (i : ℕ) → i < length list → slice_index words (fr
 -- the six words from a word on
 abbrev pub six_from : List ℕ → ℕ → List ℕ
 six_from words base =
-    slice_index words base ∷ slice_index words (base + 1) ∷ slice_index words (base + 2) ∷ slice_index words (base + 3) ∷ slice_index words (base + 4) ∷ slice_index words (base + 5) ∷ []
+    slice_index words base ∷ slice_index words (base + 1) ∷ slice_index words (base + 2) ∷ slice_index words (base + 3) ∷ slice_index words
+    (base + 4) ∷ slice_index words (base + 5) ∷ []
 
 -- so many entries from place p on, of a shard's journal that begins at a word
 abbrev pub entries_from : ℕ → List ℕ → ℕ → ℕ → ℕ → List Entry

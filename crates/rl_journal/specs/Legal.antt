@@ -68,3 +68,7 @@ pub record IsLegal (geom : Geom) (journal : List Entry) (transcripts : List (Lis
   pub reads_are : (k : ℕ) (t : List Entry) → slice_get transcripts k ≡ Some t → All (IsLegalRead geom journal) t
   pub ranks_are : All (λ e. e.rank < length transcripts) journal
   pub updates_are : (k : ℕ) (t : List Entry) → slice_get transcripts k ≡ Some t → filter updates t ≡ filter (is_of k) journal
+
+-- it is so of every legal block that a table is done by
+abbrev pub OfLegalBlock : (Geom → Table → List Entry → Type 0) → Type 0
+OfLegalBlock P = (geom : Geom) (t : Table) (n : ℕ) (b : List Entry) → IsLegalBlock geom t n b → P geom t b

@@ -44,4 +44,5 @@ pub record IsRankInOrder (geom : Geom) (rank : ℕ) (calls : List Asked) (n : �
 abbrev pub AreAsked : Geom → ℕ → List Asked → ℕ → ℕ → List Entry → Type 0
 AreAsked geom rank calls s n [] = Unit {0}
 AreAsked geom rank calls s n (e ∷ es) =
-    ((e.seq ≡ n) × IsOwn s rank e × (slice_get calls n ≡ Some (record { call = e.call; batch = e.batch; part = e.part })) × (shard_of geom e.call ≡ s)) × AreAsked geom rank calls s (n + 1) es
+    ((e.seq ≡ n) × IsOwn s rank e × (slice_get calls n ≡ Some (record { call = e.call; batch = e.batch; part = e.part })) ×
+    (shard_of geom e.call ≡ s)) × AreAsked geom rank calls s (n + 1) es

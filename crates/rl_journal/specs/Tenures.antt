@@ -32,4 +32,5 @@ tenures_of spares history tallies queue =
 pub record AreTallied (queues : List QueueOf) (spares : Bool) (history : List Entry) (tallies : List Tally) : Type 0 where
   pub each : length tallies ≡ length queues
   pub budgets : (q budget : ℕ) (d : QueueOf) → slice_get queues q ≡ Some d → d.budget ≡ Some budget → IsWithinBudget (tally_at q tallies) budget
-  pub tenures : (q : ℕ) (d : QueueOf) → slice_get queues q ≡ Some d → (tally_at q tallies).settled + (tally_at q tallies).passed ≡ tenures_of spares history tallies d
+  pub tenures : (q : ℕ) (d : QueueOf) → slice_get queues q ≡ Some d →
+      (tally_at q tallies).settled + (tally_at q tallies).passed ≡ tenures_of spares history tallies d

@@ -5,10 +5,9 @@ ghost use Rattle.rl_core.specs.ShardLaws.{MayOpen};
 ghost use Rattle.rl_machine.specs.ShardSteps.{numbered, opened_on, atom_on, block_on, answer_on};
 ghost use Rattle.rl_machine.specs.State.{shard_view, running_shard, IsGood, IsGoodFlat, StaysGood, OfView, ViewBecomes};
 
-use arrayvec::ArrayVec;
 use rl_core::ShardCore;
 use rl_model::Call;
-use rl_step::{Event, Flat, Stepped, advance_flat};
+use rl_step::{Event, Events, Flat, Stepped, advance_flat};
 use std::alloc::AllocError as OutOfMemory;
 
 /// How many events one atom can have.
@@ -73,7 +72,7 @@ fn atom_on<C: ShardCore>(shard: &mut ShardState<C>, rank: u32, step: u32) -> Ste
     ensures answer { result ≡ answer_on rank (running_shard C.says shard.old) }
     ensures core { shard.new.core ≡ shard.old.core }
 {
-    let mut events = ArrayVec::new();
+    let mut events = Events::new();
     let stepped = advance_flat(&shard.core, &mut shard.flat, rank, &mut events);
     note(&mut shard.events, step, events.as_slice());
     stepped

@@ -14,12 +14,9 @@ use crate::summary::summary_text;
 use rl_core::{Resting, TellsAll};
 use rl_locks::AlockCore;
 use rl_machine::Machine;
-use rl_ops::Ops;
+use rl_ops::{MOST_STEPS, Ops};
 use rl_place::Place;
 use std::alloc::{AllocError as OutOfMemory, Global};
-
-/// A run of laps has at most so many steps.
-const MOST_STEPS: u32 = 2_000_000;
 
 /// What is counted of a run of laps, of at most so many steps, with this kind of lock.
 fn counts_of_laps<C: Resting + TellsAll>(

@@ -1,7 +1,7 @@
 //! RMA-MCS says who goes on.
 
 ghost use Rattle.rl_tree.specs.TreeShape.{levels_of};
-ghost use Rattle.rl_tree.specs.laws.TreeLaid.{laid_shaped};
+ghost use Rattle.rl_tree.specs.laws.TreeLaid.{well_shaped};
 ghost use Rattle.rl_mcs.specs.McsUrgency.{mcs_urgent};
 ghost use Rattle.rl_mcs.specs.laws.McsGuiding.{mcs_guides};
 
@@ -22,5 +22,5 @@ impl Guiding for Mcs {
         }
     }
 
-    ghost guides = { λ s. mcs_guides s.tree.rooted (levels_of s.tree.rooted.shape) (laid_shaped s.tree.rooted (levels_of s.tree.rooted.shape) s.tree.laid) };
+    ghost guides = { λ s. mcs_guides s.tree.rooted (levels_of s.tree.rooted.shape) (well_shaped s.tree.rooted s.tree.laid) };
 }

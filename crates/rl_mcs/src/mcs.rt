@@ -3,18 +3,17 @@
 ghost use Rattle.std.specs.Prelude.{◌≡◌, ◌≤◌, None, refl, length, true};
 ghost use Rattle.rl_word.specs.declared.locks.LockName.TheVariants as TheName;
 ghost use Rattle.rl_word.specs.Shapes.{layout_of};
-ghost use Rattle.rl_step.specs.Lock.{no_more};
+ghost use Rattle.rl_step.specs.Lock.{no_more, told_as};
 ghost use Rattle.rl_tree.specs.laws.SameViews.{same_tree};
 ghost use Rattle.rl_tree.specs.Tree.{at_hook};
 ghost use Rattle.rl_tree.specs.Elements.{tree_of};
 ghost use Rattle.rl_tree.specs.Fits.{IsPlaced};
 ghost use Rattle.rl_tree.specs.TreeShape.{IsBudgeted, levels_of};
-ghost use Rattle.rl_tree.specs.laws.TreeLaid.{laid_shaped};
+ghost use Rattle.rl_tree.specs.laws.TreeLaid.{well_shaped};
 ghost use Rattle.rl_mcs.specs.Mcs.{mcs_tree, past_hook as past_the_hook, mcs_table, McsGood};
 ghost use Rattle.rl_mcs.specs.laws.McsLaws.{mcs_laws};
 
-use arrayvec::ArrayVec;
-use rl_step::{Algo, Event, Standing};
+use rl_step::{Algo, Events, Standing};
 use rl_tree::{Tree, TreeView, tree_enter};
 use rl_word::{Act, Knobs, LockName, Mode, Shape, Spot};
 use std::alloc::{AllocError as OutOfMemory, Global};
@@ -32,10 +31,11 @@ pub struct Mcs {
 
 /// Goes on from the hook in the same act: nothing is above the root. Whether the load that led to the view has to be made again.
 #[inline(always)]
-fn past_hook(tree: &Tree, view: &mut TreeView, waits: bool, events: &mut ArrayVec<Event, 8>) -> bool
+fn past_hook(tree: &Tree, view: &mut TreeView, waits: bool, events: &mut Events) -> bool
     requires placed { at_hook view.old ≡ true → IsPlaced tree.now.rooted view.old }
     requires room { at_hook view.old ≡ true → length events.old.items ≤ 3 }
-    ensures { record { view = view.new; events = events.new.items; waits = result } ≡ past_the_hook (tree_of tree.now.rooted) (at_hook view.old) (record { view = view.old; events = events.old.items; waits = waits }) }
+    ensures { told_as view.new events.new.items result ≡
+        past_the_hook (tree_of tree.now.rooted) (at_hook view.old) (told_as view.old events.old.items waits) }
 {
     if view.is_at_hook() {
         tree.resume(view, events);
@@ -101,7 +101,7 @@ impl Algo for Mcs {
     }
 
     #[inline(always)]
-    fn learn(&self, view: &mut TreeView, got: u64, events: &mut ArrayVec<Event, 8>) -> bool {
+    fn learn(&self, view: &mut TreeView, got: u64, events: &mut Events) -> bool {
         let turn = self.tree.learn(view, got, events);
         let waits = past_hook(&self.tree, view, turn, events);
         tree_enter(view, events);
@@ -118,5 +118,5 @@ impl Algo for Mcs {
 
     ghost same_views = { same_tree };
 
-    ghost laws = { λ s. mcs_laws s.tree.rooted (levels_of s.tree.rooted.shape) (laid_shaped s.tree.rooted (levels_of s.tree.rooted.shape) s.tree.laid) s.unlimited };
+    ghost laws = { λ s. mcs_laws s.tree.rooted (levels_of s.tree.rooted.shape) (well_shaped s.tree.rooted s.tree.laid) s.unlimited };
 }

@@ -1,6 +1,6 @@
 -- The shape of a placement, and what its lock reads.
-use Rattle.std.specs.Prelude.{ℕ, ◌-◌, List, length, map, slice_get, Option, Some, None, ◌==◌, if◌then◌else◌}
-use Rattle.std.specs.List.{position_or_len}
+use Rattle.std.specs.Prelude.{ℕ, ◌-◌, ◌<◌, ◌≤◌, List, length, map, slice_get, Option, Some, None, ◌==◌, if◌then◌else◌}
+use Rattle.std.specs.List.{AllByRecursion, position_or_len}
 use Rattle.rl_word.specs.declared.shapes.Element.{Element}
 use Rattle.rl_word.specs.declared.shapes.Knobs.{Knobs}
 use Rattle.rl_word.specs.Shapes.{TheShape}
@@ -41,14 +41,22 @@ element_of lock nodes elements name = record {
   budget = budget_of lock name.len;
 }
 
+-- the names of elements have three numbers at most, and there are so few nodes and elements that 32 bits number them
+abbrev pub MayBeNumbered : List Path → List Path → Type 0
+MayBeNumbered nodes elements = AllByRecursion (λ (name : Path). name.len ≤ 3) elements × (length nodes < 4294967296) × (length elements < 4294967296)
+
+-- the shape of these nodes and elements, with a lock and the path of each rank
+abbrev pub shape_with : Lock → List Path → List Path → List Path → TheShape
+shape_with lock paths nodes elements = record {
+  node_of = map (number_in nodes) paths;
+  nodes = length nodes;
+  leaf_of = map (number_in elements) nodes;
+  elements = map (element_of lock nodes elements) elements;
+}
+
 -- the shape of a placement
 abbrev pub shape_of : ThePlace → TheShape
-shape_of place = record {
-  node_of = map (number_in (node_paths place.paths)) place.paths;
-  nodes = length (node_paths place.paths);
-  leaf_of = map (number_in (element_paths place.paths)) (node_paths place.paths);
-  elements = map (element_of place.lock (node_paths place.paths) (element_paths place.paths)) (element_paths place.paths);
-}
+shape_of place = shape_with place.lock place.paths (node_paths place.paths) (element_paths place.paths)
 
 -- the settings that a lock reads, with 0 for those that it doesn't have
 abbrev pub knobs_of : Lock → Knobs

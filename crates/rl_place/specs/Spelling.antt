@@ -18,6 +18,10 @@ setting_words name n = name ∷ decimal n ∷ []
 abbrev pub budget_words : List ℕ → List (List ℕ)
 budget_words budgets = codes "budget" ∷ map decimal budgets
 
+-- `writers TW`, `readers TR`, `group G`
+abbrev pub counter_lines : ℕ → ℕ → ℕ → List (List (List ℕ))
+counter_lines writers readers group = setting_words (codes "writers") writers ∷ setting_words (codes "readers") readers ∷ setting_words (codes "group") group ∷ []
+
 -- the lines of the lock's settings
 abbrev pub settings_lines : Lock → List (List (List ℕ))
 settings_lines Spin = []
@@ -27,11 +31,7 @@ settings_lines (Seq local remote) = budget_words (local ∷ remote ∷ []) ∷ [
 settings_lines (Combine local remote) = budget_words (local ∷ remote ∷ []) ∷ []
 settings_lines (Mcs budgets) = budget_words budgets ∷ []
 settings_lines (Rw budgets writers readers group) =
-    budget_words budgets
-    ∷ setting_words (codes "writers") writers
-    ∷ setting_words (codes "readers") readers
-    ∷ setting_words (codes "group") group
-    ∷ []
+    budget_words budgets ∷ counter_lines writers readers group
 
 -- lock NAME, and the lines of the lock's settings
 abbrev pub lock_lines : Lock → List (List (List ℕ))

@@ -1,10 +1,10 @@
 //! The printer of a placement.
-ghost use Rattle.std.specs.Prelude.{◌≡◌, ◌∷◌, [], codes, get_or, IfOk};
+ghost use Rattle.std.specs.Prelude.{◌≡◌, get_or, IfOk};
 ghost use Rattle.rl_text.specs.Printing.{Puts};
 ghost use Rattle.rl_text.specs.Spelling.{line_text, text_of};
 ghost use Rattle.rl_place.specs.Numbering.{node_paths};
 ghost use Rattle.rl_place.specs.Paths.{root_path};
-ghost use Rattle.rl_place.specs.Spelling.{setting_words, budget_words, settings_lines, lock_lines, geom_lines, rank_words, rank_lines, home_words, home_lines, place_spelling};
+ghost use Rattle.rl_place.specs.Spelling.{setting_words, budget_words, counter_lines, settings_lines, lock_lines, geom_lines, rank_words, rank_lines, home_words, home_lines, place_spelling};
 
 use crate::lock::Lock;
 use crate::lock_words::lock_word;
@@ -47,7 +47,7 @@ fn put_counters(
     readers: u32,
     group: u32,
 ) -> Result<(), OutOfMemory>
-    ensures { Puts result out.old out.new (text_of (setting_words (codes "writers") writers ∷ setting_words (codes "readers") readers ∷ setting_words (codes "group") group ∷ [])) }
+    ensures { Puts result out.old out.new (text_of (counter_lines writers readers group)) }
 {
     put_setting(out, b"writers", writers)?;
     put_setting(out, b"readers", readers)?;

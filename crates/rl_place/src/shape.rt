@@ -1,9 +1,8 @@
 //! The shape of a placement: where ranks sit, and the tree of elements above them.
 ghost use Rattle.std.specs.Prelude.{◌≡◌, ◌≤◌, ◌<◌, length, map, IfOk};
-ghost use Rattle.std.specs.List.{AllByRecursion};
 ghost use Rattle.rl_word.specs.Shapes.{IsProper as IsProperShape};
 ghost use Rattle.rl_place.specs.Places.{IsProper};
-ghost use Rattle.rl_place.specs.Shapes.{number_in, first_node_in, level_budget, budget_of, element_of, shape_of};
+ghost use Rattle.rl_place.specs.Shapes.{number_in, first_node_in, level_budget, budget_of, element_of, MayBeNumbered, shape_with, shape_of};
 
 use crate::lock::Lock;
 use crate::names::{elements_of, nodes_of, number_in, numbers_of};
@@ -82,7 +81,7 @@ fn elements_by_number(
     nodes: &[Path],
     names: &IndexSet<Path>,
 ) -> Result<Vec<Element>, OutOfMemory>
-    requires { AllByRecursion (λ name. name.len ≤ 3) names.now.keys × (length nodes.now < 4294967296) × (length names.now.keys < 4294967296) }
+    requires { MayBeNumbered nodes.now names.now.keys }
     ensures { IfOk result (λ elements. elements.items ≡ map (element_of lock.now nodes.now names.now.keys) names.now.keys) }
 {
     let mut elements = Vec::new(alloc);
@@ -100,8 +99,8 @@ fn shape_under(
     nodes: &IndexSet<Path>,
     names: &IndexSet<Path>,
 ) -> Result<Shape, OutOfMemory>
-    requires { AllByRecursion (λ name. name.len ≤ 3) names.now.keys × (length nodes.now.keys < 4294967296) × (length names.now.keys < 4294967296) }
-    ensures { IfOk result (λ shape. shape ≡ record { node_of = map (number_in nodes.now.keys) paths.now; nodes = length nodes.now.keys; leaf_of = map (number_in names.now.keys) nodes.now.keys; elements = map (element_of lock.now nodes.now.keys names.now.keys) names.now.keys }) }
+    requires { MayBeNumbered nodes.now.keys names.now.keys }
+    ensures { IfOk result (λ shape. shape ≡ shape_with lock.now paths.now nodes.now.keys names.now.keys) }
 {
     let node_of = numbers_of(alloc, nodes, paths)?;
     let leaf_of = numbers_of(alloc, names, nodes.as_slice())?;

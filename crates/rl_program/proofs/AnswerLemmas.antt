@@ -1,42 +1,105 @@
--- The answers to what isn't a replay: to words that are no form, to `make` and to `show`.
-use Rattle.std.proofs.Common.{◌≡◌, ℕ, List, [], Option, Some, None, Result, Ok, Err, IfOk, Vec, Global, ap, sym, subst, ◌∙◌}
-use Rattle.rl_inputs.specs.declared.complaint.Complaint.{Complaint}
-use Rattle.rl_program.specs.declared.complaint.Quit.{Quit}
-use Rattle.rl_inputs.specs.declared.complaint.Stop.{Stop}
-use Rattle.rl_inputs.specs.declared.complaint.Stop.TheVariants.{Refused}
-use Rattle.rl_program.specs.Command.{Asked, Make, Show, usage_text}
-use Rattle.rl_inputs.specs.Files.{Texts, refused_line}
+-- What came of the files that are asked for is an answer that belongs to them.
+use Rattle.std.proofs.Common.{◌≡◌, ℕ, List, [], Option, Some, None, Result, Ok, Err, IfOk, IfErr, Vec, Global, ap, sym, subst, refl, ◌∙◌}
+use Rattle.rl_check.specs.declared.illegal.Illegal.{Illegal}
+use Rattle.rl_check.specs.Legal.{report_tests}
+use Rattle.rl_check.specs.Tests.{IsFirstOf}
+use Rattle.rl_inputs.specs.declared.stop.Stop.{Stop}
+use Rattle.rl_inputs.specs.declared.stop.Stop.TheVariants as stop
+use Rattle.rl_inputs.specs.Done.{TheAnswer, Belongs}
+use Rattle.rl_inputs.specs.Files.{Names}
 use Rattle.rl_inputs.specs.Reading.{WasRead}
+use Rattle.rl_inputs.proofs.ReadLemmas.{no_texts, replay_texts}
 use Rattle.rl_making.specs.Summary.{made_summary}
-use Rattle.rl_program.specs.Answer.{shown, TheAnswer, Gives, WasAnswered, answer_to}
+use Rattle.rl_program.specs.declared.checking.Checked.{Checked}
+use Rattle.rl_program.specs.Command.{Asked, Replay, Run, Check, Make, Show, RunNames, CheckNames, usage_text}
+use Rattle.rl_program.specs.RunAnswer.{WasRun, AnswersAsRead}
+use Rattle.rl_program.specs.CheckAnswer.{WereChecked, AnswersAsChecked, verdict}
+use Rattle.rl_program.specs.Answer.{shown, Answers, WasReplayed, WasAnsweredTo, answer_to}
 
--- what is said where the status is 0 goes without saying where nothing is asked of it
-nothing_kept : (result : Result TheAnswer Quit) → IfOk result (λ answer. answer.status ≡ 0 → Unit {0})
-nothing_kept (Ok answer) = λ zero. tt
-nothing_kept (Err why) = tt
+-- what belongs to a form belongs to the words that ask for it
+pub answered_as : (file : List ℕ → Option (List ℕ)) (form asked : Option Asked) (result : Result TheAnswer Stop) → form ≡ asked →
+    WasAnsweredTo form file result → WasAnsweredTo asked file result
+answered_as file form asked result e a = subst (λ z. WasAnsweredTo z file result) e a
 
--- the bytes of no files
-abbrev none : Texts
-none = record { place = []; calls = []; schedule = [] }
+-- ---- no file is named, so any bytes will do
 
--- no file is named, so any bytes will do
-pub formless : (file : List ℕ → Option (List ℕ)) (words : Option Asked) (result : Result TheAnswer Quit) → None ≡ words → Gives result (record { status = 1; text = usage_text }) → WasAnswered file words result
-formless file words result e gives = subst (λ asked. WasAnswered file asked result) e (record { texts = none; are = tt; gives = gives; kept = nothing_kept result })
+-- nothing but want of memory ended it
+abbrev WantsAtMost : Result TheAnswer Stop → Type 0
+WantsAtMost result = IfErr result (λ why. why ≡ stop.Memory)
 
-pub was_made : (file : List ℕ → Option (List ℕ)) (words : Option Asked) (number ranks calls : ℕ) (result : Result TheAnswer Quit) → Some (Make number ranks calls) ≡ words → Gives result (record { status = 0; text = made_summary number ranks calls }) → WasAnswered file words result
-was_made file words number ranks calls result e gives = subst (λ asked. WasAnswered file asked result) e (record { texts = none; are = tt; gives = gives; kept = nothing_kept result })
+nothing_refused : (belongs : TheAnswer → Type 0) (result : Result TheAnswer Stop) → IfOk result belongs → WantsAtMost result → Belongs belongs result
+nothing_refused belongs (Ok answer) is memory = is
+nothing_refused belongs (Err why) is memory = rw memory tt
 
-module _ (file : List ℕ → Option (List ℕ)) (place : List ℕ) where
-  -- the bytes of a placement alone
-  abbrev only : List ℕ → Texts
-  only bytes = record { place = bytes; calls = []; schedule = [] }
+pub formless : (file : List ℕ → Option (List ℕ)) (asked : Option Asked) (result : Result TheAnswer Stop) → None ≡ asked →
+    IfOk result (λ answer. answer ≡ record { status = 1; text = usage_text }) → WantsAtMost result → WasAnsweredTo asked file result
+formless file asked result e is memory =
+    subst (λ z. WasAnsweredTo z file result) e
+    (record { texts = no_texts; are = tt; belongs = nothing_refused (Answers None no_texts) result is memory })
 
-  pub was_shown : (text : Vec ℕ Global) (answer : TheAnswer) → WasRead {X = Vec ℕ Global} (file place) (λ text. text.items) shown (Ok text) → answer ≡ record { status = 0; text = text.items } → WasAnswered file (Some (Show place)) (Ok answer)
-  was_shown text answer read is = record { texts = only read.bytes; are = read.fits; gives = is ∙ ap (answer_to (λ which. place)) (sym read.ends); kept = λ zero. tt }
+pub was_made : (file : List ℕ → Option (List ℕ)) (asked : Option Asked) (number ranks calls : ℕ) (result : Result TheAnswer Stop) →
+    Some (Make number ranks calls) ≡ asked → IfOk result (λ answer. answer ≡ record { status = 0; text = made_summary number ranks calls }) →
+    WantsAtMost result → WasAnsweredTo asked file result
+was_made file asked number ranks calls result e is memory =
+    let belongs = nothing_refused (Answers (Some (Make number ranks calls)) no_texts) result is memory in
+    subst (λ z. WasAnsweredTo z file result) e (record { texts = no_texts; are = tt; belongs = belongs })
 
-  pub was_refused : (complaint : Complaint) (result : Result TheAnswer Quit) → WasRead {X = Vec ℕ Global} (file place) (λ text. text.items) shown (Err (Refused complaint)) → Gives result (record { status = 2; text = refused_line place complaint.trouble }) → WasAnswered file (Some (Show place)) result
-  was_refused complaint result read gives =
-      record { texts = only read.bytes; are = read.fits; gives = subst (λ told. Gives result (answer_to (λ which. place) told)) (sym read.ends) gives; kept = nothing_kept result }
+module _ (file : List ℕ → Option (List ℕ)) where
+  -- ---- the shape of a placement
 
-  pub not_shown : (why : Stop) (quit : Quit) → WasRead {X = Vec ℕ Global} (file place) (λ text. text.items) shown (Err why) → WasAnswered file (Some (Show place)) (Err quit)
-  not_shown why quit read = record { texts = only read.bytes; are = read.fits; gives = tt; kept = tt }
+  module _ (place : List ℕ) where
+    pub show_answered : (text : Vec ℕ Global) (answer : TheAnswer) → WasRead {X = Vec ℕ Global} (file place) (λ text. text.items) (shown place) (Ok text) →
+        answer ≡ record { status = 0; text = text.items } → WasAnsweredTo (Some (Show place)) file (Ok answer)
+    show_answered text answer read is = record { texts = replay_texts read.bytes [] []; are = read.fits; belongs = is ∙ ap answer_to (sym read.ends) }
+
+    pub show_stopped : (why : Stop) → WasRead {X = Vec ℕ Global} (file place) (λ text. text.items) (shown place) (Err why) →
+        WasAnsweredTo (Some (Show place)) file (Err why)
+    show_stopped (stop.Refused line) read = record { texts = replay_texts read.bytes [] []; are = read.fits; belongs = ap answer_to (sym read.ends) }
+    show_stopped stop.Fault read = record { texts = replay_texts read.bytes [] []; are = read.fits; belongs = tt }
+    show_stopped stop.Memory read = record { texts = replay_texts read.bytes [] []; are = read.fits; belongs = tt }
+
+  -- ---- a replay
+
+  module _ (names : Names) where
+    pub replay_answered : (text : Vec ℕ Global) (answer : TheAnswer) → WasReplayed file names (Ok text) →
+        answer ≡ record { status = 0; text = text.items } → WasAnsweredTo (Some (Replay names)) file (Ok answer)
+    replay_answered text answer w is =
+        subst (λ z. WasAnsweredTo (Some (Replay names)) file (Ok z)) (sym is)
+        (record { texts = w.texts; are = w.are; belongs = (ap answer_to (sym w.ends), λ zero. w.replay) })
+
+    pub replay_stopped : (why : Stop) → WasReplayed file names (Err why) → WasAnsweredTo (Some (Replay names)) file (Err why)
+    replay_stopped (stop.Refused line) w = record { texts = w.texts; are = w.are; belongs = (ap answer_to (sym w.ends), λ zero. absurd cc) }
+    replay_stopped stop.Fault w = record { texts = w.texts; are = w.are; belongs = tt }
+    replay_stopped stop.Memory w = record { texts = w.texts; are = w.are; belongs = tt }
+
+  -- ---- a run
+
+  module _ (names : RunNames) where
+    pub run_answered : (text : Vec ℕ Global) (answer : TheAnswer) → WasRun file names (Ok text) →
+        answer ≡ record { status = 0; text = text.items } → WasAnsweredTo (Some (Run names)) file (Ok answer)
+    run_answered text answer w is =
+        let belongs = subst (λ told. AnswersAsRead w.texts told (record { status = 0; text = text.items })) (sym w.read.1) (refl, w.run) in
+        subst (λ z. WasAnsweredTo (Some (Run names)) file (Ok z)) (sym is) (record { texts = w.texts; are = w.are; belongs = belongs })
+
+    pub run_stopped : (why : Stop) → WasRun file names (Err why) → WasAnsweredTo (Some (Run names)) file (Err why)
+    run_stopped (stop.Refused line) w = record { texts = w.texts; are = w.are; belongs = rw w.read refl }
+    run_stopped stop.Fault w = record { texts = w.texts; are = w.are; belongs = tt }
+    run_stopped stop.Memory w = record { texts = w.texts; are = w.are; belongs = tt }
+
+  -- ---- a check
+
+  module _ (names : CheckNames) where
+    pub check_answered : (read : Checked) (found : Option Illegal) (answer : TheAnswer) → WereChecked file names (Ok read) →
+        IsFirstOf (report_tests read.place read.ops read.report) found → answer ≡ verdict found →
+        WasAnsweredTo (Some (Check names)) file (Ok answer)
+    check_answered read found answer w first is =
+        record { texts = w.texts; are = w.are; belongs = subst (λ told. AnswersAsChecked told answer) (sym w.ends) (found, first, is) }
+
+    pub check_stopped : (why : Stop) → WereChecked file names (Err why) → WasAnsweredTo (Some (Check names)) file (Err why)
+    check_stopped (stop.Refused line) w = record { texts = w.texts; are = w.are; belongs = rw w.ends refl }
+    check_stopped stop.Fault w = record { texts = w.texts; are = w.are; belongs = tt }
+    check_stopped stop.Memory w = record { texts = w.texts; are = w.are; belongs = tt }
+
+    -- and memory ran out after the reading
+    pub check_wants : (read : Checked) → WereChecked file names (Ok read) → WasAnsweredTo (Some (Check names)) file (Err stop.Memory)
+    check_wants read w = record { texts = w.texts; are = w.are; belongs = tt }

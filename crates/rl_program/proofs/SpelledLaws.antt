@@ -15,13 +15,10 @@ use Rattle.rl_ops.specs.Schedule.{ScheduleFits, schedule_spelling}
 use Rattle.rl_ops.specs.ScheduleReading.{schedule_at}
 use Rattle.rl_ops.proofs.OpsLaws.{ops-takes}
 use Rattle.rl_ops.proofs.ScheduleLaws.{schedule-takes}
-use Rattle.rl_inputs.specs.declared.complaint.Which.{Which}
-use Rattle.rl_inputs.specs.declared.complaint.Which.TheVariants as which
-use Rattle.rl_inputs.specs.declared.complaint.Complaint.{Complaint}
 use Rattle.rl_inputs.specs.Reading.{◌>>=◌, within, refused_in, as_done, placed, called, scheduled}
 
 -- what follows a step that went well
-pub step_ok : {A B : Type 0} (r : Result A Complaint) (f : A → Result B Complaint) (y : B) → (r >>= f) ≡ Ok y → (x : A) × (r ≡ Ok x) × (f x ≡ Ok y)
+pub step_ok : {A B : Type 0} (r : Result A (List ℕ)) (f : A → Result B (List ℕ)) (y : B) → (r >>= f) ≡ Ok y → (x : A) × (r ≡ Ok x) × (f x ≡ Ok y)
 step_ok (Ok x) f y e = (x, refl, e)
 step_ok (Err d) f y e = absurd cc
 
@@ -42,39 +39,43 @@ as_it_was : {A E : Type 0} (b : Bool) (x y : A) (d : E) → (if b then Err d els
 as_it_was true x y d e = absurd cc
 as_it_was {E = E} false x y d e = same_value {E = E} x y e
 
-refused_ok : {X : Type 0} (kind : Which) (r : Result X Refusal) (x : X) → refused_in kind r ≡ Ok x → r ≡ Ok x
-refused_ok kind (Ok a) x e = ap (λ z. Ok z) (same_value {E = Complaint} a x e)
-refused_ok kind (Err d) x e = absurd cc
+refused_ok : {X : Type 0} (name : List ℕ) (r : Result X Refusal) (x : X) → refused_in name r ≡ Ok x → r ≡ Ok x
+refused_ok name (Ok a) x e = ap (λ z. Ok z) (same_value {E = List ℕ} a x e)
+refused_ok name (Err d) x e = absurd cc
 
 -- a file that is short enough and was read
-read_ok : {X : Type 0} (kind : Which) (most : ℕ) (reading : List ℕ → Result X Refusal) (bytes : List ℕ) (x : X) → (within kind most bytes >>= λ text. refused_in kind (reading text)) ≡ Ok x → reading bytes ≡ Ok x
-read_ok kind most reading bytes x e =
-    let a = step_ok (within kind most bytes) (λ text. refused_in kind (reading text)) x e in
+read_ok : {X : Type 0} (name : List ℕ) (most : ℕ) (reading : List ℕ → Result X Refusal) (bytes : List ℕ) (x : X) →
+    (within name most bytes >>= λ text. refused_in name (reading text)) ≡ Ok x → reading bytes ≡ Ok x
+read_ok name most reading bytes x e =
+    let a = step_ok (within name most bytes) (λ text. refused_in name (reading text)) x e in
     let same : bytes ≡ a.0 = (passed_with (nat_le (length bytes) most) bytes a.0 _ a.1).1 in
-    subst (λ text. reading text ≡ Ok x) (sym same) (refused_ok kind (reading a.0) x a.2)
+    subst (λ text. reading text ≡ Ok x) (sym same) (refused_ok name (reading a.0) x a.2)
 
 -- a placement that was read
 pub record PlaceRead (bytes : List ℕ) (place : ThePlace) : Type 0 where
   pub proper : IsProper place
   pub spelled : bytes ≡ place_spelling place
 
-pub place_read : (bytes : List ℕ) (place : ThePlace) → placed bytes ≡ Ok place → PlaceRead bytes place
+pub place_read : (name bytes : List ℕ) (place : ThePlace) → placed name bytes ≡ Ok place → PlaceRead bytes place
 unfolding placed
-place_read bytes place e =
-    let taken = place-takes bytes place (read_ok which.Place 4194304 place_at bytes place e) in
+place_read name bytes place e =
+    let taken = place-takes bytes place (read_ok name 4194304 place_at bytes place e) in
     record { proper = taken.proper; spelled = taken.spelled }
 
-pub calls_read : (place : ThePlace) (bytes : List ℕ) (ops : Ops) → length place.paths < 2 ^ 32 → place.geom.shards < 2 ^ 32 → called place bytes ≡ Ok ops → SpellsOps (length place.paths) place.geom.shards ops bytes
+pub calls_read : (name : List ℕ) (place : ThePlace) (bytes : List ℕ) (ops : Ops) → length place.paths < 2 ^ 32 →
+    place.geom.shards < 2 ^ 32 → called name place bytes ≡ Ok ops → SpellsOps (length place.paths) place.geom.shards ops bytes
 unfolding called
-calls_read place bytes ops ranks shards e =
+calls_read name place bytes ops ranks shards e =
     let reading : List ℕ → Result Ops Refusal = ops_at (length place.paths) place.geom.shards in
-    let text = step_ok (within which.Calls 4194304 bytes) (λ text. refused_in which.Calls (reading text) >>= as_done place) ops e in
-    let calls = step_ok (refused_in which.Calls (reading text.0)) (as_done place) ops text.2 in
+    let text = step_ok (within name 4194304 bytes) (λ text. refused_in name (reading text) >>= as_done name place) ops e in
+    let calls = step_ok (refused_in name (reading text.0)) (as_done name place) ops text.2 in
     let same : calls.0 ≡ ops = as_it_was (not (does_batches (name_of place.lock)) && has_batch calls.0) calls.0 ops _ calls.2 in
-    let read = read_ok which.Calls 4194304 reading bytes calls.0 (ap (λ z. z >>= λ t. refused_in which.Calls (reading t)) text.1 ∙ calls.1) in
+    let read = read_ok name 4194304 reading bytes calls.0 (ap (λ z. z >>= λ t. refused_in name (reading t)) text.1 ∙ calls.1) in
     ops-takes (length place.paths) place.geom.shards bytes ops ranks shards (subst (λ z. reading bytes ≡ Ok z) same read)
 
-pub schedule_read : (place : ThePlace) (bytes : List ℕ) (schedule : Schedule) → length place.paths < 2 ^ 32 → scheduled place bytes ≡ Ok schedule → ScheduleFits (length place.paths) schedule × (bytes ≡ schedule_spelling schedule)
+pub schedule_read : (name : List ℕ) (place : ThePlace) (bytes : List ℕ) (schedule : Schedule) → length place.paths < 2 ^ 32 →
+    scheduled name place bytes ≡ Ok schedule → ScheduleFits (length place.paths) schedule × (bytes ≡ schedule_spelling schedule)
 unfolding scheduled
-schedule_read place bytes schedule ranks e =
-    let taken = schedule-takes (length place.paths) bytes schedule ranks (read_ok which.Schedule 16777216 (schedule_at (length place.paths)) bytes schedule e) in (taken.0, taken.1)
+schedule_read name place bytes schedule ranks e =
+    let taken = schedule-takes (length place.paths) bytes schedule ranks
+    (read_ok name 16777216 (schedule_at (length place.paths)) bytes schedule e) in (taken.0, taken.1)

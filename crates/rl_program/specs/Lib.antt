@@ -4,6 +4,7 @@ pub mod Headline
 pub mod RunHeadline
 pub mod ReadBack
 pub mod Command
-pub mod Answer
 pub mod RunAnswer
 pub mod CheckAnswer
+pub mod Answer
+pub mod laws

@@ -1,9 +1,8 @@
-// The words of the command line.
+//! The words of the command line.
 ghost use Rattle.std.specs.Prelude.{◌≡◌, map, string_bytes, IfSome};
 ghost use Rattle.std.specs.Option.{option_map};
 ghost use Rattle.rl_text.specs.Number.{number_of};
-ghost use Rattle.rl_program.specs.Command.{AskFits, asked, run_named, run_of, run_of_two, make_of, form_of, form_of_one as form_of_one_at, form_of_three as form_of_three_at};
-ghost use Rattle.rl_program.specs.CheckAnswer.{check_named, check_of, check_of_three};
+ghost use Rattle.rl_program.specs.Command.{AskFits, asked, make_of, form_of, form_of_one as form_of_one_at, form_of_two as form_of_two_at, form_of_three as form_of_three_at};
 
 use rl_inputs::Files;
 use rl_ops::MOST_CALLS;
@@ -17,11 +16,23 @@ pub struct RunFiles<'a> {
     pub calls: &'a str,
 }
 
+/// The files that a check names, in the order in which they are read.
+#[derive(Clone, Copy)]
+pub struct CheckFiles<'a> {
+    pub place: &'a str,
+    pub calls: &'a str,
+    pub report: &'a str,
+}
+
 /// What the words ask for.
 #[derive(Clone, Copy)]
 pub enum Form<'a> {
     /// The report of a replay.
     Replay(Files<'a>),
+    /// The report of a run by threads.
+    Run(RunFiles<'a>),
+    /// Whether a report is legal.
+    Check(CheckFiles<'a>),
     /// The summary of so many calls of so many ranks, made from a number.
     Make { number: u64, ranks: u32, calls: u32 },
     /// The shape of a placement.
@@ -57,6 +68,20 @@ fn form_of_one<'a>(verb: &str, word: &'a str) -> Option<Form<'a>>
     }
 }
 
+/// What a verb and two words ask for.
+fn form_of_two<'a>(verb: &str, first: &'a str, second: &'a str) -> Option<Form<'a>>
+    ensures asked { option_map asked result ≡ form_of_two_at verb.now first.now second.now }
+    ensures fits { IfSome result (λ form. AskFits (asked form)) }
+{
+    match verb {
+        "run" => Some(Form::Run(RunFiles {
+            place: first,
+            calls: second,
+        })),
+        _ => None,
+    }
+}
+
 /// What a verb and three words ask for.
 fn form_of_three<'a>(
     verb: &str,
@@ -74,85 +99,29 @@ fn form_of_three<'a>(
             schedule: third,
         })),
         "make" => make_form(first, second, third),
+        "check" => Some(Form::Check(CheckFiles {
+            place: first,
+            calls: second,
+            report: third,
+        })),
         _ => None,
     }
 }
 
-/// What the words ask for: `show PLACE`, `replay PLACE CALLS SCHEDULE` or `make NUMBER RANKS CALLS`, where NUMBER is below 2^64,
-/// RANKS 1 to 32 and CALLS at most 20,000. Nothing where they are no form.
+/// What the words ask for: `show PLACE`, `run PLACE CALLS`, `replay PLACE CALLS SCHEDULE`, `make NUMBER RANKS CALLS`, where NUMBER is below
+/// 2^64, RANKS 1 to 32 and CALLS at most 20,000, or `check PLACE CALLS REPORT`. Nothing where they are no form.
 pub fn form_of_words(words: &[String]) -> Option<Form<'_>>
     ensures asked { option_map asked result ≡ form_of (map string_bytes words.now) }
     ensures fits { IfSome result (λ form. AskFits (asked form)) }
 {
     match words {
         [verb, word] => form_of_one(verb.as_str(), word.as_str()),
+        [verb, first, second] => form_of_two(verb.as_str(), first.as_str(), second.as_str()),
         [verb, first, second, third] => form_of_three(
             verb.as_str(),
             first.as_str(),
             second.as_str(),
             third.as_str(),
-        ),
-        _ => None,
-    }
-}
-
-/// The files of a run, where the verb asks for one.
-fn run_files_of<'a>(verb: &str, place: &'a str, calls: &'a str) -> Option<RunFiles<'a>>
-    ensures { option_map run_named result ≡ run_of_two verb.now place.now calls.now }
-{
-    match verb {
-        "run" => Some(RunFiles { place, calls }),
-        _ => None,
-    }
-}
-
-/// The files that `run PLACE CALLS` names. Nothing where the words ask for no run.
-pub fn run_files(words: &[String]) -> Option<RunFiles<'_>>
-    ensures { option_map run_named result ≡ run_of (map string_bytes words.now) }
-{
-    match words {
-        [verb, place, calls] => run_files_of(verb.as_str(), place.as_str(), calls.as_str()),
-        _ => None,
-    }
-}
-
-/// The files that a check names, in the order in which they are read.
-#[derive(Clone, Copy)]
-pub struct CheckFiles<'a> {
-    pub place: &'a str,
-    pub calls: &'a str,
-    pub report: &'a str,
-}
-
-/// The files of a check, where the verb asks for one.
-fn check_files_of<'a>(
-    verb: &str,
-    place: &'a str,
-    calls: &'a str,
-    report: &'a str,
-) -> Option<CheckFiles<'a>>
-    ensures { option_map check_named result ≡ check_of_three verb.now place.now calls.now report.now }
-{
-    match verb {
-        "check" => Some(CheckFiles {
-            place,
-            calls,
-            report,
-        }),
-        _ => None,
-    }
-}
-
-/// The files that `check PLACE CALLS REPORT` names. Nothing where the words ask for no check.
-pub fn check_files(words: &[String]) -> Option<CheckFiles<'_>>
-    ensures { option_map check_named result ≡ check_of (map string_bytes words.now) }
-{
-    match words {
-        [verb, place, calls, report] => check_files_of(
-            verb.as_str(),
-            place.as_str(),
-            calls.as_str(),
-            report.as_str(),
         ),
         _ => None,
     }

@@ -14,7 +14,6 @@
 mod answer;
 mod checking;
 mod command;
-mod complaint;
 mod program;
 mod replaying;
 mod running;

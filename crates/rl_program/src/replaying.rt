@@ -10,11 +10,10 @@ ghost use Rattle.rl_check.specs.LawfulReplays.{IsLawfulReplay};
 ghost use Rattle.rl_check.specs.Legal.{IsLegalReport};
 ghost use Rattle.rl_inputs.specs.Files.{named};
 ghost use Rattle.rl_program.specs.Command.{Replay};
-ghost use Rattle.rl_locks.specs.Runs.{machine_after};
-ghost use Rattle.rl_reporting.specs.Reported.{report_in, queue_count};
-ghost use Rattle.rl_program.specs.Replay.{report_of_replay};
+ghost use Rattle.rl_program.specs.Replay.{IsReportOf, MayReplay, report_of_replay};
 ghost use Rattle.rl_program.specs.Headline.{IsKept, KeepsPromises};
-ghost use Rattle.rl_inputs.specs.Reading.{RisesWithFault, SuitsLock};
+ghost use Rattle.rl_io.specs.Whole.{RisesWithFault};
+ghost use Rattle.rl_inputs.specs.Reading.{SuitsLock, stopped_by_fault};
 ghost use Rattle.rl_program.specs.Answer.{MayRead, WasReplayed};
 
 use rl_check::report_laws;
@@ -43,7 +42,7 @@ fn report_with<C: Resting + Promising>(
     requires calls { OpsFit (length place.now.paths) place.now.geom.shards ops }
     requires suits { SuitsLock place.now ops }
     requires schedule { ScheduleFits (length place.now.paths) schedule.now }
-    ensures report { IfOk result (λ report. report ≡ report_in (queue_count place.now) (machine_after C.defined place.now ops schedule.now.turns)) }
+    ensures report { IfOk result (IsReportOf C.defined place.now ops schedule.now) }
     ensures kept { IfOk result (λ _. IsKept C.defined C.promised C.ways place.now ops schedule.now) }
     ensures lawful { IfOk result (λ report. IsLawfulReplay place.now ops report) }
 {
@@ -67,10 +66,10 @@ struct ReplayTask<'a> {
 impl CoreTask for ReplayTask<'_> {
     type Out = Result<Report, OutOfMemory>;
 
-    ghost takes = { λ r place. OpsFit (length place.paths) place.geom.shards r.ops × SuitsLock place r.ops × ScheduleFits (length place.paths) r.schedule.now };
+    ghost takes = { λ r place. MayReplay place r.ops r.schedule.now };
 
     ghost gives = { λ r place kind urgent result.
-        IfOk result (λ report. report ≡ report_in (queue_count place) (machine_after kind.defined place r.ops r.schedule.now.turns))
+        IfOk result (IsReportOf kind.defined place r.ops r.schedule.now)
         × IfOk result (λ _. IsKept kind.defined kind.promised kind.ways place r.ops r.schedule.now)
         × IfOk result (λ report. IsLawfulReplay place r.ops report) };
 
@@ -116,7 +115,7 @@ pub fn replay_report(
 pub fn replayed<S: Source>(alloc: Global, source: &mut S, files: Files<'_>) -> Result<Vec<u8>, Stop>
     requires { MayRead (S.may_open source.old) (Some (Replay (named files))) }
     ensures replayed { WasReplayed (S.file source.old) (named files.entry) result }
-    ensures faults { RisesWithFault result (S.faults source.old) (S.faults source.new) }
+    ensures faults { RisesWithFault stopped_by_fault result (S.faults source.old) (S.faults source.new) }
 {
     let place = read_placed(alloc, source, files.place)?;
     let ops = read_called(alloc, source, files.calls, &place)?;

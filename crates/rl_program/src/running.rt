@@ -5,9 +5,11 @@ ghost use Rattle.rl_ops.specs.Ops.{OpsFit};
 ghost use Rattle.rl_report.specs.Lawful.{IsLawful};
 ghost use Rattle.rl_run.specs.Made.{IsRunBy};
 ghost use Rattle.rl_locks.specs.Kinds.{lock_kind_of};
-ghost use Rattle.rl_inputs.specs.Reading.{RisesWithFault, SuitsLock};
-ghost use Rattle.rl_program.specs.Command.{run_named};
-ghost use Rattle.rl_program.specs.RunAnswer.{MayReadRun, WasRun};
+ghost use Rattle.rl_io.specs.Whole.{RisesWithFault};
+ghost use Rattle.rl_inputs.specs.Reading.{SuitsLock, stopped_by_fault};
+ghost use Rattle.rl_program.specs.Command.{Run, run_named};
+ghost use Rattle.rl_program.specs.Answer.{MayRead};
+ghost use Rattle.rl_program.specs.RunAnswer.{WasRun};
 
 use crate::command::RunFiles;
 use rl_check::report_laws;
@@ -61,9 +63,9 @@ pub fn run_text<S: Source, G: Gate, R: Threads + Wait + Sync>(
     files: RunFiles<'_>,
     gate: &G,
 ) -> Result<Vec<u8>, Stop>
-    requires { MayReadRun (S.may_open source.old) (Some (run_named files)) }
+    requires { MayRead (S.may_open source.old) (Some (Run (run_named files))) }
     ensures run { WasRun (S.file source.old) (run_named files.entry) result }
-    ensures faults { RisesWithFault result (S.faults source.old) (S.faults source.new) }
+    ensures faults { RisesWithFault stopped_by_fault result (S.faults source.old) (S.faults source.new) }
 {
     let place = read_placed(alloc, source, files.place)?;
     let ops = read_called(alloc, source, files.calls, &place)?;

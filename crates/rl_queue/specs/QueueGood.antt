@@ -1,5 +1,5 @@
 -- What is true of a queue over any words whose names give each member words of its own, and what an act of one member keeps of it.
-use Rattle.std.specs.Prelude.{◌≡◌, ◌≢◌, ℕ, ◌<◌, List, ◌+◌, ◌++◌, slice_index, slice_set}
+use Rattle.std.specs.Prelude.{◌≡◌, ◌≢◌, ℕ, ◌<◌, List, ◌++◌, slice_index, slice_set}
 use Rattle.rl_step.specs.declared.events.Event.{Event}
 use Rattle.rl_queue.specs.declared.view.Phase.{Phase}
 use Rattle.rl_queue.specs.Queue.{TheNames, queue_next_word, status_word, turn_at}

@@ -14,8 +14,7 @@ use crate::queue::{
 };
 use crate::ranks::rank_words;
 use crate::view::{QueueView, Stage};
-use arrayvec::ArrayVec;
-use rl_step::{Algo, Event, Standing};
+use rl_step::{Algo, Event, Events, Standing};
 use rl_word::{Act, Class, Knobs, LockName, Mode, Shape, Spot};
 use std::alloc::{AllocError as OutOfMemory, Global};
 
@@ -125,7 +124,7 @@ impl Algo for Dmcs {
     }
 
     #[inline(always)]
-    fn learn(&self, view: &mut QueueView, got: u64, events: &mut ArrayVec<Event, 8>) -> bool {
+    fn learn(&self, view: &mut QueueView, got: u64, events: &mut Events) -> bool {
         let turn = queue_learn(*view, &self.names, got, events);
         *view = turn.view;
         match queue_stage(turn.view) {

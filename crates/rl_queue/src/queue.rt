@@ -8,8 +8,7 @@ ghost use Rattle.rl_queue.specs.Standings.{standing_of};
 ghost use Rattle.rl_queue.specs.Urgency.{loaded, urgent_at};
 
 use crate::view::{Phase, QueueView, Stage};
-use arrayvec::ArrayVec;
-use rl_step::{Event, Learnt, Standing, Words};
+use rl_step::{Event, Events, Learnt, Standing, Words};
 use rl_word::{Act, Class};
 use std::marker::Model;
 
@@ -34,7 +33,15 @@ pub struct QueueNames {
 impl Model for QueueNames {
     ghost Value = { TheQueueNames };
 
-    ghost view = { λ a. record { queue = a.queue; tail = a.tail; tail_class = a.tail_class; next = a.next.items; status = a.status.items; budget = a.budget } };
+    ghost view = { λ a.
+        record {
+          queue = a.queue;
+          tail = a.tail;
+          tail_class = a.tail_class;
+          next = a.next.items;
+          status = a.status.items;
+          budget = a.budget;
+        } };
 }
 
 /// The view of a member in a phase.
@@ -181,7 +188,7 @@ pub fn queue_learn(
     view: QueueView,
     names: &QueueNames,
     got: u64,
-    events: &mut ArrayVec<Event, 8>,
+    events: &mut Events,
 ) -> Learnt<QueueView>
     requires named { PlanFits names.now view.member view.phase }
     requires fits { GotFits view.phase got }

@@ -1,5 +1,5 @@
 -- A rank's machine on one shard by its parts: its lock, and how its blocks are done.
-use Rattle.std.specs.Prelude.{ℕ, ◌+◌, List}
+use Rattle.std.specs.Prelude.{◌≡◌, ℕ, ◌+◌, List}
 use Rattle.rl_step.specs.declared.events.Event.{Event}
 use Rattle.rl_word.specs.Shapes.{TheShape}
 use Rattle.rl_word.specs.declared.shapes.Knobs.{Knobs}
@@ -59,3 +59,7 @@ kinds lock work shape home knobs = record { lock = lock shape home knobs; work =
 -- a lock whose words stand behind the journal of a site, and the work's own behind them
 abbrev pub lock_with : {V K : Type 0} → Kind V K → Site → LockAt V K
 lock_with T site = record { base = lock_base site; table = T.lock; work = T.work site (lock_base site + T.lock.size) }
+
+-- a machine's core has this lock behind the journal of this site
+abbrev pub HasLock : {A W V K : Type 0} → Tables A W V K → Kind V K → Site → Whole A W V K → Type 0
+HasLock table kind site core = lock_at table core ≡ lock_with kind site

@@ -20,7 +20,7 @@ use Rattle.rl_step.specs.declared.events.Stepped.{Stepped}
 use Rattle.rl_step.specs.declared.events.Stepped.TheVariants.{Moved, Waiting, Lost, Busy, Finished}
 use Rattle.rl_step.specs.Lock.{LockTable, Deed}
 use Rattle.rl_step.specs.Do.{TheWindow}
-use Rattle.rl_step.specs.Core.{CoreTable, Turned}
+use Rattle.rl_step.specs.Core.{CoreTable, MayGet, Turned}
 use Rattle.rl_step.specs.declared.cores.Plan.{Plan}
 use Rattle.rl_rank.specs.declared.card_state.CardState.{CardState}
 use Rattle.rl_rank.specs.declared.card_state.CardState.TheVariants.{Free, InCard, Loaded}
@@ -144,7 +144,8 @@ after_of L x got =
 
 -- the home of a word of the window: that of the shard below the lock's words, and behind them as the work says
 abbrev pub home_of_word : {V K : Type 0} → LockAt V K → ℕ → ℕ → ℕ
-home_of_word L home w = if nat_lt w L.base then home else if nat_lt (w - L.base) L.table.size then home_of L.table (w - L.base) else L.work.home (w - L.base - L.table.size)
+home_of_word L home w = if nat_lt w L.base then home else if nat_lt (w - L.base) L.table.size then home_of L.table
+    (w - L.base) else L.work.home (w - L.base - L.table.size)
 
 -- the whole machine as plain functions
 abbrev pub whole_table : {V K : Type 0} → LockAt V K → ℕ → CoreTable (WholeView V K)
@@ -209,6 +210,10 @@ pub record Good {V K : Type 0} (L : LockAt V K) (good : Goods V K) (layout : Lay
 -- the rule of the window of a core
 abbrev pub rule_of : {A W V K : Type 0} → Tables A W V K → Rules A W V K → (A → Layout) → Whole A W V K → TheWindow → List (WholeView V K) → Type 0
 rule_of table good layout core = Good (lock_at table core) (good_at good core) (layout core.algo)
+
+-- some state under that rule has this view and gives this number for its next atom
+abbrev pub CoreMayGet : {A W V K : Type 0} → Tables A W V K → Rules A W V K → (A → Layout) → Whole A W V K → WholeView V K → ℕ → Type 0
+CoreMayGet table good layout core = MayGet (whole_table (lock_at table core) core.home) (rule_of table good layout core)
 
 -- a lock word that an atom names fits, once it is shifted
 abbrev pub IsShiftable : ℕ → Atom → Type 0

@@ -33,4 +33,5 @@ card_urgency (ToLeave node) urgency = Some 0
 
 -- over a lock that says how urgent its ranks are
 abbrev pub whole_urgent : {V K : Type 0} → LockAt V K → UrgencyOf V → UrgencyOf (WholeView V K)
-whole_urgent L urgent words x = card_urgency x.side.card (free_urgency (urgent (lock_words L words) x.side.view) (L.table.standing x.side.view) (L.work.is_open x.work))
+whole_urgent L urgent words x =
+    card_urgency x.side.card (free_urgency (urgent (lock_words L words) x.side.view) (L.table.standing x.side.view) (L.work.is_open x.work))

@@ -13,7 +13,7 @@ use Rattle.rl_core.specs.Moments.{Moment, CoreSays}
 use Rattle.rl_rank.specs.declared.card_state.CardState.TheVariants.{Free}
 use Rattle.rl_rank.specs.declared.whole.Whole.{Whole}
 use Rattle.rl_rank.specs.declared.whole.WholeView.{WholeView}
-use Rattle.rl_rank.specs.Running.{LockAt, Tables, Goods, lock_at}
+use Rattle.rl_rank.specs.Running.{LockAt, Tables, Goods, Rules, lock_at, good_at}
 use Rattle.rl_rank.specs.Opening.{first_view, opened_in}
 use Rattle.rl_rank.specs.Split.{card_of}
 use Rattle.rl_rank.specs.Causes.{Cause}
@@ -79,3 +79,8 @@ pub record WholeGood {V K : Type 0} (L : LockAt V K) (good : Goods V K) (layout 
 abbrev pub whole_says : {V K : Type 0} → LockAt V K → Goods V K → (List Event → List Deed → Type 0) → Layout → ℕ → CoreSays (WholeView V K)
 whole_says L good further layout home =
     record { table = whole_shard L home; good = WholeGood L good layout; cause = Cause L; further = further; layout = layout }
+
+-- and of the machine of a core
+abbrev pub core_says : {A W V K : Type 0} → Tables A W V K → Rules A W V K → (A → List Event → List Deed → Type 0) → (A → Layout) → Whole A W V K →
+    CoreSays (WholeView V K)
+core_says table good further layout core = whole_says (lock_at table core) (good_at good core) (further core.algo) (layout core.algo) core.home

@@ -29,6 +29,7 @@ pub mod CardEnding
 pub mod LeftLaws
 pub mod WholeEnding
 pub mod WholeGuides
+pub mod OfCore
 pub mod Changes
 pub mod Domains
 pub mod Whole

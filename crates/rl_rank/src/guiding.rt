@@ -1,9 +1,9 @@
 //! Over a lock that says who goes on a shard says so too.
 
 ghost use Rattle.std.specs.Prelude.{◌≡◌};
-ghost use Rattle.rl_rank.specs.Running.{lock_at, tables, goods, good_at};
+ghost use Rattle.rl_rank.specs.Running.{lock_at, tables, goods};
 ghost use Rattle.rl_rank.specs.WholeGuiding.{out_urgency, whole_urgent};
-ghost use Rattle.rl_rank.specs.laws.WholeGuides.{whole_guides};
+ghost use Rattle.rl_rank.specs.laws.OfCore.{core_guides};
 
 use crate::card_state::CardState;
 use crate::whole::{Whole, WholeView};
@@ -38,5 +38,7 @@ impl<A: Guiding, W: WorkEnding> ShardGuiding for Whole<A, W> {
         }
     }
 
-    ghost guides = { λ c. whole_guides _ _ (lock_at (tables A.table W.table) c) (good_at (goods A.good W.good) c) (A.further c.algo) (A.layout c.algo) (record { lock = A.laws c.algo; work = W.laws c.work }) c.home (A.left c.algo) (A.most c.algo) (A.ends c.algo) (W.left c.work) (W.most c.work) (W.ends c.work) (A.urgent c.algo) (A.guides c.algo) };
+    ghost guides = { λ c.
+        core_guides (tables A.table W.table) (goods A.good W.good) A.further A.layout A.laws W.laws c A.left A.most A.ends
+        W.left W.most W.ends A.urgent A.guides };
 }

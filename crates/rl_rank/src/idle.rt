@@ -10,8 +10,7 @@ ghost use Rattle.rl_rank.specs.WholeShards.{shard_at};
 
 use crate::card_state::CardState;
 use crate::whole::{Whole, WholeView};
-use arrayvec::ArrayVec;
-use rl_step::{Algo, Core, Stepped, Words};
+use rl_step::{Algo, Core, Events, Stepped, Words};
 use rl_word::{Act, Atom};
 use rl_work::Work;
 
@@ -31,7 +30,7 @@ fn lock_waits<A: Algo, W: Work>(
 {
     let at = core.base + word;
     let value = words.value(at);
-    let mut events = ArrayVec::new();
+    let mut events = Events::new();
     let mut lock = view.side.view;
     let waits = core.algo.learn(&mut lock, value, &mut events);
     if waits && events.is_empty() && lock == view.side.view {

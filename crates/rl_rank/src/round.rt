@@ -1,7 +1,7 @@
 //! How it is seen that a rank goes in a round of two loads of the lock.
 
-ghost use Rattle.std.specs.Prelude.{◌≡◌, ℕ, length, IfSome};
-ghost use Rattle.rl_core.specs.Rounds.{IsRound};
+ghost use Rattle.std.specs.Prelude.{◌≡◌, length, IfSome};
+ghost use Rattle.rl_core.specs.Rounds.{IsRoundOfAll};
 ghost use Rattle.rl_step.specs.Core.{MayBe};
 ghost use Rattle.rl_rank.specs.Running.{lock_at, tables, goods};
 ghost use Rattle.rl_rank.specs.SeenLoads.{with_lock, IsAtLoad, IsSeenLoad};
@@ -10,9 +10,8 @@ ghost use Rattle.rl_rank.specs.WholeShards.{shard_at};
 
 use crate::card_state::CardState;
 use crate::whole::{Whole, WholeView};
-use arrayvec::ArrayVec;
 use rl_core::{Leg, Round};
-use rl_step::{Algo, Words};
+use rl_step::{Algo, Events, Words};
 use rl_word::Act;
 use rl_work::Work;
 
@@ -32,7 +31,7 @@ fn seen_leg<A: Algo, W: Work>(
     };
     let at = core.base + word;
     let value = words.value(at);
-    let mut events = ArrayVec::new();
+    let mut events = Events::new();
     let mut next = view;
     let waits = core.algo.learn(&mut next, value, &mut events);
     if events.is_empty() {
@@ -55,7 +54,7 @@ pub fn seen_round<A: Algo, W: Work>(
     words: &Words,
 ) -> Option<Round<A::View>>
     requires { (s : MayBe (rule_of (tables A.table W.table) (goods A.good W.good) A.layout core.now) view.now) × (s.held ≡ words.now) }
-    ensures { IfSome result (λ round. (k : ℕ) → IsRound (shard_at (tables A.table W.table) core.now) with_lock (length words.now.words) k view.now round) }
+    ensures { IfSome result (IsRoundOfAll (shard_at (tables A.table W.table) core.now) with_lock (length words.now.words) view.now) }
 {
     let CardState::Free = view.side.card else {
         return None;

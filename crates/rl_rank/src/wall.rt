@@ -4,11 +4,12 @@ ghost use Rattle.std.specs.Prelude.{◌≡◌, refl, ◌+◌};
 ghost use Rattle.std.proofs.Common.{ap, ◌∙◌};
 ghost use Rattle.rl_journal.specs.Blocks.{is_tenure};
 ghost use Rattle.rl_site.specs.Site.{lock_base};
-ghost use Rattle.rl_rank.specs.Running.{lock_at, tables, goods, good_at, lock_with, kinds};
+ghost use Rattle.rl_rank.specs.Running.{lock_at, tables, goods, lock_with, kinds};
 ghost use Rattle.rl_rank.specs.laws.DeskLaws.{keeps_all};
 ghost use Rattle.rl_rank.specs.SeenLoads.{with_lock};
-ghost use Rattle.rl_rank.specs.WholeShards.{standing_while, whole_shard, whole_says};
-ghost use Rattle.rl_rank.specs.laws.WholeWall.{whole_shard_laws, laid_with};
+ghost use Rattle.rl_rank.specs.WholeShards.{standing_while, whole_shard, core_says};
+ghost use Rattle.rl_rank.specs.laws.OfCore.{core_shard_laws};
+ghost use Rattle.rl_rank.specs.laws.WholeWall.{laid_with};
 
 use crate::idle::waits;
 use crate::round::seen_round;
@@ -34,7 +35,7 @@ fn standing_out(busy: bool) -> Standing
 }
 
 impl<A: Algo, W: Work> ShardCore for Whole<A, W> {
-    ghost says = { λ c. whole_says (lock_at (tables A.table W.table) c) (good_at (goods A.good W.good) c) (A.further c.algo) (A.layout c.algo) c.home };
+    ghost says = { λ c. core_says (tables A.table W.table) (goods A.good W.good) A.further A.layout c };
 
     ghost defined = { λ shape home knobs site. whole_shard (lock_with (kinds A.defined W.defined shape home knobs) site) home };
 
@@ -138,7 +139,7 @@ impl<A: Algo, W: Work> ShardCore for Whole<A, W> {
 
     ghost ruled = { λ c m g. g.rule };
 
-    ghost shard_laws = { λ c. whole_shard_laws _ _ (lock_at (tables A.table W.table) c) (good_at (goods A.good W.good) c) (A.further c.algo) (A.layout c.algo) (record { lock = A.laws c.algo; work = W.laws c.work }) c.home };
+    ghost shard_laws = { λ c. core_shard_laws (tables A.table W.table) (goods A.good W.good) A.further A.layout A.laws W.laws c };
 
     ghost laid = { laid_with A.defined W.defined W.placed };
 
@@ -147,14 +148,16 @@ impl<A: Algo, W: Work> ShardCore for Whole<A, W> {
     ghost has_cohorts = { λ shape home knobs site. A.has_cohorts shape home knobs };
 
     ghost has_tenures = { λ shape home knobs site.
-        ap (λ f. is_tenure (f (A.defined shape home knobs).shares)) (W.does shape home site (lock_base site + (A.defined shape home knobs).size)).0
+        ap (λ f. is_tenure (f (A.defined shape home knobs).shares))
+        (W.does shape home site (lock_base site + (A.defined shape home knobs).size)).0
         ∙ ap (λ b. is_tenure (W.spares b)) (A.has_shares shape home knobs) };
 
     ghost has_batches = { λ shape home knobs site. (W.does shape home site (lock_base site + (A.defined shape home knobs).size)).1 };
 }
 
 impl<A: Algo, W: KeepsOwn> TellsAll for Whole<A, W> {
-    ghost tells_all = { λ c words rank v. keeps_all (lock_at (tables A.table W.table) c) words rank v (W.keeps_own c.work words rank v.work) };
+    ghost tells_all = { λ c words rank v.
+        keeps_all (lock_at (tables A.table W.table) c) words rank v (W.keeps_own c.work words rank v.work) };
 }
 
 impl<A: Algo, W: Work> Resting for Whole<A, W> {

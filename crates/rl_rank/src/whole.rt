@@ -1,28 +1,27 @@
 //! A rank's whole machine over any lock and any way of working.
 
-ghost use Rattle.std.specs.Prelude.{◌≡◌, ◌↔◌, ◌++◌, ◌+◌, ◌<◌, ◌≤◌, ℕ, [], false, None, Some, length, sum, IfOk};
+ghost use Rattle.std.specs.Prelude.{◌≡◌, ◌≢◌, ◌↔◌, ◌++◌, ◌+◌, ◌<◌, ◌≤◌, ℕ, [], false, None, Some, length, sum, IfOk, IfSome};
 ghost use Rattle.rl_model.specs.Geom.{GeomFits};
 ghost use Rattle.rl_word.specs.Shapes.{IsProper, layout_of};
-ghost use Rattle.rl_step.specs.Core.{MayBe};
+ghost use Rattle.rl_step.specs.Core.{MayBe, atom_in, turned_with};
 ghost use Rattle.rl_step.specs.Batches.{HandsOn};
 ghost use Rattle.rl_work.specs.Ways.{AsksOut};
-ghost use Rattle.rl_rank.specs.Domains.{KeepsToCards, KeepsToLocals};
+ghost use Rattle.rl_rank.specs.Domains.{CoreKeepsToCards, CoreKeepsToLocals};
 ghost use Rattle.rl_rank.specs.Opening.{first_view, opened_in};
-ghost use Rattle.rl_rank.specs.Running.{lock_at, tables, goods, good_at, lock_with, kinds};
+ghost use Rattle.rl_rank.specs.Running.{lock_at, tables, goods, kinds, HasLock};
 ghost use Rattle.rl_rank.specs.Split.{card_of, card_word, word_home};
 ghost use Rattle.rl_site.specs.Site.{site_of};
-ghost use Rattle.rl_rank.specs.Whole.{whole_table, planned_in, plan_kept, next_of, is_at_work, is_open, rule_of, touch_by, departure_by, followed};
-ghost use Rattle.rl_rank.specs.laws.WholeLaws.{whole_laws};
+ghost use Rattle.rl_rank.specs.Whole.{whole_table, planned_in, plan_kept, next_of, is_at_work, is_open, rule_of, after_of, touch_by, departure_by, followed, CoreMayGet};
+ghost use Rattle.rl_rank.specs.laws.OfCore.{core_laws};
 
 use crate::card_state::CardState;
 use crate::effect::Effect;
 use crate::shift::{shift, shift_answer};
 use crate::side::Side;
 use crate::split::{answer, card_word, effect, next_atom};
-use arrayvec::ArrayVec;
 use rl_model::{Call, Geom};
 use rl_site::{ENTRY_WORDS, Site, journal_base};
-use rl_step::{Algo, Core, Event, Plan, Standing, Stepped};
+use rl_step::{Algo, Core, Event, Events, Plan, Standing, Stepped};
 use rl_word::{Act, Atom, Knobs, Shape};
 use rl_work::{Follow, Work};
 use std::alloc::{AllocError as OutOfMemory, Global};
@@ -62,7 +61,7 @@ fn tell_work(
     standing: Standing,
     touch: Option<bool>,
     follow: Follow,
-    events: &mut ArrayVec<Event, 8>,
+    events: &mut Events,
 )
     requires { events.old.items ≡ [] }
     ensures { events.new.items ≡ touch_by rank touch ++ departure_by rank standing follow }
@@ -134,37 +133,31 @@ impl<A: Algo, W: Work> Whole<A, W> {
         }
     }
 
-    /// The act that a view plans and the home of its word, each where the card state asks for it. In a card it keeps them.
+    /// The plan of a view in no card: the lock's act, and the home of its word where the act is made through a card.
     #[inline(always)]
-    fn planned(&self, view: &WholeView<A::View, W::Side>) -> Plan
-        requires { MayBe (rule_of (tables A.table W.table) (goods A.good W.good) A.layout self.now) view.now }
+    fn planned_free(&self, view: &WholeView<A::View, W::Side>) -> Plan
+        requires may { MayBe (rule_of (tables A.table W.table) (goods A.good W.good) A.layout self.now) view.now }
+        requires free { view.now.side.card ≡ CardState.Free }
         ensures { result ≡ planned_in (lock_at (tables A.table W.table) self.now).table view.now }
     {
-        match view.side.card {
-            CardState::Free => {
-                let act = self.algo.plan(view.side.view);
-                let home = self.plan_home(act, CardState::Free);
-                Plan { act, home }
-            }
-            CardState::InCard | CardState::Loaded { .. } => view.kept,
-            CardState::ToLeave { .. } => Plan { act: None, home: 0 },
-        }
+        let act = self.algo.plan(view.side.view);
+        let home = self.plan_home(act, CardState::Free);
+        Plan { act, home }
     }
 }
 
-impl<A: Algo, W: Work> Core for Whole<A, W> {
-    type View = WholeView<A::View, W::Side>;
-
-    ghost table = { λ c. whole_table (lock_at (tables A.table W.table) c) c.home };
-
-    ghost plan_of = { λ c. planned_in (lock_at (tables A.table W.table) c).table };
-
-    ghost rule = { rule_of (tables A.table W.table) (goods A.good W.good) A.layout };
-
+/// The ways to the next atom, one for each card state in which there is something to look at.
+impl<A: Algo, W: Work> Whole<A, W> {
+    /// In no card: the first atom of the act that the lock plans, and where it plans none, the work's.
     #[inline(always)]
-    fn next(&self, view: &WholeView<A::View, W::Side>) -> Option<(Atom, Plan)> {
-        let plan = self.planned(view);
-        match next_atom(plan.home, plan.act, view.side.card) {
+    fn next_free(&self, view: &WholeView<A::View, W::Side>) -> Option<(Atom, Plan)>
+        requires may { MayBe (rule_of (tables A.table W.table) (goods A.good W.good) A.layout self.now) view.now }
+        requires free { view.now.side.card ≡ CardState.Free }
+        ensures atom { atom_in result ≡ next_of (lock_at (tables A.table W.table) self.now) view.now }
+        ensures plan { IfSome result (λ p. p.1 ≡ planned_in (lock_at (tables A.table W.table) self.now).table view.now) }
+    {
+        let plan = self.planned_free(view);
+        match next_atom(plan.home, plan.act, CardState::Free) {
             Some(atom) => Some((shift(self.base, atom), plan)),
             None => match self.algo.standing(view.side.view) {
                 Standing::Out | Standing::Writer | Standing::Reader => {
@@ -175,15 +168,55 @@ impl<A: Algo, W: Work> Core for Whole<A, W> {
         }
     }
 
+    /// In a card, with nothing loaded yet: the load of the act that it keeps.
     #[inline(always)]
-    fn after(
+    fn next_load(&self, view: &WholeView<A::View, W::Side>) -> Option<(Atom, Plan)>
+        requires may { MayBe (rule_of (tables A.table W.table) (goods A.good W.good) A.layout self.now) view.now }
+        requires within { view.now.side.card ≡ CardState.InCard }
+        ensures atom { atom_in result ≡ next_of (lock_at (tables A.table W.table) self.now) view.now }
+        ensures plan { IfSome result (λ p. p.1 ≡ planned_in (lock_at (tables A.table W.table) self.now).table view.now) }
+    {
+        let plan = view.kept;
+        match next_atom(plan.home, plan.act, CardState::InCard) {
+            Some(atom) => Some((shift(self.base, atom), plan)),
+            None => None,
+        }
+    }
+
+    /// In a card, with this value loaded: the store of the act that it keeps.
+    #[inline(always)]
+    fn next_store(&self, view: &WholeView<A::View, W::Side>, value: u64) -> Option<(Atom, Plan)>
+        requires may { MayBe (rule_of (tables A.table W.table) (goods A.good W.good) A.layout self.now) view.now }
+        requires within { view.now.side.card ≡ CardState.Loaded value }
+        ensures atom { atom_in result ≡ next_of (lock_at (tables A.table W.table) self.now) view.now }
+        ensures plan { IfSome result (λ p. p.1 ≡ planned_in (lock_at (tables A.table W.table) self.now).table view.now) }
+    {
+        let plan = view.kept;
+        match next_atom(plan.home, plan.act, CardState::Loaded { value }) {
+            Some(atom) => Some((shift(self.base, atom), plan)),
+            None => None,
+        }
+    }
+}
+
+/// What an atom leaves, by where the rank stood.
+impl<A: Algo, W: Work> Whole<A, W> {
+    /// In no card: an atom of the work, or the first of an act.
+    #[inline(always)]
+    fn after_free(
         &self,
         view: &mut WholeView<A::View, W::Side>,
         plan: Plan,
         got: u64,
-        events: &mut ArrayVec<Event, 8>,
-    ) -> Stepped {
-        match effect(plan.home, plan.act, view.side.card, got) {
+        events: &mut Events,
+    ) -> Stepped
+        requires may { CoreMayGet (tables A.table W.table) (goods A.good W.good) A.layout self.now view.old got }
+        requires free { view.old.side.card ≡ CardState.Free }
+        requires plan { plan ≡ planned_in (lock_at (tables A.table W.table) self.now).table view.old }
+        requires none { events.old.items ≡ [] }
+        ensures { turned_with view.new events.new.items result ≡ after_of (lock_at (tables A.table W.table) self.now) view.old got }
+    {
+        match effect(plan.home, plan.act, CardState::Free, got) {
             Effect::Work => {
                 let rank = view.rank;
                 let standing = self.algo.standing(view.side.view);
@@ -207,6 +240,80 @@ impl<A: Algo, W: Work> Core for Whole<A, W> {
         }
     }
 
+    /// In this card state, which isn't `Free`: an atom of an act that is made through a card. None of the work is made there.
+    #[inline(always)]
+    fn after_in_card(
+        &self,
+        view: &mut WholeView<A::View, W::Side>,
+        here: CardState,
+        plan: Plan,
+        got: u64,
+        events: &mut Events,
+    ) -> Stepped
+        requires may { CoreMayGet (tables A.table W.table) (goods A.good W.good) A.layout self.now view.old got }
+        requires here { view.old.side.card ≡ here }
+        requires within { here ≢ CardState.Free }
+        requires plan { plan ≡ planned_in (lock_at (tables A.table W.table) self.now).table view.old }
+        requires none { events.old.items ≡ [] }
+        ensures { turned_with view.new events.new.items result ≡ after_of (lock_at (tables A.table W.table) self.now) view.old got }
+    {
+        match effect(plan.home, plan.act, here, got) {
+            Effect::Work => Stepped::Moved,
+            Effect::Stay { card, stepped } => {
+                keep(&mut view.kept, plan, card);
+                view.side.card = card;
+                stepped
+            }
+            Effect::Learn { card, told, lost } => {
+                let waits = self.algo.learn(&mut view.side.view, told, events);
+                view.side.card = card;
+                shift_answer(self.base, answer(plan.act, told, lost, waits))
+            }
+        }
+    }
+}
+
+impl<A: Algo, W: Work> Core for Whole<A, W> {
+    type View = WholeView<A::View, W::Side>;
+
+    ghost table = { λ c. whole_table (lock_at (tables A.table W.table) c) c.home };
+
+    ghost plan_of = { λ c. planned_in (lock_at (tables A.table W.table) c).table };
+
+    ghost rule = { rule_of (tables A.table W.table) (goods A.good W.good) A.layout };
+
+    #[inline(always)]
+    fn next(&self, view: &WholeView<A::View, W::Side>) -> Option<(Atom, Plan)> {
+        match view.side.card {
+            CardState::Free => self.next_free(view),
+            CardState::InCard => self.next_load(view),
+            CardState::Loaded { value } => self.next_store(view, value),
+            CardState::ToLeave { node } => {
+                Some((Atom::Leave { node }, Plan { act: None, home: 0 }))
+            }
+        }
+    }
+
+    #[inline(always)]
+    fn after(
+        &self,
+        view: &mut WholeView<A::View, W::Side>,
+        plan: Plan,
+        got: u64,
+        events: &mut Events,
+    ) -> Stepped {
+        match view.side.card {
+            CardState::Free => self.after_free(view, plan, got, events),
+            CardState::InCard => self.after_in_card(view, CardState::InCard, plan, got, events),
+            CardState::Loaded { value } => {
+                self.after_in_card(view, CardState::Loaded { value }, plan, got, events)
+            }
+            CardState::ToLeave { node } => {
+                self.after_in_card(view, CardState::ToLeave { node }, plan, got, events)
+            }
+        }
+    }
+
     fn home(&self, word: u32) -> u32 {
         if word < self.base {
             self.home
@@ -217,7 +324,7 @@ impl<A: Algo, W: Work> Core for Whole<A, W> {
         }
     }
 
-    ghost laws = { λ c. whole_laws _ _ (lock_at (tables A.table W.table) c) (good_at (goods A.good W.good) c) (A.further c.algo) (A.layout c.algo) (record { lock = A.laws c.algo; work = W.laws c.work }) c.home };
+    ghost laws = { λ c. core_laws (tables A.table W.table) (goods A.good W.good) A.further A.layout A.laws W.laws c };
 }
 
 /// The places of a journal: one for each update of each rank.
@@ -244,7 +351,7 @@ impl<A: Algo, W: Work> Whole<A, W> {
         requires fits { GeomFits site.geom }
         requires few { sum site.rooms.items ≤ 20000 }
         requires ranks { length site.rooms.items ≡ length shape.now.node_of }
-        ensures lock { IfOk result (λ c. lock_at (tables A.table W.table) c ≡ lock_with (kinds A.defined W.defined shape.now home knobs) (site_of site)) }
+        ensures lock { IfOk result (HasLock (tables A.table W.table) (kinds A.defined W.defined shape.now home knobs) (site_of site)) }
         ensures promised { IfOk result (λ c. HandsOn (A.further c.algo) (A.promised shape.now home knobs)) }
         ensures layout { IfOk result (λ c. A.layout c.algo ≡ layout_of shape.now) }
         ensures home { IfOk result (λ c. c.home ≡ home) }
@@ -326,8 +433,8 @@ impl<A: Algo, W: Work> Whole<A, W> {
 /// Two domains: a rank's next atom is one of a card only where the lock lets the rank make acts through cards, and a local
 /// compare-and-swap only where it lets the rank make one. There is nothing to run.
 pub fn domains<A: Algo, W: Work>(core: &Whole<A, W>)
-    ensures cards { KeepsToCards (lock_at (tables A.table W.table) core.now) (rule_of (tables A.table W.table) (goods A.good W.good) A.layout core.now) }
-    ensures locals { KeepsToLocals (lock_at (tables A.table W.table) core.now) (rule_of (tables A.table W.table) (goods A.good W.good) A.layout core.now) }
+    ensures cards { CoreKeepsToCards (tables A.table W.table) (goods A.good W.good) A.layout core.now }
+    ensures locals { CoreKeepsToLocals (tables A.table W.table) (goods A.good W.good) A.layout core.now }
 {
     let _ = &core.algo;
 }

@@ -6,7 +6,7 @@ ghost use Rattle.rl_step.specs.declared.events.Stepped.TheVariants.{Busy, Waitin
 ghost use Rattle.rl_machine.specs.Rested.{RestsAt, Tells};
 ghost use Rattle.rl_machine.specs.Run.{run_of};
 ghost use Rattle.rl_machine.specs.Running.{Running, running, cores_of};
-ghost use Rattle.rl_replay.specs.Rested.{Rested, AllRested, KeepsNotes, IsForgotten};
+ghost use Rattle.rl_replay.specs.Rested.{Rested, AllRested, KeepsNotes, IsForgotten, RunsOnAt};
 
 use crate::last_rest::LastRest;
 use crate::rounds::go_round;
@@ -15,19 +15,13 @@ use rl_machine::{Machine, RestAt, StepEnd, StepOutcome};
 use rl_step::Stepped;
 
 /// So many steps of a rank that was seen to be about to take the card of a node, on a shard: where another rank is in it still, each is
-/// answered so and changes nothing else, so they are counted at once. Else nothing has changed. The rank is named for the contract alone.
+/// answered so and changes nothing else, so they are counted at once, whichever rank it is. Else nothing has changed.
 #[inline(always)]
-fn rest_held_off<C: Resting>(
-    machine: &mut Machine<C>,
-    _rank: u32,
-    shard: u32,
-    node: u32,
-    count: u32,
-) -> bool
+fn rest_held_off<C: Resting>(machine: &mut Machine<C>, shard: u32, node: u32, count: u32) -> bool
     requires few { steps_made machine.old.steps + count < 2 ^ 32 }
-    requires rested { RestsAt (running C.says machine.old) _rank shard (Busy node 0) }
+    requires rested { (rank : ℕ) × RestsAt (running C.says machine.old) rank shard (Busy node 0) }
     ensures cores { cores_of machine.new ≡ cores_of machine.old }
-    ensures run { result ≡ true → running C.says machine.new ≡ run_of (running C.says machine.old) (replicate count _rank) }
+    ensures run { result ≡ true → RunsOnAt (running C.says machine.old) shard (Busy node 0) count (running C.says machine.new) }
     ensures noted { KeepsNotes C.with_sight (running C.says machine.old) (running C.says machine.new) }
     ensures kept { result ≡ false → machine.new ≡ machine.old }
 {
@@ -42,16 +36,15 @@ fn rest_held_off<C: Resting>(
 #[inline(always)]
 fn rest_waiting<C: Resting>(
     machine: &mut Machine<C>,
-    _rank: u32,
     shard: u32,
     word: u32,
     value: u64,
     count: u32,
 ) -> bool
     requires few { steps_made machine.old.steps + count < 2 ^ 32 }
-    requires rested { RestsAt (running C.says machine.old) _rank shard (Waiting word value) }
+    requires rested { (rank : ℕ) × RestsAt (running C.says machine.old) rank shard (Waiting word value) }
     ensures cores { cores_of machine.new ≡ cores_of machine.old }
-    ensures run { result ≡ true → running C.says machine.new ≡ run_of (running C.says machine.old) (replicate count _rank) }
+    ensures run { result ≡ true → RunsOnAt (running C.says machine.old) shard (Waiting word value) count (running C.says machine.new) }
     ensures noted { KeepsNotes C.with_sight (running C.says machine.old) (running C.says machine.new) }
     ensures kept { result ≡ false → machine.new ≡ machine.old }
 {
@@ -80,7 +73,7 @@ fn rest<C: Resting>(
 {
     match last {
         LastRest::Waits { shard, word, value } => {
-            rest_waiting(machine, rank, *shard, *word, *value, count)
+            rest_waiting(machine, *shard, *word, *value, count)
         }
         LastRest::Finished => {
             machine.count_more(Stepped::Finished, count);
@@ -111,7 +104,7 @@ pub fn take_noted<C: Resting>(
 {
     let at = rank as usize;
     if let LastRest::HeldOff { shard, node } = &rests[at] {
-        return rest_held_off(machine, rank, *shard, *node, count);
+        return rest_held_off(machine, *shard, *node, count);
     }
     if let LastRest::Round { .. } = &rests[at] {
         return go_round(machine, rank, &mut rests[at], count);

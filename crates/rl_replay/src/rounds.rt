@@ -1,12 +1,12 @@
 //! Steps of a rank that goes in a round of two loads: they are counted at once while its shard shows it.
 
-ghost use Rattle.std.specs.Prelude.{◌≡◌, ◌+◌, ◌<◌, ◌≤◌, ◌^◌, true, false, length, replicate};
+ghost use Rattle.std.specs.Prelude.{◌≡◌, ℕ, ◌+◌, ◌<◌, ◌^◌, true, false, length, replicate};
 ghost use Rattle.rl_step.specs.Answers.{steps_made};
 ghost use Rattle.rl_machine.specs.Rest.{with_steps};
 ghost use Rattle.rl_machine.specs.Rested.{IsInRound, ShowsRound, GoesRound};
 ghost use Rattle.rl_machine.specs.Run.{run_of};
 ghost use Rattle.rl_machine.specs.Running.{running, cores_of};
-ghost use Rattle.rl_replay.specs.Rested.{Rested};
+ghost use Rattle.rl_replay.specs.Rested.{Rested, RunsRounds};
 
 use crate::last_rest::LastRest;
 use rl_core::{Resting, Round};
@@ -26,38 +26,27 @@ fn shows<S: Copy>(words: &Words, round: Round<S>, count: u32) -> bool
     count <= 1 || words.value(round.there.word) == round.there.value
 }
 
-/// Whether the shard shows that so many steps of a rank in the round are its loads, made on the values that they had. The rank is named
-/// for the contract alone.
+/// Whether the shard shows that so many steps of a rank in the round, whichever it is, are its loads, made on the values that they had.
 #[inline(always)]
 fn shows_round<C: Resting>(
     machine: &Machine<C>,
-    _rank: u32,
     shard: u32,
     round: Round<C::Sight>,
     count: u32,
 ) -> bool
-    requires in_round { IsInRound C.with_sight (running C.says machine.now) _rank shard round }
-    ensures { result ≡ true → GoesRound C.with_sight (running C.says machine.now) _rank shard round count }
+    requires in_round { (rank : ℕ) × IsInRound C.with_sight (running C.says machine.now) rank shard round }
+    ensures { result ≡ true → (rank : ℕ) → IsInRound C.with_sight (running C.says machine.now) rank shard round →
+        GoesRound C.with_sight (running C.says machine.now) rank shard round count }
 {
     shows(machine.words(shard), round, count)
 }
 
-/// So many rounds of a rank: both answers are counted as often, and nothing else changes. The rank, its shard and the number of steps that
-/// the shard shows are named for the contract alone.
+/// So many rounds of a rank, whichever it is: both answers are counted as often, and nothing else changes.
 #[inline(always)]
-fn count_rounds<C: Resting>(
-    machine: &mut Machine<C>,
-    _rank: u32,
-    _shard: u32,
-    round: Round<C::Sight>,
-    rounds: u32,
-    _count: u32,
-)
-    requires few { steps_made machine.old.steps + _count < 2 ^ 32 }
-    requires within { rounds + rounds ≤ _count }
-    requires shows { GoesRound C.with_sight (running C.says machine.old) _rank _shard round _count }
+fn count_rounds<C: Resting>(machine: &mut Machine<C>, round: Round<C::Sight>, rounds: u32)
+    requires few { steps_made machine.old.steps + (rounds + rounds) < 2 ^ 32 }
     ensures cores { cores_of machine.new ≡ cores_of machine.old }
-    ensures run { running C.says machine.new ≡ run_of (running C.says machine.old) (replicate (rounds + rounds) _rank) }
+    ensures run { RunsRounds C.with_sight (running C.says machine.old) round rounds (running C.says machine.new) }
     ensures counted { running C.says machine.new ≡ with_steps (running C.says machine.old) machine.new.steps }
 {
     machine.count_more(round.here.answer(), rounds);
@@ -84,10 +73,10 @@ pub fn go_round<C: Resting>(
     let LastRest::Round { shard, round } = *last else {
         return false;
     };
-    if !shows_round(machine, rank, shard, round, count) {
+    if !shows_round(machine, shard, round, count) {
         return false;
     }
-    count_rounds(machine, rank, shard, round, count / 2, count);
+    count_rounds(machine, round, count / 2);
     if count % 2 == 0 {
         return true;
     }

@@ -6,15 +6,16 @@ use Rattle.std.proofs.lemmas.Bool.Decides.{nat_tests}
 use Rattle.std.proofs.lemmas.List.{length-map}
 use Rattle.std.proofs.lemmas.Option.{same_Some}
 use Rattle.rl_word.specs.laws.Places.{get_map, get_map_back, some_at}
+use Rattle.rl_word.specs.declared.locks.QueueKind.{QueueKind}
+use Rattle.rl_word.specs.declared.locks.QueueKind.TheVariants.{NoQueue, OneForAll, TwoCohorts, Elements}
+use Rattle.rl_word.specs.LockFacts.{has_cohorts}
 use Rattle.rl_word.specs.declared.shapes.Element.{Element}
 use Rattle.rl_word.specs.declared.shapes.Knobs.{Knobs}
 use Rattle.rl_word.specs.Shapes.{TheShape}
 use Rattle.rl_step.specs.Lock.{IsMember}
 use Rattle.rl_step.specs.Queues.{QueueOf}
-use Rattle.rl_step.specs.LockQueues.{queues_of, all_ranks, cohort_queue, cohort_queues, same, sits_at, stands, is_node, is_in, leaf_of, parent_of, is_at as is_parent, element_queue as queue_in, element_queues as queues_in}
+use Rattle.rl_step.specs.LockQueues.{queues_of_kind, root_budget, all_ranks, cohort_queue, cohort_queues, same, sits_at, stands, is_node, is_in, leaf_of, parent_of, is_at as is_parent, element_queue as queue_in, element_queues as queues_in}
 use Rattle.rl_place.specs.declared.path.Path.{Path}
-use Rattle.rl_place.specs.declared.lock.Lock.{Lock}
-use Rattle.rl_place.specs.declared.lock.Lock.TheVariants as lock
 use Rattle.rl_place.specs.LockWords.{lock_word, name_of}
 use Rattle.rl_place.specs.Paths.{IsPath, prefix}
 use Rattle.rl_place.specs.Numbering.{node_paths, element_paths}
@@ -23,7 +24,7 @@ use Rattle.rl_place.specs.Shapes.{shape_of, knobs_of, number_in, parent_in, elem
 use Rattle.rl_place.proofs.PrefixLaws.{trim-path, prefix-whole, prefix-prefix}
 use Rattle.rl_place.proofs.SeenLaws.{number_is}
 use Rattle.rl_place.proofs.NumberingLaws.{nodes-are, ElementsAre, elements-are}
-use Rattle.rl_report.specs.Naming.{TheNaming, has_cohorts, cohort_queue_names, element_queue_name, element_queue_names, queue_names, parent_is_at, is_below, may_be_in, is_member, naming_of}
+use Rattle.rl_report.specs.Naming.{TheNaming, queue_kind, cohort_queue_names, element_queue_name, element_queue_names, queue_names, parent_is_at, is_below, may_be_in, is_member, naming_of}
 use Rattle.rl_report.specs.Lawful.{queues_at}
 use Rattle.rl_report.proofs.NamingLaws.{all_paths, all_trim}
 
@@ -122,9 +123,9 @@ module _ (place : ThePlace) (proper : IsProper place) where
             omega arith;
       }
 
-  -- a naming of the queues of this lock
-  abbrev naming_with : Lock → TheNaming
-  naming_with l = record { lock = lock_word (name_of l); ranks = length place.paths; shards = place.geom.shards; cohorts = has_cohorts l; queues = queue_names l place.levels place.paths }
+  -- a naming of the queues of this kind
+  abbrev naming_with : QueueKind → TheNaming
+  naming_with kind = record { lock = lock_word (name_of place.lock); ranks = length place.paths; shards = place.geom.shards; cohorts = has_cohorts kind; queues = queue_names kind place.levels place.paths }
 
   ranks_long : length shape.node_of ≡ length place.paths
   ranks_long = length-map place.paths (number_in nodes)
@@ -191,18 +192,15 @@ module _ (place : ThePlace) (proper : IsProper place) where
       ap (λ z. may_be_in N 1 m (slice_get z 1)) queues ∙ ap (nat_lt m) ranks ∙ first_rank (same false (sits_at home shape.node_of m)) m (ap (λ (z : QueueOf). z.members m) d ∙ is.is_member)
   in_cohorts N home (suc (suc q)) m knobs ranks queues is = absurd (let bad = is.is_queue in cc)
 
-  by_lock : (l : Lock) (home q m : ℕ) → IsMember (queues_of (name_of l) shape home (knobs_of l)) q m → is_member (naming_with l) q m ≡ true
-  by_lock lock.Spin home q m is = absurd (let bad = is.is_queue in cc)
-  by_lock lock.Dmcs home zero m is =
+  by_kind : (kind : QueueKind) (home : ℕ) (knobs : Knobs) (q m : ℕ) → IsMember (queues_of_kind kind shape home knobs) q m → is_member (naming_with kind) q m ≡ true
+  by_kind NoQueue home knobs q m is = absurd (let bad = is.is_queue in cc)
+  by_kind OneForAll home knobs zero m is =
       let d : all_ranks (length shape.node_of) ≡ is.queue = same_Some _ _ is.is_queue in
       rank_there m (ap (λ (z : QueueOf). z.members m) d ∙ is.is_member)
-  by_lock lock.Dmcs home (suc q) m is = absurd (let bad = is.is_queue in cc)
-  by_lock (lock.Alock local remote) home q m is = in_cohorts (naming_with (lock.Alock local remote)) home q m (knobs_of (lock.Alock local remote)) refl refl is
-  by_lock (lock.Mcs budgets) home q m is = in_tree (naming_with (lock.Mcs budgets)) refl refl None q m is
-  by_lock (lock.Rw budgets writers readers group) home q m is = in_tree (naming_with (lock.Rw budgets writers readers group)) refl refl (Some writers) q m is
-  by_lock (lock.Seq local remote) home q m is = in_cohorts (naming_with (lock.Seq local remote)) home q m (knobs_of (lock.Seq local remote)) refl refl is
-  by_lock (lock.Combine local remote) home q m is = in_cohorts (naming_with (lock.Combine local remote)) home q m (knobs_of (lock.Combine local remote)) refl refl is
+  by_kind OneForAll home knobs (suc q) m is = absurd (let bad = is.is_queue in cc)
+  by_kind TwoCohorts home knobs q m is = in_cohorts (naming_with TwoCohorts) home q m knobs refl refl is
+  by_kind (Elements root) home knobs q m is = in_tree (naming_with (Elements root)) refl refl (root_budget root knobs) q m is
 
   -- a member of a queue of the lock on a home is one that an event may name
   pub member_named : (home q m : ℕ) → IsMember (queues_at place home) q m → is_member (naming_of place) q m ≡ true
-  member_named home q m is = by_lock place.lock home q m is
+  member_named home q m is = by_kind (queue_kind place.lock) home (knobs_of place.lock) q m is

@@ -11,10 +11,12 @@ use Rattle.rl_text.specs.Number.{number_of}
 use Rattle.rl_text.proofs.Decimals.{number_of-decimal}
 use Rattle.rl_text.proofs.TextLaws.{pieces-join, is_plain}
 use Rattle.rl_text.proofs.WordLaws.{decimal-no_word}
+use Rattle.rl_word.specs.declared.locks.LockName.{LockName}
+use Rattle.rl_word.specs.declared.locks.LockName.TheVariants as named
+use Rattle.rl_word.specs.declared.locks.QueueKind.{QueueKind}
+use Rattle.rl_word.specs.declared.locks.QueueKind.TheVariants.{NoQueue, OneForAll, TwoCohorts, Elements}
 use Rattle.rl_word.specs.laws.Places.{get_map_back}
 use Rattle.rl_place.specs.declared.path.Path.{Path}
-use Rattle.rl_place.specs.declared.lock.Lock.{Lock}
-use Rattle.rl_place.specs.declared.lock.Lock.TheVariants as lock
 use Rattle.rl_place.specs.LockWords.{lock_word, name_of}
 use Rattle.rl_place.specs.Paths.{IsPath, root_path, path_of, path_word, prefix}
 use Rattle.rl_place.specs.Numbering.{same_path, seen_after, prefixes_to, elements_after, element_paths}
@@ -22,7 +24,7 @@ use Rattle.rl_place.specs.Places.{ThePlace, IsProper}
 use Rattle.rl_place.proofs.PathLaws.{all-fit, no_dots, numbers_in-path, plain-path}
 use Rattle.rl_place.proofs.PrefixLaws.{IsTrim, front_path, trim-path}
 use Rattle.rl_place.proofs.NumberingLaws.{IsFrom, ElementsAre, elements-are}
-use Rattle.rl_report.specs.Naming.{TheQueueName, element_word, element_queue_name, element_queue_names, lone_queue, queue_names, cohort_queue_names, naming_of}
+use Rattle.rl_report.specs.Naming.{TheQueueName, element_word, element_queue_name, element_queue_names, lone_queue, queue_names, cohort_queue_names, queue_kind, naming_of}
 use Rattle.rl_report.proofs.EventLaws.{IsNaming}
 
 -- ---- how many queues there are
@@ -45,22 +47,22 @@ few-elements levels seen (p ∷ ps) most proper =
     let same : p.len ≡ levels = ap (λ (q : Path). q.len) whole.is ∙ whole.count in
     omega (arith, most, same, length-prefixes p p.len, few-groups seen (prefixes_to p p.len), few-elements levels (elements_after seen p) ps most proper.1)
 
-pub few_queues : (place : ThePlace) → IsProper place → length (queue_names place.lock place.levels place.paths) < 2 ^ 32
+pub few_of_kind : (place : ThePlace) → IsProper place → (kind : QueueKind) → length (queue_names kind place.levels place.paths) < 2 ^ 32
 unfolding element_paths
-few_queues place proper = by place.lock where
+few_of_kind place proper kind = by kind where
   few : length (element_queue_names place.levels (element_paths place.paths)) < 2 ^ 32
   few =
       let most : length (element_paths place.paths) ≤ 1 + 3 * length place.paths = few-elements place.levels (root_path ∷ []) place.paths proper.most_levels proper.paths in
       omega (arith, most, proper.most_ranks, length-map (element_paths place.paths) (element_queue_name place.levels (element_paths place.paths)))
 
-  by : (l : Lock) → length (queue_names l place.levels place.paths) < 2 ^ 32
-  by lock.Spin = omega arith
-  by lock.Dmcs = omega arith
-  by (lock.Alock local remote) = omega arith
-  by (lock.Mcs budgets) = few
-  by (lock.Rw budgets writers readers group) = few
-  by (lock.Seq local remote) = omega arith
-  by (lock.Combine local remote) = omega arith
+  by : (k : QueueKind) → length (queue_names k place.levels place.paths) < 2 ^ 32
+  by NoQueue = omega arith
+  by OneForAll = omega arith
+  by TwoCohorts = omega arith
+  by (Elements root) = few
+
+pub few_queues : (place : ThePlace) → IsProper place → length (naming_of place).queues < 2 ^ 32
+few_queues place proper = few_of_kind place proper (queue_kind place.lock)
 
 -- ---- a path's word tells its numbers
 
@@ -181,14 +183,11 @@ module _ (place : ThePlace) (proper : IsProper place) where
     by [] all = tt
     by (p ∷ ps) all = (all 0 p refl, by ps (λ i q get. all (suc i) q get))
 
-  queues_plain : (l : Lock) → AllByRecursion (λ queue. is_plain queue.word ≡ true) (queue_names l place.levels place.paths)
-  queues_plain lock.Spin = tt
-  queues_plain lock.Dmcs = (refl, tt)
-  queues_plain (lock.Alock local remote) = (refl, (refl, tt))
-  queues_plain (lock.Mcs budgets) = elements_plain
-  queues_plain (lock.Rw budgets writers readers group) = elements_plain
-  queues_plain (lock.Seq local remote) = (refl, (refl, tt))
-  queues_plain (lock.Combine local remote) = (refl, (refl, tt))
+  queues_plain : (kind : QueueKind) → AllByRecursion (λ queue. is_plain queue.word ≡ true) (queue_names kind place.levels place.paths)
+  queues_plain NoQueue = tt
+  queues_plain OneForAll = (refl, tt)
+  queues_plain TwoCohorts = (refl, (refl, tt))
+  queues_plain (Elements root) = elements_plain
 
   word : (q a : TheQueueName) → Some q ≡ Some a → q.word ≡ a.word
   word q a e = ap (λ (z : TheQueueName). z.word) (same_Some q a e)
@@ -202,31 +201,28 @@ module _ (place : ThePlace) (proper : IsProper place) where
   cohorts_apart (suc zero) (suc (suc j)) a b get other same = absurd (cc)
   cohorts_apart (suc (suc i)) j a b get other same = absurd (cc)
 
-  queues_apart : (l : Lock) (i j : ℕ) (a b : TheQueueName) → slice_get (queue_names l place.levels place.paths) i ≡ Some a → slice_get (queue_names l place.levels place.paths) j ≡ Some b → a.word ≡ b.word → i ≡ j
-  queues_apart lock.Spin i j a b get other same = absurd (cc)
-  queues_apart lock.Dmcs zero zero a b get other same = refl
-  queues_apart lock.Dmcs zero (suc j) a b get other same = absurd (cc)
-  queues_apart lock.Dmcs (suc i) j a b get other same = absurd (cc)
-  queues_apart (lock.Alock local remote) i j a b get other same = cohorts_apart i j a b get other same
-  queues_apart (lock.Seq local remote) i j a b get other same = cohorts_apart i j a b get other same
-  queues_apart (lock.Combine local remote) i j a b get other same = cohorts_apart i j a b get other same
-  queues_apart (lock.Mcs budgets) i j a b get other same = elements_apart i j a b get other same
-  queues_apart (lock.Rw budgets writers readers group) i j a b get other same = elements_apart i j a b get other same
+  queues_apart : (kind : QueueKind) (i j : ℕ) (a b : TheQueueName) → slice_get (queue_names kind place.levels place.paths) i ≡ Some a → slice_get (queue_names kind place.levels place.paths) j ≡ Some b → a.word ≡ b.word → i ≡ j
+  queues_apart NoQueue i j a b get other same = absurd (cc)
+  queues_apart OneForAll zero zero a b get other same = refl
+  queues_apart OneForAll zero (suc j) a b get other same = absurd (cc)
+  queues_apart OneForAll (suc i) j a b get other same = absurd (cc)
+  queues_apart TwoCohorts i j a b get other same = cohorts_apart i j a b get other same
+  queues_apart (Elements root) i j a b get other same = elements_apart i j a b get other same
 
-  lock_plain : (l : Lock) → is_plain (lock_word (name_of l)) ≡ true
-  lock_plain lock.Spin = refl
-  lock_plain lock.Dmcs = refl
-  lock_plain (lock.Alock local remote) = refl
-  lock_plain (lock.Mcs budgets) = refl
-  lock_plain (lock.Rw budgets writers readers group) = refl
-  lock_plain (lock.Seq local remote) = refl
-  lock_plain (lock.Combine local remote) = refl
+  lock_plain : (name : LockName) → is_plain (lock_word name) ≡ true
+  lock_plain named.Spin = refl
+  lock_plain named.Dmcs = refl
+  lock_plain named.Alock = refl
+  lock_plain named.Mcs = refl
+  lock_plain named.Rw = refl
+  lock_plain named.Seq = refl
+  lock_plain named.Combine = refl
 
   pub is_naming : IsNaming (naming_of place)
   is_naming = record {
-    lock_plain = lock_plain place.lock;
+    lock_plain = lock_plain (name_of place.lock);
     few_ranks = proper.most_ranks;
     few_shards = proper.geom.shards;
-    plain = queues_plain place.lock;
-    apart = queues_apart place.lock;
+    plain = queues_plain (queue_kind place.lock);
+    apart = queues_apart (queue_kind place.lock);
   }

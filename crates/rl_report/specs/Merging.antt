@@ -1,6 +1,8 @@
 -- The gets and holds of all transcripts, and how the journal is put between them.
 use Rattle.std.specs.Prelude.{ℕ, ◌+◌, nat_le, Bool, not, List, [], ◌∷◌, ◌++◌, drop, filter, flat_map, map, take}
 use Rattle.std.specs.List.{prefix_len}
+use Rattle.std.specs.List.Sorted.{IsStableByKey}
+use Rattle.std.specs.Ordering.{nat_cmp}
 use denote.Ref.{Bor}
 use Rattle.rl_model.specs.declared.entry.Entry.{Entry}
 use Rattle.rl_journal.specs.Legal.{updates}
@@ -15,6 +17,10 @@ all_reads transcripts = flat_map (filter is_read) transcripts
 -- the entries that references show
 abbrev pub seen : List (Bor Entry) → List Entry
 seen = map (λ r. r.now)
+
+-- the same gets and holds by the counts that they looked at, and at one count in the order in which they were
+abbrev pub AreInOrder : List Entry → List Entry → Type 0
+AreInOrder reads sorted = IsStableByKey (λ (e : Entry). e.at) nat_cmp reads sorted
 
 -- how many of the first entries looked at this count or an earlier one
 abbrev pub up_to : ℕ → List Entry → ℕ

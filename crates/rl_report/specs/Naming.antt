@@ -1,10 +1,12 @@
 -- How a report names the lock, the queues and their members, by the placement.
 use Rattle.std.specs.Prelude.{◌≡◌, ◌⊎◌, ℕ, ◌<◌, List, [], ◌∷◌, length, map, codes, decimal, Bool, true, false, ◌==◌, nat_lt, Option, Some, None, slice_get, if◌then◌else◌}
+use Rattle.rl_word.specs.declared.locks.QueueKind.{QueueKind}
+use Rattle.rl_word.specs.declared.locks.QueueKind.TheVariants.{NoQueue, OneForAll, TwoCohorts, Elements}
+use Rattle.rl_word.specs.LockFacts.{facts_of, has_cohorts}
 use Rattle.rl_step.specs.declared.events.Event.{Event}
 use Rattle.rl_step.specs.declared.events.Event.TheVariants.{Join, Announce, Pass, Settle, Touch, EnterW, EnterR, LeaveW, LeaveR}
 use Rattle.rl_place.specs.declared.path.Path.{Path}
 use Rattle.rl_place.specs.declared.lock.Lock.{Lock}
-use Rattle.rl_place.specs.declared.lock.Lock.TheVariants as lock
 use Rattle.rl_place.specs.LockWords.{lock_word, name_of}
 use Rattle.rl_place.specs.Paths.{path_word}
 use Rattle.rl_place.specs.Numbering.{element_paths}
@@ -27,13 +29,6 @@ pub record TheNaming : Type 0 where
   pub cohorts : Bool
   pub queues : List TheQueueName
 
--- ALock has two cohorts, and what stands on it
-abbrev pub has_cohorts : Lock → Bool
-has_cohorts (lock.Alock local remote) = true
-has_cohorts (lock.Seq local remote) = true
-has_cohorts (lock.Combine local remote) = true
-has_cohorts other = false
-
 -- a queue of ranks that stands by itself
 abbrev pub lone_queue : List ℕ → TheQueueName
 lone_queue word = record { word = word; parent = None; of_ranks = true }
@@ -53,15 +48,16 @@ element_queue_names levels elements = map (element_queue_name levels elements) e
 abbrev pub cohort_queue_names : List TheQueueName
 cohort_queue_names = lone_queue (codes "local") ∷ lone_queue (codes "remote") ∷ []
 
--- the queues of a lock, in the order of `queues_of` of `rl_step`: the queue with a number there has the name in that place here
-abbrev pub queue_names : Lock → ℕ → List Path → List TheQueueName
-queue_names lock.Spin levels paths = []
-queue_names lock.Dmcs levels paths = lone_queue (codes "all") ∷ []
-queue_names (lock.Alock local remote) levels paths = cohort_queue_names
-queue_names (lock.Seq local remote) levels paths = cohort_queue_names
-queue_names (lock.Combine local remote) levels paths = cohort_queue_names
-queue_names (lock.Mcs budgets) levels paths = element_queue_names levels (element_paths paths)
-queue_names (lock.Rw budgets writers readers group) levels paths = element_queue_names levels (element_paths paths)
+-- the queues of a kind, in the order of `queues_of_kind` of `rl_step`: the queue with a number there has the name in that place here
+abbrev pub queue_names : QueueKind → ℕ → List Path → List TheQueueName
+queue_names NoQueue levels paths = []
+queue_names OneForAll levels paths = lone_queue (codes "all") ∷ []
+queue_names TwoCohorts levels paths = cohort_queue_names
+queue_names (Elements root) levels paths = element_queue_names levels (element_paths paths)
+
+-- the kind of a lock's queues
+abbrev pub queue_kind : Lock → QueueKind
+queue_kind lock = (facts_of (name_of lock)).queues
 
 abbrev pub naming_of : ThePlace → TheNaming
 naming_of place =
@@ -69,8 +65,8 @@ naming_of place =
       lock = lock_word (name_of place.lock);
       ranks = length place.paths;
       shards = place.geom.shards;
-      cohorts = has_cohorts place.lock;
-      queues = queue_names place.lock place.levels place.paths;
+      cohorts = has_cohorts (queue_kind place.lock);
+      queues = queue_names (queue_kind place.lock) place.levels place.paths;
     }
 
 -- ---- the words of a number

@@ -248,6 +248,18 @@ rank_at naming row = do
   alone ← no_word_at row 5
   Ok rank
 
+-- an event of a queue and a member
+abbrev pub in_queue_with : TheNaming → Row → (ℕ → ℕ → Event) → Result Event Refusal
+in_queue_with naming row event = in_queue_at naming row >>= λ x. Ok (event x.0 x.1)
+
+-- an event of a cohort
+abbrev pub cohort_with : TheNaming → Row → (ℕ → Event) → Result Event Refusal
+cohort_with naming row event = cohort_at naming row >>= λ c. Ok (event c)
+
+-- an event of a rank
+abbrev pub rank_with : TheNaming → Row → (ℕ → Event) → Result Event Refusal
+rank_with naming row event = rank_at naming row >>= λ k. Ok (event k)
+
 -- the event that begins with this word, at word 3
 unfoldable pub event_named : TheNaming → Row → List ℕ → Result Event Refusal
 event_named naming row name =
@@ -312,6 +324,10 @@ shards_next naming version replay number (suc more) left = do
   shard ← shard_next naming version replay number left
   others ← shards_next naming version replay (number + 1) more shard.1
   Ok (shard.0 ∷ others.0, others.1)
+
+-- all of them
+abbrev pub all_shards_next : TheNaming → TheVersion → Bool → Left → Result (List TheShard × Left) Refusal
+all_shards_next naming version replay left = shards_next naming version replay 0 naming.shards left
 
 -- ---- ranks and steps
 
@@ -379,7 +395,7 @@ body_next naming version left = do
   replay ← mode_at naming mode.0
   sizes ← next_left mode.1
   same ← sizes_at naming sizes.0
-  shards ← shards_next naming version replay 0 naming.shards sizes.1
+  shards ← all_shards_next naming version replay sizes.1
   dones ← dones_next 0 naming.ranks shards.1
   steps ← steps_next replay dones.1
   closing ← closing_at steps.1

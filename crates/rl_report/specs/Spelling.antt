@@ -60,12 +60,16 @@ queue_lines queues tallies = map (λ p. queue_words p.0 p.1) (zip queues tallies
 abbrev pub pair_words : ℕ × ℕ → List (List ℕ)
 pair_words p = codes "pair" ∷ decimal p.0 ∷ decimal p.1 ∷ []
 
+-- what happened in a queue, and to which member
+abbrev pub in_queue_words : TheNaming → List ℕ → ℕ → ℕ → List (List ℕ)
+in_queue_words naming name q m = name ∷ queue_word naming q ∷ member_word naming q m ∷ []
+
 -- what happened
 abbrev pub event_words : TheNaming → Event → List (List ℕ)
-event_words naming (Join q m) = codes "join" ∷ queue_word naming q ∷ member_word naming q m ∷ []
+event_words naming (Join q m) = in_queue_words naming (codes "join") q m
 event_words naming (Announce c) = codes "announce" ∷ cohort_word c ∷ []
-event_words naming (Pass q m) = codes "pass" ∷ queue_word naming q ∷ member_word naming q m ∷ []
-event_words naming (Settle q m) = codes "settle" ∷ queue_word naming q ∷ member_word naming q m ∷ []
+event_words naming (Pass q m) = in_queue_words naming (codes "pass") q m
+event_words naming (Settle q m) = in_queue_words naming (codes "settle") q m
 event_words naming (Touch k w) = []
 event_words naming (EnterW k) = codes "enter-w" ∷ decimal k ∷ []
 event_words naming (EnterR k) = codes "enter-r" ∷ decimal k ∷ []

@@ -1,8 +1,9 @@
 //! Reading the line of an entry.
-ghost use Rattle.std.specs.Prelude.{◌≡◌, ◌+◌, ◌-◌, ◌≤◌, ◌<◌, IfOk};
+ghost use Rattle.std.specs.Prelude.{◌≡◌, ◌+◌, ◌-◌, ◌≤◌, ◌<◌, Ok, codes, IfOk};
 ghost use Rattle.rl_text.specs.Rows.{row_of};
-ghost use Rattle.rl_text.specs.Reading.{Leaves};
-ghost use Rattle.rl_report.specs.Reading.{undone_at, reply_named, reply_at, part_of_at, part_at, entry_at};
+ghost use Rattle.rl_text.specs.declared.causes.Why.TheVariants.{Word};
+ghost use Rattle.rl_text.specs.Reading.{fixed_at, below_at, Leaves};
+ghost use Rattle.rl_report.specs.Reading.{undone_at, reply_with, reply_named, reply_at, part_of_at, part_at, entry_at};
 
 use crate::line_reader::is;
 use crate::naming::Naming;
@@ -22,6 +23,56 @@ fn undone(words: &LineWords<'_>, version: Version) -> Result<Reply, Refusal>
     }
 }
 
+// The word behind `was`: VALUE.
+fn was_of(words: &mut LineWords<'_>) -> Result<Reply, Refusal>
+    requires { (2 ≤ words.old.next) × (words.old.next ≤ 32) }
+    ensures value { Leaves result words.new.next (reply_with words.old.row (words.old.next - 1) (λ value. Reply.Was value)) }
+    ensures row { words.new.row ≡ words.old.row }
+    ensures after { words.new.next ≤ words.old.next + 1 }
+{
+    Ok(Reply::Was(words.number()?))
+}
+
+// The word behind `val`: VALUE.
+fn val_of(words: &mut LineWords<'_>) -> Result<Reply, Refusal>
+    requires { (2 ≤ words.old.next) × (words.old.next ≤ 32) }
+    ensures value { Leaves result words.new.next (reply_with words.old.row (words.old.next - 1) (λ value. Reply.Val value)) }
+    ensures row { words.new.row ≡ words.old.row }
+    ensures after { words.new.next ≤ words.old.next + 1 }
+{
+    Ok(Reply::Val(words.number()?))
+}
+
+// The word behind `sum`: VALUE.
+fn sum_of(words: &mut LineWords<'_>) -> Result<Reply, Refusal>
+    requires { (2 ≤ words.old.next) × (words.old.next ≤ 32) }
+    ensures value { Leaves result words.new.next (reply_with words.old.row (words.old.next - 1) (λ value. Reply.Sum value)) }
+    ensures row { words.new.row ≡ words.old.row }
+    ensures after { words.new.next ≤ words.old.next + 1 }
+{
+    Ok(Reply::Sum(words.number()?))
+}
+
+// The word behind `over`: VALUE.
+fn over_of(words: &mut LineWords<'_>) -> Result<Reply, Refusal>
+    requires { (2 ≤ words.old.next) × (words.old.next ≤ 32) }
+    ensures value { Leaves result words.new.next (reply_with words.old.row (words.old.next - 1) (λ value. Reply.Over value)) }
+    ensures row { words.new.row ≡ words.old.row }
+    ensures after { words.new.next ≤ words.old.next + 1 }
+{
+    Ok(Reply::Over(words.number()?))
+}
+
+// The word behind `no`: VALUE.
+fn no_of(words: &mut LineWords<'_>) -> Result<Reply, Refusal>
+    requires { (2 ≤ words.old.next) × (words.old.next ≤ 32) }
+    ensures value { Leaves result words.new.next (reply_with words.old.row (words.old.next - 1) (λ value. Reply.No value)) }
+    ensures row { words.new.row ≡ words.old.row }
+    ensures after { words.new.next ≤ words.old.next + 1 }
+{
+    Ok(Reply::No(words.number()?))
+}
+
 // The reply that begins with the word that was read last.
 #[tactic(auto, unfolding(crate::specs::Reading::reply_named))]
 fn reply_named(words: &mut LineWords<'_>, version: Version, name: &[u8]) -> Result<Reply, Refusal>
@@ -30,29 +81,29 @@ fn reply_named(words: &mut LineWords<'_>, version: Version, name: &[u8]) -> Resu
     ensures row { words.new.row ≡ words.old.row }
     ensures after { words.new.next ≤ words.old.next + 1 }
 {
-    Ok(if is(name, "new") {
-        Reply::New
+    if is(name, "new") {
+        Ok(Reply::New)
     } else if is(name, "was") {
-        Reply::Was(words.number()?)
+        was_of(words)
     } else if is(name, "full") {
-        Reply::Full
+        Ok(Reply::Full)
     } else if is(name, "val") {
-        Reply::Val(words.number()?)
+        val_of(words)
     } else if is(name, "none") {
-        Reply::Nothing
+        Ok(Reply::Nothing)
     } else if is(name, "sum") {
-        Reply::Sum(words.number()?)
+        sum_of(words)
     } else if is(name, "over") {
-        Reply::Over(words.number()?)
+        over_of(words)
     } else if is(name, "no") {
-        Reply::No(words.number()?)
+        no_of(words)
     } else if is(name, "held") {
-        Reply::Held
+        Ok(Reply::Held)
     } else if is(name, "undone") {
-        undone(words, version)?
+        undone(words, version)
     } else {
-        return Err(words.refusal(Why::Word));
-    })
+        Err(words.refusal(Why::Word))
+    }
 }
 
 // The words of a reply.
@@ -99,6 +150,41 @@ fn part_of(words: &mut LineWords<'_>, version: Version) -> Result<(u32, u32), Re
     }
 }
 
+// The words of an entry behind its first four, which are read: its call, its reply and its part of a batch.
+#[tactic(auto, unfolding(crate::specs::Reading::entry_at))]
+fn entry_with(
+    words: &mut LineWords<'_>,
+    naming: &Naming,
+    version: Version,
+    shard: u32,
+    at: u32,
+    rank: u32,
+    seq: u32,
+) -> Result<Entry, Refusal>
+    requires next { words.old.next ≡ 5 }
+    requires name { fixed_at words.old.row 1 (codes "entry") Word ≡ Ok tt }
+    requires at { below_at words.old.row 2 (MOST_CALLS + 1) ≡ Ok at }
+    requires rank { below_at words.old.row 3 naming.now.ranks ≡ Ok rank }
+    requires seq { below_at words.old.row 4 MOST_CALLS ≡ Ok seq }
+    ensures { result ≡ entry_at naming.now version shard words.old.row }
+{
+    let shards = naming.shards;
+    let call = next_call(words, shards)?;
+    words.fixed(b"=", Why::Word)?;
+    let reply = next_reply(words, version)?;
+    let (batch, part) = part_of(words, version)?;
+    Ok(Entry {
+        shard,
+        rank,
+        seq,
+        call,
+        at,
+        reply,
+        batch,
+        part,
+    })
+}
+
 /// `entry AT RANK SEQ CALL = REPLY`, and the part of a batch, of a shard.
 #[tactic(auto, unfolding(crate::specs::Reading::entry_at))]
 pub fn entry_of(
@@ -110,24 +196,10 @@ pub fn entry_of(
     ensures { result ≡ entry_at naming.now version shard (row_of line.now) }
 {
     let ranks = u64::from(naming.ranks);
-    let shards = naming.shards;
     let mut words = line.words();
     words.fixed(b"entry", Why::Word)?;
     let at = words.below(u64::from(MOST_CALLS) + 1)? as u32;
     let rank = words.below(ranks)? as u32;
     let seq = words.below(u64::from(MOST_CALLS))? as u32;
-    let call = next_call(&mut words, shards)?;
-    words.fixed(b"=", Why::Word)?;
-    let reply = next_reply(&mut words, version)?;
-    let (batch, part) = part_of(&mut words, version)?;
-    Ok(Entry {
-        shard,
-        rank,
-        seq,
-        call,
-        at,
-        reply,
-        batch,
-        part,
-    })
+    entry_with(&mut words, naming, version, shard, at, rank, seq)
 }

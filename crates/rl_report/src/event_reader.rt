@@ -3,7 +3,7 @@ ghost use Rattle.std.specs.Prelude.{◌≡◌, ◌+◌, ◌≤◌, ◌<◌, ◌&
 ghost use Rattle.std.specs.Str.{bytes_eq};
 ghost use Rattle.rl_text.specs.Rows.{row_of};
 ghost use Rattle.rl_report.specs.Naming.{parent_is_at};
-ghost use Rattle.rl_report.specs.Reading.{queue_at, below_queue_at, member_in_row, cohort_named, in_queue_at, cohort_at, rank_at, event_named, event_at};
+ghost use Rattle.rl_report.specs.Reading.{queue_at, below_queue_at, member_in_row, cohort_named, in_queue_at, in_queue_with, cohort_at, cohort_with, rank_at, rank_with, event_named, event_at};
 
 use crate::line_reader::is;
 use crate::naming::{Naming, QueueName};
@@ -135,39 +135,103 @@ fn rank(words: &mut LineWords<'_>, naming: &Naming) -> Result<u32, Refusal>
     Ok(rank)
 }
 
+// The words behind `join`: QUEUE MEMBER.
+fn join_of(words: &mut LineWords<'_>, naming: &Naming) -> Result<Event, Refusal>
+    requires { words.old.next ≡ 4 }
+    ensures { result ≡ in_queue_with naming.now words.old.row (λ queue member. Event.Join queue member) }
+{
+    let (queue, member) = in_queue(words, naming)?;
+    Ok(Event::Join { queue, member })
+}
+
+// The word behind `announce`: COHORT.
+fn announce_of(words: &mut LineWords<'_>, naming: &Naming) -> Result<Event, Refusal>
+    requires { words.old.next ≡ 4 }
+    ensures { result ≡ cohort_with naming.now words.old.row (λ cohort. Event.Announce cohort) }
+{
+    let cohort = cohort(words, naming)?;
+    Ok(Event::Announce { cohort })
+}
+
+// The words behind `pass`: QUEUE MEMBER.
+fn pass_of(words: &mut LineWords<'_>, naming: &Naming) -> Result<Event, Refusal>
+    requires { words.old.next ≡ 4 }
+    ensures { result ≡ in_queue_with naming.now words.old.row (λ queue member. Event.Pass queue member) }
+{
+    let (queue, member) = in_queue(words, naming)?;
+    Ok(Event::Pass { queue, member })
+}
+
+// The words behind `settle`: QUEUE MEMBER.
+fn settle_of(words: &mut LineWords<'_>, naming: &Naming) -> Result<Event, Refusal>
+    requires { words.old.next ≡ 4 }
+    ensures { result ≡ in_queue_with naming.now words.old.row (λ queue member. Event.Settle queue member) }
+{
+    let (queue, member) = in_queue(words, naming)?;
+    Ok(Event::Settle { queue, member })
+}
+
+// The word behind `enter-w`: RANK.
+fn enter_w_of(words: &mut LineWords<'_>, naming: &Naming) -> Result<Event, Refusal>
+    requires { words.old.next ≡ 4 }
+    ensures { result ≡ rank_with naming.now words.old.row (λ rank. Event.EnterW rank) }
+{
+    let rank = rank(words, naming)?;
+    Ok(Event::EnterW { rank })
+}
+
+// The word behind `enter-r`: RANK.
+fn enter_r_of(words: &mut LineWords<'_>, naming: &Naming) -> Result<Event, Refusal>
+    requires { words.old.next ≡ 4 }
+    ensures { result ≡ rank_with naming.now words.old.row (λ rank. Event.EnterR rank) }
+{
+    let rank = rank(words, naming)?;
+    Ok(Event::EnterR { rank })
+}
+
+// The word behind `leave-w`: RANK.
+fn leave_w_of(words: &mut LineWords<'_>, naming: &Naming) -> Result<Event, Refusal>
+    requires { words.old.next ≡ 4 }
+    ensures { result ≡ rank_with naming.now words.old.row (λ rank. Event.LeaveW rank) }
+{
+    let rank = rank(words, naming)?;
+    Ok(Event::LeaveW { rank })
+}
+
+// The word behind `leave-r`: RANK.
+fn leave_r_of(words: &mut LineWords<'_>, naming: &Naming) -> Result<Event, Refusal>
+    requires { words.old.next ≡ 4 }
+    ensures { result ≡ rank_with naming.now words.old.row (λ rank. Event.LeaveR rank) }
+{
+    let rank = rank(words, naming)?;
+    Ok(Event::LeaveR { rank })
+}
+
 // What the rest of the line tells, after the name of what happened.
 #[tactic(auto, unfolding(crate::specs::Reading::event_named))]
 fn event_named(words: &mut LineWords<'_>, naming: &Naming, name: &[u8]) -> Result<Event, Refusal>
     requires { words.old.next ≡ 4 }
     ensures { result ≡ event_named naming.now words.old.row name.now }
 {
-    Ok(if is(name, "join") {
-        let (queue, member) = in_queue(words, naming)?;
-        Event::Join { queue, member }
+    if is(name, "join") {
+        join_of(words, naming)
     } else if is(name, "announce") {
-        let cohort = cohort(words, naming)?;
-        Event::Announce { cohort }
+        announce_of(words, naming)
     } else if is(name, "pass") {
-        let (queue, member) = in_queue(words, naming)?;
-        Event::Pass { queue, member }
+        pass_of(words, naming)
     } else if is(name, "settle") {
-        let (queue, member) = in_queue(words, naming)?;
-        Event::Settle { queue, member }
+        settle_of(words, naming)
     } else if is(name, "enter-w") {
-        let rank = rank(words, naming)?;
-        Event::EnterW { rank }
+        enter_w_of(words, naming)
     } else if is(name, "enter-r") {
-        let rank = rank(words, naming)?;
-        Event::EnterR { rank }
+        enter_r_of(words, naming)
     } else if is(name, "leave-w") {
-        let rank = rank(words, naming)?;
-        Event::LeaveW { rank }
+        leave_w_of(words, naming)
     } else if is(name, "leave-r") {
-        let rank = rank(words, naming)?;
-        Event::LeaveR { rank }
+        leave_r_of(words, naming)
     } else {
-        return Err(words.refusal(Why::Word));
-    })
+        Err(words.refusal(Why::Word))
+    }
 }
 
 /// `event STEP EVENT`, after an event of step `least`.

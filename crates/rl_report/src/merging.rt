@@ -1,9 +1,8 @@
 //! The history of a shard, from its journal and its ranks' transcripts.
 ghost use Rattle.std.specs.Prelude.{◌≡◌, ◌++◌, filter, map, take, IfOk, OnOk};
-ghost use Rattle.std.specs.List.Sorted.{IsNonDecreasingBy, IsStableByKey};
-ghost use Rattle.std.specs.Ordering.{nat_cmp};
+ghost use Rattle.std.specs.List.Sorted.{IsNonDecreasingBy};
 ghost use Rattle.rl_journal.specs.History.{history};
-ghost use Rattle.rl_report.specs.Merging.{is_read, all_reads, seen, up_to, merged};
+ghost use Rattle.rl_report.specs.Merging.{is_read, all_reads, seen, up_to, merged, AreInOrder};
 
 use rl_model::Entry;
 use std::alloc::{AllocError as OutOfMemory, Global};
@@ -73,7 +72,7 @@ fn sorted_reads<'a>(
     transcripts: &[&'a [Entry]],
 ) -> Result<Vec<&'a Entry>, OutOfMemory>
     ensures sorted { IfOk result (λ reads. IsNonDecreasingBy (λ e. e.at) (seen reads.items)) }
-    ensures stable { IfOk result (λ reads. IsStableByKey (λ e. e.at) nat_cmp (all_reads (map (λ t. t.now) transcripts.now)) (seen reads.items)) }
+    ensures stable { IfOk result (λ reads. AreInOrder (all_reads (map (λ t. t.now) transcripts.now)) (seen reads.items)) }
 {
     let mut reads = reads_of(alloc, transcripts)?;
     reads.sort_by_key(|entry| entry.at)?;

@@ -1,11 +1,13 @@
 //! How a report names the lock, the queues and their members.
-ghost use Rattle.std.specs.Prelude.{◌≡◌, ◌++◌, ◌∷◌, ℕ, [], length, IfOk, OnOk};
+ghost use Rattle.std.specs.Prelude.{◌≡◌, ◌==◌, ◌++◌, ◌∷◌, ℕ, [], length, IfOk, OnOk};
 ghost use Rattle.rl_place.specs.Numbering.{element_paths};
 ghost use Rattle.rl_place.specs.Places.{IsProper};
-ghost use Rattle.rl_report.specs.Naming.{has_cohorts, element_word, element_queue_names, queue_names, naming_of, lone_queue};
+ghost use Rattle.rl_place.specs.Shapes.{shape_of};
+ghost use Rattle.rl_report.specs.Naming.{element_word, element_queue_names, queue_names, naming_of, lone_queue};
 ghost use Rattle.rl_report.specs.Lawful.{queues_at, queues_under};
 
-use rl_place::{Lock, Path, Place, lock_word, path_text};
+use rl_place::{Path, Place, lock_word, path_text};
+use rl_word::{QueueKind, Shape};
 use std::alloc::{AllocError as OutOfMemory, Global};
 use std::marker::Model;
 
@@ -47,15 +49,6 @@ impl Model for Naming {
     ghost invariant = { λ n. length n.queues.items < 2 ^ 32 };
 }
 
-fn has_cohorts(lock: &Lock) -> bool
-    ensures { result ≡ has_cohorts lock.now }
-{
-    matches!(
-        lock,
-        Lock::Alock { .. } | Lock::Seq { .. } | Lock::Combine { .. }
-    )
-}
-
 // Appends a queue of ranks that stands by itself.
 fn push_lone(queues: &mut Vec<QueueName>, alloc: Global, word: &[u8]) -> Result<(), OutOfMemory>
     ensures { OnOk result (queues.new.items ≡ queues.old.items ++ lone_queue word.now ∷ []) }
@@ -79,6 +72,40 @@ fn element_word(alloc: Global, path: Path) -> Result<Vec<u8>, OutOfMemory>
     Ok(word)
 }
 
+// The queue of an element.
+fn element_queue(
+    alloc: Global,
+    place: &Place,
+    path: Path,
+    parent: Option<u32>,
+) -> Result<QueueName, OutOfMemory>
+    ensures { IfOk result (λ queue. queue ≡ record { word = element_word path; parent = parent; of_ranks = path.len == place.now.levels }) }
+{
+    Ok(QueueName {
+        word: element_word(alloc, path)?,
+        parent,
+        of_ranks: path.len == place.levels,
+    })
+}
+
+// The queues of these elements, which are all elements of the placement.
+fn queues_of_elements(
+    alloc: Global,
+    place: &Place,
+    names: &[Path],
+    shape: &Shape,
+) -> Result<Vec<QueueName>, OutOfMemory>
+    requires names { names.now ≡ element_paths place.now.paths }
+    requires shape { shape.now ≡ shape_of place.now }
+    ensures { IfOk result (λ queues. queues.items ≡ element_queue_names place.now.levels (element_paths place.now.paths)) }
+{
+    let mut queues = Vec::new(alloc);
+    for (number, path) in names.iter().enumerate() {
+        queues.push(element_queue(alloc, place, *path, shape.elements[number].parent)?)?;
+    }
+    Ok(queues)
+}
+
 // The queues of all elements.
 fn element_queues(alloc: Global, place: &Place) -> Result<Vec<QueueName>, OutOfMemory>
     requires { IsProper place.now }
@@ -86,34 +113,27 @@ fn element_queues(alloc: Global, place: &Place) -> Result<Vec<QueueName>, OutOfM
 {
     let names = place.names(alloc)?;
     let shape = place.shape(alloc)?;
-    let mut queues = Vec::new(alloc);
-    for (number, path) in names.iter().enumerate() {
-        queues.push(QueueName {
-            word: element_word(alloc, *path)?,
-            parent: shape.elements[number].parent,
-            of_ranks: path.len == place.levels,
-        })?;
-    }
-    Ok(queues)
+    queues_of_elements(alloc, place, names.as_slice(), &shape)
 }
 
-fn queue_names(alloc: Global, place: &Place) -> Result<Vec<QueueName>, OutOfMemory>
+// The queues of this kind.
+fn queue_names(alloc: Global, place: &Place, kind: QueueKind) -> Result<Vec<QueueName>, OutOfMemory>
     requires { IsProper place.now }
-    ensures { IfOk result (λ queues. queues.items ≡ queue_names place.now.lock place.now.levels place.now.paths) }
+    ensures { IfOk result (λ queues. queues.items ≡ queue_names kind place.now.levels place.now.paths) }
 {
     let mut queues = Vec::new(alloc);
-    match &place.lock {
-        Lock::Spin => Ok(queues),
-        Lock::Dmcs => {
+    match kind {
+        QueueKind::NoQueue => Ok(queues),
+        QueueKind::OneForAll => {
             push_lone(&mut queues, alloc, b"all")?;
             Ok(queues)
         }
-        Lock::Alock { .. } | Lock::Seq { .. } | Lock::Combine { .. } => {
+        QueueKind::TwoCohorts => {
             push_lone(&mut queues, alloc, b"local")?;
             push_lone(&mut queues, alloc, b"remote")?;
             Ok(queues)
         }
-        Lock::Mcs { .. } | Lock::Rw { .. } => element_queues(alloc, place),
+        QueueKind::Elements { .. } => element_queues(alloc, place),
     }
 }
 
@@ -126,12 +146,14 @@ impl Naming {
         ensures queues { IfOk result (λ naming. (home : ℕ) → length naming.queues ≡ length (queues_at place.now home)) }
         ensures under { IfOk result (λ naming. (home : ℕ) → length naming.queues ≡ length (queues_under place.now home)) }
     {
-        let queues = queue_names(alloc, place)?;
+        let name = place.lock.name();
+        let facts = name.facts();
+        let queues = queue_names(alloc, place, facts.queues)?;
         Ok(Naming {
-            lock: lock_word(place.lock.name()),
+            lock: lock_word(name),
             ranks: place.paths.len() as u32,
             shards: place.geom.shards,
-            cohorts: has_cohorts(&place.lock),
+            cohorts: facts.queues.has_cohorts(),
             queues,
         })
     }

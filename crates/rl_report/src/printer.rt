@@ -4,7 +4,7 @@ ghost use Rattle.rl_text.specs.Spelling.{line_text, text_of};
 ghost use Rattle.rl_place.specs.Places.{IsProper};
 ghost use Rattle.rl_report.specs.Naming.{naming_of, queue_word, member_word, cohort_word};
 ghost use Rattle.rl_report.specs.Reports.{ReportFits};
-ghost use Rattle.rl_report.specs.Spelling.{queue_words, queue_line, queue_lines, pair_words, event_words, event_line, event_lines, is_printed, shard_words, shard_lines, shards_lines, rank_done_words, rank_done_lines, last_steps_words, steps_words, steps_lines, mode_word, sizes_words, report_body_lines, report_spelling};
+ghost use Rattle.rl_report.specs.Spelling.{queue_words, queue_line, queue_lines, pair_words, in_queue_words, event_words, event_line, event_lines, is_printed, shard_words, shard_lines, shards_lines, rank_done_words, rank_done_lines, last_steps_words, steps_words, steps_lines, mode_word, sizes_words, report_body_lines, report_spelling};
 ghost use Rattle.rl_report.specs.Reading.{report_at};
 ghost use Rattle.rl_report.specs.Printing.{spaced};
 
@@ -110,7 +110,7 @@ fn put_in_queue(
     queue: u32,
     member: u32,
 ) -> Result<(), OutOfMemory>
-    ensures { OnOk result (out.new.items ≡ out.old.items ++ spaced (name.now ∷ queue_word naming.now queue ∷ member_word naming.now queue member ∷ [])) }
+    ensures { OnOk result (out.new.items ≡ out.old.items ++ spaced (in_queue_words naming.now name.now queue member)) }
 {
     put_word(out, name)?;
     put_queue_name(out, naming, queue)?;
@@ -329,7 +329,8 @@ fn printed(alloc: Global, place: &Place, report: &Report) -> Result<Vec<u8>, Out
 pub fn report_text(alloc: Global, place: &Place, report: &Report) -> Result<Vec<u8>, OutOfMemory>
     requires { IsProper place.now }
     ensures text { IfOk result (λ text. text.items ≡ report_spelling (naming_of place.now) report.now) }
-    ensures again { ReportFits (naming_of place.now) report.now → IfOk result (λ text. report_at (naming_of place.now) text.items ≡ Ok report.now) }
+    ensures again { ReportFits (naming_of place.now) report.now →
+        IfOk result (λ text. report_at (naming_of place.now) text.items ≡ Ok report.now) }
 {
     printed(alloc, place, report)
 }

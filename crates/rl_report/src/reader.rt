@@ -5,7 +5,7 @@ ghost use Rattle.rl_place.specs.Places.{ThePlace, IsProper};
 ghost use Rattle.rl_report.specs.Naming.{naming_of};
 ghost use Rattle.rl_report.specs.Reports.{TheReport};
 ghost use Rattle.rl_report.specs.Spelling.{IsTextOf};
-ghost use Rattle.rl_report.specs.Reading.{shards_next, dones_next, steps_next, closing_at, body_next, report_at, report_fault};
+ghost use Rattle.rl_report.specs.Reading.{all_shards_next, dones_next, steps_next, closing_at, body_next, report_at, report_fault};
 
 use crate::line_reader::{done_of, mode_of, sizes_of, steps_of, version_of};
 use crate::naming::Naming;
@@ -25,7 +25,7 @@ fn shards_of(
     version: Version,
     replay: bool,
 ) -> Result<Vec<ShardReport>, TextErr>
-    ensures { GivesLeaving (seen (λ shards. shards.items) result) lines.new (shards_next naming.now version replay 0 naming.now.shards lines.old) }
+    ensures { GivesLeaving (seen (λ shards. shards.items) result) lines.new (all_shards_next naming.now version replay lines.old) }
 {
     let mut shards = Vec::new(alloc);
     for number in 0..naming.shards {

@@ -24,7 +24,8 @@ impl Model for ShardReport {
 
     ghost Value = { TheShard };
 
-    ghost view = { λ s. record { updates = s.updates; entries = s.entries.items; queues = s.queues.items; pairs = s.pairs.items; events = s.events.items } };
+    ghost view = { λ s.
+        record { updates = s.updates; entries = s.entries.items; queues = s.queues.items; pairs = s.pairs.items; events = s.events.items } };
 }
 
 /// How many calls a rank has done, and how many it was given.

@@ -1,6 +1,7 @@
 //! The report of a machine.
 ghost use Rattle.std.specs.Prelude.{◌≡◌, ◌↔◌, ◌<◌, ◌^◌, ℕ, [], All, length, filter, get_or, map, slice_get, false, IsTrue, IfOk, Some};
 ghost use Rattle.rl_place.specs.Places.{IsProper};
+ghost use Rattle.rl_report.specs.Naming.{queue_names};
 ghost use Rattle.rl_report.specs.Spelling.{is_printed};
 ghost use Rattle.rl_core.specs.RankGood.{entries_in};
 ghost use Rattle.rl_machine.specs.Running.{running};
@@ -12,23 +13,31 @@ ghost use Rattle.rl_reporting.specs.Reported.{queue_count, part_of_replay, dones
 use rl_core::ShardCore;
 use rl_machine::{Machine, soundness};
 use rl_model::Entry;
-use rl_place::{Lock, Place};
+use rl_place::Place;
 use rl_report::{Done, Report, ShardReport, merge, replies_fit, tallies, tallies_fit};
 use rl_step::Event;
+use rl_word::QueueKind;
 use std::alloc::{AllocError as OutOfMemory, Global};
+
+/// How many queues of this kind a placement has.
+fn count_of_kind(alloc: Global, place: &Place, kind: QueueKind) -> Result<u32, OutOfMemory>
+    requires { IsProper place.now }
+    ensures { IfOk result (λ n. n ≡ length (queue_names kind place.now.levels place.now.paths)) }
+{
+    match kind {
+        QueueKind::NoQueue => Ok(0),
+        QueueKind::OneForAll => Ok(1),
+        QueueKind::TwoCohorts => Ok(2),
+        QueueKind::Elements { .. } => Ok(place.names(alloc)?.len() as u32),
+    }
+}
 
 /// How many queues the lock of a placement has.
 fn queue_count(alloc: Global, place: &Place) -> Result<u32, OutOfMemory>
     requires { IsProper place.now }
     ensures { IfOk result (λ n. n ≡ queue_count place.now) }
 {
-    match &place.lock {
-        Lock::Spin => Ok(0),
-        Lock::Dmcs => Ok(1),
-        Lock::Alock { .. } | Lock::Seq { .. } | Lock::Combine { .. } => Ok(2),
-        Lock::Mcs { .. } => Ok(place.names(alloc)?.len() as u32),
-        Lock::Rw { .. } => Ok(place.names(alloc)?.len() as u32),
-    }
+    count_of_kind(alloc, place, place.lock.name().facts().queues)
 }
 
 fn is_touch(event: Event) -> bool

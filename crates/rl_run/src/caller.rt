@@ -5,12 +5,11 @@ ghost use Rattle.rl_step.specs.declared.events.Stepped.TheVariants.{Finished};
 ghost use Rattle.rl_run.specs.Callers.{IsCaller, IsReady, IsAtEnd, AllClosed, HasNone, HasNothingLeft, Opens, OpensDue, StepsSeat, IsStep, who, seats_of};
 
 use crate::waiting::Patience;
-use arrayvec::ArrayVec;
 use rl_core::{ShardCore, block_from, block_shard};
 use rl_io::{Gate, OpenGate};
 use rl_model::{Call, Geom};
 use rl_shard::{Seat, Shard};
-use rl_step::Stepped;
+use rl_step::{Events, Stepped};
 use std::sync::Wait;
 
 /// Makes the calls of a rank, in their order, each on its shard.
@@ -169,7 +168,7 @@ impl<C: ShardCore> Caller<C> {
         let at = self.at as usize;
         let seat = &mut self.seats[at];
         let shard = &shards[at];
-        let mut events = ArrayVec::new();
+        let mut events = Events::new();
         for _ in rt.forever() {
             match seat.step_with(shard, &mut events) {
                 Stepped::Finished => break,

@@ -3,6 +3,7 @@
 ghost use Rattle.std.specs.Prelude.{◌≡◌, ◌++◌, Bool, ◌+◌, ◌-◌, ◌/◌, ◌<◌, ◌≤◌, ◌∷◌, [], List, length, refl, true, false, IfOk, is_some};
 ghost use Rattle.rl_step.specs.declared.events.Event.{Event as TheEvent};
 ghost use Rattle.rl_word.specs.declared.locks.LockName.TheVariants as TheName;
+ghost use Rattle.rl_step.specs.Lock.{told_as};
 ghost use Rattle.rl_word.specs.Shapes.{layout_of};
 ghost use Rattle.rl_tree.specs.Tree.{entry_if};
 ghost use Rattle.rl_tree.specs.TreeShape.{levels_of};
@@ -13,13 +14,12 @@ ghost use Rattle.rl_rw.specs.laws.SameViews.{same_rw};
 ghost use Rattle.rl_rw.specs.laws.RwLaws.{laws_of};
 
 use crate::view::RwView;
-use arrayvec::ArrayVec;
 use rl_counter::{
     CounterNames, CounterView, Doing, Task, counter_begin, counter_busy, counter_idle,
     counter_learn, counter_plan,
 };
 use rl_queue::{Phase, rank_words};
-use rl_step::{Algo, Event, Standing};
+use rl_step::{Algo, Event, Events, Standing};
 use rl_tree::{Tree, tree_enter};
 use rl_word::{Act, Class, Knobs, LockName, Mode, Shape, Spot};
 use std::alloc::{AllocError as OutOfMemory, Global};
@@ -66,9 +66,10 @@ fn groups_of(ranks: u32, group: u32) -> u32
 
 /// What a rank learnt in the tree, where it now stands so: its entry, where it came in.
 #[inline(always)]
-fn within_tree(view: &mut RwView, events: &mut ArrayVec<Event, 8>)
+fn within_tree(view: &mut RwView, events: &mut Events)
     requires { length (events.old.items ++ entry_if view.old.tree.query view.old.tree.phase view.old.tree.rank) ≤ 8 }
-    ensures { (waits : Bool) → record { view = view.new; events = events.new.items; waits = waits } ≡ from_tree view.old false (record { view = view.old.tree; events = events.old.items; waits = waits }) }
+    ensures { (waits : Bool) → told_as view.new events.new.items waits ≡
+        from_tree view.old false (told_as view.old.tree events.old.items waits) }
 {
     tree_enter(&view.tree, events);
     view.counter = counter_idle(view.counter.counter);
@@ -77,7 +78,8 @@ fn within_tree(view: &mut RwView, events: &mut ArrayVec<Event, 8>)
 /// A rank has come to the hook: it begins to put the marks up, or to take them down.
 #[inline(always)]
 fn comes_to_hook(view: &mut RwView)
-    ensures { (told : List TheEvent) (waits : Bool) → record { view = view.new; events = told; waits = waits } ≡ from_tree view.old true (record { view = view.old.tree; events = told; waits = waits }) }
+    ensures { (told : List TheEvent) (waits : Bool) → told_as view.new told waits ≡
+        from_tree view.old true (told_as view.old.tree told waits) }
 {
     let task = match view.tree.phase {
         Phase::Settle => Task::Up,
@@ -89,10 +91,11 @@ fn comes_to_hook(view: &mut RwView)
 impl Rw {
     /// A task at the marks has ended: the tree goes on from the hook.
     #[inline(never)]
-    fn leaves_hook(&self, view: &mut RwView, events: &mut ArrayVec<Event, 8>)
+    fn leaves_hook(&self, view: &mut RwView, events: &mut Events)
         requires may { MayLeaveHook self.now.tree.rooted view.old.tree }
         requires none { events.old.items ≡ [] }
-        ensures { record { view = view.new; events = events.new.items; waits = false } ≡ after_hook (shared_of self.now.tree.rooted self.now.counters.readers self.now.group) view.old }
+        ensures { told_as view.new events.new.items false ≡
+            after_hook (shared_of self.now.tree.rooted self.now.counters.readers self.now.group) view.old }
     {
         self.tree.resume(&mut view.tree, events);
         within_tree(view, events);
@@ -105,12 +108,13 @@ impl Rw {
         view: &mut RwView,
         counter: CounterView,
         waits: bool,
-        events: &mut ArrayVec<Event, 8>,
+        events: &mut Events,
     ) -> bool
         requires same { counter.counter ≡ view.old.counter.counter }
         requires ends { Ends self.now.tree.rooted view.old.tree view.old.counter.doing counter.doing }
         requires none { events.old.items ≡ [] }
-        ensures { record { view = view.new; events = events.new.items; waits = result } ≡ from_counter (shared_of self.now.tree.rooted self.now.counters.readers self.now.group) view.old view.old.counter.doing counter.doing waits }
+        ensures { told_as view.new events.new.items result ≡
+            from_counter (shared_of self.now.tree.rooted self.now.counters.readers self.now.group) view.old view.old.counter.doing counter.doing waits }
     {
         match counter.doing {
             Doing::Inside => {
@@ -237,7 +241,7 @@ impl Algo for Rw {
     }
 
     #[inline(always)]
-    fn learn(&self, view: &mut RwView, got: u64, events: &mut ArrayVec<Event, 8>) -> bool {
+    fn learn(&self, view: &mut RwView, got: u64, events: &mut Events) -> bool {
         if counter_busy(view.counter) {
             let turn = counter_learn(view.counter, &self.counters, got);
             return self.at_counters(view, turn.view, turn.waits, events);

@@ -1,4 +1,4 @@
-// What is proved of the work under a sequence lock, for whatever lock it holds.
+//! What is proved of the work under a sequence lock, for whatever lock it holds.
 ghost use Rattle.rl_seq.specs.Rule as rule;
 
 /// What is proved of the work under a sequence lock. There is nothing to run.

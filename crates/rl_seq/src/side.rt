@@ -1,4 +1,4 @@
-// A rank's side of the work under a sequence lock.
+//! A rank's side of the work under a sequence lock.
 ghost use Rattle.std.specs.Prelude.{◌≡◌, IfOk};
 ghost use Rattle.rl_model.specs.Geom.{GeomFits};
 ghost use Rattle.rl_work.specs.Ways.{worked_with};

@@ -1,4 +1,4 @@
-// Where a rank stands between the versions.
+//! Where a rank stands between the versions.
 
 /// Where a rank stands in its open block. The first is the work inside the lock, up to the last load; the next four are a
 /// get alone, outside of the lock; the last four are a block of updates that is decided.

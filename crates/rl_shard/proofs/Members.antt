@@ -1,16 +1,18 @@
--- The members of each lock's queues are there.
+-- The members of a lock's queues are there, whichever kind they are.
 use Rattle.std.proofs.Common.{◌≡◌, ◌<◌, ◌+◌, ℕ, zero, suc, ◌==◌, ◌&&◌, Bool, true, false, List, [], ◌∷◌, length, slice_get, Option, Some, None, sym, refl, ap, ◌∙◌, subst, arith}
 use Rattle.std.specs.Prelude.{nat_lt, if◌then◌else◌}
 use Rattle.std.proofs.lemmas.Option.{same_Some, slice_get_within}
 use Rattle.std.proofs.lemmas.Bool.Decides.{nat_tests}
 use Rattle.rl_word.specs.declared.locks.LockName.{LockName}
-use Rattle.rl_word.specs.declared.locks.LockName.TheVariants.{Spin, Dmcs, Alock, Mcs, Rw, Seq, Combine}
+use Rattle.rl_word.specs.declared.locks.QueueKind.{QueueKind}
+use Rattle.rl_word.specs.declared.locks.QueueKind.TheVariants.{NoQueue, OneForAll, TwoCohorts, Elements}
 use Rattle.rl_word.specs.declared.shapes.Element.{Element}
 use Rattle.rl_word.specs.declared.shapes.Knobs.{Knobs}
+use Rattle.rl_word.specs.LockFacts.{facts_of}
 use Rattle.rl_word.specs.Shapes.{TheShape}
 use Rattle.rl_step.specs.Queues.{QueueOf}
 use Rattle.rl_step.specs.laws.QueueLemmas.{elements_long}
-use Rattle.rl_step.specs.LockQueues.{queues_of, all_ranks, cohort_queue, cohort_queues, same, sits_at, parent_of, is_node, leaf_of, is_at, is_in, element_queue, element_queues}
+use Rattle.rl_step.specs.LockQueues.{queues_of, queues_of_kind, root_budget, all_ranks, cohort_queue, cohort_queues, same, sits_at, parent_of, is_node, leaf_of, is_at, is_in, element_queue, element_queues}
 use Rattle.rl_shard.specs.Queues.{AreMembersThere}
 
 both_true : (a b : Bool) → (a && b) ≡ true → a ≡ true
@@ -74,9 +76,9 @@ cohorts_there shape home knobs = record { of_ranks = λ q m d e ranks is. one q 
   none (suc zero) d e other = no_elements d (cohort_queue home shape.node_of false knobs.remote) (same_Some _ _ e) refl other
   none (suc (suc q)) d e other = cc
 
-pub members_there : (name : LockName) (shape : TheShape) (home : ℕ) (knobs : Knobs) → AreMembersThere (queues_of name shape home knobs) (length shape.node_of)
-members_there Spin shape home knobs = record { of_ranks = λ q m d e ranks is. cc; of_elements = λ q m d e elements is. cc }
-members_there Dmcs shape home knobs = record { of_ranks = λ q m d e ranks is. one q m d e is; of_elements = λ q m d e elements is. none q d e elements } where
+by_kind : (kind : QueueKind) (shape : TheShape) (home : ℕ) (knobs : Knobs) → AreMembersThere (queues_of_kind kind shape home knobs) (length shape.node_of)
+by_kind NoQueue shape home knobs = record { of_ranks = λ q m d e ranks is. cc; of_elements = λ q m d e elements is. cc }
+by_kind OneForAll shape home knobs = record { of_ranks = λ q m d e ranks is. one q m d e is; of_elements = λ q m d e elements is. none q d e elements } where
   n : ℕ
   n = length shape.node_of
 
@@ -87,8 +89,8 @@ members_there Dmcs shape home knobs = record { of_ranks = λ q m d e ranks is. o
   none : {B : Type 0} (q : ℕ) (d : QueueOf) → slice_get (all_ranks (length shape.node_of) ∷ []) q ≡ Some d → d.of_ranks ≡ false → B
   none zero d e other = no_elements d (all_ranks (length shape.node_of)) (same_Some _ _ e) refl other
   none (suc q) d e other = cc
-members_there Alock shape home knobs = cohorts_there shape home knobs
-members_there Mcs shape home knobs = elements_there shape None
-members_there Rw shape home knobs = elements_there shape (Some knobs.writers)
-members_there Seq shape home knobs = cohorts_there shape home knobs
-members_there Combine shape home knobs = cohorts_there shape home knobs
+by_kind TwoCohorts shape home knobs = cohorts_there shape home knobs
+by_kind (Elements root) shape home knobs = elements_there shape (root_budget root knobs)
+
+pub members_there : (name : LockName) (shape : TheShape) (home : ℕ) (knobs : Knobs) → AreMembersThere (queues_of name shape home knobs) (length shape.node_of)
+members_there name shape home knobs = by_kind (facts_of name).queues shape home knobs

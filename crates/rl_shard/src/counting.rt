@@ -6,10 +6,9 @@ ghost use Rattle.rl_shard.specs.Counting.{counted_table, counting_rule};
 ghost use Rattle.rl_shard.specs.laws.CountingLaws.{counting_laws};
 
 use crate::tallies::Tallies;
-use arrayvec::ArrayVec;
 use rl_core::ShardCore;
 use rl_model::Call;
-use rl_step::{Core, Event, Plan, Stepped};
+use rl_step::{Core, Events, Plan, Stepped};
 use rl_word::Atom;
 
 /// What a rank knows between two of its atoms, and what it has counted.
@@ -48,7 +47,7 @@ impl<C: ShardCore> Core for Counting<C> {
         view: &mut CountedView<C::View>,
         plan: Plan,
         got: u64,
-        events: &mut ArrayVec<Event, 8>,
+        events: &mut Events,
     ) -> Stepped {
         let stepped = self.whole.after(&mut view.whole, plan, got, events);
         view.tallies.count(events.as_slice());

@@ -9,10 +9,9 @@ ghost use Rattle.rl_shard.specs.Steps.{IsSeatStep};
 use crate::counting::Counting;
 use crate::shard::Shard;
 use crate::stepping::step;
-use arrayvec::ArrayVec;
 use rl_core::ShardCore;
 use rl_model::{Call, Entry};
-use rl_step::{Event, Stepped, Tally};
+use rl_step::{Events, Stepped, Tally};
 use rl_window::WinSeat;
 
 /// The seat of a rank at a shard: the one right to act as the rank there.
@@ -123,12 +122,12 @@ impl<C: ShardCore> Seat<C> {
         requires seat { IsOf C.says shard.now self.old }
         ensures step { IsSeatStep C.says shard.now self.old self.new result }
     {
-        self.step_with(shard, &mut ArrayVec::new())
+        self.step_with(shard, &mut Events::new())
     }
 
     /// The same step with a list for its events, which is empty before and after: who makes many steps makes the list but once.
     #[inline(always)]
-    pub fn step_with(&mut self, shard: &Shard<C>, events: &mut ArrayVec<Event, 8>) -> Stepped
+    pub fn step_with(&mut self, shard: &Shard<C>, events: &mut Events) -> Stepped
         requires seat { IsOf C.says shard.now self.old }
         requires none { events.old.items ≡ [] }
         ensures none { events.new.items ≡ [] }

@@ -8,8 +8,7 @@ ghost use Rattle.rl_spin.specs.Spin.{spin_table, SpinGood};
 ghost use Rattle.rl_spin.specs.laws.SpinLaws.{spin_laws};
 
 use crate::view::{SpinPhase, SpinView};
-use arrayvec::ArrayVec;
-use rl_step::{Algo, Event, Standing};
+use rl_step::{Algo, Event, Events, Standing};
 use rl_word::{Act, Class, Knobs, LockName, Mode, Shape, Spot};
 use std::alloc::{AllocError as OutOfMemory, Global};
 
@@ -98,7 +97,7 @@ impl Algo for Spin {
         }
     }
 
-    fn learn(&self, view: &mut SpinView, got: u64, events: &mut ArrayVec<Event, 8>) -> bool {
+    fn learn(&self, view: &mut SpinView, got: u64, events: &mut Events) -> bool {
         match view.phase {
             SpinPhase::Trying => {
                 if got == 0 {

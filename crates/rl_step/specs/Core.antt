@@ -1,5 +1,5 @@
 -- What a core is, a rank's whole machine: its table of plain functions, its rule and its laws; and what an atom changes.
-use Rattle.std.specs.Prelude.{◌≡◌, ℕ, ◌<◌, ◌^◌, List, length, slice_get, slice_set, Option, Some, None}
+use Rattle.std.specs.Prelude.{◌≡◌, ℕ, ◌<◌, ◌^◌, List, [], length, slice_get, slice_set, Option, Some, None}
 use Rattle.rl_word.specs.declared.acts.Atom.{Atom}
 use Rattle.rl_word.specs.declared.acts.Atom.TheVariants.{Load, Store, LocalCas, Take, CardLoad, CardStore, Leave}
 use Rattle.rl_step.specs.declared.events.Event.{Event}
@@ -81,7 +81,8 @@ pub record CoreLaws {V : Type 0} (C : CoreTable V) (rule : TheWindow → List V 
   pub keeps : (h : TheWindow) (vs : List V) (r : ℕ) (v : V) (at : Atom) → Plans C rule h vs r v at → do_got at h.words h.cards < 2 ^ 64 →
       rule (do_atom r at h) (slice_set vs r (C.after v (do_got at h.words h.cards)).view)
   -- no atom is answered as if none was made
-  pub goes_on : (h : TheWindow) (vs : List V) (r : ℕ) (v : V) (at : Atom) → Plans C rule h vs r v at → (C.after v (do_got at h.words h.cards)).stepped ≡ Finished → ⊥
+  pub goes_on : (h : TheWindow) (vs : List V) (r : ℕ) (v : V) (at : Atom) → Plans C rule h vs r v at →
+      (C.after v (do_got at h.words h.cards)).stepped ≡ Finished → ⊥
 
 -- the answer of an atom that found got, and what happened with it, are the table's
 pub record Answers {V : Type 0} (C : CoreTable V) (v : V) (got : ℕ) (events : List Event) (stepped : Stepped) : Type 0 where
@@ -90,7 +91,8 @@ pub record Answers {V : Type 0} (C : CoreTable V) (v : V) (got : ℕ) (events : 
 
 -- What the rank's atom at changes, whatever port it is made on: the view v becomes w, as it is after a number that some state
 -- under the rule gives; and where the port tells its words, they change as the atom says, and the number is what it gives.
-pub record Performs {V : Type 0} (C : CoreTable V) (rule : TheWindow → List V → Type 0) (rank : ℕ) (at : Atom) (v w : V) (told_old told_new : Option TheWindow) (events : List Event) (stepped : Stepped) : Type 0 where
+pub record Performs {V : Type 0} (C : CoreTable V) (rule : TheWindow → List V → Type 0) (rank : ℕ) (at : Atom) (v w : V)
+    (told_old told_new : Option TheWindow) (events : List Event) (stepped : Stepped) : Type 0 where
   pub got : ℕ
   pub may_get : MayGet C rule v got
   pub same_rank : may_get.rank ≡ rank
@@ -99,7 +101,24 @@ pub record Performs {V : Type 0} (C : CoreTable V) (rule : TheWindow → List V 
   pub told : (h : TheWindow) → told_old ≡ Some h → (told_new ≡ Some (do_atom rank at h)) × (got ≡ do_got at h.words h.cards)
 
 -- what a made atom changes of plain words and views
-pub record MadeFlat {V : Type 0} (C : CoreTable V) (h k : TheWindow) (vs ws : List V) (r : ℕ) (v : V) (at : Atom) (events : List Event) (stepped : Stepped) : Type 0 where
+pub record MadeFlat {V : Type 0} (C : CoreTable V) (h k : TheWindow) (vs ws : List V) (r : ℕ) (v : V) (at : Atom) (events : List Event)
+    (stepped : Stepped) : Type 0 where
   pub held : k ≡ do_atom r at h
   pub views : ws ≡ slice_set vs r (C.after v (do_got at h.words h.cards)).view
   pub answer : Answers C v (do_got at h.words h.cards) events stepped
+
+-- The same of a port, by what it sees, its rank and what it tells, from p to q.
+module _ {P V : Type 0} (C : CoreTable V) (rule : TheWindow → List V → Type 0) (sees : P → V → Type 0) (rank_of : P → ℕ)
+    (told : P → Option TheWindow) (p q : P) where
+  -- it has made this atom
+  abbrev pub PortMakes : Atom → List Event → Stepped → Type 0
+  PortMakes at events answer = (v w : V) → sees p v → sees q w → Performs C rule (rank_of p) at v w (told p) (told q) events answer
+
+  -- it has made its view's next atom, if that has one
+  abbrev pub PortMakesNext : List Event → Stepped → Type 0
+  PortMakesNext events answer = (v w : V) (at : Atom) → sees p v → sees q w → C.next v ≡ Some at → Performs C rule (rank_of p) at v w
+      (told p) (told q) events answer
+
+-- its view has no next atom: then nothing has changed
+abbrev pub PortFinishes : {P V : Type 0} → CoreTable V → (P → V → Type 0) → P → P → List Event → Stepped → Type 0
+PortFinishes C sees p q events answer = (v : _) → sees p v → C.next v ≡ None → (answer ≡ Finished) × (events ≡ []) × (q ≡ p)

@@ -1,6 +1,7 @@
 -- to be believed, in reading order
 pub mod Do
 pub mod Answers
+pub mod EventList
 pub mod Traces
 pub mod Exclusion
 pub mod Queues
@@ -12,4 +13,5 @@ pub mod Transitions
 pub mod Batches
 pub mod Core
 pub mod Flat
+pub mod FlatAtoms
 pub mod laws

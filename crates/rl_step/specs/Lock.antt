@@ -20,6 +20,9 @@ pub record Told (V : Type 0) : Type 0 where
   pub events : List Event
   pub waits : Bool
 
+abbrev pub told_as : {V : Type 0} → V → List Event → Bool → Told V
+told_as view events waits = record { view = view; events = events; waits = waits }
+
 -- the same, of what a rank learnt with these events
 abbrev pub told_with : {V : Type 0} → Learnt V → List Event → Told V
 told_with l es = record { view = l.view; events = es; waits = l.waits }
@@ -269,10 +272,12 @@ pub record LockLaws {V : Type 0} (T : LockTable V) (good : LockState V → Type 
   -- and when anybody touches what the lock guards
   pub touch_keeps : (s : LockState V) (r : ℕ) (w : Bool) → good s → good (touched s r w)
   -- where there is a writer nobody else holds the lock
-  pub excludes : (s : LockState V) (i j : ℕ) (v w : V) → good s → slice_get s.views i ≡ Some v → slice_get s.views j ≡ Some w → T.standing v ≡ Writer → IsHolder (T.standing w) → i ≡ j
+  pub excludes : (s : LockState V) (i j : ℕ) (v w : V) → good s → slice_get s.views i ≡ Some v → slice_get s.views j ≡ Some w →
+      T.standing v ≡ Writer → IsHolder (T.standing w) → i ≡ j
   -- who holds the lock has asked for it in a mode that suits: no reader has asked to write; and there is no reader at all, or,
   -- where readers share the lock, no writer has asked to read
-  pub suits : (s : LockState V) (r : ℕ) (v : V) (m : Mode) → good s → slice_get s.views r ≡ Some v → slice_get s.modes r ≡ Some m → Suits T.shares m (T.standing v)
+  pub suits : (s : LockState V) (r : ℕ) (v : V) (m : Mode) → good s → slice_get s.views r ≡ Some v → slice_get s.modes r ≡ Some m →
+      Suits T.shares m (T.standing v)
   -- a rank is out at first, asks once it has asked, and leaves once it has left
   pub first_out : (r : ℕ) → T.standing (T.first r) ≡ Out
   pub ask_asks : (v : V) (m : Mode) → T.standing v ≡ Out → T.standing (T.ask v m) ≡ Asking
@@ -281,9 +286,11 @@ pub record LockLaws {V : Type 0} (T : LockTable V) (good : LockState V → Type 
   pub rests : (s : LockState V) (r : ℕ) (v : V) → good s → slice_get s.views r ≡ Some v → (T.plan v ≡ None) ↔ Rests (T.standing v)
   -- an act changes its rank's standing from asking to holding or from leaving to out alone; the enter event comes exactly with
   -- it and names the rank; acts give no touch and no leave event
-  pub shifts : (s : LockState V) (r : ℕ) (v : V) (a : Act) → Acts T good s r v a → Shift r (T.standing v) (T.standing (learnt T s v a).view) (holds_only (learnt T s v a).events)
+  pub shifts : (s : LockState V) (r : ℕ) (v : V) (a : Act) → Acts T good s r v a →
+      Shift r (T.standing v) (T.standing (learnt T s v a).view) (holds_only (learnt T s v a).events)
   -- a round has to be made again after a load alone, and begins with a load
-  pub waits_on_loads : (s : LockState V) (r : ℕ) (v : V) (a : Act) → Acts T good s r v a → (learnt T s v a).waits ≡ true → IsLoad a × PlansLoad (T.plan (learnt T s v a).view)
+  pub waits_on_loads : (s : LockState V) (r : ℕ) (v : V) (a : Act) → Acts T good s r v a → (learnt T s v a).waits ≡ true →
+      IsLoad a × PlansLoad (T.plan (learnt T s v a).view)
   -- the events of an act stand in the order of their kinds, and there are at most 8
   pub orders : (s : LockState V) (r : ℕ) (v : V) (a : Act) → Acts T good s r v a → InOrder (learnt T s v a).events × (length (learnt T s v a).events ≤ 8)
   -- they name queues, members and cohorts that the lock has
@@ -293,7 +300,8 @@ pub record LockLaws {V : Type 0} (T : LockTable V) (good : LockState V → Type 
   -- a queue serves first who came first
   pub fifo : (s : LockState V) (q : ℕ) (d : QueueOf) → good s → slice_get T.queues q ≡ Some d → IsFifo s.trace q
   -- while no rank is in a call, a queue was settled and passed as often as it was had
-  pub counted : (s : LockState V) (q : ℕ) (d : QueueOf) → good s → AllOut T s → slice_get T.queues q ≡ Some d → settled q s.trace + passed q s.trace ≡ tenures d s.trace
+  pub counted : (s : LockState V) (q : ℕ) (d : QueueOf) → good s → AllOut T s → slice_get T.queues q ≡ Some d →
+      settled q s.trace + passed q s.trace ≡ tenures d s.trace
   -- what the lock says further of all events and acts so far
   pub goes_further : (s : LockState V) → good s → further s.trace s.deeds
   -- where there is one rank alone, a compare-and-swap finds its old value and nothing waits

@@ -1,9 +1,12 @@
--- The queues of each lock, by its name, the shape, the shard's home and the settings: their members and their budgets.
-use Rattle.std.specs.Prelude.{ℕ, zero, suc, ◌+◌, ◌==◌, ◌&&◌, ◌||◌, Bool, true, false, not, List, [], ◌∷◌, length, nat_lt, if◌then◌else◌, slice_get, slice_index, Option, Some, None}
+-- The queues of each kind of lock, by the shape, the shard's home and the settings: their members and their budgets. And what a lock's name decides,
+-- fact by fact.
+use Rattle.std.specs.Prelude.{◌≡◌, ℕ, zero, suc, ◌+◌, ◌==◌, ◌&&◌, ◌||◌, Bool, true, false, not, List, [], ◌∷◌, length, nat_lt, if◌then◌else◌, slice_get, slice_index, Option, Some, None}
 use Rattle.rl_word.specs.declared.locks.LockName.{LockName}
-use Rattle.rl_word.specs.declared.locks.LockName.TheVariants.{Spin, Dmcs, Alock, Mcs, Rw, Seq, Combine}
+use Rattle.rl_word.specs.declared.locks.QueueKind.{QueueKind}
+use Rattle.rl_word.specs.declared.locks.QueueKind.TheVariants.{NoQueue, OneForAll, TwoCohorts, Elements}
 use Rattle.rl_word.specs.declared.shapes.Element.{Element}
 use Rattle.rl_word.specs.declared.shapes.Knobs.{Knobs}
+use Rattle.rl_word.specs.LockFacts.{facts_of, has_cohorts}
 use Rattle.rl_word.specs.Shapes.{TheShape}
 use Rattle.rl_step.specs.Queues.{QueueOf}
 
@@ -72,16 +75,21 @@ element_queues shape root from (suc n) = element_queue shape root from ∷ eleme
 abbrev pub cohort_queues : TheShape → ℕ → Knobs → List QueueOf
 cohort_queues shape home knobs = cohort_queue home shape.node_of true knobs.local ∷ cohort_queue home shape.node_of false knobs.remote ∷ []
 
--- The queues of a lock by number. A spin lock has none; D-MCS has one of all ranks; ALock has two cohorts, and so have optimistic readers and
--- flat combining, which stand on it; the trees have one for each element, and the root's has no budget but under RMA-RW.
+-- the budget of the root's queue, where it has one: that of the writers
+abbrev pub root_budget : Bool → Knobs → Option ℕ
+root_budget true knobs = Some knobs.writers
+root_budget false knobs = None
+
+-- the queues of a kind by number: none, one of all ranks, those of the two cohorts, or one for each element
+abbrev pub queues_of_kind : QueueKind → TheShape → ℕ → Knobs → List QueueOf
+queues_of_kind NoQueue shape home knobs = []
+queues_of_kind OneForAll shape home knobs = all_ranks (length shape.node_of) ∷ []
+queues_of_kind TwoCohorts shape home knobs = cohort_queues shape home knobs
+queues_of_kind (Elements root) shape home knobs = element_queues shape (root_budget root knobs) 0 (length shape.elements)
+
+-- the queues of a lock by number
 abbrev pub queues_of : LockName → TheShape → ℕ → Knobs → List QueueOf
-queues_of Spin shape home knobs = []
-queues_of Dmcs shape home knobs = all_ranks (length shape.node_of) ∷ []
-queues_of Alock shape home knobs = cohort_queues shape home knobs
-queues_of Mcs shape home knobs = element_queues shape None 0 (length shape.elements)
-queues_of Rw shape home knobs = element_queues shape (Some knobs.writers) 0 (length shape.elements)
-queues_of Seq shape home knobs = cohort_queues shape home knobs
-queues_of Combine shape home knobs = cohort_queues shape home knobs
+queues_of name shape home knobs = queues_of_kind (facts_of name).queues shape home knobs
 
 -- the budget of a queue that there is
 abbrev pub budget_if : Option QueueOf → Option ℕ
@@ -91,52 +99,26 @@ budget_if (Some queue) = queue.budget
 abbrev pub budget_of : LockName → TheShape → ℕ → Knobs → ℕ → Option ℕ
 budget_of name shape home knobs q = budget_if (slice_get (queues_of name shape home knobs) q)
 
--- readers hold a lock beside each other under RMA-RW alone
+-- readers hold a lock beside each other
 abbrev pub readers_share : LockName → Bool
-readers_share Spin = false
-readers_share Dmcs = false
-readers_share Alock = false
-readers_share Mcs = false
-readers_share Rw = true
-readers_share Seq = false
-readers_share Combine = false
+readers_share name = (facts_of name).shares
 
--- the lock that is asked for: optimistic readers and flat combining stand on ALock
+-- the lock that is asked for
 abbrev pub lock_under : LockName → LockName
-lock_under Spin = Spin
-lock_under Dmcs = Dmcs
-lock_under Alock = Alock
-lock_under Mcs = Mcs
-lock_under Rw = Rw
-lock_under Seq = Alock
-lock_under Combine = Alock
+lock_under name = (facts_of name).under
 
--- a get alone is no tenure of a queue: under RMA-RW readers are in no queue, and optimistic readers take no lock
+-- a get alone is no tenure of a queue
 abbrev pub spares_gets : LockName → Bool
-spares_gets Spin = false
-spares_gets Dmcs = false
-spares_gets Alock = false
-spares_gets Mcs = false
-spares_gets Rw = true
-spares_gets Seq = true
-spares_gets Combine = false
+spares_gets name = (facts_of name).spares
 
--- a block may be a batch: in flat combining each call is done by itself
+-- a block may be a batch
 abbrev pub does_batches : LockName → Bool
-does_batches Spin = true
-does_batches Dmcs = true
-does_batches Alock = true
-does_batches Mcs = true
-does_batches Rw = true
-does_batches Seq = true
-does_batches Combine = false
+does_batches name = (facts_of name).batches
 
--- the cohorts that a lock announces: the local one is 1 and the remote one 2, under ALock and what stands on it
+-- the cohorts that a lock announces: the local one is 1 and the remote one 2, where there are two
 abbrev pub cohorts_of : LockName → ℕ → Bool
-cohorts_of Spin = λ c. false
-cohorts_of Dmcs = λ c. false
-cohorts_of Alock = λ c. (c == 1) || (c == 2)
-cohorts_of Mcs = λ c. false
-cohorts_of Rw = λ c. false
-cohorts_of Seq = λ c. (c == 1) || (c == 2)
-cohorts_of Combine = λ c. (c == 1) || (c == 2)
+cohorts_of name = λ c. has_cohorts (facts_of name).queues && ((c == 1) || (c == 2))
+
+-- these are the queues of the lock of this name
+abbrev pub AreQueuesOf : LockName → (TheShape → ℕ → Knobs → List QueueOf) → Type 0
+AreQueuesOf name queues = (shape : TheShape) (home : ℕ) (knobs : Knobs) → queues shape home knobs ≡ queues_of name shape home knobs

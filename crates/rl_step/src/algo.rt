@@ -6,13 +6,13 @@ ghost use Rattle.rl_word.specs.declared.locks.LockName.{LockName as TheName};
 ghost use Rattle.rl_word.specs.declared.shapes.Knobs.{Knobs as TheKnobs};
 ghost use Rattle.rl_word.specs.Acts.{Layout};
 ghost use Rattle.rl_word.specs.Shapes.{TheShape, IsProper, layout_of};
-ghost use Rattle.rl_step.specs.LockQueues.{queues_of, readers_share, cohorts_of};
+ghost use Rattle.rl_step.specs.LockQueues.{AreQueuesOf, readers_share, cohorts_of};
 ghost use Rattle.rl_step.specs.Lock.{LockTable, LockState, LockLaws, Deed, MayStep, MayLearn, IsHolder};
 ghost use Rattle.rl_step.specs.Transitions.{Transition as TheTransition};
 ghost use Rattle.rl_step.specs.Batches.{HandsOn};
 
-use crate::events::{Event, Standing};
-use arrayvec::ArrayVec;
+use crate::event_list::Events;
+use crate::events::Standing;
 use rl_word::{Act, Knobs, LockName, Mode, Shape, Spot};
 use std::alloc::{AllocError as OutOfMemory, Global};
 
@@ -52,7 +52,7 @@ pub trait Algo: Sized + Drop {
 
     /// Its queues are those of the lock of that name: so their members and budgets are the placement's, and not the lock's own
     /// word.
-    ghost has_queues: { (shape : TheShape) (home : ℕ) (knobs : TheKnobs) → (defined shape home knobs).queues ≡ queues_of name shape home knobs };
+    ghost has_queues: { AreQueuesOf name (λ shape home knobs. (defined shape home knobs).queues) };
 
     /// And readers share it where the lock of that name is shared.
     ghost has_shares: { (shape : TheShape) (home : ℕ) (knobs : TheKnobs) → (defined shape home knobs).shares ≡ readers_share name };
@@ -103,7 +103,7 @@ pub trait Algo: Sized + Drop {
     /// What the rank learns, by which its view changes: `got` is what its planned act found before it wrote, and 0 for a store. What
     /// happened with the act is put into `events`, which is empty. Whether it waits: the act was the last of a round that has to be made
     /// again.
-    fn learn(&self, view: &mut Self::View, got: u64, events: &mut ArrayVec<Event, 8>) -> bool
+    fn learn(&self, view: &mut Self::View, got: u64, events: &mut Events) -> bool
         requires may { MayLearn (table self.now) (good self.now) view.old got }
         requires none { events.old.items ≡ [] }
         ensures { record { view = view.new; events = events.new.items; waits = result } ≡ (table self.now).learn view.old got };

@@ -5,8 +5,8 @@ ghost use Rattle.rl_step.specs.declared.cores.Plan.{Plan as ThePlan};
 ghost use Rattle.rl_step.specs.Do.{TheWindow};
 ghost use Rattle.rl_step.specs.Core.{CoreTable, CoreLaws, MayBe, MayGet, atom_in, turned_with};
 
-use crate::events::{Event, Stepped};
-use arrayvec::ArrayVec;
+use crate::event_list::Events;
+use crate::events::Stepped;
 use rl_word::{Act, Atom};
 
 /// What a core works out of a view to find its next atom: the act that the atom belongs to, if there is one, and the home of the act's
@@ -41,13 +41,7 @@ pub trait Core: Drop {
 
     /// Changes the view, whose plan this is, as its next atom does, which gave `got`, and tells the answer. What happened with the atom
     /// is put into `events`, which is empty: at most 8 events, in the order of their kinds.
-    fn after(
-        &self,
-        view: &mut Self::View,
-        plan: Plan,
-        got: u64,
-        events: &mut ArrayVec<Event, 8>,
-    ) -> Stepped
+    fn after(&self, view: &mut Self::View, plan: Plan, got: u64, events: &mut Events) -> Stepped
         requires may { MayGet (table self.now) (rule self.now) view.old got }
         requires plan { plan ≡ plan_of self.now view.old }
         requires none { events.old.items ≡ [] }

@@ -1,7 +1,5 @@
 //! What a step tells: how a rank stands, what happened, and how the step went.
 
-ghost use Rattle.std.specs.Prelude.{◌≡◌};
-
 /// How a rank stands to its shard's lock.
 #[derive(Clone, Copy, PartialEq, Eq, Debug)]
 pub enum Standing {
@@ -38,15 +36,6 @@ pub enum Event {
     LeaveW { rank: u32 },
     /// The reader's work is done; it holds the lock no longer.
     LeaveR { rank: u32 },
-}
-
-/// What an empty list of events is filled with; nobody reads it.
-impl Default for Event {
-    fn default() -> Self
-        ensures { result ≡ Event.Announce 0 }
-    {
-        Event::Announce { cohort: 0 }
-    }
 }
 
 /// How a step went.

@@ -1,16 +1,17 @@
 //! A whole machine in plain memory: one window, and the views of all ranks.
 
-ghost use Rattle.std.specs.Prelude.{◌≡◌, ◌≢◌, ◌<◌, length, slice_get, slice_set, Some, None, [], refl};
+ghost use Rattle.std.specs.Prelude.{◌≡◌, ◌<◌, length, slice_get, Some, [], refl};
 ghost use Rattle.std.proofs.Common.{sym};
 ghost use Rattle.rl_word.specs.laws.Places.{one_at, some_at, set_same_get};
-ghost use Rattle.rl_step.specs.Core.{card_word_of, Answers};
-ghost use Rattle.rl_step.specs.Do.{do_atom, do_got};
+ghost use Rattle.rl_step.specs.Core.{card_word_of};
+ghost use Rattle.rl_step.specs.FlatAtoms.{IsSameFlatPort, FlatFinishes, FlatGoesOn, FlatWords, FlatViews, FlatAnswers};
+ghost use Rattle.rl_step.specs.laws.CoreLemmas.{may_be};
 
 use crate::cores::{Core, Plan};
-use crate::events::{Event, Stepped};
+use crate::event_list::Events;
+use crate::events::Stepped;
 use crate::port::{Port, advance};
 use crate::words::Words;
-use arrayvec::ArrayVec;
 use rl_word::Atom;
 
 /// A window and the views of all ranks. The core stays with the caller, who lends it to `advance`.
@@ -97,7 +98,7 @@ impl<'a, C: Core> Port<C> for FlatPort<'a, C> {
 
     ghost told = { λ p. Some p.flat.now.words };
 
-    ghost frame = { λ p q. (q.flat.ghost_name ≡ p.flat.ghost_name) × (q.rank ≡ p.rank) × ((w : C.View) → slice_get q.flat.now.views.items q.rank ≡ Some w → q.flat.now.views.items ≡ slice_set p.flat.now.views.items p.rank w) };
+    ghost frame = { λ p q. IsSameFlatPort p.flat p.rank q.flat q.rank };
 
     ghost moved = { λ p c q. Unit {0} };
 
@@ -106,13 +107,7 @@ impl<'a, C: Core> Port<C> for FlatPort<'a, C> {
     }
 
     #[inline(always)]
-    fn perform(
-        &mut self,
-        core: &C,
-        atom: Atom,
-        plan: Plan,
-        events: &mut ArrayVec<Event, 8>,
-    ) -> Stepped {
+    fn perform(&mut self, core: &C, atom: Atom, plan: Plan, events: &mut Events) -> Stepped {
         let home = match card_word(atom) {
             Some(word) => core.home(word),
             None => 0,
@@ -126,7 +121,7 @@ impl<'a, C: Core> Port<C> for FlatPort<'a, C> {
 
     ghost same_rank = { λ p q f. f.1 };
 
-    ghost known = { λ p c v f s. record { held = p.flat.now.words; views = p.flat.now.views.items; rank = p.rank; is_ruled = f.0; has = s } };
+    ghost known = { λ p c v f s. may_be (C.rule c) p.flat.now.words p.flat.now.views.items p.rank v f.0 s };
 
     ghost seen = { λ p c f. some_at p.flat.now.views.items p.rank f.1 };
 
@@ -145,18 +140,18 @@ pub fn advance_flat<C: Core>(
     core: &C,
     flat: &mut Flat<C>,
     rank: u32,
-    events: &mut ArrayVec<Event, 8>,
+    events: &mut Events,
 ) -> Stepped
     requires ruled { C.rule core.now flat.old.words flat.old.views.items }
     requires there { rank < length flat.old.views.items }
     requires none { events.old.items ≡ [] }
     ensures ruled { C.rule core.now flat.new.words flat.new.views.items }
     ensures there { rank < length flat.new.views.items }
-    ensures finished { (v : C.View) → slice_get flat.old.views.items rank ≡ Some v → (C.table core.now).next v ≡ None → (result ≡ Stepped.Finished) × (events.new.items ≡ []) × (flat.new ≡ flat.old) }
-    ensures goes_on { (v : C.View) (at : _) → slice_get flat.old.views.items rank ≡ Some v → (C.table core.now).next v ≡ Some at → result ≢ Stepped.Finished }
-    ensures words { (v : C.View) (at : _) → slice_get flat.old.views.items rank ≡ Some v → (C.table core.now).next v ≡ Some at → flat.new.words ≡ do_atom rank at flat.old.words }
-    ensures views { (v : C.View) (at : _) → slice_get flat.old.views.items rank ≡ Some v → (C.table core.now).next v ≡ Some at → flat.new.views.items ≡ slice_set flat.old.views.items rank ((C.table core.now).after v (do_got at flat.old.words.words flat.old.words.cards)).view }
-    ensures answer { (v : C.View) (at : _) → slice_get flat.old.views.items rank ≡ Some v → (C.table core.now).next v ≡ Some at → Answers (C.table core.now) v (do_got at flat.old.words.words flat.old.words.cards) events.new.items result }
+    ensures finished { FlatFinishes (C.table core.now) flat.old rank flat.new events.new.items result }
+    ensures goes_on { FlatGoesOn (C.table core.now) flat.old rank result }
+    ensures words { FlatWords (C.table core.now) flat.old rank flat.new }
+    ensures views { FlatViews (C.table core.now) flat.old rank flat.new }
+    ensures answer { FlatAnswers (C.table core.now) flat.old rank events.new.items result }
 {
     let mut port = FlatPort { flat, rank };
     advance(core, &mut port, events)

@@ -1,6 +1,6 @@
 //! The machine of locks: what a step is, what a lock is, and plain words to make steps on.
 //!
-//! - An *atom* is one indivisible step of a rank; its *answer* (`Stepped`) says how it went, its *events* (`Event`) what
+//! - An *atom* is one indivisible step of a rank; its *answer* (`Stepped`) says how it went, its *events* (`Event`, listed in `Events`) what
 //!   happened. A *trace* is the list of a shard's events.
 //! - A *lock* (`Algo`) is one shard's lock, over whole acts. A *core* (`Core`) is a rank's whole machine, over atoms.
 //! - A *port* (`Port`) is where a rank makes its atoms; `advance` makes one. `Words` is a plain window of words and
@@ -14,6 +14,7 @@
 
 mod algo;
 mod cores;
+mod event_list;
 mod events;
 mod flat;
 mod port;
@@ -23,6 +24,7 @@ mod words;
 
 pub use algo::Algo;
 pub use cores::{Core, Plan};
+pub use event_list::Events;
 pub use events::{Event, Learnt, Standing, Stepped};
 pub use flat::{Flat, FlatPort, advance_flat};
 pub use port::{Port, advance};

@@ -1,13 +1,13 @@
 //! Where a rank makes its atoms, and one atom of any machine on any port.
 
-ghost use Rattle.std.specs.Prelude.{◌≡◌, ◌≢◌, ℕ, Option, None, Some, []};
+ghost use Rattle.std.specs.Prelude.{◌≡◌, ◌≢◌, ℕ, Option, Some, []};
 ghost use Rattle.rl_step.specs.declared.events.Stepped.TheVariants.{Finished as finished};
 ghost use Rattle.rl_step.specs.Do.{TheWindow};
-ghost use Rattle.rl_step.specs.Core.{MayBe, Performs};
+ghost use Rattle.rl_step.specs.Core.{MayBe, PortMakes, PortMakesNext, PortFinishes};
 
 use crate::cores::{Core, Plan};
-use crate::events::{Event, Stepped};
-use arrayvec::ArrayVec;
+use crate::event_list::Events;
+use crate::events::Stepped;
 use rl_word::Atom;
 
 /// Where one rank makes its atoms: on plain words, or on words that threads share.
@@ -42,20 +42,14 @@ pub trait Port<C: Core> {
 
     /// Makes the view's next atom, with the view's plan: the view becomes what `after` makes of it, and answer and events are those of
     /// `after`. The list of events is empty.
-    fn perform(
-        &mut self,
-        core: &C,
-        atom: Atom,
-        plan: Plan,
-        events: &mut ArrayVec<Event, 8>,
-    ) -> Stepped
+    fn perform(&mut self, core: &C, atom: Atom, plan: Plan, events: &mut Events) -> Stepped
         requires fits { fits self.old core.now }
         requires planned { (v : C.View) × sees self.old v × ((C.table core.now).next v ≡ Some atom) × (plan ≡ C.plan_of core.now v) }
         requires none { events.old.items ≡ [] }
         ensures fits { fits self.new core.now }
         ensures frame { frame self.old self.new }
         ensures moved { moved self.old core.now self.new }
-        ensures made { (v w : C.View) → sees self.old v → sees self.new w → Performs (C.table core.now) (C.rule core.now) (rank_of self.old) atom v w (told self.old) (told self.new) events.new.items result };
+        ensures made { PortMakes (C.table core.now) (C.rule core.now) sees rank_of told self.old self.new atom events.new.items result };
 
     /// In a port that fits a core the rank is there.
     ghost has_rank: { (p : Self) (c : C) → fits p c → there p };
@@ -81,19 +75,15 @@ pub trait Port<C: Core> {
 /// The answer is Finished exactly where the rank has no next atom, and then nothing changes; otherwise it is that of the
 /// one atom made, and what happened with the atom is put into `events`, which is empty. Takes no memory.
 #[inline(always)]
-pub fn advance<C: Core, P: Port<C>>(
-    core: &C,
-    port: &mut P,
-    events: &mut ArrayVec<Event, 8>,
-) -> Stepped
+pub fn advance<C: Core, P: Port<C>>(core: &C, port: &mut P, events: &mut Events) -> Stepped
     requires fits { P.fits port.old core.now }
     requires none { events.old.items ≡ [] }
     ensures fits { P.fits port.new core.now }
     ensures frame { P.frame port.old port.new }
-    ensures finished { (v : C.View) → P.sees port.old v → (C.table core.now).next v ≡ None → (result ≡ Stepped.Finished) × (events.new.items ≡ []) × (port.new ≡ port.old) }
+    ensures finished { PortFinishes (C.table core.now) P.sees port.old port.new events.new.items result }
     ensures goes_on { (v : C.View) (at : _) → P.sees port.old v → (C.table core.now).next v ≡ Some at → result ≢ Stepped.Finished }
     ensures moved { (v : C.View) (at : _) → P.sees port.old v → (C.table core.now).next v ≡ Some at → P.moved port.old core.now port.new }
-    ensures made { (v w : C.View) (at : _) → P.sees port.old v → P.sees port.new w → (C.table core.now).next v ≡ Some at → Performs (C.table core.now) (C.rule core.now) (P.rank_of port.old) at v w (P.told port.old) (P.told port.new) events.new.items result }
+    ensures made { PortMakesNext (C.table core.now) (C.rule core.now) P.sees P.rank_of P.told port.old port.new events.new.items result }
 {
     match core.next(port.view()) {
         None => Stepped::Finished,

@@ -2,7 +2,7 @@
 
 ghost use Rattle.std.specs.Prelude.{◌≡◌, ◌↔◌, ◌⊎◌, ℕ, None, true, false, ◌+◌, ◌<◌, ◌≤◌, ◌++◌, [], List, length};
 ghost use Rattle.rl_step.specs.declared.events.Event.{Event as TheEvent};
-ghost use Rattle.rl_step.specs.Lock.{Rests};
+ghost use Rattle.rl_step.specs.Lock.{Rests, told_as};
 ghost use Rattle.rl_queue.specs.Queue.{full_budget, resume_at};
 ghost use Rattle.rl_queue.specs.Lane.{told_left};
 ghost use Rattle.rl_tree.specs.Tree.{path, behind_at, leaves_behind, member_at as the_member, inside_from, settles_below, comes_in as the_entry, goes_up as the_rise, gives_up as the_release, goes_down as the_descent, tree_walk as the_walk, tree_plan, tree_standing, tree_learn, at_hook, resume_by, entry_if};
@@ -11,9 +11,8 @@ ghost use Rattle.rl_tree.specs.Fits.{IsPlaced, MayPlan, TreeMayLearn, StatusFits
 
 use crate::tree::Tree;
 use crate::view::TreeView;
-use arrayvec::ArrayVec;
 use rl_queue::{Phase, QueueView, queue_learn, queue_plan, queue_resume};
-use rl_step::Event;
+use rl_step::{Event, Events};
 use rl_word::Act;
 
 /// The passes that a member has that has settled.
@@ -98,7 +97,7 @@ fn leave_behind(view: &mut TreeView, level: u32, successor: Option<u32>)
 /// One that gives up what is above loads the status of its element one level up, but at the root it stands at the hook.
 fn gives_up(top: bool, view: &mut TreeView, level: u32, successor: Option<u32>)
     requires { level ≤ 3 }
-    ensures { (told : List TheEvent) → the_release top view.old level successor told ≡ record { view = view.new; events = told; waits = false } }
+    ensures { (told : List TheEvent) → the_release top view.old level successor told ≡ told_as view.new told false }
 {
     leave_behind(view, level, successor);
     if top {
@@ -111,7 +110,7 @@ fn gives_up(top: bool, view: &mut TreeView, level: u32, successor: Option<u32>)
 
 /// Who is inside enters: this stands behind what was told before.
 #[inline(always)]
-pub fn tree_enter(view: &TreeView, events: &mut ArrayVec<Event, 8>)
+pub fn tree_enter(view: &TreeView, events: &mut Events)
     requires { length (events.old.items ++ entry_if view.now.query view.now.phase view.now.rank) ≤ 8 }
     ensures { events.new.items ≡ events.old.items ++ entry_if view.now.query view.now.phase view.now.rank }
 {
@@ -134,7 +133,7 @@ impl Tree {
     }
 
     /// The rank settles in all queues below a level, from the upper one down.
-    fn settle_below(&self, view: &TreeView, level: u32, events: &mut ArrayVec<Event, 8>)
+    fn settle_below(&self, view: &TreeView, level: u32, events: &mut Events)
         requires low { level ≤ 3 }
         requires room { length events.old.items ≤ 4 }
         requires there { (j : ℕ) → j < level → path (tree_of self.now.rooted) view.now.leaf j < how_many self.now.rooted }
@@ -167,11 +166,11 @@ impl Tree {
 
     /// A rank that has been given the queue at a level settles in all queues below, and is inside.
     #[inline(never)]
-    fn comes_in(&self, view: &mut TreeView, level: u32, left: u32, told: &mut ArrayVec<Event, 8>)
+    fn comes_in(&self, view: &mut TreeView, level: u32, left: u32, told: &mut Events)
         requires low { level ≤ 3 }
         requires room { length told.old.items ≤ 4 }
         requires there { (j : ℕ) → j ≤ level → path (tree_of self.now.rooted) view.old.leaf j < how_many self.now.rooted }
-        ensures { the_entry (tree_of self.now.rooted) view.old level left told.old.items ≡ record { view = view.new; events = told.new.items; waits = false } }
+        ensures { the_entry (tree_of self.now.rooted) view.old level left told.old.items ≡ told_as view.new told.new.items false }
     {
         self.settle_below(view, level, told);
         let phase = self.inside(view, level, left);
@@ -186,12 +185,12 @@ impl Tree {
         level: u32,
         phase: Phase,
         waits: bool,
-        told: &mut ArrayVec<Event, 8>,
+        told: &mut Events,
     ) -> bool
         requires low { level ≤ 3 }
         requires room { length told.old.items ≤ 4 }
         requires there { (j : ℕ) → j ≤ level → path (tree_of self.now.rooted) view.old.leaf j < how_many self.now.rooted }
-        ensures { record { view = view.new; events = told.new.items; waits = result } ≡ the_walk (tree_of self.now.rooted) view.old level phase told.old.items waits }
+        ensures { told_as view.new told.new.items result ≡ the_walk (tree_of self.now.rooted) view.old level phase told.old.items waits }
     {
         match phase {
             Phase::Settle => goes_up(self.is_top(view.leaf, level), view, level),
@@ -235,11 +234,11 @@ impl Tree {
     /// What a rank learns where its planned act told `got`: its view changes, and a waiting load may have to be made again. The joins,
     /// passes and settlements in all its queues are put into `events`, which is empty. The rank may come to the hook.
     #[inline(always)]
-    pub fn learn(&self, view: &mut TreeView, got: u64, events: &mut ArrayVec<Event, 8>) -> bool
+    pub fn learn(&self, view: &mut TreeView, got: u64, events: &mut Events) -> bool
         requires fits { MayPlan self.now.rooted view.old }
         requires got { TreeMayLearn self.now.rooted view.old got }
         requires none { events.old.items ≡ [] }
-        ensures { record { view = view.new; events = events.new.items; waits = result } ≡ tree_learn (tree_of self.now.rooted) view.old got }
+        ensures { told_as view.new events.new.items result ≡ tree_learn (tree_of self.now.rooted) view.old got }
     {
         let level = view.level;
         let member = self.member_at(view.rank, view.leaf, level);
@@ -262,11 +261,11 @@ impl Tree {
     /// Goes on from the hook: a head of the root settles, and with it all queues below; a leaver hands the root over. What was told
     /// before stands first among the events, for a lock that goes on in the same act. The rank's round is over with it.
     #[inline(never)]
-    pub fn resume(&self, view: &mut TreeView, told: &mut ArrayVec<Event, 8>)
+    pub fn resume(&self, view: &mut TreeView, told: &mut Events)
         requires hooked { at_hook view.old ≡ true }
         requires placed { IsPlaced self.now.rooted view.old }
         requires room { length told.old.items ≤ 3 }
-        ensures { resume_by (tree_of self.now.rooted) view.old view.old.phase told.old.items ≡ record { view = view.new; events = told.new.items; waits = false } }
+        ensures { resume_by (tree_of self.now.rooted) view.old view.old.phase told.old.items ≡ told_as view.new told.new.items false }
     {
         let level = view.level;
         match view.phase {

@@ -1,1 +1,1 @@
-mod DoneLaws
+mod ShownLaws

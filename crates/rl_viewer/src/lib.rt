@@ -7,7 +7,7 @@
 //!   [`asked_in`] takes, or those of [`asked_before`], which ask for what stands before a step.
 //!
 //! The promise, for every viewer, source and sink: the status and the bytes belong to the words and to the bytes of the named
-//! files, and each fault has its cause (`IsDone` of `specs/Answer`).
+//! files, and each fault has its cause (`IsDone` of `rl_inputs`, `Answers` of `specs/Answer`).
 //!
 //! Not said here: what a viewer shows.
 #![tactic(auto)]

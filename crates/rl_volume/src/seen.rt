@@ -1,10 +1,10 @@
 // The words that a call has read.
-ghost use Rattle.std.specs.Prelude.{◌≡◌, ◌<◌, ◌≤◌, ◌++◌, ◌∷◌, ◌==◌, [], ℕ, List, length, position, IfOk, IfSome, Some, None};
+ghost use Rattle.std.specs.Prelude.{◌≡◌, ◌<◌, ◌≤◌, ◌++◌, ◌∷◌, ◌==◌, [], length, position, IfOk, IfSome, Some, None};
 ghost use Rattle.std.specs.List.{All};
 ghost use Rattle.rl_model.specs.Geom.{GeomFits};
 ghost use Rattle.rl_volume.specs.Words as word;
-ghost use Rattle.rl_volume.specs.Seen.{value_of, value_or_zero, AgreesWith, with_value, patched};
-ghost use Rattle.rl_volume.specs.Decision.{words_written};
+ghost use Rattle.rl_volume.specs.Seen.{value_of, value_or_zero, with_value, patched};
+ghost use Rattle.rl_volume.specs.Decision.{AgreesAfter};
 ghost use Rattle.rl_volume.specs.Stand.{GoesOn};
 
 use crate::stand::{Stand, first_stand, followed};
@@ -30,10 +30,9 @@ pub struct Seen {
 }
 
 impl Model for Seen {
-    ghost use Rattle.std.specs.Prelude.{◌≤◌, ◌<◌, vec_capacity};
-    ghost use Rattle.rl_model.specs.Geom.{GeomFits};
-    ghost use Rattle.rl_volume.specs.Seen.{SeenWords, seen_words_code, AreApart};
-    ghost use Rattle.rl_volume.specs.Stand.{GoesOn};
+    ghost use Rattle.std.specs.Prelude.{vec_capacity};
+    ghost use Rattle.rl_volume.specs.Seen.{SeenWords, seen_words_code};
+    ghost use Rattle.rl_volume.specs.Stand.{AreNoted};
     ghost use Rattle.rl_volume.specs.Words.{volume_words};
 
     ghost Value = { SeenWords };
@@ -42,7 +41,7 @@ impl Model for Seen {
 
     ghost view = { λ s. record { pairs = s.pairs.items; room = volume_words s.geom } };
 
-    ghost invariant = { λ s. AreApart s.pairs.items (volume_words s.geom) × (volume_words s.geom ≤ vec_capacity s.pairs) × GeomFits s.geom × (s.passed ≤ s.geom.overflow) × (0 < s.passed → GoesOn s.geom s.key s.link s.passed s.pairs.items) };
+    ghost invariant = { λ s. AreNoted s.geom s.pairs.items (vec_capacity s.pairs) s.key s.link s.passed };
 }
 
 impl Seen {
@@ -159,7 +158,7 @@ impl Seen {
         requires in_volume { All (λ w. w.word < self.old.room) writes.now.items }
         ensures patched { self.new.pairs ≡ patched self.old.pairs writes.now.items }
         ensures room { self.new.room ≡ self.old.room }
-        ensures agrees { (words : List ℕ) → length words ≡ self.old.room → AgreesWith self.old.pairs words → AgreesWith self.new.pairs (words_written words writes.now.items) }
+        ensures agrees { AgreesAfter self.old.room self.old.pairs self.new.pairs writes.now.items }
     {
         self.passed = 0;
         self.write_all(writes.as_slice());

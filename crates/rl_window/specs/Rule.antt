@@ -1,7 +1,8 @@
 -- The rule of the table: the core's rule over the words, the cards and one view for each rank, and which seat knows which view.
-use Rattle.std.specs.Prelude.{◌≡◌, ℕ, ◌+◌, ◌<◌, ◌≤◌, List, [], ◌∷◌, ◌++◌, length, take, drop, slice_get, slice_set, Some}
+use Rattle.std.specs.Prelude.{◌≡◌, ℕ, ◌+◌, ◌*◌, ◌^◌, ◌<◌, ◌≤◌, List, [], ◌∷◌, ◌++◌, length, take, drop, slice_get, slice_set, Some}
 use mathlib.Core.Option.{some}
 use lib.ListN.{get_elem?}
+use Rattle.atomic_table.specs.Seated.{TableId}
 use Rattle.atomic_table.specs.Table.{State}
 use Rattle.rl_step.specs.Do.{TheWindow}
 use Rattle.rl_step.specs.Core.{CoreTable, MayBe, MayGet}
@@ -14,6 +15,10 @@ use Rattle.rl_window.specs.declared.knows.Knows.TheVariants.{Root, Rank, Spent}
 abbrev pub apart : List ℕ → List ℕ
 apart [] = []
 apart (c ∷ cs) = 0 ∷ 0 ∷ 0 ∷ 0 ∷ 0 ∷ 0 ∷ 0 ∷ c ∷ apart cs
+
+-- a table has room for so many words and for the lines of so many cards, and no slots
+abbrev pub HasRoomFor : TableId → ℕ → ℕ → Type 0
+HasRoomFor table size nodes = (table.words ≡ size + 8 * nodes) × (size + 8 * nodes < 2 ^ 63) × (0 < size) × (table.slots ≡ 0)
 
 module _ {V : Type 0} where
   -- the core's rule, with so many words and cards

@@ -1,6 +1,10 @@
 -- A rank's seat at a window, and all its seats.
-use Rattle.std.specs.Prelude.{◌≡◌, ℕ, ◌+◌, List, [], ◌++◌, length, map, slice_get, Some}
+use Rattle.std.specs.Prelude.{◌≡◌, ℕ, ◌+◌, List, [], ◌∷◌, ◌++◌, length, map, slice_get, Some, None}
+use Rattle.rl_word.specs.declared.acts.Atom.{Atom}
+use Rattle.rl_step.specs.declared.events.Event.{Event}
+use Rattle.rl_step.specs.declared.events.Stepped.{Stepped}
 use Rattle.rl_step.specs.Do.{TheWindow}
+use Rattle.rl_step.specs.Core.{CoreTable, Performs}
 use Rattle.rl_window.specs.declared.knows.RootKnows.{RootKnows}
 use Rattle.rl_window.specs.declared.knows.Setup.{Setup}
 use Rattle.rl_window.specs.declared.knows.RankKnows.{RankKnows}
@@ -11,7 +15,7 @@ use Rattle.rl_window.specs.declared.knows.Knows.TheVariants.{Root, Rank}
 use Rattle.rl_window.specs.declared.window.Window.{Window}
 use Rattle.rl_window.specs.declared.window.WinSeat.{WinSeat}
 use Rattle.rl_window.specs.Rule.{sized, MayBeAt, Keeps}
-use Rattle.rl_window.specs.Plays.{IsRankAt, last_of, steps_of}
+use Rattle.rl_window.specs.Plays.{IsRankAt, last_of, steps_of, with_ended}
 
 module _ {C V : Type 0} where
   -- the view after the seat's last table step, which is the one that the window's rule speaks of
@@ -25,6 +29,14 @@ module _ {C V : Type 0} where
   -- the seat with another view
   abbrev pub with_view : WinSeat C V → V → WinSeat C V
   with_view s v = record s { view = v }
+
+  -- a seat of the table is this window's, and that of this rank, whose view is v
+  abbrev pub IsSeatAt : Window C V → ℕ → V → Seat ℕ (Knows C V) → Type 0
+  IsSeatAt w rank v seat = (seat.table_id ≡ w.table.shared.table_id) × IsRankAt w.core w.size w.nodes rank v seat.me
+
+  -- the rank of a seat has made this atom, at a port that tells no words
+  abbrev pub SeatPerforms : CoreTable V → (TheWindow → List V → Type 0) → WinSeat C V → WinSeat C V → Atom → List Event → Stepped → Type 0
+  SeatPerforms table rule s t at events answer = Performs table rule s.rank at s.view t.view None None events answer
 
   module _ (rule : C → TheWindow → List V → Type 0) (w : Window C V) (s : WinSeat C V) where
     -- the seat is this window's and its rank's, and some state under the rule has its last view
@@ -84,3 +96,20 @@ module _ {C V : Type 0} where
     pub root_is : root.me ≡ (Root (record { core = key.core; size = key.size; nodes = key.nodes; given = length views + length left; to_come = []; ended = views }), [])
     pub each : (i : ℕ) (s : WinSeat C V) → slice_get left i ≡ Some s
         → (s.seat.table_id ≡ table) × ((r : RankKnows C V) × (s.seat.me ≡ (Rank r, [])) × (r.rank ≡ length views + i) × (r.core ≡ key.core) × Keeps (rule r.core) r.rank r.view s.view)
+
+  -- the root seat is what it was, but that it knows of one seat more that has ended, with this view
+  abbrev pub HasJoined : Seat ℕ (Knows C V) → Seat ℕ (Knows C V) → V → Type 0
+  HasJoined old new v = (new.table_id ≡ old.table_id) × (new.id ≡ old.id) × (new.me ≡ (with_ended (Some v) old.me.0, []))
+
+  -- where a window was being opened and this was the first view to come, its seat is split off now
+  abbrev pub OpensFirst : Setup C V → TableId → Seat ℕ (Knows C V) → Seat ℕ (Knows C V) → V → List (WinSeat C V) → List (WinSeat C V) → Type 0
+  OpensFirst key table old new v seats more = (rest : List V) → IsOpening key table old (v ∷ rest) seats → IsOpening key table new rest more
+
+  module _ (rule : C → TheWindow → List V → Type 0) (key : Setup C V) (table : TableId) where
+    -- a window is being closed, and this is the first of the seats that are left
+    abbrev pub IsFirstLeft : Seat ℕ (Knows C V) → WinSeat C V → List V → Type 0
+    IsFirstLeft root seat views = (rest : List (WinSeat C V)) × IsClosing rule key table root (seat ∷ rest) views
+
+    -- where it was, it has ended now
+    abbrev pub ClosesFirst : Seat ℕ (Knows C V) → Seat ℕ (Knows C V) → WinSeat C V → List V → List V → Type 0
+    ClosesFirst old new seat views more = (rest : List (WinSeat C V)) → IsClosing rule key table old (seat ∷ rest) views → IsClosing rule key table new rest more

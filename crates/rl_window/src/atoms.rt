@@ -2,7 +2,8 @@
 
 ghost use Rattle.std.specs.Prelude.{◌≡◌, ◌+◌, ◌*◌, ℕ, [], Some};
 ghost use Rattle.rl_window.specs.Rule.{sized, MayBeAt, Keeps};
-ghost use Rattle.rl_window.specs.Plays.{Moves, IsRankAt, last_of};
+ghost use Rattle.rl_window.specs.Plays.{Moves, last_of};
+ghost use Rattle.rl_window.specs.Seats.{IsSeatAt};
 
 use crate::knows::Knows;
 use crate::plays::{Finds, Tell, Writes};
@@ -34,7 +35,7 @@ impl<C: Core> Window<C> {
         atom: Atom,
     ) -> u64
         requires told { W.told ≡ Some view.now }
-        requires own { (seat.old.table_id ≡ self.now.table.shared.table_id) × IsRankAt self.now.core self.now.size self.now.nodes rank view.now seat.old.me }
+        requires own { IsSeatAt self.now rank view.now seat.old }
         requires may_be { MayBeAt (sized (C.rule self.now.core) self.now.size self.now.nodes) rank view.now }
         requires kept { Keeps (C.rule self.now.core) rank (last_of view.now seat.old.me.0) view.now }
         requires planned { (C.table self.now.core).next view.now ≡ Some atom }
@@ -77,7 +78,7 @@ impl<C: Core> Window<C> {
         view: &C::View,
         atom: Atom,
     ) -> u64
-        requires own { (seat.old.table_id ≡ self.now.table.shared.table_id) × IsRankAt self.now.core self.now.size self.now.nodes rank view.now seat.old.me }
+        requires own { IsSeatAt self.now rank view.now seat.old }
         requires may_be { MayBeAt (sized (C.rule self.now.core) self.now.size self.now.nodes) rank view.now }
         requires kept { Keeps (C.rule self.now.core) rank (last_of view.now seat.old.me.0) view.now }
         requires planned { (C.table self.now.core).next view.now ≡ Some atom }

@@ -2,8 +2,8 @@
 
 ghost use Rattle.std.specs.Prelude.{◌≡◌, ◌+◌, ◌<◌, ◌≤◌, ℕ, List, [], ◌∷◌, ◌++◌, map, take, Some, IfOk, IfErr, vec_len, vec_capacity};
 ghost use Rattle.std.specs.Mem.Slots.{slots_items, slots_len, IsFull};
-ghost use Rattle.rl_window.specs.Plays.{with_ended, CanEnd};
-ghost use Rattle.rl_window.specs.Seats.{view_of, IsAll, AreKept, IsClosing};
+ghost use Rattle.rl_window.specs.Plays.{CanEnd};
+ghost use Rattle.rl_window.specs.Seats.{view_of, IsAll, AreKept, IsClosing, IsFirstLeft, HasJoined, ClosesFirst};
 
 use crate::knows::Knows;
 use crate::opening::SharedTable;
@@ -24,7 +24,7 @@ fn join_told<C: Core, W: Tell<C::View>>(
     requires told { W.told ≡ Some view.now }
     requires table { (root.old.table_id ≡ table.now.table_id) × (seat.table_id ≡ table.now.table_id) × (0 < table.now.table_id.words) }
     requires ending { CanEnd C.rule root.old.me seat.me view.now }
-    ensures { (root.new.table_id ≡ root.old.table_id) × (root.new.id ≡ root.old.id) × (root.new.me ≡ (with_ended (Some view.now) root.old.me.0, [])) }
+    ensures { HasJoined root.old root.new view.now }
 {
     let _ = view;
     table.join_seat::<JoinsEnded<W>>(root, seat);
@@ -39,7 +39,7 @@ fn join<C: Core>(
 )
     requires table { (root.old.table_id ≡ table.now.table_id) × (seat.table_id ≡ table.now.table_id) × (0 < table.now.table_id.words) }
     requires ending { CanEnd C.rule root.old.me seat.me view.now }
-    ensures { (root.new.table_id ≡ root.old.table_id) × (root.new.id ≡ root.old.id) × (root.new.me ≡ (with_ended (Some view.now) root.old.me.0, [])) }
+    ensures { HasJoined root.old root.new view.now }
 {
     join_told::<C, Brand>(table, root, seat, view);
 }
@@ -53,8 +53,8 @@ fn join_one<C: Core>(
 )
     requires table { (root.old.table_id ≡ table.now.table_id) × (0 < table.now.table_id.words) }
     requires room { vec_len views.old < vec_capacity views.old }
-    requires closing { (rest : List (WinSeat C C.View)) × IsClosing C.rule table.now.key table.now.table_id root.old (seat ∷ rest) views.old.items }
-    ensures closing { (rest : List (WinSeat C C.View)) → IsClosing C.rule table.now.key table.now.table_id root.old (seat ∷ rest) views.old.items → IsClosing C.rule table.now.key table.now.table_id root.new rest views.new.items }
+    requires closing { IsFirstLeft C.rule table.now.key table.now.table_id root.old seat views.old.items }
+    ensures closing { ClosesFirst C.rule table.now.key table.now.table_id root.old root.new seat views.old.items views.new.items }
     ensures table { root.new.table_id ≡ root.old.table_id }
     ensures views { views.new.items ≡ views.old.items ++ seat.view ∷ [] }
     ensures room { (vec_len views.new ≡ vec_len views.old + 1) × (vec_capacity views.new ≡ vec_capacity views.old) }

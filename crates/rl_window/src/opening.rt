@@ -5,7 +5,7 @@ ghost use Rattle.rl_window.specs.declared.knows.RootKnows.{RootKnows};
 ghost use Rattle.rl_window.specs.declared.knows.Knows.TheVariants.{Root};
 ghost use Rattle.rl_window.specs.Rule.{apart};
 ghost use Rattle.rl_window.specs.Plays.{without_next, next_seat};
-ghost use Rattle.rl_window.specs.Seats.{view_of, IsAll, AreNew, AreKept, IsOpening};
+ghost use Rattle.rl_window.specs.Seats.{view_of, IsAll, AreNew, AreKept, IsOpening, OpensFirst};
 
 use crate::knows::{Knows, Setup, WindowRule};
 use crate::plays::SplitsNext;
@@ -44,7 +44,7 @@ fn split_one<C: Core>(
     requires table { (root.old.table_id ≡ table.now.table_id) × (0 < table.now.table_id.words) }
     requires room { (vec_len seats.old < vec_capacity seats.old) × (vec_len seats.old < 2 ^ 32) }
     requires opening { (rest : List C.View) × IsOpening table.now.key table.now.table_id root.old (view ∷ rest) seats.old.items }
-    ensures opening { (rest : List C.View) → IsOpening table.now.key table.now.table_id root.old (view ∷ rest) seats.old.items → IsOpening table.now.key table.now.table_id root.new rest seats.new.items }
+    ensures opening { OpensFirst table.now.key table.now.table_id root.old root.new view seats.old.items seats.new.items }
     ensures table { root.new.table_id ≡ root.old.table_id }
     ensures room { (vec_len seats.new ≡ vec_len seats.old + 1) × (vec_capacity seats.new ≡ vec_capacity seats.old) }
 {

@@ -1,14 +1,12 @@
 //! What a rank does by its seat.
 
-ghost use Rattle.std.specs.Prelude.{◌≡◌, ◌+◌, ℕ, [], Some, None};
-ghost use Rattle.rl_step.specs.Core.{Performs};
+ghost use Rattle.std.specs.Prelude.{◌≡◌, ◌+◌, ℕ, [], Some};
 ghost use Rattle.std.specs.Borrow.{Lends, sem};
 ghost use Rattle.rl_window.specs.contracts.window.WinSeat.{the_row};
-ghost use Rattle.rl_window.specs.Seats.{with_view, seat_rank, IsSeatOf, IsKept, last_view, table_steps};
+ghost use Rattle.rl_window.specs.Seats.{with_view, seat_rank, SeatPerforms, IsSeatOf, IsKept, last_view, table_steps};
 
 use crate::window::{WinSeat, Window};
-use arrayvec::ArrayVec;
-use rl_step::{Core, Event, Plan, Stepped};
+use rl_step::{Core, Events, Plan, Stepped};
 use rl_word::Atom;
 
 impl<C: Core> WinSeat<C> {
@@ -54,7 +52,7 @@ impl<C: Core> Window<C> {
         core: &C,
         atom: Atom,
         plan: Plan,
-        events: &mut ArrayVec<Event, 8>,
+        events: &mut Events,
     ) -> Stepped
         requires seat { IsSeatOf C.rule self.now seat.old }
         requires kept { IsKept C.rule self.now seat.old }
@@ -65,7 +63,7 @@ impl<C: Core> Window<C> {
         ensures seat { IsSeatOf C.rule self.now seat.new }
         ensures same { (seat.new.rank ≡ seat.old.rank) × (last_view seat.new ≡ seat.new.view) }
         ensures step { table_steps seat.new ≡ table_steps seat.old + 1 }
-        ensures made { Performs (C.table core.now) (C.rule core.now) seat.old.rank atom seat.old.view seat.new.view None None events.new.items result }
+        ensures made { SeatPerforms (C.table core.now) (C.rule core.now) seat.old seat.new atom events.new.items result }
     {
         let got = self.make(&mut seat.seat, seat.rank, &seat.view, atom);
         core.after(&mut seat.view, plan, got, events)

@@ -6,8 +6,7 @@ ghost use Rattle.rl_window.specs.Seats.{IsSeatOf, IsKept};
 ghost use Rattle.rl_window.specs.Ports.{IsFit, IsSamePort, IsMoved};
 
 use crate::window::{WinSeat, Window};
-use arrayvec::ArrayVec;
-use rl_step::{Core, Event, Plan, Port, Stepped};
+use rl_step::{Core, Events, Plan, Port, Stepped};
 use rl_word::Atom;
 
 /// The port of one seat, on words that other seats change at any moment: it tells its view, and neither words nor cards.
@@ -59,13 +58,7 @@ impl<'a, C: Core> Port<C> for TablePort<'a, C> {
     }
 
     #[inline(always)]
-    fn perform(
-        &mut self,
-        core: &C,
-        atom: Atom,
-        plan: Plan,
-        events: &mut ArrayVec<Event, 8>,
-    ) -> Stepped {
+    fn perform(&mut self, core: &C, atom: Atom, plan: Plan, events: &mut Events) -> Stepped {
         self.window.perform(self.seat, core, atom, plan, events)
     }
 

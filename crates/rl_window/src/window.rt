@@ -1,7 +1,8 @@
 //! The window, and the seat of a rank.
 
-ghost use Rattle.std.specs.Prelude.{◌≡◌, ◌+◌, ◌*◌, ◌^◌, ◌<◌, ◌≤◌, []};
+ghost use Rattle.std.specs.Prelude.{◌≡◌, ◌<◌, ◌≤◌, []};
 ghost use Rattle.std.specs.Coded.{Coded-set};
+ghost use Rattle.rl_window.specs.Rule.{HasRoomFor};
 
 use crate::knows::{Knows, Setup, WindowRule};
 use crate::root_seat::RootSeat;
@@ -28,7 +29,7 @@ pub struct Window<C: Core> {
     pub(crate) alloc: Global,
     ghost about: { table.shared.key.core ≡ core } by { Coded-set C.code _ _ },
     ghost counts: { (table.shared.key.size ≡ size) × (table.shared.key.nodes ≡ nodes) },
-    ghost sized: { (table.shared.table_id.words ≡ size + 8 * nodes) × (size + 8 * nodes < 2 ^ 63) × (0 < size) × (table.shared.table_id.slots ≡ 0) },
+    ghost sized: { HasRoomFor table.shared.table_id size nodes },
 }
 
 /// The seat of a rank at a window, with the rank's view.

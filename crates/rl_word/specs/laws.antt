@@ -1,3 +1,4 @@
 pub mod Places
 pub mod ActLaws
+pub mod FactLaws
 pub mod OneNode

@@ -6,7 +6,6 @@ use Rattle.rl_word.specs.declared.classes.Mode.TheVariants as mode
 use Rattle.rl_model.specs.declared.call.Call.{Call}
 use Rattle.rl_model.specs.Call.{reads}
 use Rattle.rl_step.specs.declared.events.Stepped.TheVariants.{Moved}
-use Rattle.rl_work.specs.declared.follow.Follow.{Follow}
 use Rattle.rl_work.specs.declared.follow.Follow.TheVariants.{On, Over}
 use Rattle.rl_site.specs.Site.{Site, lock_base}
 use Rattle.rl_work.specs.Work.{TheWork, WorkTurned, first_work, with_block, work_atom, work_after, has_work, stores}

@@ -1,6 +1,7 @@
 -- What a way of working is: its table of plain functions, the rule that it keeps with the words and the ranks' sides, and its laws.
 use Rattle.std.specs.Prelude.{◌≡◌, ◌≢◌, ◌⊎◌, ℕ, ◌+◌, ◌^◌, ◌<◌, ◌≤◌, Bool, true, false, ◌&&◌, List, [], ◌∷◌, ◌++◌, length, replicate, count_by, take, slice_get, slice_index, slice_set, Option, Some, None, is_some}
 use Rattle.std.specs.FinMap as finite
+use Rattle.rl_word.specs.Shapes.{TheShape}
 use Rattle.rl_word.specs.declared.acts.Atom.{Atom}
 use Rattle.rl_word.specs.declared.acts.Atom.TheVariants as atom
 use Rattle.rl_word.specs.declared.classes.Mode.{Mode}
@@ -404,3 +405,17 @@ pub record WorkLaws {K : Type 0} (T : WorkTable K) (good : List ℕ → List (Wo
   pub volume : (words : List ℕ) (sides : List (WorkSide K)) → good words sides → IsLaid T words →
       ((r : ℕ) (x : WorkSide K) → slice_get sides r ≡ Some x → T.is_open x.work ≡ false) →
       IsVolume T.site.geom T.site.shard (volume_of T.site.geom (take (lock_base T.site) words)) (table_after T.site.geom finite.empty (journal_by T.site words))
+
+module _ {K : Type 0} (defined : TheShape → ℕ → Site → ℕ → WorkTable K) where
+  -- by whatever shape, home, site and place, it does batches, and spares gets, as is said
+  abbrev pub DoesAsSaid : (Bool → Bool) → Bool → Type 0
+  DoesAsSaid spares batches =
+      (shape : TheShape) (home : ℕ) (site : Site) (behind : ℕ) → ((defined shape home site behind).spares ≡ spares) × ((defined shape home site behind).batches ≡ batches)
+
+  -- it keeps the site and the place
+  abbrev pub IsPlacedAsSaid : Type 0
+  IsPlacedAsSaid = (shape : TheShape) (home : ℕ) (site : Site) (behind : ℕ) → ((defined shape home site behind).site ≡ site) × ((defined shape home site behind).behind ≡ behind)
+
+-- by whatever words, a rank's transcript is what it keeps, and it owes what its side says
+abbrev pub KeepsAllItself : {K : Type 0} → WorkTable K → Type 0
+KeepsAllItself T = (words : List ℕ) (rank : ℕ) (x : _) → (T.transcript words rank x ≡ (T.kept x).items) × (T.owes words rank x ≡ T.pends x)

@@ -114,9 +114,13 @@ entries_of shard rank batch seq at part (c ∷ cs) (a ∷ rs) =
     record { shard = shard; rank = rank; seq = seq; call = c; at = at; reply = a; batch = batch; part = part } ∷ entries_of shard rank batch
     (seq + 1) (at + 1) (part + 1) cs rs
 
+-- the entries of the open block, which found this count
+abbrev pub block_entries : ℕ → ℕ → TheWork → ℕ → List Entry
+block_entries shard rank x count = entries_of shard rank (batch_in x) x.seq count 0 x.calls x.replies
+
 -- the block that found a count is decided: its entries
 abbrev pub with_entries : ℕ → ℕ → TheWork → ℕ → Stage → TheWork
-with_entries shard rank x count stage = record x { stage = stage; at = count; entries = entries_of shard rank (batch_in x) x.seq count 0 x.calls x.replies }
+with_entries shard rank x count stage = record x { stage = stage; at = count; entries = block_entries shard rank x count }
 
 -- all calls of the block are decided: updates go on to the journal, and any other call is over
 abbrev pub block_close : ℕ → ℕ → TheWork → ℕ → WorkTurned

@@ -4,7 +4,7 @@ ghost use Rattle.std.specs.Prelude.{◌≡◌, ◌+◌, ◌<◌, ◌≤◌, ◌^
 ghost use Rattle.rl_model.specs.Geom.{GeomFits};
 ghost use Rattle.rl_word.specs.Shapes.{TheShape, IsProper};
 ghost use Rattle.rl_site.specs.Site.{Site as TheSite, site_of, journal_by};
-ghost use Rattle.rl_work.specs.Ways.{WorkTable, WorkSide, WorkLaws, MayWork, MayTurn, WaitsOn, worked_with};
+ghost use Rattle.rl_work.specs.Ways.{WorkTable, WorkSide, WorkLaws, DoesAsSaid, IsPlacedAsSaid, KeepsAllItself, MayWork, MayTurn, WaitsOn, worked_with};
 
 use crate::follow::WorkStep;
 use rl_model::{Call, Entry, Geom};
@@ -36,10 +36,10 @@ pub trait Work: Sized + Drop {
     ghost batches: { Bool };
 
     /// As it is defined it does so.
-    ghost does: { (shape : TheShape) (home : ℕ) (site : TheSite) (behind : ℕ) → ((defined shape home site behind).spares ≡ spares) × ((defined shape home site behind).batches ≡ batches) };
+    ghost does: { DoesAsSaid defined spares batches };
 
     /// It keeps the site and the place for which it is made.
-    ghost placed: { (shape : TheShape) (home : ℕ) (site : TheSite) (behind : ℕ) → ((defined shape home site behind).site ≡ site) × ((defined shape home site behind).behind ≡ behind) };
+    ghost placed: { IsPlacedAsSaid defined };
 
     /// Makes the work of a shard whose home is this node of a proper shape, and on which at most 20,000 updates may be made in all. `behind`
     /// is the number of the first word behind the lock's.
@@ -148,5 +148,5 @@ pub trait Work: Sized + Drop {
 /// A way of working under which each rank keeps all its entries itself.
 pub trait KeepsOwn: Work {
     /// By whatever words, its transcript is what it keeps, and it owes what its side says.
-    ghost keeps_own: { (w : Self) (words : List ℕ) (rank : ℕ) (x : Self.Side) → ((Self.table w).transcript words rank x ≡ ((Self.table w).kept x).items) × ((Self.table w).owes words rank x ≡ (Self.table w).pends x) };
+    ghost keeps_own: { (w : Self) → KeepsAllItself (Self.table w) };
 }

@@ -46,7 +46,18 @@ impl Model for LockedSide {
 
     ghost Value = { model.TheWork };
 
-    ghost view = { λ w. record { stage = w.stage; calls = w.calls.items; seq = w.seq; seen = w.seen; replies = w.replies.items; at = w.at; entries = w.entries.items; writes = w.writes.items; transcript = w.transcript } };
+    ghost view = { λ w.
+        record {
+          stage = w.stage;
+          calls = w.calls.items;
+          seq = w.seq;
+          seen = w.seen;
+          replies = w.replies.items;
+          at = w.at;
+          entries = w.entries.items;
+          writes = w.writes.items;
+          transcript = w.transcript;
+        } };
 
     ghost invariant = { λ w. (length w.replies.items ≤ length w.calls.items) × (length w.writes.items ≤ 5 * length w.replies.items) };
 }
@@ -338,7 +349,7 @@ impl LockedSide {
     fn set_entries(&mut self, shard: u32, rank: u32, count: u32)
         requires { model.CanClose self.old count }
         ensures many { length self.new.entries ≡ length self.old.calls }
-        ensures are { self.new ≡ record self.old { entries = model.entries_of shard rank (model.batch_in self.old) self.old.seq count 0 self.old.calls self.old.replies } }
+        ensures are { self.new ≡ record self.old { entries = model.block_entries shard rank self.old count } }
     {
         let batch = self.batch();
         self.entries.clear();

@@ -1,1 +1,1 @@
-pub mod DoneLaws
+mod FinishLaws

@@ -1,8 +1,10 @@
 //! The top call: the data of a page of a replay, or the line that says why there are none.
-ghost use Rattle.std.specs.Prelude.{◌≡◌, ◌≢◌, ◌<◌, ◌≤◌, None, map, string_bytes};
+ghost use Rattle.std.specs.Prelude.{◌≡◌, None, map, string_bytes};
+ghost use Rattle.rl_inputs.specs.Done.{IsDone};
 ghost use Rattle.rl_viewer.specs.Asking.{asked_by};
-ghost use Rattle.rl_viewer.specs.Answer.{MayRead};
-ghost use Rattle.rmalock_page.specs.Answer.{IsDone};
+ghost use Rattle.rl_viewer.specs.Answer.{Answers, AreTold, MayRead};
+ghost use Rattle.rl_page.specs.PageData.{IsPageData};
+ghost use Rattle.rmalock_page.specs.Answer.{usage_text};
 
 use rl_io::{Sink, Source};
 use rl_page::Pager;
@@ -22,13 +24,9 @@ pub fn page_replay<S: Source, K: Sink>(
     source: &mut S,
     out: &mut K,
 ) -> u8
-    requires { MayRead (S.may_open source.old) (asked_by (map string_bytes words.now)) }
-    ensures done { IsDone K.tells_on out.old out.new (K.written out.old) (K.written out.new) (S.file source.old) (asked_by (map string_bytes words.now)) result }
-    ensures status { result ≤ 5 }
-    ensures read_fault { result ≡ 3 → S.faults source.old < S.faults source.new }
-    ensures read_quiet { result ≢ 3 → S.faults source.new ≡ S.faults source.old }
-    ensures write_fault { result ≡ 4 → K.faults out.old < K.faults out.new }
-    ensures write_quiet { result ≢ 4 → K.faults out.new ≡ K.faults out.old }
+    requires may_read { MayRead (S.may_open source.old) (asked_by (map string_bytes words.now)) }
+    ensures done { IsDone S.file S.faults K.written K.tells_on K.faults (AreTold (asked_by (map string_bytes words.now)))
+        (Answers IsPageData usage_text (asked_by (map string_bytes words.now))) source.old source.new out.old out.new result }
     ensures unread { asked_by (map string_bytes words.now) ≡ None → source.new ≡ source.old }
 {
     show_replay::<Pager, S, K>(alloc, USAGE, words, source, out)

@@ -3,7 +3,7 @@
 use crate::labels::width_of;
 use crate::scale::LEFT;
 use crate::svg::{Area, Px, Spot, Svg};
-use rl_word::LockName;
+use rl_word::{LockName, QueueKind};
 use std::alloc::AllocError as OutOfMemory;
 
 /// Under which locks something can be seen.
@@ -27,9 +27,9 @@ impl Under {
     fn has(self, lock: LockName) -> bool {
         match self {
             Under::All => true,
-            Under::Queues => !matches!(lock, LockName::Spin),
-            Under::Cohorts => matches!(lock, LockName::Alock | LockName::Seq | LockName::Combine),
-            Under::Readers => matches!(lock, LockName::Rw),
+            Under::Queues => !matches!(lock.facts().queues, QueueKind::NoQueue),
+            Under::Cohorts => lock.facts().queues.has_cohorts(),
+            Under::Readers => lock.facts().shares,
             Under::Looks => matches!(lock, LockName::Seq),
             Under::Posts => matches!(lock, LockName::Combine),
         }

@@ -1,2 +1,2 @@
 mod ReadLaws
-mod DoneLaws
+mod DrawLaws

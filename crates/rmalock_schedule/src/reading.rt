@@ -1,20 +1,19 @@
 //! The files of a drawing, read one after the other.
-ghost use Rattle.std.specs.Prelude.{◌≡◌, ◌<◌, ◌≤◌, IsTrue, IfOk, length};
+ghost use Rattle.std.specs.Prelude.{IsTrue, IfOk, length};
 ghost use Rattle.rl_io.specs.Outside.{SameFiles};
+ghost use Rattle.rl_io.specs.Whole.{RisesWithFault};
 ghost use Rattle.rl_place.specs.Places.{IsProper};
 ghost use Rattle.rl_ops.specs.Ops.{OpsFit};
-ghost use Rattle.rl_inputs.specs.Reading.{WasRead, RisesWithFault, SuitsLock, within, stopped_in};
+ghost use Rattle.rl_inputs.specs.Reading.{WasRead, SuitsLock, stopped_by_fault};
 ghost use Rattle.rl_inputs.specs.Files.{named, MayOpenFiles};
-ghost use Rattle.rl_inputs.specs.declared.complaint.Which.TheVariants.{Schedule};
 ghost use Rattle.rl_sketch.specs.Sketch.{SketchFits};
 ghost use Rattle.rmalock_schedule.specs.Answer.{sketched, WereRead};
 
-use rl_inputs::{Complaint, Files, Stop, Trouble, Which, read_called, read_placed};
-use rl_io::{ReadErr, Source, read_file};
+use rl_inputs::{Files, Stop, read_called, read_placed, read_within, stopped};
+use rl_io::Source;
 use rl_ops::Ops;
 use rl_place::Place;
 use rl_sketch::{Sketch, read_sketch};
-use rl_text::TextErr;
 use std::alloc::Global;
 
 /// A sketch has at most this many bytes.
@@ -28,42 +27,6 @@ pub struct Sketched {
     pub sketch: Sketch,
 }
 
-/// What ends the reading of a sketch for this cause.
-fn refused(trouble: Trouble) -> Stop
-    ensures { result ≡ Stop.Refused (record { which = Schedule; trouble = trouble }) }
-{
-    Stop::Refused(Complaint {
-        which: Which::Schedule,
-        trouble,
-    })
-}
-
-/// The bytes of a file that isn't longer than a sketch may be.
-fn read_within<S: Source>(alloc: Global, source: &mut S, name: &str) -> Result<Vec<u8>, Stop>
-    requires { IsTrue (S.may_open source.old name.now) }
-    ensures read { WasRead (S.file source.old name.now) (λ bytes. bytes.items) (within Schedule 4194304) result }
-    ensures short { IfOk result (λ bytes. length bytes.items ≤ 4194304) }
-    ensures faults { RisesWithFault result (S.faults source.old) (S.faults source.new) }
-    ensures same { SameFiles S.file S.may_open source.old source.new }
-{
-    match read_file(alloc, source, name, MOST_SKETCH) {
-        Ok(bytes) => Ok(bytes),
-        Err(ReadErr::Fault) => Err(Stop::Fault),
-        Err(ReadErr::TooLong { .. }) => Err(refused(Trouble::TooLong)),
-        Err(ReadErr::Memory) => Err(Stop::Memory),
-    }
-}
-
-/// What reading a sketch ended with, as what ends the drawing.
-fn stopped(error: TextErr) -> Stop
-    ensures { result ≡ stopped_in Schedule error }
-{
-    match error {
-        TextErr::Refused(refusal) => refused(Trouble::Refused(refusal)),
-        TextErr::Memory => Stop::Memory,
-    }
-}
-
 /// The sketch of a file, of the placement's ranks.
 #[tactic(auto, unfolding(crate::specs::Answer::sketched))]
 fn read_sketched<S: Source>(
@@ -74,16 +37,16 @@ fn read_sketched<S: Source>(
 ) -> Result<Sketch, Stop>
     requires may_open { IsTrue (S.may_open source.old name.now) }
     requires proper { IsProper place.now }
-    ensures read { WasRead (S.file source.old name.now) (λ sketch. sketch) (sketched place.now) result }
+    ensures read { WasRead (S.file source.old name.now) (λ sketch. sketch) (sketched name.now place.now) result }
     ensures fits { IfOk result (λ sketch. SketchFits (length place.now.paths) sketch) }
-    ensures faults { RisesWithFault result (S.faults source.old) (S.faults source.new) }
+    ensures faults { RisesWithFault stopped_by_fault result (S.faults source.old) (S.faults source.new) }
     ensures same { SameFiles S.file S.may_open source.old source.new }
 {
-    let bytes = read_within(alloc, source, name)?;
+    let bytes = read_within(alloc, source, name, MOST_SKETCH)?;
     let ranks = place.paths.len() as u8;
     match read_sketch(alloc, ranks, bytes.as_slice()) {
         Ok(sketch) => Ok(sketch),
-        Err(error) => Err(stopped(error)),
+        Err(error) => Err(stopped(alloc, name, error)),
     }
 }
 
@@ -100,7 +63,7 @@ pub fn read_files<S: Source>(
     ensures calls { IfOk result (λ sketched. OpsFit (length sketched.place.paths) sketched.place.geom.shards sketched.ops) }
     ensures suits { IfOk result (λ sketched. SuitsLock sketched.place sketched.ops) }
     ensures sketch { IfOk result (λ sketched. SketchFits (length sketched.place.paths) sketched.sketch) }
-    ensures faults { RisesWithFault result (S.faults source.old) (S.faults source.new) }
+    ensures faults { RisesWithFault stopped_by_fault result (S.faults source.old) (S.faults source.new) }
 {
     let place = read_placed(alloc, source, files.place)?;
     let ops = read_called(alloc, source, files.calls, &place)?;

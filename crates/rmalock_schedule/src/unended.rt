@@ -19,7 +19,6 @@ use rl_shown::{listing_text, total_steps};
 use rl_sketch::{Course, Ranks, Sketch, SketchLine, read_sketch};
 use rl_text::{Line, Lines, TEXT_LIMIT, cut, put_number};
 use rl_viewer::Window;
-use rl_word::LockName;
 use std::alloc::{AllocError as OutOfMemory, Global};
 use std::fmt;
 use std::io::Eprint;
@@ -138,7 +137,7 @@ fn sketch_in(alloc: Global, place: &Place, bytes: &[u8]) -> Option<Sketch>
 fn does_batches(place: &Place) -> bool
     ensures { result ≡ does_batches (name_of place.now.lock) }
 {
-    !matches!(place.lock.name(), LockName::Combine)
+    place.lock.name().facts().batches
 }
 
 /// The calls that a kept text spells, if the placement's lock can do them.

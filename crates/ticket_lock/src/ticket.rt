@@ -8,8 +8,7 @@ ghost use Rattle.ticket_lock.specs.Ticket.{ticket_table, TicketGood};
 ghost use Rattle.ticket_lock.specs.laws.TicketLaws.{ticket_laws};
 
 use crate::view::{Phase, TicketView};
-use arrayvec::ArrayVec;
-use rl_step::{Algo, Event, Standing};
+use rl_step::{Algo, Event, Events, Standing};
 use rl_word::{Act, Class, Knobs, LockName, Mode, Shape, Spot};
 use std::alloc::{AllocError as OutOfMemory, Global};
 
@@ -100,7 +99,7 @@ impl Algo for Ticket {
         }
     }
 
-    fn learn(&self, view: &mut TicketView, got: u64, events: &mut ArrayVec<Event, 8>) -> bool {
+    fn learn(&self, view: &mut TicketView, got: u64, events: &mut Events) -> bool {
         match view.phase {
             Phase::Drawing => view.phase = Phase::Waiting { ticket: got },
             Phase::Waiting { ticket } => {

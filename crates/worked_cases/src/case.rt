@@ -1,4 +1,4 @@
-// A worked case, and whether what came of it is what must come.
+//! A worked case, and whether what came of it is what must come.
 ghost use Rattle.std.specs.Prelude.{◌≡◌, ◌↔◌, IsTrue, Some};
 
 /// What must come of a command line: a status, and what is written. A case that tells no status can't be met.

@@ -1,4 +1,4 @@
-// The cases that a file spells: its lines, one after the other, each added to the last case.
+//! The cases that a file spells: its lines, one after the other, each added to the last case.
 use crate::case::{Case, Wanted};
 use rl_text::number;
 use std::alloc::{AllocError as OutOfMemory, AllocFailed, Global};

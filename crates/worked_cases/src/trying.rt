@@ -1,4 +1,4 @@
-// What comes of a case, by the top call over its files in memory.
+//! What comes of a case, by the top call over its files in memory.
 use crate::case::{Case, Wanted};
 use rl_io::{FixedSink, MemFiles, OpenGate};
 use rl_program::rmalock;

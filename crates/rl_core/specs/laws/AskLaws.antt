@@ -67,7 +67,8 @@ pub record NextBlock (geom : Geom) (calls : List Call) (sizes : List ℕ) : Type
 
 pub next_of_blocks : (geom : Geom) (calls : List Call) (sizes : List ℕ) → AreBlocks geom calls sizes → 0 < length calls → NextBlock geom calls sizes
 next_of_blocks geom _ _ AreBlocks.none h = absurd (omega arith)
-next_of_blocks geom _ _ (AreBlocks.more block calls sizes is rest) h = record { block = block; later = calls; later_sizes = sizes; calls_are = refl; sizes_are = refl; is_block = is; rest = rest }
+next_of_blocks geom _ _ (AreBlocks.more block calls sizes is rest) h =
+    record { block = block; later = calls; later_sizes = sizes; calls_are = refl; sizes_are = refl; is_block = is; rest = rest }
 
 first_size : (block : List Call) (sizes : List ℕ) → 1 ≤ length block → slice_index (sizes_of block ++ sizes) 0 ≡ length block
 first_size [] sizes h = absurd (omega arith)
@@ -77,7 +78,8 @@ module _ (geom : Geom) (calls : List Call) (sizes : List ℕ) (n : ℕ) (b : Nex
   -- it is the block that begins with the call of this number
   pub size_is : slice_index sizes n ≡ length b.block
   size_is =
-      ap (slice_index sizes) (omega arith) ∙ sym (get_or-drop n sizes 0 0) ∙ ap (λ z. slice_index z 0) b.sizes_are ∙ first_size b.block b.later_sizes b.is_block.is_asked.some
+      ap (slice_index sizes) (omega arith) ∙ sym (get_or-drop n sizes 0 0) ∙ ap (λ z. slice_index z 0) b.sizes_are
+      ∙ first_size b.block b.later_sizes b.is_block.is_asked.some
 
   pub block_is : block_from calls sizes n ≡ b.block
   block_is = ap (λ k. take k (drop n calls)) size_is ∙ ap (take (length b.block)) b.calls_are ∙ take-append_seam b.block b.later
@@ -89,9 +91,12 @@ module _ (geom : Geom) (calls : List Call) (sizes : List ℕ) (n : ℕ) (b : Nex
   -- behind it the calls are blocks again
   pub rest_behind : AreBlocks geom (drop (n + length b.block) calls) (drop (n + length b.block) sizes)
   rest_behind =
-      let c : drop (n + length b.block) calls ≡ b.later = drop_more n (length b.block) calls ∙ ap (drop (length b.block)) b.calls_are ∙ drop-append_seam b.block b.later in
+      let c : drop (n + length b.block) calls ≡ b.later = drop_more n (length b.block) calls ∙ ap (drop (length b.block)) b.calls_are
+      ∙ drop-append_seam b.block b.later in
       let s : drop (n + length b.block) sizes ≡ b.later_sizes =
-      drop_more n (length b.block) sizes ∙ ap (drop (length b.block)) b.sizes_are ∙ ap (λ k. drop k (sizes_of b.block ++ b.later_sizes)) (sym (sizes_length b.block)) ∙ drop-append_seam (sizes_of b.block) b.later_sizes in
+      drop_more n (length b.block) sizes ∙ ap (drop (length b.block)) b.sizes_are
+      ∙ ap (λ k. drop k (sizes_of b.block ++ b.later_sizes)) (sym (sizes_length b.block))
+      ∙ drop-append_seam (sizes_of b.block) b.later_sizes in
       subst (λ z. AreBlocks geom z (drop (n + length b.block) sizes)) (sym c) (subst (AreBlocks geom b.later) (sym s) b.rest)
 
   pub inside : n + length b.block ≤ length calls
@@ -102,7 +107,8 @@ module _ (geom : Geom) (calls : List Call) (sizes : List ℕ) (n : ℕ) (b : Nex
     inside_by (suc n) (c ∷ l) block later h e = let k = inside_by n l block later h e in omega arith
 
   -- the rank that has opened it stands at its shard
-  shard_in : (i : ℕ) (block : List Call) (later : List Call) (s : ℕ) → All (λ call. shard_of geom call ≡ s) block → i < length block → call_shard geom (slice_get (block ++ later) i) ≡ s
+  shard_in : (i : ℕ) (block : List Call) (later : List Call) (s : ℕ) → All (λ call. shard_of geom call ≡ s) block → i < length block →
+      call_shard geom (slice_get (block ++ later) i) ≡ s
   shard_in i [] later s all h = absurd (omega arith)
   shard_in zero (c ∷ cs) later s all h = All-head (λ call. shard_of geom call ≡ s) c cs all
   shard_in (suc i) (c ∷ cs) later s all h = shard_in i cs later s (All-tail (λ call. shard_of geom call ≡ s) c cs all) (omega arith)
@@ -119,7 +125,8 @@ module _ (geom : Geom) (calls : List Call) (sizes : List ℕ) (n : ℕ) (b : Nex
     by_last zero e = let some : 1 ≤ length b.block = b.is_block.is_asked.some in absurd (omega arith)
     by_last (suc k) e =
         let at : n + suc k ≡ suc (n + k) = omega arith in
-        ap (place_after geom calls) at ∙ ap (call_shard geom) (get_behind n k calls ∙ ap (λ z. slice_get z k) b.calls_are) ∙ shard_in k b.block b.later b.is_block.shard b.is_block.one_shard (omega arith)
+        ap (place_after geom calls) at ∙ ap (call_shard geom) (get_behind n k calls ∙ ap (λ z. slice_get z k) b.calls_are)
+        ∙ shard_in k b.block b.later b.is_block.shard b.is_block.one_shard (omega arith)
 
 -- ---- which calls it asks for
 
@@ -128,9 +135,12 @@ abbrev asked_from : ℕ → ℕ → List Call → List Asked
 asked_from batch part [] = []
 asked_from batch part (c ∷ cs) = record { call = c; batch = batch; part = part } ∷ asked_from batch (part + 1) cs
 
-asked_tail : (batch part : ℕ) (cs later : List Call) (sizes : List ℕ) → asked_after batch part (cs ++ later) (map (λ (z : Call). 0) cs ++ sizes) ≡ asked_from batch part cs ++ asked_after batch (part + length cs) later sizes
+asked_tail : (batch part : ℕ) (cs later : List Call) (sizes : List ℕ) →
+    asked_after batch part (cs ++ later) (map (λ (z : Call). 0) cs ++ sizes) ≡ asked_from batch part cs ++ asked_after batch (part + length
+    cs) later sizes
 asked_tail batch part [] later sizes = ap (λ p. asked_after batch p later sizes) (omega arith)
-asked_tail batch part (c ∷ cs) later sizes = ap (λ z. record { call = c; batch = batch; part = part } ∷ z) (asked_tail batch (part + 1) cs later sizes ∙ ap (λ p. asked_from batch (part + 1) cs ++ asked_after batch p later sizes) (omega arith))
+asked_tail batch part (c ∷ cs) later sizes = ap (λ z. record { call = c; batch = batch; part = part } ∷ z)
+    (asked_tail batch (part + 1) cs later sizes ∙ ap (λ p. asked_from batch (part + 1) cs ++ asked_after batch p later sizes) (omega arith))
 
 asked_block : (batch part : ℕ) (block later : List Call) (sizes : List ℕ) → 1 ≤ length block →
     (rest : List Asked) × (asked_after batch part (block ++ later) (sizes_of block ++ sizes) ≡ asked_from (batch_number (length block)) 0 block ++ rest)
@@ -141,7 +151,8 @@ asked_block batch part (c ∷ cs) later sizes h = (
 )
 
 -- the calls behind a number are asked for as they stand, after some batch and place
-asked_drop : (n batch part : ℕ) (calls : List Call) (sizes : List ℕ) → (b p : ℕ) × (drop n (asked_after batch part calls sizes) ≡ asked_after b p (drop n calls) (drop n sizes))
+asked_drop : (n batch part : ℕ) (calls : List Call) (sizes : List ℕ) →
+    (b p : ℕ) × (drop n (asked_after batch part calls sizes) ≡ asked_after b p (drop n calls) (drop n sizes))
 asked_drop zero batch part calls sizes = (batch, part, refl)
 asked_drop (suc n) batch part [] sizes = (batch, part, refl)
 asked_drop (suc n) batch part (c ∷ cs) [] = (batch, part, none_left (drop n cs)) where
@@ -151,16 +162,20 @@ asked_drop (suc n) batch part (c ∷ cs) [] = (batch, part, none_left (drop n cs
 asked_drop (suc n) batch part (c ∷ cs) (zero ∷ ss) = asked_drop n batch (part + 1) cs ss
 asked_drop (suc n) batch part (c ∷ cs) (suc k ∷ ss) = asked_drop n (batch_number (suc k)) 1 cs ss
 
-next_from : (asked : List Asked) (n batch part : ℕ) (block : List Call) (rest : List Asked) → drop n asked ≡ asked_from batch part block ++ rest → AsksNext batch part asked n block
+next_from : (asked : List Asked) (n batch part : ℕ) (block : List Call) (rest : List Asked) →
+    drop n asked ≡ asked_from batch part block ++ rest → AsksNext batch part asked n block
 next_from asked n batch part [] rest e = tt
 next_from asked n batch part (c ∷ cs) rest e =
-    let q = head_at n asked (record { call = c; batch = batch; part = part }) (asked_from batch (part + 1) cs ++ rest) e in (q.0, next_from asked (n + 1) batch (part + 1) cs rest q.1)
+    let q = head_at n asked (record { call = c; batch = batch; part = part }) (asked_from batch (part + 1) cs ++ rest) e in
+    (q.0, next_from asked (n + 1) batch (part + 1) cs rest q.1)
 
-pub asks_next : (geom : Geom) (calls : List Call) (sizes : List ℕ) (n : ℕ) (b : NextBlock geom (drop n calls) (drop n sizes)) → AsksNext (batch_number (length b.block)) 0 (asked_of calls sizes) n b.block
+pub asks_next : (geom : Geom) (calls : List Call) (sizes : List ℕ) (n : ℕ) (b : NextBlock geom (drop n calls) (drop n sizes)) →
+    AsksNext (batch_number (length b.block)) 0 (asked_of calls sizes) n b.block
 asks_next geom calls sizes n b =
     let d = asked_drop n 0 0 calls sizes in
     let k = asked_block d.0 d.1 b.block b.later b.later_sizes b.is_block.is_asked.some in
-    next_from (asked_of calls sizes) n (batch_number (length b.block)) 0 b.block k.0 (d.2 ∙ ap (λ z. asked_after d.0 d.1 z (drop n sizes)) b.calls_are ∙ ap (asked_after d.0 d.1 (b.block ++ b.later)) b.sizes_are ∙ k.1)
+    next_from (asked_of calls sizes) n (batch_number (length b.block)) 0 b.block k.0
+    (d.2 ∙ ap (λ z. asked_after d.0 d.1 z (drop n sizes)) b.calls_are ∙ ap (asked_after d.0 d.1 (b.block ++ b.later)) b.sizes_are ∙ k.1)
 
 -- ---- how many it adds to a shard
 
@@ -169,21 +184,30 @@ all_on geom s [] all = refl
 all_on geom s (c ∷ cs) all =
     let here : shard_of geom c ≡ s = All-head (λ call. shard_of geom call ≡ s) c cs all in
     let hit : (shard_of geom c == s) ≡ true = grind (arith, nat_tests) in
-    ap (λ b. cond b (c ∷ filter (is_on geom s) cs) (filter (is_on geom s) cs)) hit ∙ ap (λ z. c ∷ z) (all_on geom s cs (All-tail (λ call. shard_of geom call ≡ s) c cs all))
+    ap (λ b. cond b (c ∷ filter (is_on geom s) cs) (filter (is_on geom s) cs)) hit
+    ∙ ap (λ z. c ∷ z) (all_on geom s cs (All-tail (λ call. shard_of geom call ≡ s) c cs all))
 
 pub none_on : (geom : Geom) (s other : ℕ) (block : List Call) → s ≢ other → All (λ call. shard_of geom call ≡ s) block → filter (is_on geom other) block ≡ []
 none_on geom s other [] ne all = refl
 none_on geom s other (c ∷ cs) ne all =
     let here : shard_of geom c ≡ s = All-head (λ call. shard_of geom call ≡ s) c cs all in
     let miss : (shard_of geom c == other) ≡ false = grind (arith, nat_tests) in
-    ap (λ b. cond b (c ∷ filter (is_on geom other) cs) (filter (is_on geom other) cs)) miss ∙ none_on geom s other cs ne (All-tail (λ call. shard_of geom call ≡ s) c cs all)
+    ap (λ b. cond b (c ∷ filter (is_on geom other) cs) (filter (is_on geom other) cs)) miss
+    ∙ none_on geom s other cs ne (All-tail (λ call. shard_of geom call ≡ s) c cs all)
 
 -- the calls of a shard among the first n, and those of the next block, are no more than there are
 count_split : (p : Call → Bool) (n m : ℕ) (calls : List Call) → count_by p (take n calls) + count_by p (take m (drop n calls)) ≤ count_by p calls
 count_split p n m calls =
     let a : take n calls ++ drop n calls ≡ calls = take-append-drop n calls in
     let b : take m (drop n calls) ++ drop m (drop n calls) ≡ drop n calls = take-append-drop m (drop n calls) in
-    omega (arith, count-append p (take n calls) (drop n calls), ap (count_by p) a, count-append p (take m (drop n calls)) (drop m (drop n calls)), ap (count_by p) b)
+    omega (
+      arith,
+      count-append p (take n calls) (drop n calls),
+      ap (count_by p) a,
+      count-append p (take m (drop n calls))
+          (drop m (drop n calls)),
+      ap (count_by p) b,
+    )
 
 pub room_for : (geom : Geom) (s n : ℕ) (calls block : List Call) → take (length block) (drop n calls) ≡ block → All (λ call. shard_of geom call ≡ s) block →
     length (filter (is_on geom s) (take n calls)) + length block ≤ count_by (is_on geom s) calls
@@ -196,9 +220,11 @@ count_updates geom s [] = refl
 count_updates geom s (c ∷ cs) =
     elim (is_on geom s c) as (λ b. is_on geom s c ≡ b → count_by is_update (filter (is_on geom s) (c ∷ cs)) ≡ count_by (is_update_on geom s) (c ∷ cs)) [
       | true ↦ λ e.
-          let left : filter (is_on geom s) (c ∷ cs) ≡ c ∷ filter (is_on geom s) cs = ap (λ b. cond b (c ∷ filter (is_on geom s) cs) (filter (is_on geom s) cs)) e in
+          let left : filter (is_on geom s) (c ∷ cs) ≡ c ∷ filter (is_on geom s) cs =
+          ap (λ b. cond b (c ∷ filter (is_on geom s) cs) (filter (is_on geom s) cs)) e in
           let here : is_update_on geom s c ≡ is_update c = ap (λ b. b && is_update c) e in
-          ap (count_by is_update) left ∙ count-cons is_update c (filter (is_on geom s) cs) ∙ ap (λ b. cond b 1 0 + count_by is_update (filter (is_on geom s) cs)) (sym here)
+          ap (count_by is_update) left ∙ count-cons is_update c (filter (is_on geom s) cs)
+          ∙ ap (λ b. cond b 1 0 + count_by is_update (filter (is_on geom s) cs)) (sym here)
           ∙ ap (λ n. cond (is_update_on geom s c) 1 0 + n) (count_updates geom s cs) ∙ sym (count-cons (is_update_on geom s) c cs)
       | false ↦ λ e.
           let left : filter (is_on geom s) (c ∷ cs) ≡ filter (is_on geom s) cs = ap (λ b. cond b (c ∷ filter (is_on geom s) cs) (filter (is_on geom s) cs)) e in
@@ -207,7 +233,8 @@ count_updates geom s (c ∷ cs) =
           omega (arith, ap (count_by is_update) left, count_updates geom s cs, count-cons (is_update_on geom s) c cs)
     ] refl
 
-all_updates : (geom : Geom) (s : ℕ) (block : List Call) → AreUpdates block → All (λ call. shard_of geom call ≡ s) block → count_by (is_update_on geom s) block ≡ length block
+all_updates : (geom : Geom) (s : ℕ) (block : List Call) → AreUpdates block → All (λ call. shard_of geom call ≡ s) block →
+    count_by (is_update_on geom s) block ≡ length block
 all_updates geom s [] u all = refl
 all_updates geom s (c ∷ cs) u all =
     let here : shard_of geom c ≡ s = All-head (λ call. shard_of geom call ≡ s) c cs all in
@@ -216,12 +243,21 @@ all_updates geom s (c ∷ cs) u all =
     let one_is : ◌≡◌ {A = ℕ} (cond (is_update_on geom s c) 1 0) 1 = ap (λ b. cond {A = ℕ} b 1 0) is in
     omega (arith, count-cons (is_update_on geom s) c cs, all_updates geom s cs u.1 (All-tail (λ call. shard_of geom call ≡ s) c cs all))
 
-pub updates_room : (geom : Geom) (s n : ℕ) (calls block : List Call) → IsAsked block → take (length block) (drop n calls) ≡ block → All (λ call. shard_of geom call ≡ s) block →
+pub updates_room : (geom : Geom) (s n : ℕ) (calls block : List Call) → IsAsked block → take (length block) (drop n calls) ≡ block →
+    All (λ call. shard_of geom call ≡ s) block →
     count_by is_update (filter (is_on geom s) (take n calls)) + places_needed (asks_update block) (length block) ≤ count_by (is_update_on geom s) calls
 updates_room geom s n calls block is e all =
-    elim (asks_update block) as (λ b. asks_update block ≡ b → count_by is_update (filter (is_on geom s) (take n calls)) + places_needed b (length block) ≤ count_by (is_update_on geom s) calls) [
+    elim (asks_update block) as (λ b. asks_update block ≡ b → count_by is_update (filter (is_on geom s) (take n calls)) + places_needed b
+    (length block) ≤ count_by (is_update_on geom s) calls) [
       | true ↦ λ u.
-          omega (arith, count_updates geom s (take n calls), count_split (is_update_on geom s) n (length block) calls, ap (count_by (is_update_on geom s)) e, all_updates geom s block (is.all_update u) all)
+          omega (
+            arith,
+            count_updates geom s (take n calls),
+            count_split (is_update_on geom s) n (length block) calls,
+            ap
+                (count_by (is_update_on geom s)) e,
+            all_updates geom s block (is.all_update u) all,
+          )
       | false ↦ λ u. omega (arith, count_updates geom s (take n calls), count_split (is_update_on geom s) n (length block) calls)
     ] refl
 

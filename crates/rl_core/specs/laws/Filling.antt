@@ -43,7 +43,8 @@ module _ (site : Site) (behind : ℕ) where
   opened_none n e = let same : n ≡ lock_base site - 0 + behind = omega arith in ap (λ k. replicate k 0) same
 
   -- one word more
-  pub opened_next : (word value : ℕ) → word < lock_base site → value ≡ slice_index (opening_words site) word → slice_set (opened_to word) word value ≡ opened_to (word + 1)
+  pub opened_next : (word value : ℕ) → word < lock_base site → value ≡ slice_index (opening_words site) word →
+      slice_set (opened_to word) word value ≡ opened_to (word + 1)
   opened_next word value low is =
       let all : length (opening_words site) ≡ lock_base site = opening_size site in
       let less : lock_base site - word + behind ≡ suc (lock_base site - (word + 1) + behind) = omega arith in
@@ -75,12 +76,15 @@ module _ {V : Type 0} (T : ShardTable V) where
   pub first_at : (from : ℕ) (rooms : List ℕ) (r : ℕ) (x : V) → slice_get (first_views T from rooms) r ≡ Some x → x ≡ T.first (slice_index rooms r) (from + r)
   first_at from [] r x e = absurd (cc)
   first_at from (room ∷ rooms) zero x e = sym (same_Some _ _ e) ∙ (let at : from ≡ from + 0 = omega arith in ap (T.first room) at)
-  first_at from (room ∷ rooms) (suc r) x e = first_at (from + 1) rooms r x e ∙ (let at : (from + 1) + r ≡ from + suc r = omega arith in ap (T.first (slice_index rooms r)) at)
+  first_at from (room ∷ rooms) (suc r) x e = first_at (from + 1) rooms r x e
+      ∙ (let at : (from + 1) + r ≡ from + suc r = omega arith in ap (T.first (slice_index rooms r)) at)
 
   -- one view more
-  pub views_next : (from : ℕ) (rooms : List ℕ) (i : ℕ) → i < length rooms → first_views T from (take (suc i) rooms) ≡ first_views T from (take i rooms) ++ T.first (slice_index rooms i) (from + i) ∷ []
+  pub views_next : (from : ℕ) (rooms : List ℕ) (i : ℕ) → i < length rooms →
+      first_views T from (take (suc i) rooms) ≡ first_views T from (take i rooms) ++ T.first (slice_index rooms i) (from + i) ∷ []
   views_next from [] i h = absurd (omega arith)
   views_next from (room ∷ rooms) zero h = let at : from ≡ from + 0 = omega arith in ap (λ n. T.first room n ∷ []) at
   views_next from (room ∷ rooms) (suc i) h =
       let at : (from + 1) + i ≡ from + suc i = omega arith in
-      ap (λ t. T.first room from ∷ t) (views_next (from + 1) rooms i (omega arith) ∙ ap (λ n. first_views T (from + 1) (take i rooms) ++ T.first (slice_index rooms i) n ∷ []) at)
+      ap (λ t. T.first room from ∷ t) (views_next (from + 1) rooms i (omega arith) ∙ ap
+      (λ n. first_views T (from + 1) (take i rooms) ++ T.first (slice_index rooms i) n ∷ []) at)

@@ -17,7 +17,8 @@ length_entries : (shard : ℕ) (words : List ℕ) (base p n : ℕ) → length (e
 length_entries shard words base p zero = refl
 length_entries shard words base p (suc n) = ap suc (length_entries shard words base (p + 1) n)
 
-entry_there : (shard : ℕ) (words : List ℕ) (base p n i : ℕ) → i < n → slice_get (entries_from shard words base p n) i ≡ Some (entry_of shard (p + i) (six_from words (base + 6 * (p + i))))
+entry_there : (shard : ℕ) (words : List ℕ) (base p n i : ℕ) → i < n →
+    slice_get (entries_from shard words base p n) i ≡ Some (entry_of shard (p + i) (six_from words (base + 6 * (p + i))))
 entry_there shard words base p zero i h = absurd (omega arith)
 entry_there shard words base p (suc n) zero h = let at : p ≡ p + 0 = omega arith in ap (λ k. Some (entry_of shard k (six_from words (base + 6 * k)))) at
 entry_there shard words base p (suc n) (suc i) h =
@@ -33,7 +34,8 @@ part_low : (geom : Geom) (journal : List Entry) (p : ℕ) (e : Entry) → IsLega
 part_low geom journal p e legal get =
     let q : IsIn geom p e = in_journal geom journal p e legal get in
     let l : IsLegalBlock geom q.table q.first q.block = q.legal in
-    let a : IsPart l.rank l.batch (l.seq + q.behind) (q.first + q.behind) (0 + q.behind) e = part_at l.rank l.batch l.seq q.first 0 q.block q.behind e l.is.parts q.there in
+    let a : IsPart l.rank l.batch (l.seq + q.behind) (q.first + q.behind) (0 + q.behind) e =
+    part_at l.rank l.batch l.seq q.first 0 q.block q.behind e l.is.parts q.there in
     let part : e.part ≡ 0 + q.behind = a.part_is in
     let within : q.behind < length q.block = slice_get_within q.block q.behind e q.there in
     let whole : length q.block ≡ size_of l.batch = l.is.whole in
@@ -82,7 +84,8 @@ module _ (site : Site) (words : List ℕ) (short : length (journal_of site (take
       ∙ ap (λ z. Some (entry_of site.shard at z)) (same_six (journal_base site.geom + 6 * at) (place_low at low))
 
   -- whose part is not beyond a number of the machine's
-  pub part_fits : (geom : Geom) → IsLegalJournal geom journal → (at : ℕ) → at < length journal → slice_index words (journal_base site.geom + 6 * at + 1) / 2048 < 2 ^ 32
+  pub part_fits : (geom : Geom) → IsLegalJournal geom journal → (at : ℕ) → at < length journal →
+      slice_index words (journal_base site.geom + 6 * at + 1) / 2048 < 2 ^ 32
   part_fits geom legal at low =
       let e : Entry = entry_of site.shard at (six_from words (journal_base site.geom + 6 * at)) in
       let q : e.part < 8 = part_low geom journal at e legal (update_is at low) in

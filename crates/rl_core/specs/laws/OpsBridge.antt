@@ -42,14 +42,21 @@ module _ (geom : Geom) (fits : GeomFits geom) where
   all_shards s [] all = All-nil (λ call. shard_of geom call ≡ s)
   all_shards s (call ∷ calls) all = All-cons (λ call. shard_of geom call ≡ s) call calls (sym (shard_same call) ∙ all.0) (all_shards s calls all.1)
 
-  first_there : (s : ℕ) (block : List Call) → 1 ≤ length block → AllByRecursion (λ call. shard_among geom.shards call ≡ s) block → AllByRecursion (CallFits geom.shards) block → s < geom.shards
+  first_there : (s : ℕ) (block : List Call) → 1 ≤ length block → AllByRecursion (λ call. shard_among geom.shards call ≡ s) block →
+      AllByRecursion (CallFits geom.shards) block → s < geom.shards
   first_there s [] h all each = absurd (omega arith)
   first_there s (call ∷ calls) h all each = subst (λ z. z < geom.shards) (sym (shard_same call) ∙ all.0) (shard_there call each.0)
 
   block_of : (block : List Call) → AreOneBlock geom.shards block → IsBlockOf geom block
-  block_of block is = record { is_asked = is.asked; shard = is.shard; there = first_there is.shard block is.asked.some is.one_shard is.fit; one_shard = all_shards is.shard block is.one_shard }
+  block_of block is = record {
+    is_asked = is.asked;
+    shard = is.shard;
+    there = first_there is.shard block is.asked.some is.one_shard is.fit;
+    one_shard = all_shards is.shard block is.one_shard;
+  }
 
-  blocks_of : (blocks : List (List Call)) → AllByRecursion (AreOneBlock geom.shards) blocks → AreBlocks geom (flat_map (λ (block : List Call). block) blocks) (flat_map sizes_of blocks)
+  blocks_of : (blocks : List (List Call)) → AllByRecursion (AreOneBlock geom.shards) blocks →
+      AreBlocks geom (flat_map (λ (block : List Call). block) blocks) (flat_map sizes_of blocks)
   blocks_of [] all = AreBlocks.none
   blocks_of (block ∷ blocks) all =
       subst (λ calls. AreBlocks geom calls (flat_map sizes_of (block ∷ blocks))) (sym (flat_map-cons (λ (b : List Call). b) block blocks))
@@ -57,10 +64,12 @@ module _ (geom : Geom) (fits : GeomFits geom) where
       (AreBlocks.more block (flat_map (λ (b : List Call). b) blocks) (flat_map sizes_of blocks) (block_of block all.0) (blocks_of blocks all.1)))
 
   rank_blocks : (calls : List Call) (sizes : List ℕ) → ops.AreBlocks geom.shards calls sizes → AreBlocks geom calls sizes
-  rank_blocks calls sizes are = subst (λ z. AreBlocks geom z sizes) (sym are.calls_are) (subst (AreBlocks geom (flat_map (λ (block : List Call). block) are.blocks)) (sym are.sizes_are) (blocks_of are.blocks are.fit))
+  rank_blocks calls sizes are = subst (λ z. AreBlocks geom z sizes) (sym are.calls_are)
+      (subst (AreBlocks geom (flat_map (λ (block : List Call). block) are.blocks)) (sym are.sizes_are) (blocks_of are.blocks are.fit))
 
   -- each rank's calls are blocks
-  pub each_blocks : (lists : List (List Call)) (sizes : List (List ℕ)) → EachOfBlocks geom.shards lists sizes → (k : ℕ) → AreBlocks geom (get_or lists k []) (get_or sizes k [])
+  pub each_blocks : (lists : List (List Call)) (sizes : List (List ℕ)) → EachOfBlocks geom.shards lists sizes → (k : ℕ) →
+      AreBlocks geom (get_or lists k []) (get_or sizes k [])
   each_blocks [] [] each k = AreBlocks.none
   each_blocks [] (s ∷ sizes) each k = absurd each
   each_blocks (c ∷ lists) [] each k = absurd each

@@ -32,7 +32,8 @@ pub shut_owes : (d : Desk) → (d.owes ≡ true → d.is_open ≡ true) → d.is
 shut_owes d owing shut = not_owed d.owes d.is_open owing shut
 
 -- the entries of a block that ended are the calls that were asked for next
-asked_entries : (geom : Geom) (rank : ℕ) (asked : List Asked) (s batch part n : ℕ) (es : List Entry) (block : List Call) → calls_of es ≡ block → Tells s rank batch n part es → AsksNext batch part asked n block →
+asked_entries : (geom : Geom) (rank : ℕ) (asked : List Asked) (s batch part n : ℕ) (es : List Entry) (block : List Call) →
+    calls_of es ≡ block → Tells s rank batch n part es → AsksNext batch part asked n block →
     All (λ call. shard_of geom call ≡ s) block → n + length es ≤ 2 ^ 32 → AreAsked geom rank asked s n es
 asked_entries geom rank asked s batch part n [] block same tells next on few = tt
 asked_entries geom rank asked s batch part n (e ∷ es) [] same tells next on few = absurd (cc)
@@ -43,7 +44,8 @@ asked_entries geom rank asked s batch part n (e ∷ es) (c ∷ cs) same tells ne
       (
         tells.0.3,
         record { shard_is = tells.0.0; rank_is = tells.0.1; small = subst (λ z. z < 2 ^ 32) (sym tells.0.3) low },
-        next.0 ∙ ap (λ z. Some (record { call = z; batch = batch; part = part })) (sym call) ∙ ap (λ z. Some (record { call = e.call; batch = z; part = part })) (sym tells.0.2)
+        next.0 ∙ ap (λ z. Some (record { call = z; batch = batch; part = part })) (sym call)
+            ∙ ap (λ z. Some (record { call = e.call; batch = z; part = part })) (sym tells.0.2)
             ∙ ap (λ z. Some (record { call = e.call; batch = e.batch; part = z })) (sym tells.0.4),
         ap (shard_of geom) call ∙ All-first s c cs on,
       ),
@@ -80,7 +82,8 @@ none_in (t ∷ ts) none = let a = ap length (none 0 t refl) in let b = none_in t
 module _ (geom : Geom) (calls : List Call) (sizes : List ℕ) (k : ℕ) where
   -- ---- the beginning
 
-  pub rank_begins : (desks : List Desk) → AreBlocks geom calls sizes → ((s : ℕ) (d : Desk) → slice_get desks s ≡ Some d → IsFreshDesk geom calls s d) → RankGood geom calls sizes 0 desks k
+  pub rank_begins : (desks : List Desk) → AreBlocks geom calls sizes →
+      ((s : ℕ) (d : Desk) → slice_get desks s ≡ Some d → IsFreshDesk geom calls s d) → RankGood geom calls sizes 0 desks k
   rank_begins desks blocks fresh =
       let none : (s : ℕ) (t : List Entry) → slice_get (map desk_entries desks) s ≡ Some t → t ≡ [] =
       λ s t e. let q = get_map_back desk_entries desks s t e in sym q.2 ∙ (fresh s q.0 q.1).nothing in
@@ -109,9 +112,11 @@ module _ (geom : Geom) (calls : List Call) (sizes : List ℕ) (k : ℕ) where
   -- ---- where one desk changes
 
   -- the entries on all shards stay where its own do
-  entries_stay : (desks : List Desk) (s : ℕ) (d e : Desk) → slice_get desks s ≡ Some d → e.kept ≡ d.kept → map desk_entries (slice_set desks s e) ≡ map desk_entries desks
+  entries_stay : (desks : List Desk) (s : ℕ) (d e : Desk) → slice_get desks s ≡ Some d → e.kept ≡ d.kept →
+      map desk_entries (slice_set desks s e) ≡ map desk_entries desks
   entries_stay desks s d e has same =
-      map_set desk_entries desks s e ∙ ap (λ (z : TheTranscript). slice_set (map desk_entries desks) s z.items) same ∙ set_same_get (map desk_entries desks) s d.kept.items (get_map desk_entries desks s d has)
+      map_set desk_entries desks s e ∙ ap (λ (z : TheTranscript). slice_set (map desk_entries desks) s z.items) same ∙ set_same_get
+      (map desk_entries desks) s d.kept.items (get_map desk_entries desks s d has)
 
   -- what holds of it, and of the others, holds of all
   on_all : (done opened : ℕ) (desks : List Desk) (s : ℕ) (e : Desk) → IsOn geom calls (asked_of calls sizes) done opened s e →
@@ -119,7 +124,8 @@ module _ (geom : Geom) (calls : List Call) (sizes : List ℕ) (k : ℕ) where
       (i : ℕ) (u : Desk) → slice_get (slice_set desks s e) i ≡ Some u → IsOn geom calls (asked_of calls sizes) done opened i u
   on_all done opened desks s e here away i u get =
       ⊎_elim
-      (λ q. subst (λ z. IsOn geom calls (asked_of calls sizes) done opened z u) (sym q.0) (subst (IsOn geom calls (asked_of calls sizes) done opened s) (sym q.1) here))
+      (λ q. subst (λ z. IsOn geom calls (asked_of calls sizes) done opened z u) (sym q.0)
+      (subst (IsOn geom calls (asked_of calls sizes) done opened s) (sym q.1) here))
       (λ q. away i u q.0 q.1)
       (get_set_cases desks s i e u get)
 
@@ -139,7 +145,8 @@ module _ (geom : Geom) (calls : List Call) (sizes : List ℕ) (k : ℕ) where
       pub all_done : (d : Desk) → slice_get desks (place_after geom calls n) ≡ Some d → g.done ≡ n
       all_done d has = let o = g.on (place_after geom calls n) d has in o.resting refl (shut_owes d o.owing (closed d has))
 
-    module _ (b : NextBlock geom (drop n calls) (drop n sizes)) (done : g.done ≡ n) (closed : (d : Desk) → slice_get desks (place_after geom calls n) ≡ Some d → d.is_open ≡ false) where
+    module _ (b : NextBlock geom (drop n calls) (drop n sizes)) (done : g.done ≡ n)
+        (closed : (d : Desk) → slice_get desks (place_after geom calls n) ≡ Some d → d.is_open ≡ false) where
       -- the block fits: it is asked rightly, its numbers are new, and there is room
       pub block_fits : (site : Site) (d : Desk) → slice_get desks b.is_block.shard ≡ Some d → site.geom ≡ geom → site.shard ≡ b.is_block.shard →
           count_by (is_update_on geom b.is_block.shard) calls ≤ slice_index site.rooms k → length calls ≤ 2 ^ 32 → IsOpen site k b.block n d.kept
@@ -152,16 +159,21 @@ module _ (geom : Geom) (calls : List Call) (sizes : List ℕ) (k : ℕ) where
           let in_all : n + length b.block ≤ length calls = inside geom calls sizes n b in
           record {
             is_block = b.is_block.is_asked;
-            of_shard = subst (λ z. All (λ c. shard_of z c ≡ site.shard) b.block) (sym geom_is) (subst (λ z. All (λ c. shard_of geom c ≡ z) b.block) (sym shard_is) b.is_block.one_shard);
+            of_shard = subst (λ z. All (λ c. shard_of z c ≡ site.shard) b.block) (sym geom_is)
+                (subst (λ z. All (λ c. shard_of geom c ≡ z) b.block) (sym shard_is) b.is_block.one_shard);
             fresh = subst (λ z. All (λ e. e.seq < z) d.kept.items) done
-                (All-weaker (IsEntryOf geom k (asked_of calls sizes) g.done s) (λ e. e.seq < g.done) (λ e is. is.low) d.kept.items (g.order.each s d.kept.items kept));
+                (All-weaker (IsEntryOf geom k (asked_of calls sizes) g.done s) (λ e. e.seq < g.done) (λ e is. is.low) d.kept.items
+                (g.order.each s d.kept.items kept));
             small = omega arith;
-            room = let r = room_for geom s n calls b.block there b.is_block.one_shard in omega (arith, r, o.room, ap length mine, length-map d.kept.items (λ (e : Entry). e.call));
-            place = let r = updates_room geom s n calls b.block b.is_block.is_asked there b.is_block.one_shard in omega (arith, r, room, updates_of d.kept.items, ap (count_by is_update) mine);
+            room = let r = room_for geom s n calls b.block there b.is_block.one_shard in
+                omega (arith, r, o.room, ap length mine, length-map d.kept.items (λ (e : Entry). e.call));
+            place = let r = updates_room geom s n calls b.block b.is_block.is_asked there b.is_block.one_shard in
+                omega (arith, r, room, updates_of d.kept.items, ap (count_by is_update) mine);
           }
 
       -- and once it is open the rank is in it
-      pub rank_opens : (d e : Desk) → slice_get desks b.is_block.shard ≡ Some d → OpensBlock b.block n d e → RankGood geom calls sizes (n + length b.block) (slice_set desks b.is_block.shard e) k
+      pub rank_opens : (d e : Desk) → slice_get desks b.is_block.shard ≡ Some d → OpensBlock b.block n d e →
+          RankGood geom calls sizes (n + length b.block) (slice_set desks b.is_block.shard e) k
       rank_opens d e has opens =
           let s : ℕ = b.is_block.shard in
           let place : place_after geom calls (n + length b.block) ≡ s = stands_at geom calls sizes n b in
@@ -206,7 +218,8 @@ module _ (geom : Geom) (calls : List Call) (sizes : List ℕ) (k : ℕ) where
 
   -- ---- an atom, of whichever rank, turns the rank's desk on some shard
 
-  module _ (n : ℕ) (desks : List Desk) (g : RankGood geom calls sizes n desks k) (s : ℕ) (d e : Desk) (has : slice_get desks s ≡ Some d) (is : IsDesk e) (opens_none : d.is_open ≡ false → e.is_open ≡ false) where
+  module _ (n : ℕ) (desks : List Desk) (g : RankGood geom calls sizes n desks k) (s : ℕ) (d e : Desk) (has : slice_get desks s ≡ Some d)
+      (is : IsDesk e) (opens_none : d.is_open ≡ false → e.is_open ≡ false) where
     keeps_block : KeepsBlock d e → RankGood geom calls sizes n (slice_set desks s e) k
     keeps_block w =
         let o : IsOn geom calls (asked_of calls sizes) g.done n s d = g.on s d has in
@@ -247,22 +260,31 @@ module _ (geom : Geom) (calls : List Call) (sizes : List ℕ) (k : ℕ) where
         let many : length w.entries ≡ length d.calls = sym (length-map w.entries (λ (z : Entry). z.call)) ∙ ap length w.calls_are in
         let last : g.done + length w.entries ≡ n = ap (λ m. g.done + m) many ∙ at.ends in
         let kept : slice_get (map desk_entries desks) s ≡ Some d.kept.items = get_map desk_entries desks s d has in
-        let lists : map desk_entries (slice_set desks s e) ≡ slice_set (map desk_entries desks) s (d.kept.items ++ w.entries) = map_set desk_entries desks s e ∙ ap (slice_set (map desk_entries desks) s) w.items in
+        let lists : map desk_entries (slice_set desks s e) ≡ slice_set (map desk_entries desks) s (d.kept.items ++ w.entries) =
+        map_set desk_entries desks s e ∙ ap (slice_set (map desk_entries desks) s) w.items in
         let tells = subst (λ m. Tells s k (batch_number (length d.calls)) m 0 w.entries) at.seq_is w.tells in
         let low = g.low in
-        let asked : AreAsked geom k (asked_of calls sizes) s g.done w.entries = asked_entries geom k (asked_of calls sizes) s (batch_number (length d.calls)) 0 g.done w.entries d.calls w.calls_are tells at.next at.one_shard (omega arith) in
-        let ordered : IsRankInOrder geom k (asked_of calls sizes) (g.done + length w.entries) (slice_set (map desk_entries desks) s (d.kept.items ++ w.entries)) =
-        block_more geom k (asked_of calls sizes) s w.entries g.done (map desk_entries desks) d.kept.items g.order kept asked (subst IsInOrder w.items is.in_order) in
-        let more : take n calls ≡ take g.done calls ++ d.calls = ap (λ m. take m calls) (sym at.ends) ∙ take_more g.done (length d.calls) calls ∙ ap (λ z. take g.done calls ++ z) at.calls_are in
+        let asked : AreAsked geom k (asked_of calls sizes) s g.done w.entries =
+        asked_entries geom k (asked_of calls sizes) s (batch_number (length d.calls)) 0 g.done w.entries d.calls w.calls_are tells
+        at.next at.one_shard (omega arith) in
+        let ordered : IsRankInOrder geom k (asked_of calls sizes) (g.done + length w.entries)
+        (slice_set (map desk_entries desks) s (d.kept.items ++ w.entries)) =
+        block_more geom k (asked_of calls sizes) s w.entries g.done (map desk_entries desks) d.kept.items g.order kept asked
+        (subst IsInOrder w.items is.in_order) in
+        let more : take n calls ≡ take g.done calls ++ d.calls = ap (λ m. take m calls) (sym at.ends)
+        ∙ take_more g.done (length d.calls) calls ∙ ap (λ z. take g.done calls ++ z) at.calls_are in
         record {
           done = n;
           low = g.low;
           rest = g.rest;
           total = ap entries_in lists ∙ entries_more (map desk_entries desks) s d.kept.items w.entries kept ∙ ap (λ m. m + length w.entries) g.total ∙ last;
-          order = subst (λ m. IsRankInOrder geom k (asked_of calls sizes) m (map desk_entries (slice_set desks s e))) last (subst (IsRankInOrder geom k (asked_of calls sizes) (g.done + length w.entries)) (sym lists) ordered);
+          order = subst (λ m. IsRankInOrder geom k (asked_of calls sizes) m (map desk_entries (slice_set desks s e))) last
+              (subst (IsRankInOrder geom k (asked_of calls sizes) (g.done + length w.entries)) (sym lists) ordered);
           on = on_all n n desks s e
               (record {
-                calls_are = ap calls_of w.items ∙ map-append (λ (z : Entry). z.call) d.kept.items w.entries ∙ ap (λ z. z ++ calls_of w.entries) o.calls_are ∙ ap (λ z. filter (is_on geom s) (take g.done calls) ++ z) (w.calls_are ∙ sym (all_on geom s d.calls at.one_shard))
+                calls_are = ap calls_of w.items ∙ map-append (λ (z : Entry). z.call) d.kept.items w.entries
+                    ∙ ap (λ z. z ++ calls_of w.entries) o.calls_are
+                    ∙ ap (λ z. filter (is_on geom s) (take g.done calls) ++ z) (w.calls_are ∙ sym (all_on geom s d.calls at.one_shard))
                     ∙ sym (filter-append (is_on geom s) (take g.done calls) d.calls) ∙ ap (filter (is_on geom s)) (sym more);
                 room = subst (λ n. count_by (is_on geom s) calls ≤ n) (sym w.same_room) o.room;
                 elsewhere = λ ne. absurd (ne here);
@@ -274,7 +296,8 @@ module _ (geom : Geom) (calls : List Call) (sizes : List ℕ) (k : ℕ) where
               let away = g.on i u get in
               let shut : u.is_open ≡ false = away.elsewhere (λ q. ne (q ∙ sym here)) in
               record {
-                calls_are = away.calls_are ∙ sym (ap (filter (is_on geom i)) more ∙ filter-append (is_on geom i) (take g.done calls) d.calls ∙ ap (λ z. filter (is_on geom i) (take g.done calls) ++ z) (none_on geom s i d.calls (λ q. ne (sym q)) at.one_shard)
+                calls_are = away.calls_are ∙ sym (ap (filter (is_on geom i)) more ∙ filter-append (is_on geom i) (take g.done calls) d.calls
+                    ∙ ap (λ z. filter (is_on geom i) (take g.done calls) ++ z) (none_on geom s i d.calls (λ q. ne (sym q)) at.one_shard)
                     ∙ append-nil (filter (is_on geom i) (take g.done calls)));
                 room = away.room;
                 elsewhere = away.elsewhere;
@@ -284,5 +307,7 @@ module _ (geom : Geom) (calls : List Call) (sizes : List ℕ) (k : ℕ) where
               });
         }
 
-  pub rank_turns : (n : ℕ) (desks : List Desk) (s : ℕ) (d e : Desk) → RankGood geom calls sizes n desks k → slice_get desks s ≡ Some d → Turns s k d e → IsDesk e → length calls ≤ 2 ^ 32 → RankGood geom calls sizes n (slice_set desks s e) k
-  rank_turns n desks s d e g has turns is few = ⊎_elim (keeps_block n desks g s d e has is turns.opens_none) (ends_block n desks g s d e has is turns.opens_none few) turns.way
+  pub rank_turns : (n : ℕ) (desks : List Desk) (s : ℕ) (d e : Desk) → RankGood geom calls sizes n desks k → slice_get desks s ≡ Some d →
+      Turns s k d e → IsDesk e → length calls ≤ 2 ^ 32 → RankGood geom calls sizes n (slice_set desks s e) k
+  rank_turns n desks s d e g has turns is few = ⊎_elim (keeps_block n desks g s d e has is turns.opens_none)
+      (ends_block n desks g s d e has is turns.opens_none few) turns.way

@@ -25,7 +25,8 @@ take_past (suc n) [] i v h = refl
 take_past (suc n) (x ∷ xs) zero v h = absurd (omega arith)
 take_past (suc n) (x ∷ xs) (suc i) v h = ap (λ z. x ∷ z) (take_past n xs i v (omega arith))
 
-pub only_writers : (base r : ℕ) (at : Atom) (st : Standing) (calls : List Call) (es : List Event) (ws : List ℕ) → IsGuarded base r at st calls es → ChangesGuarded base r at st es ws
+pub only_writers : (base r : ℕ) (at : Atom) (st : Standing) (calls : List Call) (es : List Event) (ws : List ℕ) →
+    IsGuarded base r at st calls es → ChangesGuarded base r at st es ws
 only_writers base r (atom.Load w) st calls es ws g = inl refl
 only_writers base r (atom.Store w v) st calls es ws g =
     elim (nat_lt w base) as (λ b. nat_lt w base ≡ b → ChangesGuarded base r (atom.Store w v) st es ws) [
@@ -42,7 +43,8 @@ only_writers base r (atom.CardStore w v) st calls es ws g = inl (take_past base 
 only_writers base r (atom.Leave n) st calls es ws g = inl refl
 
 -- who names a guarded word holds the lock, or has a get alone open
-holds_there : (base r k : ℕ) (at : Atom) (st : Standing) (calls : List Call) (es : List Event) → IsGuarded base r at st calls es → NamesWord at k → k < base → IsHolder st ⊎ IsGetAlone calls
+holds_there : (base r k : ℕ) (at : Atom) (st : Standing) (calls : List Call) (es : List Event) → IsGuarded base r at st calls es →
+    NamesWord at k → k < base → IsHolder st ⊎ IsGetAlone calls
 holds_there base r k (atom.Load w) st calls es g n low = ⊎_elim (λ q. inl q.0) (λ q. inr q.1) (g.0 (omega arith))
 holds_there base r k (atom.Store w v) st calls es g n low = let q = g.0 (omega arith) in inl (subst IsHolder (sym q.0) tt)
 holds_there base r k (atom.LocalCas w old new) st calls es g n low = absurd (let past = g.0 in omega arith)
@@ -60,14 +62,16 @@ beside sts i j Reader a p q h = absurd (a.none i j p q)
 beside sts i j Leaving a p q h = absurd h
 
 module _ {V : Type 0} (S : CoreSays V) (laws : ShardCoreLaws S) where
-  pub alone_there : (m : Moment V) (i j w n k : ℕ) (v u : V) (b : Atom) → IsNext S m i v (atom.Store w n) → w < lock_base S.table.site → IsNext S m j u b → NamesWord b k → k < lock_base S.table.site →
+  pub alone_there : (m : Moment V) (i j w n k : ℕ) (v u : V) (b : Atom) → IsNext S m i v (atom.Store w n) → w < lock_base S.table.site →
+      IsNext S m j u b → NamesWord b k → k < lock_base S.table.site →
       (i ≡ j) ⊎ IsGetAlone (S.table.own u).calls
   alone_there m i j w n k v u b first under second names low =
       let T = S.table in
       let stores : StoresGuarded i (T.standing v) (turned_by T m.held v (atom.Store w n)).events = (laws.guards m i v (atom.Store w n) first).0 under in
       ⊎_elim
       (λ holds.
-      inl (beside (map T.standing m.views) i j (T.standing u) (laws.alone_in m first.seated.is_good) (get_map T.standing m.views i v first.seated.has ∙ ap (λ z. Some z) stores.0)
+      inl (beside (map T.standing m.views) i j (T.standing u) (laws.alone_in m first.seated.is_good)
+      (get_map T.standing m.views i v first.seated.has ∙ ap (λ z. Some z) stores.0)
       (get_map T.standing m.views j u second.seated.has) holds))
       (λ alone. inr alone)
       (holds_there (lock_base T.site) j k b (T.standing u) (T.own u).calls _ (laws.guards m j u b second) names low)

@@ -20,7 +20,8 @@ pub record IsBusy {V : Type 0} (standing : V → Standing) (vs : List V) (r : �
   pub has : slice_get vs r ≡ Some view
   pub busy : standing view ≡ Out → ⊥
 
-pub all_out_or_not : {V : Type 0} (standing : V → Standing) (vs : List V) → ((r : ℕ) (v : V) → slice_get vs r ≡ Some v → standing v ≡ Out) ⊎ ((r : ℕ) × IsBusy standing vs r)
+pub all_out_or_not : {V : Type 0} (standing : V → Standing) (vs : List V) →
+    ((r : ℕ) (v : V) → slice_get vs r ≡ Some v → standing v ≡ Out) ⊎ ((r : ℕ) × IsBusy standing vs r)
 all_out_or_not standing [] = inl (λ r v h. cc)
 all_out_or_not standing (x ∷ xs) =
     ⊎_elim
@@ -30,11 +31,13 @@ all_out_or_not standing (x ∷ xs) =
     (all_out_or_not standing xs))
     (λ not. inr (0, record { view = x; has = refl; busy = not }))
     (out_or_not (standing x)) where
-      all_of : standing x ≡ Out → ((r : ℕ) (v : _) → slice_get xs r ≡ Some v → standing v ≡ Out) → (r : ℕ) (v : _) → slice_get (x ∷ xs) r ≡ Some v → standing v ≡ Out
+      all_of : standing x ≡ Out → ((r : ℕ) (v : _) → slice_get xs r ≡ Some v → standing v ≡ Out) → (r : ℕ) (v : _) →
+          slice_get (x ∷ xs) r ≡ Some v → standing v ≡ Out
       all_of out rest zero v h = ap standing (sym (same_Some _ _ h)) ∙ out
       all_of out rest (suc r) v h = rest r v h
 
-pub ends_for : {V : Type 0} (T : LockTable V) (left : List ℕ → List V → ℕ) (good narrow : LockState V → Type 0) (most : ℕ) → ((s : LockState V) → narrow s → good s) → LockEnds T left good most → LockEnds T left narrow most
+pub ends_for : {V : Type 0} (T : LockTable V) (left : List ℕ → List V → ℕ) (good narrow : LockState V → Type 0) (most : ℕ) →
+    ((s : LockState V) → narrow s → good s) → LockEnds T left good most → LockEnds T left narrow most
 ends_for T left good narrow most wide e =
     record {
       somebody = λ s g. e.somebody s (wide s g);

@@ -22,16 +22,19 @@ more w a b n m k le small =
     omega arith
 
 module _ {X : Type 0} (change : ℕ) (far : X → ℕ) where
-  pub nearer : (near near' : X → ℕ) → ((x : X) → near' x ≤ change) → (vs : List X) (r : ℕ) (v u : X) → slice_get vs r ≡ Some v → far u < far v → two_sums change far near' (slice_set vs r u) < two_sums change far near vs
+  pub nearer : (near near' : X → ℕ) → ((x : X) → near' x ≤ change) → (vs : List X) (r : ℕ) (v u : X) → slice_get vs r ≡ Some v →
+      far u < far v → two_sums change far near' (slice_set vs r u) < two_sums change far near vs
   nearer near near' bound vs r v u has lt =
       let len : length (slice_set vs r u) ≡ length vs = length-set vs r u in
       let sum : sum_by far (slice_set vs r u) < sum_by far vs = sum_falls far vs r v u has lt in
-      let few : sum_by near' (slice_set vs r u) ≤ change * length vs = subst (λ n. sum_by near' (slice_set vs r u) ≤ change * n) len (sum_few change near' bound (slice_set vs r u)) in
+      let few : sum_by near' (slice_set vs r u) ≤ change * length vs =
+      subst (λ n. sum_by near' (slice_set vs r u) ≤ change * n) len (sum_few change near' bound (slice_set vs r u)) in
       let less : sum_by near' (slice_set vs r u) < 1 + change * length vs = omega arith in
       subst (λ n. (1 + change * n) * sum_by far (slice_set vs r u) + sum_by near' (slice_set vs r u) < two_sums change far near vs) (sym len)
       (pays (1 + change * length vs) (sum_by far (slice_set vs r u)) (sum_by far vs) (sum_by near' (slice_set vs r u)) (sum_by near vs) sum less)
 
-  pub less_change : (near : X → ℕ) (vs : List X) (r : ℕ) (v u : X) → slice_get vs r ≡ Some v → far u ≡ far v → near u < near v → two_sums change far near (slice_set vs r u) < two_sums change far near vs
+  pub less_change : (near : X → ℕ) (vs : List X) (r : ℕ) (v u : X) → slice_get vs r ≡ Some v → far u ≡ far v → near u < near v →
+      two_sums change far near (slice_set vs r u) < two_sums change far near vs
   less_change near vs r v u has e lt =
       let len : length (slice_set vs r u) ≡ length vs = length-set vs r u in
       let sum = sum_turned far vs r v u has in
@@ -41,12 +44,15 @@ module _ {X : Type 0} (change : ℕ) (far : X → ℕ) where
       (same_far (1 + change * length vs) (sum_by far (slice_set vs r u)) (sum_by far vs) (sum_by near (slice_set vs r u)) (sum_by near vs) same fall)
 
   -- a rank that is farther, by so much at most, and has no change
-  pub grows : (near : X → ℕ) (vs : List X) (n r k : ℕ) (v u : X) → length vs ≡ n → slice_get vs r ≡ Some v → far u ≤ k → near u ≤ 0 → two_sums change far near (slice_set vs r u) ≤ two_sums change far near vs + k * (1 + change * n)
+  pub grows : (near : X → ℕ) (vs : List X) (n r k : ℕ) (v u : X) → length vs ≡ n → slice_get vs r ≡ Some v → far u ≤ k → near u ≤ 0 →
+      two_sums change far near (slice_set vs r u) ≤ two_sums change far near vs + k * (1 + change * n)
   grows near vs n r k v u long has small none =
       let len : length (slice_set vs r u) ≡ length vs = length-set vs r u in
       let a : sum_by far (slice_set vs r u) ≤ sum_by far vs + k = sum_grows far vs r k v u has small in
       let c : sum_by near (slice_set vs r u) ≤ sum_by near vs + 0 = sum_grows near vs r 0 v u has none in
       let c' : sum_by near (slice_set vs r u) ≤ sum_by near vs = omega arith in
-      subst (λ m. (1 + change * m) * sum_by far (slice_set vs r u) + sum_by near (slice_set vs r u) ≤ two_sums change far near vs + k * (1 + change * n)) (sym len)
-      (subst (λ m. (1 + change * length vs) * sum_by far (slice_set vs r u) + sum_by near (slice_set vs r u) ≤ two_sums change far near vs + k * (1 + change * m)) long
+      subst (λ m. (1 + change * m) * sum_by far (slice_set vs r u) + sum_by near (slice_set vs r u) ≤ two_sums change far near vs + k *
+      (1 + change * n)) (sym len)
+      (subst (λ m. (1 + change * length vs) * sum_by far (slice_set vs r u) + sum_by near
+      (slice_set vs r u) ≤ two_sums change far near vs + k * (1 + change * m)) long
       (more (1 + change * length vs) (sum_by far (slice_set vs r u)) (sum_by far vs) (sum_by near (slice_set vs r u)) (sum_by near vs) k a c'))

@@ -34,7 +34,8 @@ module _ (geom : Geom) (t : Table) where
 
   put_alone : (key value : ℕ) (o : Option ℕ) → Alone (after_put geom t key value o)
   put_alone key value None =
-      elim (has_no_room geom t key) as (λ b. Alone (cond {A = Table × Reply} b (t, Full) (finite.insert t key value, New))) [ true ↦ (refl, λ h. refl) | false ↦ (refl, λ h. absurd (cc)) ]
+      elim (has_no_room geom t key) as (λ b. Alone (cond {A = Table × Reply} b (t, Full) (finite.insert t key value, New)))
+      [ true ↦ (refl, λ h. refl) | false ↦ (refl, λ h. absurd (cc)) ]
   put_alone key value (Some was) = (refl, λ h. absurd (cc))
 
   get_alone : (o : Option ℕ) → Alone (after_get t o)
@@ -48,12 +49,14 @@ module _ (geom : Geom) (t : Table) where
   add_alone : (key by : ℕ) (o : Option ℕ) → Alone (after_add t key by o)
   add_alone key by None = (refl, λ h. refl)
   add_alone key by (Some was) =
-      elim (nat_lt (was + by) (2 ^ 64)) as (λ b. Alone (cond {A = Table × Reply} b (finite.insert t key (was + by), Sum (was + by)) (t, Over was))) [ true ↦ (refl, λ h. absurd (cc)) | false ↦ (refl, λ h. refl) ]
+      elim (nat_lt (was + by) (2 ^ 64)) as (λ b. Alone (cond {A = Table × Reply} b (finite.insert t key (was + by), Sum (was + by))
+      (t, Over was))) [ true ↦ (refl, λ h. absurd (cc)) | false ↦ (refl, λ h. refl) ]
 
   cas_alone : (key old new : ℕ) (o : Option ℕ) → Alone (after_cas t key old new o)
   cas_alone key old new None = (refl, λ h. refl)
   cas_alone key old new (Some was) =
-      elim (was == old) as (λ b. Alone (cond {A = Table × Reply} b (finite.insert t key new, Was was) (t, No was))) [ true ↦ (refl, λ h. absurd (cc)) | false ↦ (refl, λ h. refl) ]
+      elim (was == old) as (λ b. Alone (cond {A = Table × Reply} b (finite.insert t key new, Was was) (t, No was)))
+      [ true ↦ (refl, λ h. absurd (cc)) | false ↦ (refl, λ h. refl) ]
 
   call_alone : (c : Call) → Alone (apply geom c t)
   call_alone (Put key value) = put_alone key value (finite.get t key)
@@ -114,7 +117,8 @@ first_there (r ∷ rs) any =
 undone_by_other : (rs : List Reply) → NoneUndone rs → any_stops rs ≡ true → (i : ℕ) → slice_get (only_first rs) i ≡ Some Undone → Other (only_first rs) i
 undone_by_other [] none any i get = absurd (cc)
 undone_by_other (r ∷ rs) none any i get =
-    elim (stops r) as (λ b. stops r ≡ b → slice_get (cond b (r ∷ undone rs) (Undone ∷ only_first rs)) i ≡ Some Undone → Other (cond b (r ∷ undone rs) (Undone ∷ only_first rs)) i) [
+    elim (stops r) as (λ b. stops r ≡ b → slice_get (cond b (r ∷ undone rs) (Undone ∷ only_first rs)) i ≡ Some Undone → Other
+    (cond b (r ∷ undone rs) (Undone ∷ only_first rs)) i) [
       | true ↦ λ hit has. stopped i hit has
       | false ↦ λ no_stop has. later (undone_by_other rs none.1) i (either _ _ any no_stop) has
     ] refl get
@@ -123,7 +127,8 @@ undone_by_other (r ∷ rs) none any i get =
     stopped zero hit has = let is : is_undone r ≡ true = ap is_undone (same_Some _ _ has) in let not : is_undone r ≡ false = none.0 in absurd (cc)
     stopped (suc i) hit has = (0, r, (λ e. cc), refl, hit)
 
-    later : (any_stops rs ≡ true → (i : ℕ) → slice_get (only_first rs) i ≡ Some Undone → Other (only_first rs) i) → (i : ℕ) → any_stops rs ≡ true → slice_get (Undone ∷ only_first rs) i ≡ Some Undone → Other (Undone ∷ only_first rs) i
+    later : (any_stops rs ≡ true → (i : ℕ) → slice_get (only_first rs) i ≡ Some Undone → Other (only_first rs) i) → (i : ℕ) →
+        any_stops rs ≡ true → slice_get (Undone ∷ only_first rs) i ≡ Some Undone → Other (Undone ∷ only_first rs) i
     later on zero more has = let first = first_there rs more in (suc first.0, first.1, (λ e. cc), first.2, first.3)
     later on (suc i) more has = let o = on more i has in (suc o.0, o.1, (λ e. o.2 (omega arith)), o.3, o.4)
 
@@ -131,7 +136,8 @@ undone_by_other (r ∷ rs) none any i get =
 beside_undone : (rs : List Reply) (i : ℕ) (a : Reply) → slice_get (only_first rs) i ≡ Some a → Other (only_first rs) i → a ≡ Undone
 beside_undone [] i a get o = absurd (cc)
 beside_undone (r ∷ rs) i a get o =
-    elim (stops r) as (λ b. slice_get (cond b (r ∷ undone rs) (Undone ∷ only_first rs)) i ≡ Some a → Other (cond b (r ∷ undone rs) (Undone ∷ only_first rs)) i → a ≡ Undone) [
+    elim (stops r) as (λ b. slice_get (cond b (r ∷ undone rs) (Undone ∷ only_first rs)) i ≡ Some a → Other
+    (cond b (r ∷ undone rs) (Undone ∷ only_first rs)) i → a ≡ Undone) [
       | true ↦ λ has other. stopped i other.0 other.1 has other.2 other.3 other.4
       | false ↦ λ has other. later (λ k. beside_undone rs k a) i other.0 other.1 has other.2 other.3 other.4
     ] get o
@@ -141,22 +147,29 @@ beside_undone (r ∷ rs) i a get o =
     stopped zero zero x has ne there hit = absurd (ne refl)
     stopped zero (suc j) x has ne there hit = let is : x ≡ Undone = undone_at rs j x there in let no_stop : stops x ≡ false = ap stops is in absurd (cc)
 
-    later : ((k : ℕ) → slice_get (only_first rs) k ≡ Some a → Other (only_first rs) k → a ≡ Undone) → (i j : ℕ) (x : Reply) → slice_get (Undone ∷ only_first rs) i ≡ Some a → j ≢ i → slice_get (Undone ∷ only_first rs) j ≡ Some x → stops x ≡ true → a ≡ Undone
+    later : ((k : ℕ) → slice_get (only_first rs) k ≡ Some a → Other (only_first rs) k → a ≡ Undone) → (i j : ℕ) (x : Reply) →
+        slice_get (Undone ∷ only_first rs) i ≡ Some a → j ≢ i → slice_get (Undone ∷ only_first rs) j ≡ Some x → stops x ≡ true → a ≡ Undone
     later on zero j x has ne there hit = sym (same_Some _ _ has)
     later on (suc i) zero x has ne there hit = let no_stop : stops x ≡ false = ap stops (sym (same_Some _ _ there)) in absurd (cc)
     later on (suc i) (suc j) x has ne there hit = on i has (j, x, (λ e. ne (ap suc e)), there, hit)
 
 -- the same of the replies of a block, whatever its batch number
-reply_undone : (geom : Geom) (batch : ℕ) (cs : List Call) (t : Table) (i : ℕ) (a : Reply) → (batch ≡ 0 → (j k : ℕ) (x y : Reply) → slice_get (apply_block geom batch cs t).1 j ≡ Some x → slice_get (apply_block geom batch cs t).1 k ≡ Some y → j ≡ k) →
+reply_undone : (geom : Geom) (batch : ℕ) (cs : List Call) (t : Table) (i : ℕ) (a : Reply) →
+    (batch ≡ 0 → (j k : ℕ) (x y : Reply) → slice_get (apply_block geom batch cs t).1 j ≡ Some x →
+    slice_get (apply_block geom batch cs t).1 k ≡ Some y → j ≡ k) →
     slice_get (apply_block geom batch cs t).1 i ≡ Some a → (a ≡ Undone) ↔ Other (apply_block geom batch cs t).1 i
 reply_undone geom zero cs t i a alone get = (
   (λ is. let not : is_undone a ≡ false = none_at _ i a (turn_none geom t cs) get in let yes : is_undone a ≡ true = ap is_undone is in absurd (cc)),
   (λ o. absurd (o.2 (alone refl o.0 i o.1 a o.3 get))),
 )
 reply_undone geom (suc n) cs t i a alone get =
-    elim (any_stops (in_turn geom t cs).1) as (λ b. any_stops (in_turn geom t cs).1 ≡ b → slice_get (cond b (t, only_first (in_turn geom t cs).1) (in_turn geom t cs)).1 i ≡ Some a → (a ≡ Undone) ↔ Other (cond b (t, only_first (in_turn geom t cs).1) (in_turn geom t cs)).1 i) [
-      | true ↦ λ any has.
-          ((λ is. undone_by_other (in_turn geom t cs).1 (turn_none geom t cs) any i (has ∙ ap (λ z. Some z) is)), (λ o. beside_undone (in_turn geom t cs).1 i a has o))
+    elim (any_stops (in_turn geom t cs).1) as (λ b. any_stops (in_turn geom t cs).1 ≡ b → slice_get
+    (cond b (t, only_first (in_turn geom t cs).1) (in_turn geom t cs)).1 i ≡ Some a → (a ≡ Undone) ↔ Other
+    (cond b (t, only_first (in_turn geom t cs).1) (in_turn geom t cs)).1 i) [
+      | true ↦ λ any has. (
+        (λ is. undone_by_other (in_turn geom t cs).1 (turn_none geom t cs) any i (has ∙ ap (λ z. Some z) is)),
+        (λ o. beside_undone (in_turn geom t cs).1 i a has o),
+      )
       | false ↦ λ none has. (
         (λ is. let not : is_undone a ≡ false = none_at _ i a (turn_none geom t cs) has in let yes : is_undone a ≡ true = ap is_undone is in absurd (cc)),
         (λ o. let no_stop : stops o.1 ≡ false = none_stops _ o.0 o.1 none o.3 in let yes : stops o.1 ≡ true = o.4 in absurd (cc)),
@@ -183,10 +196,12 @@ one_place (z ∷ []) (suc j) k x y one a b = absurd (cc)
 one_place (z ∷ w ∷ xs) j k x y one a b = absurd (omega arith)
 
 -- a call of a block is undone exactly where another one stops the batch
-pub undone_where : (geom : Geom) (t : Table) (n : ℕ) (b : List Entry) → IsLegalBlock geom t n b → (i : ℕ) (e : Entry) → slice_get b i ≡ Some e → (e.reply ≡ Undone) ↔ AnotherStops b i
+pub undone_where : (geom : Geom) (t : Table) (n : ℕ) (b : List Entry) → IsLegalBlock geom t n b → (i : ℕ) (e : Entry) →
+    slice_get b i ≡ Some e → (e.reply ≡ Undone) ↔ AnotherStops b i
 undone_where geom t n b l i e get =
     let P : List Reply → Type 0 = λ rs. slice_get rs i ≡ Some e.reply → (e.reply ≡ Undone) ↔ Other rs i in
-    let one : l.batch ≡ 0 → (j k : ℕ) (x y : Reply) → slice_get (apply_block geom l.batch (calls_of b) t).1 j ≡ Some x → slice_get (apply_block geom l.batch (calls_of b) t).1 k ≡ Some y → j ≡ k =
+    let one : l.batch ≡ 0 → (j k : ℕ) (x y : Reply) → slice_get (apply_block geom l.batch (calls_of b) t).1 j ≡ Some x → slice_get
+    (apply_block geom l.batch (calls_of b) t).1 k ≡ Some y → j ≡ k =
     λ alone j k x y. subst (λ rs. slice_get rs j ≡ Some x → slice_get rs k ≡ Some y → j ≡ k) l.answered (one_place b j k x y (l.is.whole ∙ ap size_of alone)) in
     let both : (e.reply ≡ Undone) ↔ Other (replies_of b) i =
     subst P (sym l.answered) (reply_undone geom l.batch (calls_of b) t i e.reply one) (entry_reply b i e get) in (
@@ -202,20 +217,26 @@ turn_stays geom t c any = (call_alone geom t c).1 (first_of any) where
   first_of {a = false} h = h
 
 -- a batch by its number, and a call alone
-block_stays : (geom : Geom) (batch : ℕ) (cs : List Call) (t : Table) → (batch ≡ 0 → length cs ≡ 1) → any_stops (apply_block geom batch cs t).1 ≡ true → (apply_block geom batch cs t).0 ≡ t
+block_stays : (geom : Geom) (batch : ℕ) (cs : List Call) (t : Table) → (batch ≡ 0 → length cs ≡ 1) →
+    any_stops (apply_block geom batch cs t).1 ≡ true → (apply_block geom batch cs t).0 ≡ t
 block_stays geom zero [] t one any = refl
 block_stays geom zero (c ∷ []) t one any = turn_stays geom t c any
 block_stays geom zero (c ∷ d ∷ cs) t one any = absurd (let h = one refl in omega arith)
 block_stays geom (suc n) cs t one any =
-    elim (any_stops (in_turn geom t cs).1) as (λ b. any_stops (in_turn geom t cs).1 ≡ b → any_stops (cond b (t, only_first (in_turn geom t cs).1) (in_turn geom t cs)).1 ≡ true → (cond b (t, only_first (in_turn geom t cs).1) (in_turn geom t cs)).0 ≡ t) [
+    elim (any_stops (in_turn geom t cs).1) as (λ b. any_stops (in_turn geom t cs).1 ≡ b → any_stops
+    (cond b (t, only_first (in_turn geom t cs).1) (in_turn geom t cs)).1 ≡ true →
+    (cond b (t, only_first (in_turn geom t cs).1) (in_turn geom t cs)).0 ≡ t) [
       | true ↦ λ is h. refl
       | false ↦ λ is h. absurd (cc)
     ] refl any
 
-block_turns : (geom : Geom) (batch : ℕ) (cs : List Call) (t : Table) → any_stops (apply_block geom batch cs t).1 ≡ false → apply_block geom batch cs t ≡ in_turn geom t cs
+block_turns : (geom : Geom) (batch : ℕ) (cs : List Call) (t : Table) → any_stops (apply_block geom batch cs t).1 ≡ false →
+    apply_block geom batch cs t ≡ in_turn geom t cs
 block_turns geom zero cs t none = refl
 block_turns geom (suc n) cs t none =
-    elim (any_stops (in_turn geom t cs).1) as (λ b. any_stops (in_turn geom t cs).1 ≡ b → any_stops (cond b (t, only_first (in_turn geom t cs).1) (in_turn geom t cs)).1 ≡ false → cond b (t, only_first (in_turn geom t cs).1) (in_turn geom t cs) ≡ in_turn geom t cs) [
+    elim (any_stops (in_turn geom t cs).1) as (λ b. any_stops (in_turn geom t cs).1 ≡ b → any_stops
+    (cond b (t, only_first (in_turn geom t cs).1) (in_turn geom t cs)).1 ≡ false → cond b (t, only_first (in_turn geom t cs).1)
+    (in_turn geom t cs) ≡ in_turn geom t cs) [
       | true ↦ λ is h.
           let first = first_there (in_turn geom t cs).1 is in
           let no_stop : stops first.1 ≡ false = none_stops (only_first (in_turn geom t cs).1) first.0 first.1 h first.2 in
@@ -235,7 +256,8 @@ stopped_stays geom t n b l any =
     length_map (e ∷ es) = ap suc (length_map es)
 
 -- else its calls were applied one after the other
-pub unstopped_turns : (geom : Geom) (t : Table) (n : ℕ) (b : List Entry) → IsLegalBlock geom t n b → any_stops (replies_of b) ≡ false → (table_after geom t b, replies_of b) ≡ in_turn geom t (calls_of b)
+pub unstopped_turns : (geom : Geom) (t : Table) (n : ℕ) (b : List Entry) → IsLegalBlock geom t n b → any_stops (replies_of b) ≡ false →
+    (table_after geom t b, replies_of b) ≡ in_turn geom t (calls_of b)
 unstopped_turns geom t n b l none =
     ap (λ z. (z, replies_of b)) (block_done geom l.rank l.batch l.seq n t b l.is) ∙ ap (λ z. ((apply_block geom l.batch (calls_of b) t).0, z)) l.answered
     ∙ block_turns geom l.batch (calls_of b) t (ap any_stops (sym l.answered) ∙ none)

@@ -38,7 +38,8 @@ swapped p q (e ∷ es) =
 both : (test p : Entry → Bool) (es : List Entry) → count_by test (filter p es) + count_by test (filter (λ e. not (p e)) es) ≡ count_by test es
 both test p [] = refl
 both test p (e ∷ es) =
-    elim (p e) as (λ a. count_by test (cond a (e ∷ filter p es) (filter p es)) + count_by test (cond (not a) (e ∷ filter (λ f. not (p f)) es) (filter (λ f. not (p f)) es)) ≡ count_by test (e ∷ es)) [
+    elim (p e) as (λ a. count_by test (cond a (e ∷ filter p es) (filter p es)) + count_by test
+    (cond (not a) (e ∷ filter (λ f. not (p f)) es) (filter (λ f. not (p f)) es)) ≡ count_by test (e ∷ es)) [
       | true ↦ omega (arith, count-cons test e (filter p es), count-cons test e es, both test p es)
       | false ↦ omega (arith, count-cons test e (filter (λ f. not (p f)) es), count-cons test e es, both test p es)
     ]
@@ -57,9 +58,11 @@ sum_same f g zero same = refl
 sum_same f g (suc n) same = omega (arith, sum_same f g n (λ k h. same k (omega arith)), same n (omega arith))
 
 -- counted by a number below a bound, entries come to all
-by_number : (f : Entry → ℕ) (n : ℕ) (test : Entry → Bool) (es : List Entry) → All (λ e. f e < n) es → sum_below (λ k. count_by test (filter (λ e. eqb (f e) k) es)) n ≡ count_by test es
+by_number : (f : Entry → ℕ) (n : ℕ) (test : Entry → Bool) (es : List Entry) → All (λ e. f e < n) es →
+    sum_below (λ k. count_by test (filter (λ e. eqb (f e) k) es)) n ≡ count_by test es
 by_number f n test es all =
-    sum_same (λ k. count_by test (filter (λ e. eqb (f e) k) es)) (λ k. count_by (λ e. eqb (f e) k) (filter test es)) n (λ k h. swapped test (λ e. eqb (f e) k) es)
+    sum_same (λ k. count_by test (filter (λ e. eqb (f e) k) es)) (λ k. count_by (λ e. eqb (f e) k) (filter test es)) n
+    (λ k h. swapped test (λ e. eqb (f e) k) es)
     ∙ sum_of_counts f n (filter test es) ∙ all_under f n (filter test es) (All-filter test (λ e. f e < n) es all) ∙ length-filter test es
 
 sum_shift : (f : ℕ → ℕ) (n : ℕ) → sum_below f (suc n) ≡ f 0 + sum_below (λ k. f (suc k)) n
@@ -78,20 +81,25 @@ sum_zero (suc n) = omega (arith, sum_zero n)
 twice : (k : ℕ) (t : List Entry) → filter (looked_at k) t ≡ filter (λ e. eqb e.at k) (filter (λ e. not (updates e)) t)
 twice k [] = refl
 twice k (e ∷ es) =
-    elim (updates e) as (λ b. cond (not b && (e.at == k)) (e ∷ filter (looked_at k) es) (filter (looked_at k) es) ≡ filter (λ f. eqb f.at k) (cond (not b) (e ∷ filter (λ f. not (updates f)) es) (filter (λ f. not (updates f)) es))) [
+    elim (updates e) as (λ b. cond (not b && (e.at == k)) (e ∷ filter (looked_at k) es) (filter (looked_at k) es) ≡ filter (λ f. eqb f.at k)
+    (cond (not b) (e ∷ filter (λ f. not (updates f)) es) (filter (λ f. not (updates f)) es))) [
       | true ↦ twice k es
-      | false ↦ elim (e.at == k) as (λ c. cond c (e ∷ filter (looked_at k) es) (filter (looked_at k) es) ≡ cond c (e ∷ filter (λ f. eqb f.at k) (filter (λ f. not (updates f)) es)) (filter (λ f. eqb f.at k) (filter (λ f. not (updates f)) es))) [
-        | true ↦ ap (λ z. e ∷ z) (twice k es)
-        | false ↦ twice k es
-      ]
+      | false ↦ elim (e.at == k) as (λ c. cond c (e ∷ filter (looked_at k) es) (filter (looked_at k) es) ≡ cond c
+          (e ∷ filter (λ f. eqb f.at k) (filter (λ f. not (updates f)) es)) (filter (λ f. eqb f.at k) (filter (λ f. not (updates f)) es))) [
+            | true ↦ ap (λ z. e ∷ z) (twice k es)
+            | false ↦ twice k es
+          ]
     ]
 
 -- the gets and holds looked at counts up to the journal's end
-low_reads : (geom : Geom) (journal : List Entry) (t : List Entry) → All (IsLegalRead geom journal) t → All (λ e. e.at < length journal + 1) (filter (λ e. not (updates e)) t)
+low_reads : (geom : Geom) (journal : List Entry) (t : List Entry) → All (IsLegalRead geom journal) t →
+    All (λ e. e.at < length journal + 1) (filter (λ e. not (updates e)) t)
 low_reads geom journal [] all = All-nil (λ e. e.at < length journal + 1)
 low_reads geom journal (e ∷ es) all =
-    let rest : All (λ f. f.at < length journal + 1) (filter (λ f. not (updates f)) es) = low_reads geom journal es (All-tail (IsLegalRead geom journal) e es all) in
-    elim (updates e) as (λ b. updates e ≡ b → All (λ f. f.at < length journal + 1) (cond (not b) (e ∷ filter (λ f. not (updates f)) es) (filter (λ f. not (updates f)) es))) [
+    let rest : All (λ f. f.at < length journal + 1) (filter (λ f. not (updates f)) es) =
+    low_reads geom journal es (All-tail (IsLegalRead geom journal) e es all) in
+    elim (updates e) as (λ b. updates e ≡ b → All (λ f. f.at < length journal + 1)
+    (cond (not b) (e ∷ filter (λ f. not (updates f)) es) (filter (λ f. not (updates f)) es))) [
       | true ↦ λ u. rest
       | false ↦ λ u.
           let low : e.at ≤ length journal = (All-head (IsLegalRead geom journal) e es all u).0 in
@@ -110,13 +118,15 @@ module _ (test : Entry → Bool) where
   kept_both (t ∷ ts) = omega (arith, both test updates t, kept_both ts)
 
   -- the updates of all transcripts are those of the journal
-  updates_in : (journal : List Entry) (ts : List (List Entry)) (from : ℕ) → ((k : ℕ) (t : List Entry) → slice_get ts k ≡ Some t → filter updates t ≡ filter (is_of (from + k)) journal) →
+  updates_in : (journal : List Entry) (ts : List (List Entry)) (from : ℕ) →
+      ((k : ℕ) (t : List Entry) → slice_get ts k ≡ Some t → filter updates t ≡ filter (is_of (from + k)) journal) →
       kept_in updates ts ≡ sum_below (λ k. count_by test (filter (is_of (from + k)) journal)) (length ts)
   updates_in journal [] from same = refl
   updates_in journal (t ∷ ts) from same =
       let rest : kept_in updates ts ≡ sum_below (λ k. count_by test (filter (is_of (from + 1 + k)) journal)) (length ts) =
       updates_in journal ts (from + 1) (λ k u get. same (suc k) u get ∙ ap (λ n. filter (is_of n) journal) (omega arith)) in
-      let moved : sum_below (λ k. count_by test (filter (is_of (from + 1 + k)) journal)) (length ts) ≡ sum_below (λ k. count_by test (filter (is_of (from + suc k)) journal)) (length ts) =
+      let moved : sum_below (λ k. count_by test (filter (is_of (from + 1 + k)) journal)) (length ts) ≡ sum_below
+      (λ k. count_by test (filter (is_of (from + suc k)) journal)) (length ts) =
       sum_same _ _ (length ts) (λ k h. ap (λ n. count_by test (filter (is_of n) journal)) (omega arith)) in
       omega (arith, ap (count_by test) (same 0 t refl), rest, moved, sum_shift (λ k. count_by test (filter (is_of (from + k)) journal)) (length ts))
 
@@ -134,22 +144,32 @@ module _ (test : Entry → Bool) where
       omega (arith, reads_within_is (p + 1) n ts, first, moved, sum_shift (λ k. count_by test (reads_at (p + k) ts)) n)
 
   -- at all counts
-  reads_in : (geom : Geom) (journal : List Entry) (ts : List (List Entry)) → ((k : ℕ) (t : List Entry) → slice_get ts k ≡ Some t → All (IsLegalRead geom journal) t) →
+  reads_in : (geom : Geom) (journal : List Entry) (ts : List (List Entry)) →
+      ((k : ℕ) (t : List Entry) → slice_get ts k ≡ Some t → All (IsLegalRead geom journal) t) →
       sum_below (λ k. kept_in (looked_at k) ts) (length journal + 1) ≡ kept_in (λ e. not (updates e)) ts
   reads_in geom journal [] all = sum_zero (length journal + 1)
   reads_in geom journal (t ∷ ts) all =
       let n : ℕ = length journal + 1 in
       let here : sum_below (λ k. count_by test (filter (looked_at k) t)) n ≡ count_by test (filter (λ e. not (updates e)) t) =
-      sum_same _ _ n (λ k h. ap (count_by test) (twice k t)) ∙ by_number (λ e. e.at) n test (filter (λ e. not (updates e)) t) (low_reads geom journal t (all 0 t refl)) in
-      omega (arith, sum_add (λ k. count_by test (filter (looked_at k) t)) (λ k. kept_in (looked_at k) ts) n, here, reads_in geom journal ts (λ k u get. all (suc k) u get))
+      sum_same _ _ n (λ k h. ap (count_by test) (twice k t)) ∙ by_number (λ e. e.at) n test (filter (λ e. not (updates e)) t)
+      (low_reads geom journal t (all 0 t refl)) in
+      omega (
+        arith,
+        sum_add (λ k. count_by test (filter (looked_at k) t)) (λ k. kept_in (looked_at k) ts) n,
+        here,
+        reads_in geom journal ts
+            (λ k u get. all (suc k) u get),
+      )
 
   -- whatever is counted, the history has as much of it as the transcripts
-  pub same_entries : (geom : Geom) (journal : List Entry) (ts : List (List Entry)) → IsLegal geom journal ts → count_by test (history journal ts) ≡ count_in test ts
+  pub same_entries : (geom : Geom) (journal : List Entry) (ts : List (List Entry)) → IsLegal geom journal ts →
+      count_by test (history journal ts) ≡ count_in test ts
   same_entries geom journal ts legal =
       let n : ℕ = length journal + 1 in
       let ups : kept_in updates ts ≡ count_by test journal =
       updates_in journal ts 0 (λ k t get. legal.updates_are k t get ∙ ap (λ m. filter (is_of m) journal) (omega arith))
-      ∙ sum_same (λ k. count_by test (filter (is_of (0 + k)) journal)) (λ k. count_by test (filter (λ e. eqb e.rank k) journal)) (length ts) (λ k h. ap (λ m. count_by test (filter (is_of m) journal)) (omega arith))
+      ∙ sum_same (λ k. count_by test (filter (is_of (0 + k)) journal)) (λ k. count_by test (filter (λ e. eqb e.rank k) journal)) (length ts)
+      (λ k h. ap (λ m. count_by test (filter (is_of m) journal)) (omega arith))
       ∙ by_number (λ e. e.rank) (length ts) test journal legal.ranks_are in
       let at_counts : sum_below (λ k. count_by test (reads_at (0 + k) ts)) n ≡ sum_below (λ k. kept_in (looked_at k) ts) n =
       sum_same _ _ n (λ k h. ap (λ m. count_by test (reads_at m ts)) (omega arith) ∙ reads_at_in k ts) in

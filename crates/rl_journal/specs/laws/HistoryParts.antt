@@ -53,12 +53,15 @@ split k (e ∷ es) order =
     let on : filter (is_from k) es ≡ filter (is_at k) es ++ filter (is_from (k + 1)) es = split k es (λ j a b x y. order (suc j) a b x y) in
     elim (is_from k e) as
     (λ a. is_from k e ≡ a → cond a (e ∷ filter (is_from k) es) (filter (is_from k) es) ≡
-    cond (is_at k e) (e ∷ filter (is_at k) es) (filter (is_at k) es) ++ cond (is_from (k + 1) e) (e ∷ filter (is_from (k + 1)) es) (filter (is_from (k + 1)) es)) [
+    cond (is_at k e) (e ∷ filter (is_at k) es) (filter (is_at k) es) ++ cond (is_from (k + 1) e) (e ∷ filter (is_from (k + 1)) es)
+    (filter (is_from (k + 1)) es)) [
       | true ↦ λ yes. elim (is_at k e) as
-          (λ b. is_at k e ≡ b → e ∷ filter (is_from k) es ≡ cond b (e ∷ filter (is_at k) es) (filter (is_at k) es) ++ cond (is_from (k + 1) e) (e ∷ filter (is_from (k + 1)) es) (filter (is_from (k + 1)) es)) [
+          (λ b. is_at k e ≡ b → e ∷ filter (is_from k) es ≡ cond b (e ∷ filter (is_at k) es) (filter (is_at k) es) ++ cond
+          (is_from (k + 1) e) (e ∷ filter (is_from (k + 1)) es) (filter (is_from (k + 1)) es)) [
             | true ↦ λ here.
                 let not_behind : is_from (k + 1) e ≡ false = grind (arith, nat_tests) in
-                ap (λ z. e ∷ z) on ∙ ap (λ c. e ∷ (filter (is_at k) es ++ cond c (e ∷ filter (is_from (k + 1)) es) (filter (is_from (k + 1)) es))) (sym not_behind)
+                ap (λ z. e ∷ z) on ∙ ap (λ c. e ∷ (filter (is_at k) es ++ cond c (e ∷ filter (is_from (k + 1)) es)
+                (filter (is_from (k + 1)) es))) (sym not_behind)
             | false ↦ λ elsewhere.
                 let behind : is_from (k + 1) e ≡ true = grind (arith, nat_tests) in
                 let none : filter (is_at k) es ≡ [] = filter_none (is_at k) es (λ i f has. let up = above e es order i f has in grind (arith, nat_tests)) in
@@ -70,7 +73,8 @@ split k (e ∷ es) order =
           let not_here : is_at k e ≡ false = grind (arith, nat_tests) in
           let not_behind : is_from (k + 1) e ≡ false = grind (arith, nat_tests) in
           on ∙ ap (λ c. cond c (e ∷ filter (is_at k) es) (filter (is_at k) es) ++ filter (is_from (k + 1)) es) (sym not_here)
-          ∙ ap (λ c. cond (is_at k e) (e ∷ filter (is_at k) es) (filter (is_at k) es) ++ cond c (e ∷ filter (is_from (k + 1)) es) (filter (is_from (k + 1)) es)) (sym not_behind)
+          ∙ ap (λ c. cond (is_at k e) (e ∷ filter (is_at k) es) (filter (is_at k) es) ++ cond c (e ∷ filter (is_from (k + 1)) es)
+          (filter (is_from (k + 1)) es)) (sym not_behind)
     ] refl
 
 -- ---- filters
@@ -104,14 +108,16 @@ looks : (n : ℕ) (e : Entry) → looked_at n e ≡ is_at (n + n) e
 looks n e =
     elim (updates e) as (λ b. (not b && (e.at == n)) ≡ (e.at + e.at + bit b == n + n)) [
       | true ↦ grind (arith, nat_tests)
-      | false ↦ elim (e.at == n) as (λ c. (e.at == n) ≡ c → c ≡ (e.at + e.at + 0 == n + n)) [ true ↦ λ h. grind (arith, nat_tests) | false ↦ λ h. grind (arith, nat_tests) ] refl
+      | false ↦ elim (e.at == n) as (λ c. (e.at == n) ≡ c → c ≡ (e.at + e.at + 0 == n + n))
+          [ true ↦ λ h. grind (arith, nat_tests) | false ↦ λ h. grind (arith, nat_tests) ] refl
     ]
 
 -- and the updates at a place those that stand at the next
 stores : (n : ℕ) (e : Entry) → (updates e && (e.at == n)) ≡ is_at (n + n + 1) e
 stores n e =
     elim (updates e) as (λ b. (b && (e.at == n)) ≡ (e.at + e.at + bit b == n + n + 1)) [
-      | true ↦ elim (e.at == n) as (λ c. (e.at == n) ≡ c → c ≡ (e.at + e.at + 1 == n + n + 1)) [ true ↦ λ h. grind (arith, nat_tests) | false ↦ λ h. grind (arith, nat_tests) ] refl
+      | true ↦ elim (e.at == n) as (λ c. (e.at == n) ≡ c → c ≡ (e.at + e.at + 1 == n + n + 1))
+          [ true ↦ λ h. grind (arith, nat_tests) | false ↦ λ h. grind (arith, nat_tests) ] refl
       | false ↦ grind (arith, nat_tests)
     ]
 
@@ -122,7 +128,8 @@ at_some P (x ∷ es) each (suc i) e has = at_some P es each.1 i e has
 
 each_filter : (P : Entry → Type 0) (p : Entry → Bool) (es : List Entry) → AllByRecursion P es → AllByRecursion P (filter p es)
 each_filter P p [] each = tt
-each_filter P p (e ∷ es) each = elim (p e) as (λ b. AllByRecursion P (cond b (e ∷ filter p es) (filter p es))) [ true ↦ (each.0, each_filter P p es each.1) | false ↦ each_filter P p es each.1 ]
+each_filter P p (e ∷ es) each = elim (p e) as (λ b. AllByRecursion P (cond b (e ∷ filter p es) (filter p es)))
+    [ true ↦ (each.0, each_filter P p es each.1) | false ↦ each_filter P p es each.1 ]
 
 -- ---- the updates
 
@@ -130,7 +137,8 @@ no_updates : (p : ℕ) (ts : List (List Entry)) → filter updates (reads_at p t
 no_updates p [] = refl
 no_updates p (t ∷ ts) =
     filter-append updates (filter (looked_at p) t) (reads_at p ts)
-    ∙ ap (λ z. z ++ filter updates (reads_at p ts)) (both updates (looked_at p) t ∙ filter_none (λ e. looked_at p e && updates e) t (λ i e has. never (updates e) (e.at == p)))
+    ∙ ap (λ z. z ++ filter updates (reads_at p ts)) (both updates (looked_at p) t ∙ filter_none (λ e. looked_at p e && updates e) t
+    (λ i e has. never (updates e) (e.at == p)))
     ∙ no_updates p ts
   where
     never : (a b : Bool) → ((not a && b) && a) ≡ false
@@ -138,7 +146,8 @@ no_updates p (t ∷ ts) =
     never false true = refl
     never false false = refl
 
-updates_from : (ts : List (List Entry)) (p : ℕ) (es : List Entry) → ((i : ℕ) (e : Entry) → slice_get es i ≡ Some e → updates e ≡ true) → filter updates (history_from ts p es) ≡ es
+updates_from : (ts : List (List Entry)) (p : ℕ) (es : List Entry) → ((i : ℕ) (e : Entry) → slice_get es i ≡ Some e → updates e ≡ true) →
+    filter updates (history_from ts p es) ≡ es
 updates_from ts p [] each = no_updates p ts
 updates_from ts p (e ∷ es) each =
     filter-append updates (reads_at p ts) (e ∷ history_from ts (p + 1) es)
@@ -157,22 +166,27 @@ none_of p r base [] own low = refl
 none_of p r base (t ∷ ts) own low =
     filter-append (is_of r) (filter (looked_at p) t) (reads_at p ts)
     ∙ ap (λ z. z ++ filter (is_of r) (reads_at p ts))
-    (filter_none (is_of r) (filter (looked_at p) t) (λ i e has. let same = at_some (λ f. f.rank ≡ base) (filter (looked_at p) t) (each_filter (λ f. f.rank ≡ base) (looked_at p) t own.0.0) i e has in grind (arith, nat_tests)))
+    (filter_none (is_of r) (filter (looked_at p) t) (λ i e has. let same = at_some (λ f. f.rank ≡ base) (filter (looked_at p) t)
+    (each_filter (λ f. f.rank ≡ base) (looked_at p) t own.0.0) i e has in grind (arith, nat_tests)))
     ∙ none_of p r (base + 1) ts own.1 (omega arith)
 
-one_of : (p base i : ℕ) (ts : List (List Entry)) (t : List Entry) → AreOwn base ts → slice_get ts i ≡ Some t → filter (is_of (base + i)) (reads_at p ts) ≡ filter (looked_at p) t
+one_of : (p base i : ℕ) (ts : List (List Entry)) (t : List Entry) → AreOwn base ts → slice_get ts i ≡ Some t →
+    filter (is_of (base + i)) (reads_at p ts) ≡ filter (looked_at p) t
 one_of p base i [] t own has = absurd (cc)
 one_of p base zero (u ∷ ts) t own has =
     filter-append (is_of (base + 0)) (filter (looked_at p) u) (reads_at p ts)
     ∙ ap (λ z. z ++ filter (is_of (base + 0)) (reads_at p ts))
-    (filter_all (is_of (base + 0)) (filter (looked_at p) u) (λ i e is. let same = at_some (λ f. f.rank ≡ base) (filter (looked_at p) u) (each_filter (λ f. f.rank ≡ base) (looked_at p) u own.0.0) i e is in grind (arith, nat_tests)))
+    (filter_all (is_of (base + 0)) (filter (looked_at p) u) (λ i e is. let same = at_some (λ f. f.rank ≡ base) (filter (looked_at p) u)
+    (each_filter (λ f. f.rank ≡ base) (looked_at p) u own.0.0) i e is in grind (arith, nat_tests)))
     ∙ ap (λ z. filter (looked_at p) u ++ z) (none_of p (base + 0) (base + 1) ts own.1 (omega arith))
     ∙ append-nil (filter (looked_at p) u) ∙ ap (filter (looked_at p)) (same_Some _ _ has)
 one_of p base (suc i) (u ∷ ts) t own has =
     let next : base + suc i ≡ base + 1 + i = omega arith in
     filter-append (is_of (base + suc i)) (filter (looked_at p) u) (reads_at p ts)
     ∙ ap (λ z. z ++ filter (is_of (base + suc i)) (reads_at p ts))
-    (filter_none (is_of (base + suc i)) (filter (looked_at p) u) (λ j e is. let same = at_some (λ f. f.rank ≡ base) (filter (looked_at p) u) (each_filter (λ f. f.rank ≡ base) (looked_at p) u own.0.0) j e is in grind (arith, nat_tests)))
+    (filter_none (is_of (base + suc i)) (filter (looked_at p) u)
+    (λ j e is. let same = at_some (λ f. f.rank ≡ base) (filter (looked_at p) u)
+    (each_filter (λ f. f.rank ≡ base) (looked_at p) u own.0.0) j e is in grind (arith, nat_tests)))
     ∙ ap (λ n. filter (is_of n) (reads_at p ts)) next
     ∙ one_of p (base + 1) i ts t own.1 has
 
@@ -181,7 +195,8 @@ own_at base i [] t own has = absurd (cc)
 own_at base zero (u ∷ ts) t own has = subst IsInOrder (same_Some _ _ has) own.0.1
 own_at base (suc i) (u ∷ ts) t own has = own_at (base + 1) i ts t own.1 has
 
-module _ (geom : Geom) (journal : List Entry) (ts : List (List Entry)) (legal : IsLegal geom journal ts) (own : AreOwn 0 ts) (r : ℕ) (t : List Entry) (has : slice_get ts r ≡ Some t) where
+module _ (geom : Geom) (journal : List Entry) (ts : List (List Entry)) (legal : IsLegal geom journal ts) (own : AreOwn 0 ts) (r : ℕ)
+    (t : List Entry) (has : slice_get ts r ≡ Some t) where
   order : IsInOrder t
   order = own_at 0 r ts t own has
 
@@ -190,18 +205,22 @@ module _ (geom : Geom) (journal : List Entry) (ts : List (List Entry)) (legal : 
       ap (λ k. filter (is_of k) (reads_at n ts)) (omega arith) ∙ one_of n 0 r ts t own has ∙ agree (looked_at n) (is_at (n + n)) t (λ i e is. looks n e)
 
   -- the update at a place
-  store_is : (front rest : List Entry) (u : Entry) → front ++ u ∷ rest ≡ journal → filter (is_at (length front + length front + 1)) t ≡ filter (is_of r) (u ∷ [])
+  store_is : (front rest : List Entry) (u : Entry) → front ++ u ∷ rest ≡ journal →
+      filter (is_at (length front + length front + 1)) t ≡ filter (is_of r) (u ∷ [])
   store_is front rest u e =
       let n : ℕ = length front in
-      let place : (i : ℕ) (f : Entry) → slice_get (front ++ u ∷ rest) i ≡ Some f → f.at ≡ i = λ i f is. (placed geom journal legal.journal_is i f (ap (λ z. slice_get z i) (sym e) ∙ is)).place in
+      let place : (i : ℕ) (f : Entry) → slice_get (front ++ u ∷ rest) i ≡ Some f → f.at ≡ i =
+      λ i f is. (placed geom journal legal.journal_is i f (ap (λ z. slice_get z i) (sym e) ∙ is)).place in
       sym (agree (λ f. updates f && (f.at == n)) (is_at (n + n + 1)) t (λ i f is. stores n f)) ∙ sym (both (λ f. f.at == n) updates t)
       ∙ ap (filter (λ f. f.at == n)) (legal.updates_are r t has) ∙ either (λ f. f.at == n) (is_of r) journal
       ∙ ap (λ z. filter (is_of r) (filter (λ f. f.at == n) z)) (sym e)
       ∙ ap (filter (is_of r)) (
       filter-append (λ f. f.at == n) front (u ∷ rest)
       ∙ ap (λ z. z ++ filter (λ f. f.at == n) (u ∷ rest))
-      (filter_none (λ f. f.at == n) front (λ i f is. let same = place i f (get_left front (u ∷ rest) i f is) in let low = within front i f is in grind (arith, nat_tests)))
-      ∙ ap (λ c. cond c (u ∷ filter (λ f. f.at == n) rest) (filter (λ f. f.at == n) rest)) (let hit : (u.at == n) ≡ true = let same = place n u (found front) in grind (arith, nat_tests) in hit)
+      (filter_none (λ f. f.at == n) front (λ i f is. let same = place i f (get_left front (u ∷ rest) i f is) in let low = within front i f
+      is in grind (arith, nat_tests)))
+      ∙ ap (λ c. cond c (u ∷ filter (λ f. f.at == n) rest) (filter (λ f. f.at == n) rest))
+      (let hit : (u.at == n) ≡ true = let same = place n u (found front) in grind (arith, nat_tests) in hit)
       ∙ ap (λ z. u ∷ z) (filter_none (λ f. f.at == n) rest (λ i f is. let same = place (suc (n + i)) f (behind front i f is) in grind (arith, nat_tests)))
       )
     where
@@ -218,7 +237,8 @@ module _ (geom : Geom) (journal : List Entry) (ts : List (List Entry)) (legal : 
       within (x ∷ xs) zero f is = omega arith
       within (x ∷ xs) (suc i) f is = let low = within xs i f is in omega arith
 
-  rank_from : (front rest : List Entry) → front ++ rest ≡ journal → filter (is_of r) (history_from ts (length front) rest) ≡ filter (is_from (length front + length front)) t
+  rank_from : (front rest : List Entry) → front ++ rest ≡ journal →
+      filter (is_of r) (history_from ts (length front) rest) ≡ filter (is_from (length front + length front)) t
   rank_from front [] e =
       let n : ℕ = length front in
       let all_here : length journal ≡ n = ap length (sym e ∙ append-nil front) in
@@ -240,7 +260,8 @@ module _ (geom : Geom) (journal : List Entry) (ts : List (List Entry)) (legal : 
       let n : ℕ = length front in
       let one_more : length (front ++ u ∷ []) ≡ n + 1 = length-append front (u ∷ []) in
       let later : filter (is_of r) (history_from ts (n + 1) rest) ≡ filter (is_from (n + 1 + (n + 1))) t =
-      subst (λ m. filter (is_of r) (history_from ts m rest) ≡ filter (is_from (m + m)) t) one_more (rank_from (front ++ u ∷ []) rest (append_assoc front (u ∷ []) rest ∙ e)) in
+      subst (λ m. filter (is_of r) (history_from ts m rest) ≡ filter (is_from (m + m)) t) one_more
+      (rank_from (front ++ u ∷ []) rest (append_assoc front (u ∷ []) rest ∙ e)) in
       filter-append (is_of r) (reads_at n ts) (u ∷ history_from ts (n + 1) rest)
       ∙ ap (λ z. z ++ filter (is_of r) (u ∷ history_from ts (n + 1) rest)) (reads_are n)
       ∙ ap (λ z. filter (is_at (n + n)) t ++ z) (

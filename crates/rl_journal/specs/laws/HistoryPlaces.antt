@@ -37,7 +37,8 @@ take_whole (x ∷ xs) = ap (λ z. x ∷ z) (take_whole xs)
 
 module _ (geom : Geom) where
   -- in a get or hold alone, and behind it
-  at_read : (t : Table) (n : ℕ) (b rest : List Entry) → IsReadAlone geom t n b → ((k : ℕ) (e : Entry) → slice_get rest k ≡ Some e → e.at ≡ n + count_by updates (take k rest)) →
+  at_read : (t : Table) (n : ℕ) (b rest : List Entry) → IsReadAlone geom t n b →
+      ((k : ℕ) (e : Entry) → slice_get rest k ≡ Some e → e.at ≡ n + count_by updates (take k rest)) →
       (i : ℕ) (e : Entry) → slice_get (b ++ rest) i ≡ Some e → e.at ≡ n + count_by updates (take i (b ++ rest))
   at_read t n b rest r on i e get =
       subst (λ z. slice_get (z ++ rest) i ≡ Some e → e.at ≡ n + count_by updates (take i (z ++ rest))) (sym r.alone) (by_place i) get
@@ -49,10 +50,12 @@ module _ (geom : Geom) where
           omega (arith, on k e get, count-cons updates r.entry (take k rest))
 
   -- in a block of updates, and behind it
-  at_block : (t : Table) (n : ℕ) (b rest : List Entry) → IsLegalBlock geom t n b → ((k : ℕ) (e : Entry) → slice_get rest k ≡ Some e → e.at ≡ n + length b + count_by updates (take k rest)) →
+  at_block : (t : Table) (n : ℕ) (b rest : List Entry) → IsLegalBlock geom t n b →
+      ((k : ℕ) (e : Entry) → slice_get rest k ≡ Some e → e.at ≡ n + length b + count_by updates (take k rest)) →
       (i : ℕ) (e : Entry) → slice_get (b ++ rest) i ≡ Some e → e.at ≡ n + count_by updates (take i (b ++ rest))
   at_block t n b rest l on i e get =
-      let part : (j : ℕ) (f : Entry) → slice_get b j ≡ Some f → IsPart l.rank l.batch (l.seq + j) (n + j) (0 + j) f = λ j f has. part_at l.rank l.batch l.seq n 0 b j f l.is.parts has in
+      let part : (j : ℕ) (f : Entry) → slice_get b j ≡ Some f → IsPart l.rank l.batch (l.seq + j) (n + j) (0 + j) f =
+      λ j f has. part_at l.rank l.batch l.seq n 0 b j f l.is.parts has in
       let each : (j : ℕ) (f : Entry) → slice_get b j ≡ Some f → updates f ≡ true = λ j f has. (part j f has).is_update in
       ⊎_elim
       (λ q. let low = q.0 in let place = (part i e q.1).place in
@@ -69,7 +72,8 @@ module _ (geom : Geom) where
       ))
       (get_cases b rest i e get)
 
-  by_blocks : (t : Table) (n : ℕ) (bs : List (List Entry)) → IsReplayed geom t n bs → (i : ℕ) (e : Entry) → slice_get (blocks_joined bs) i ≡ Some e → e.at ≡ n + count_by updates (take i (blocks_joined bs))
+  by_blocks : (t : Table) (n : ℕ) (bs : List (List Entry)) → IsReplayed geom t n bs → (i : ℕ) (e : Entry) →
+      slice_get (blocks_joined bs) i ≡ Some e → e.at ≡ n + count_by updates (take i (blocks_joined bs))
   by_blocks t n [] r i e get = absurd (cc)
   by_blocks t n (b ∷ bs) r i e get =
       ⊎_elim

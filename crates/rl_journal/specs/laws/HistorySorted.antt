@@ -19,7 +19,8 @@ each_weaker : (P Q : Entry → Type 0) → ((e : Entry) → P e → Q e) → (xs
 each_weaker P Q f [] a = tt
 each_weaker P Q f (x ∷ xs) a = (f x a.0, each_weaker P Q f xs a.1)
 
-sorted_append : (P Q : Entry → Type 0) → ((e f : Entry) → P e → Q f → Precedes e f) → (xs ys : List Entry) → AllByRecursion P xs → AllByRecursion Q ys → IsSorted xs → IsSorted ys → IsSorted (xs ++ ys)
+sorted_append : (P Q : Entry → Type 0) → ((e f : Entry) → P e → Q f → Precedes e f) → (xs ys : List Entry) → AllByRecursion P xs →
+    AllByRecursion Q ys → IsSorted xs → IsSorted ys → IsSorted (xs ++ ys)
 sorted_append P Q before [] ys a b sx sy = sy
 sorted_append P Q before (x ∷ xs) ys a b sx sy =
     (each_append (Precedes x) xs ys sx.0 (each_weaker Q (Precedes x) (λ f q. before x f a.0 q) ys b), sorted_append P Q before xs ys a.1 b sx.1 sy)
@@ -61,7 +62,8 @@ rising e (f ∷ fs) order =
 
 each_filter : (P : Entry → Type 0) (p : Entry → Bool) (xs : List Entry) → AllByRecursion P xs → AllByRecursion P (filter p xs)
 each_filter P p [] a = tt
-each_filter P p (x ∷ xs) a = elim (p x) as (λ b. AllByRecursion P (cond b (x ∷ filter p xs) (filter p xs))) [ true ↦ (a.0, each_filter P p xs a.1) | false ↦ each_filter P p xs a.1 ]
+each_filter P p (x ∷ xs) a = elim (p x) as (λ b. AllByRecursion P (cond b (x ∷ filter p xs) (filter p xs)))
+    [ true ↦ (a.0, each_filter P p xs a.1) | false ↦ each_filter P p xs a.1 ]
 
 each_both : (P Q R : Entry → Type 0) → ((e : Entry) → P e → Q e → R e) → (xs : List Entry) → AllByRecursion P xs → AllByRecursion Q xs → AllByRecursion R xs
 each_both P Q R f [] a b = tt
@@ -89,15 +91,18 @@ reads_from p r (t ∷ ts) own =
     let rest = reads_from p (r + 1) ts own.1 in
     let here : AllByRecursion (IsReadBy p r) (filter (looked_at p) t) = read_by p r t own.0.0 in (
       each_append (IsReadOf p r) (filter (looked_at p) t) (reads_at p ts)
-          (each_weaker (IsReadBy p r) (IsReadOf p r) (λ e b. record { is = b.is; place = b.place; rank = let same = b.rank in omega arith }) (filter (looked_at p) t) here)
-          (each_weaker (IsReadOf p (r + 1)) (IsReadOf p r) (λ e b. record { is = b.is; place = b.place; rank = let low = b.rank in omega arith }) (reads_at p ts) rest.0),
+          (each_weaker (IsReadBy p r) (IsReadOf p r) (λ e b. record { is = b.is; place = b.place; rank = let same = b.rank in omega arith })
+          (filter (looked_at p) t) here)
+          (each_weaker (IsReadOf p (r + 1)) (IsReadOf p r) (λ e b.
+          record { is = b.is; place = b.place; rank = let low = b.rank in omega arith }) (reads_at p ts) rest.0),
       sorted_append (IsReadBy p r) (IsReadOf p (r + 1))
           (λ e f a b. inr (a.place ∙ sym b.place, a.is, inr (b.is, inl (let low = b.rank in let same = a.rank in omega arith))))
           (filter (looked_at p) t) (reads_at p ts) here rest.0 (one_sorted p r t own.0.0 own.0.1) rest.1,
     )
 
 module _ (geom : Geom) (journal : List Entry) (ts : List (List Entry)) (legal : IsLegal geom journal ts) (own : AreOwn 0 ts) where
-  sorted_from : (front rest : List Entry) → front ++ rest ≡ journal → AllByRecursion (λ e. length front ≤ e.at) (history_from ts (length front) rest) × IsSorted (history_from ts (length front) rest)
+  sorted_from : (front rest : List Entry) → front ++ rest ≡ journal →
+      AllByRecursion (λ e. length front ≤ e.at) (history_from ts (length front) rest) × IsSorted (history_from ts (length front) rest)
   sorted_from front [] e =
       let r = reads_from (length front) 0 ts own in
       (each_weaker (IsReadOf (length front) 0) (λ e. length front ≤ e.at) (λ e b. let same = b.place in omega arith) (reads_at (length front) ts) r.0, r.1)
@@ -108,11 +113,16 @@ module _ (geom : Geom) (journal : List Entry) (ts : List (List Entry)) (legal : 
       let here : u.at ≡ n = l.place in
       let one_more : length (front ++ u ∷ []) ≡ n + 1 = length-append front (u ∷ []) in
       let on = sorted_from (front ++ u ∷ []) rest (append_assoc front (u ∷ []) rest ∙ e) in
-      let on_each : AllByRecursion (λ e. n + 1 ≤ e.at) (history_from ts (n + 1) rest) = subst (λ m. AllByRecursion (λ e. m ≤ e.at) (history_from ts m rest)) one_more on.0 in
+      let on_each : AllByRecursion (λ e. n + 1 ≤ e.at) (history_from ts (n + 1) rest) =
+      subst (λ m. AllByRecursion (λ e. m ≤ e.at) (history_from ts m rest)) one_more on.0 in
       let on_sorted : IsSorted (history_from ts (n + 1) rest) = subst (λ m. IsSorted (history_from ts m rest)) one_more on.1 in
-      let after : IsSorted (u ∷ history_from ts (n + 1) rest) = (each_weaker (λ e. n + 1 ≤ e.at) (Precedes u) (λ f h. inl (omega arith)) (history_from ts (n + 1) rest) on_each, on_sorted) in
-      let behind : AllByRecursion (λ f. (updates f ≡ true) × (f.at ≡ n) ⊎ (n < f.at)) (u ∷ history_from ts (n + 1) rest) =
-      (inl (l.is_update, here), each_weaker (λ f. n + 1 ≤ f.at) (λ f. (updates f ≡ true) × (f.at ≡ n) ⊎ (n < f.at)) (λ f h. inr (omega arith)) (history_from ts (n + 1) rest) on_each) in (
+      let after : IsSorted (u ∷ history_from ts (n + 1) rest) =
+      (each_weaker (λ e. n + 1 ≤ e.at) (Precedes u) (λ f h. inl (omega arith)) (history_from ts (n + 1) rest) on_each, on_sorted) in
+      let behind : AllByRecursion (λ f. (updates f ≡ true) × (f.at ≡ n) ⊎ (n < f.at)) (u ∷ history_from ts (n + 1) rest) = (
+        inl (l.is_update, here),
+        each_weaker (λ f. n + 1 ≤ f.at) (λ f. (updates f ≡ true) × (f.at ≡ n) ⊎ (n < f.at))
+            (λ f h. inr (omega arith)) (history_from ts (n + 1) rest) on_each,
+      ) in (
         each_append (λ e. n ≤ e.at) (reads_at n ts) (u ∷ history_from ts (n + 1) rest)
             (each_weaker (IsReadOf n 0) (λ e. n ≤ e.at) (λ e b. let same = b.place in omega arith) (reads_at n ts) r.0)
             (omega arith, each_weaker (λ e. n + 1 ≤ e.at) (λ e. n ≤ e.at) (λ f h. omega arith) (history_from ts (n + 1) rest) on_each),

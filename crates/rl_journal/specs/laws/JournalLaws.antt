@@ -6,7 +6,8 @@ use Rattle.rl_model.specs.declared.entry.Entry.{Entry}
 use Rattle.rl_journal.specs.Journal.{spelling, spelled, Agrees}
 
 -- a write elsewhere
-pub agrees_elsewhere : (words : List ℕ) (from : ℕ) (list : List ℕ) (w v : ℕ) → Agrees words from list → ((i : ℕ) → i < length list → from + i ≢ w) → Agrees (slice_set words w v) from list
+pub agrees_elsewhere : (words : List ℕ) (from : ℕ) (list : List ℕ) (w v : ℕ) → Agrees words from list →
+    ((i : ℕ) → i < length list → from + i ≢ w) → Agrees (slice_set words w v) from list
 agrees_elsewhere words from list w v a away i h = get_or-set_other words w (from + i) v 0 (away i h) ∙ a i h
 
 -- the same words for two lists behind one another
@@ -35,7 +36,8 @@ agrees_more words from list n h there a i inside =
     (λ (low : i < n).
     let kept : i < length (take n list) = omega (arith, length-take n list) in
     get_or-set_other words (from + n) (from + i) (slice_index list n) 0 (λ e. absurd (omega arith)) ∙ a i kept ∙ get_or-take n list i 0 low ∙ sym read)
-    (λ (e : i ≡ n). subst (λ z. slice_index (slice_set words (from + n) (slice_index list n)) (from + z) ≡ slice_index list z) (sym e) (get_or-set_same words (from + n) (slice_index list n) 0 there) ∙ sym read)
+    (λ (e : i ≡ n). subst (λ z. slice_index (slice_set words (from + n) (slice_index list n)) (from + z) ≡ slice_index list z) (sym e)
+    (get_or-set_same words (from + n) (slice_index list n) 0 there) ∙ sym read)
     (low_or_last i n short)
   where
     low_or_last : (i n : ℕ) → i < n + 1 → (i < n) ⊎ (i ≡ n)

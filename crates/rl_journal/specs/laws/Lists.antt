@@ -5,10 +5,12 @@ use Rattle.std.proofs.lemmas.List.Elements.{All-cons, All-nil, All-head, All-tai
 use Rattle.std.proofs.lemmas.Option.{slice_get_within, get_or_from_slice_get}
 
 -- a place of two lists behind one another
-pub get_cases : {X : Type 0} (xs ys : List X) (p : ℕ) (y : X) → slice_get (xs ++ ys) p ≡ Some y → ((p < length xs) × (slice_get xs p ≡ Some y)) ⊎ ((i : ℕ) × (p ≡ length xs + i) × (slice_get ys i ≡ Some y))
+pub get_cases : {X : Type 0} (xs ys : List X) (p : ℕ) (y : X) → slice_get (xs ++ ys) p ≡ Some y →
+    ((p < length xs) × (slice_get xs p ≡ Some y)) ⊎ ((i : ℕ) × (p ≡ length xs + i) × (slice_get ys i ≡ Some y))
 get_cases [] ys p y e = inr (p, omega arith, e)
 get_cases (x ∷ xs) ys zero y e = inl (omega arith, e)
-get_cases (x ∷ xs) ys (suc p) y e = ⊎_elim (λ q. inl (let h = q.0 in omega arith, q.1)) (λ q. inr (q.0, (let h = q.1 in omega arith), q.2)) (get_cases xs ys p y e)
+get_cases (x ∷ xs) ys (suc p) y e = ⊎_elim (λ q. inl (let h = q.0 in omega arith, q.1)) (λ q. inr (q.0, (let h = q.1 in omega arith), q.2))
+    (get_cases xs ys p y e)
 
 -- what stands in a list stands in a longer one
 pub get_left : {X : Type 0} (xs ys : List X) (i : ℕ) (f : X) → slice_get xs i ≡ Some f → slice_get (xs ++ ys) i ≡ Some f
@@ -17,7 +19,8 @@ get_left (x ∷ xs) ys zero f get = get
 get_left (x ∷ xs) ys (suc i) f get = get_left xs ys i f get
 
 -- a place of a list with one element more
-pub get_more_cases : {X : Type 0} (xs : List X) (x : X) (p : ℕ) (y : X) → slice_get (xs ++ x ∷ []) p ≡ Some y → ((p < length xs) × (slice_get xs p ≡ Some y)) ⊎ ((p ≡ length xs) × (x ≡ y))
+pub get_more_cases : {X : Type 0} (xs : List X) (x : X) (p : ℕ) (y : X) → slice_get (xs ++ x ∷ []) p ≡ Some y →
+    ((p < length xs) × (slice_get xs p ≡ Some y)) ⊎ ((p ≡ length xs) × (x ≡ y))
 get_more_cases [] x zero y e = inr (refl, some_is e) where
   some_is : {X : Type 0} {a b : X} → Some a ≡ Some b → a ≡ b
   some_is e = cc

@@ -14,7 +14,8 @@ use Rattle.rl_journal.specs.Ranks.{IsOwn, IsInOrder, count_in, Asked, IsEntryOf,
 use Rattle.rl_journal.specs.laws.Lists.{get_left}
 
 -- the counts over all lists, where one list has one entry more
-count_more : (test : Entry → Bool) (ts : List (List Entry)) (s : ℕ) (t : List Entry) (e : Entry) → slice_get ts s ≡ Some t → count_in test (slice_set ts s (t ++ e ∷ [])) ≡ count_in test ts + cond (test e) 1 0
+count_more : (test : Entry → Bool) (ts : List (List Entry)) (s : ℕ) (t : List Entry) (e : Entry) → slice_get ts s ≡ Some t →
+    count_in test (slice_set ts s (t ++ e ∷ [])) ≡ count_in test ts + cond (test e) 1 0
 count_more test [] s t e get = absurd (cc)
 count_more test (u ∷ ts) zero t e get =
     let same : count_by test t ≡ count_by test u = ap (count_by test) (sym (same_Some _ _ get)) in
@@ -39,7 +40,9 @@ module _ (geom : Geom) (rank : ℕ) (calls : List Asked) (n : ℕ) (ts : List (L
   later s e is = record { low = let l = is.low in omega arith; own = is.own; asked_is = is.asked_is; place = is.place }
 
   -- the next call was done
-  pub rank_more : (s : ℕ) (t : List Entry) (e : Entry) → slice_get ts s ≡ Some t → e.seq ≡ n → IsOwn s rank e → slice_get calls n ≡ Some (record { call = e.call; batch = e.batch; part = e.part }) → shard_of geom e.call ≡ s → IsInOrder (t ++ e ∷ []) →
+  pub rank_more : (s : ℕ) (t : List Entry) (e : Entry) → slice_get ts s ≡ Some t → e.seq ≡ n → IsOwn s rank e →
+      slice_get calls n ≡ Some (record { call = e.call; batch = e.batch; part = e.part }) → shard_of geom e.call ≡ s →
+      IsInOrder (t ++ e ∷ []) →
       IsRankInOrder geom rank calls (n + 1) (slice_set ts s (t ++ e ∷ []))
   rank_more s t e get seq own is place order =
       record {
@@ -62,7 +65,8 @@ module _ (geom : Geom) (rank : ℕ) (calls : List Asked) (n : ℕ) (ts : List (L
         ] refl;
         each = λ k u g. ⊎_elim
             (λ q. subst (λ z. All (IsEntryOf geom rank calls (n + 1) z) u) (sym q.0) (subst (All (IsEntryOf geom rank calls (n + 1) s)) (sym q.1)
-            (All-push (IsEntryOf geom rank calls (n + 1) s) t e (All-weaker (IsEntryOf geom rank calls n s) (IsEntryOf geom rank calls (n + 1) s) (later s) t (o.each s t get))
+            (All-push (IsEntryOf geom rank calls (n + 1) s) t e
+            (All-weaker (IsEntryOf geom rank calls n s) (IsEntryOf geom rank calls (n + 1) s) (later s) t (o.each s t get))
             (record { low = omega arith; own = own; asked_is = ap (slice_get calls) seq ∙ is; place = place }))))
             (λ q. All-weaker (IsEntryOf geom rank calls n k) (IsEntryOf geom rank calls (n + 1) k) (later k) u (o.each k u q.1))
             (get_set_cases ts s k (t ++ e ∷ []) u g);
@@ -70,7 +74,8 @@ module _ (geom : Geom) (rank : ℕ) (calls : List Asked) (n : ℕ) (ts : List (L
       }
 
 -- the next block was done
-pub block_more : (geom : Geom) (rank : ℕ) (calls : List Asked) (s : ℕ) (b : List Entry) (n : ℕ) (ts : List (List Entry)) (t : List Entry) → IsRankInOrder geom rank calls n ts → slice_get ts s ≡ Some t → AreAsked geom rank calls s n b → IsInOrder (t ++ b) →
+pub block_more : (geom : Geom) (rank : ℕ) (calls : List Asked) (s : ℕ) (b : List Entry) (n : ℕ) (ts : List (List Entry)) (t : List Entry) →
+    IsRankInOrder geom rank calls n ts → slice_get ts s ≡ Some t → AreAsked geom rank calls s n b → IsInOrder (t ++ b) →
     IsRankInOrder geom rank calls (n + length b) (slice_set ts s (t ++ b))
 block_more geom rank calls s [] n ts t o get all order =
     let same : t ++ [] ≡ t = append-nil t in
@@ -79,11 +84,15 @@ block_more geom rank calls s [] n ts t o get all order =
 block_more geom rank calls s (e ∷ es) n ts t o get all order =
     let whole : IsInOrder ((t ++ e ∷ []) ++ es) = subst IsInOrder (sym (append_assoc t (e ∷ []) es)) order in
     let front : IsInOrder (t ++ e ∷ []) = λ i d f a b. whole i d f (get_left (t ++ e ∷ []) es i d a) (get_left (t ++ e ∷ []) es (suc i) f b) in
-    let one : IsRankInOrder geom rank calls (n + 1) (slice_set ts s (t ++ e ∷ [])) = rank_more geom rank calls n ts o s t e get all.0.0 all.0.1 all.0.2 all.0.3 front in
+    let one : IsRankInOrder geom rank calls (n + 1) (slice_set ts s (t ++ e ∷ [])) =
+    rank_more geom rank calls n ts o s t e get all.0.0 all.0.1 all.0.2 all.0.3 front in
     let there : slice_get (slice_set ts s (t ++ e ∷ [])) s ≡ Some (t ++ e ∷ []) = get_set_same ts s t (t ++ e ∷ []) get in
-    let more : IsRankInOrder geom rank calls (n + 1 + length es) (slice_set (slice_set ts s (t ++ e ∷ [])) s ((t ++ e ∷ []) ++ es)) = block_more geom rank calls s es (n + 1) (slice_set ts s (t ++ e ∷ [])) (t ++ e ∷ []) one there all.1 whole in
-    let lists : slice_set (slice_set ts s (t ++ e ∷ [])) s ((t ++ e ∷ []) ++ es) ≡ slice_set ts s (t ++ e ∷ es) = set_twice ts s (t ++ e ∷ []) ((t ++ e ∷ []) ++ es) ∙ ap (slice_set ts s) (append_assoc t (e ∷ []) es) in
-    subst (λ m. IsRankInOrder geom rank calls m (slice_set ts s (t ++ e ∷ es))) (omega arith) (subst (IsRankInOrder geom rank calls (n + 1 + length es)) lists more)
+    let more : IsRankInOrder geom rank calls (n + 1 + length es) (slice_set (slice_set ts s (t ++ e ∷ [])) s ((t ++ e ∷ []) ++ es)) =
+    block_more geom rank calls s es (n + 1) (slice_set ts s (t ++ e ∷ [])) (t ++ e ∷ []) one there all.1 whole in
+    let lists : slice_set (slice_set ts s (t ++ e ∷ [])) s ((t ++ e ∷ []) ++ es) ≡ slice_set ts s (t ++ e ∷ es) =
+    set_twice ts s (t ++ e ∷ []) ((t ++ e ∷ []) ++ es) ∙ ap (slice_set ts s) (append_assoc t (e ∷ []) es) in
+    subst (λ m. IsRankInOrder geom rank calls m (slice_set ts s (t ++ e ∷ es))) (omega arith)
+    (subst (IsRankInOrder geom rank calls (n + 1 + length es)) lists more)
   where
     set_twice : {X : Type 0} (xs : List X) (i : ℕ) (a b : X) → slice_set (slice_set xs i a) i b ≡ slice_set xs i b
     set_twice [] i a b = refl

@@ -55,7 +55,8 @@ tells_found (act.CardSwap w v) n other = refl
 tells_found (act.CardAdd w d) n other = refl
 
 -- and a rank whose next atom is a load plans no store
-no_store : {V : Type 0} (T : LockTable V) (base : ℕ) (c : CardState) (w v word : ℕ) (work : Option Atom) → lock_or_work base (card_atom T (Some (act.Store w v)) c) work ≡ Some (atom.Load word) → ⊥
+no_store : {V : Type 0} (T : LockTable V) (base : ℕ) (c : CardState) (w v word : ℕ) (work : Option Atom) →
+    lock_or_work base (card_atom T (Some (act.Store w v)) c) work ≡ Some (atom.Load word) → ⊥
 no_store T base Free w v word work e = cc
 no_store T base InCard w v word work e = cc
 no_store T base (Loaded n) w v word work e = cc
@@ -73,7 +74,8 @@ take_free T (Some a) (Loaded v) node e = cc
 none_some : (n : ℕ) → None ≡ Some n → ⊥
 none_some n e = cc
 
-module _ (V K : Type 0) (L : LockAt V K) (good : Goods V K) (further : List Event → List Deed → Type 0) (layout : Layout) (laws : BothLaws L good further layout) (home : ℕ) (one : length layout.node_of ≡ 1) where
+module _ (V K : Type 0) (L : LockAt V K) (good : Goods V K) (further : List Event → List Deed → Type 0) (layout : Layout)
+    (laws : BothLaws L good further layout) (home : ℕ) (one : length layout.node_of ≡ 1) where
   module _ (h : TheWindow) (vs : List (WholeView V K)) (r : ℕ) (x : WholeView V K) (g : Good L good layout h vs) (has : slice_get vs r ≡ Some x) where
     acts : (a : Act) → L.table.plan x.side.view ≡ Some a → Acts L.table good.lock (lock_of (split_of L h vs g.modes g.past)) r x.side.view a
     acts a planned = record { is_good = g.lock_part.lock; has = get_map view_of (map side_of vs) r (side_of x) (get_map side_of vs r x has); planned = planned }
@@ -91,7 +93,8 @@ module _ (V K : Type 0) (L : LockAt V K) (good : Goods V K) (further : List Even
     takes at node e is =
         ⊎_elim
         (λ q. take_free L.table (L.table.plan x.side.view) x.side.card node (q.1 ∙ ap (λ z. Some z) (take_unshifted L.base q.0 node (q.2 ∙ is))))
-        (λ q. absurd (work_no_take L.work at node (laws.work.plain h.words (map (work_side L.table) vs) r (work_side L.table x) at (works_at V K L good further layout laws home h vs g r x has at q.1 q.2)) is))
+        (λ q. absurd (work_no_take L.work at node (laws.work.plain h.words (map (work_side L.table) vs) r (work_side L.table x) at
+        (works_at V K L good further layout laws home h vs g r x has at q.1 q.2)) is))
         (next_either V K L good further layout laws home x at e)
 
     -- its work is never answered but by Moved
@@ -100,18 +103,22 @@ module _ (V K : Type 0) (L : LockAt V K) (good : Goods V K) (further : List Even
         ⊎_elim
         (λ q. let bad : None ≡ Some q.0 = sym w.0 ∙ q.1 in cc)
         (λ q. subst (λ n. (L.work.after n x.work (do_got at h.words h.cards)).stepped ≡ Moved) (sym (g.own r x has))
-        (laws.work.alone h.words h.cards (map (work_side L.table) vs) r (work_side L.table x) at (length-map vs (work_side L.table) ∙ one_view) (works_at V K L good further layout laws home h vs g r x has at q.1 q.2)))
+        (laws.work.alone h.words h.cards (map (work_side L.table) vs) r (work_side L.table x) at
+        (length-map vs (work_side L.table) ∙ one_view) (works_at V K L good further layout laws home h vs g r x has at q.1 q.2)))
         (next_either V K L good further layout laws home x at e)
 
     never_waits : (at : Atom) (word value : ℕ) → next_of L x ≡ Some at → HasToWait L h x.side.view at word value → ⊥
     never_waits at word value e c =
         let a : Act = c.act in
         let moves = laws.lock.moves_on (lock_of (split_of L h vs g.modes g.past)) r x.side.view a one (acts a c.planned) in
-        let low : word_of a < L.table.size = plan_there V K L good further layout laws home x a (record { held = h; views = vs; rank = r; is_ruled = g; has = has }) c.planned in
+        let low : word_of a < L.table.size = plan_there V K L good further layout laws home x a
+        (record { held = h; views = vs; rank = r; is_ruled = g; has = has }) c.planned in
         let here : value ≡ found (lock_of (split_of L h vs g.modes g.past)) a = c.tells ∙ ap (slice_index h.words) c.same_word ∙ sym (found_is a low) in
         let other : (w v : ℕ) → a ≡ act.Store w v → ⊥ = λ w v is.
         no_store L.table L.base x.side.card w v word (work_plan (L.table.standing x.side.view) (L.work.next x.rank x.work))
-        (ap (λ p. lock_or_work L.base (card_atom L.table p x.side.card) (work_plan (L.table.standing x.side.view) (L.work.next x.rank x.work))) (sym (c.planned ∙ ap (λ z. Some z) is)) ∙ e ∙ ap (λ z. Some z) c.made) in
+        (ap (λ p. lock_or_work L.base (card_atom L.table p x.side.card)
+        (work_plan (L.table.standing x.side.view) (L.work.next x.rank x.work))) (sym (c.planned ∙ ap (λ z. Some z) is)) ∙ e
+        ∙ ap (λ z. Some z) c.made) in
         let tells : value ≡ told a (found (lock_of (split_of L h vs g.modes g.past)) a) = here ∙ tells_found a _ other in
         let bad : true ≡ false = sym c.unmet ∙ ap (λ n. (L.table.learn x.side.view n).waits) tells ∙ moves in cc
 
@@ -123,7 +130,8 @@ module _ (V K : Type 0) (L : LockAt V K) (good : Goods V K) (further : List Even
     never_loses : (at : Atom) (guess seen : ℕ) → HasLost L h x.side.view at guess seen → ⊥
     never_loses at guess seen c =
         let a : Act = c.act in
-        let low : word_of a < L.table.size = plan_there V K L good further layout laws home x a (record { held = h; views = vs; rank = r; is_ruled = g; has = has }) c.planned in
+        let low : word_of a < L.table.size = plan_there V K L good further layout laws home x a
+        (record { held = h; views = vs; rank = r; is_ruled = g; has = has }) c.planned in
         let finds = laws.lock.finds (lock_of (split_of L h vs g.modes g.past)) r x.side.view a one (acts a c.planned) in
         c.other (sym c.found ∙ sym (found_is a low) ∙ hoped L.base a at guess _ c.compares finds)
 

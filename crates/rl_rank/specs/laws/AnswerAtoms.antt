@@ -16,7 +16,8 @@ use Rattle.rl_rank.specs.declared.whole.WholeView.{WholeView}
 use Rattle.rl_rank.specs.Causes.{Compares, Cause}
 
 -- an act that compares is lost there
-act_loses : (h : TheWindow) (base guess seen : ℕ) (a : Act) (at : Atom) → Compares base a at guess → slice_index h.words (base + word_of a) ≡ seen → seen ≢ guess → LosesAt h at guess seen
+act_loses : (h : TheWindow) (base guess seen : ℕ) (a : Act) (at : Atom) → Compares base a at guess →
+    slice_index h.words (base + word_of a) ≡ seen → seen ≢ guess → LosesAt h at guess seen
 act_loses h base guess seen (act.Load w) at c found other = absurd c
 act_loses h base guess seen (act.Store w v) at c found other = absurd c
 act_loses h base guess seen (act.LocalCas w old new) at c found other = subst (λ z. LosesAt h z guess seen) (sym c.0) (found, other, c.1)
@@ -35,9 +36,11 @@ load_loses h guess seen (atom.CardStore w v) loads found other = absurd loads
 load_loses h guess seen (atom.Leave n) loads found other = absurd loads
 
 -- so each cause gives what its answer says
-pub cause_answers : {V K : Type 0} (L : LockAt V K) (h : TheWindow) (x : WholeView V K) (at : Atom) (answer : Stepped) → Cause L h x (Some at) answer → AnswersTo h at answer
+pub cause_answers : {V K : Type 0} (L : LockAt V K) (h : TheWindow) (x : WholeView V K) (at : Atom) (answer : Stepped) →
+    Cause L h x (Some at) answer → AnswersTo h at answer
 cause_answers L h x at Moved c = tt
 cause_answers L h x at (Waiting word value) c = ⊎_elim (λ w. (w.made, sym w.tells)) (λ w. (w.made, sym w.tells)) c
-cause_answers L h x at (Lost guess seen) c = ⊎_elim (λ l. act_loses h L.base guess seen l.act at l.compares l.found l.other) (λ l. load_loses h guess seen at l.loads l.found l.other) c
+cause_answers L h x at (Lost guess seen) c = ⊎_elim (λ l. act_loses h L.base guess seen l.act at l.compares l.found l.other)
+    (λ l. load_loses h guess seen at l.loads l.found l.other) c
 cause_answers L h x at (Busy node holder) c = c
 cause_answers L h x at Finished c = absurd c

@@ -8,7 +8,7 @@ use Rattle.rl_word.specs.declared.acts.Atom.{Atom}
 use Rattle.rl_word.specs.declared.acts.Atom.TheVariants.{Leave}
 use Rattle.rl_step.specs.declared.events.Event.{Event}
 use Rattle.rl_step.specs.declared.events.Standing.TheVariants.{Out}
-use Rattle.rl_step.specs.Do.{TheWindow, do_words, do_got}
+use Rattle.rl_step.specs.Do.{do_words, do_got}
 use Rattle.rl_step.specs.Lock.{Deed, Rests}
 use Rattle.rl_work.specs.Ways.{SameWork, IsSide, Works}
 use Rattle.rl_rank.specs.declared.card_state.CardState.{CardState}
@@ -22,14 +22,16 @@ use Rattle.rl_rank.specs.laws.Bridge.{same_work}
 use Rattle.rl_core.specs.Moments.{Moment}
 use Rattle.rl_rank.specs.WholeShards.{stand, WholeGood}
 
-module _ (V K : Type 0) (L : LockAt V K) (good : Goods V K) (further : List Event → List Deed → Type 0) (layout : Layout) (laws : BothLaws L good further layout) (home : ℕ)
+module _ (V K : Type 0) (L : LockAt V K) (good : Goods V K) (further : List Event → List Deed → Type 0) (layout : Layout)
+    (laws : BothLaws L good further layout) (home : ℕ)
     (m : Moment (WholeView V K)) (g : WholeGood L good layout m) (r : ℕ) (x : WholeView V K) (has : slice_get m.views r ≡ Some x) where
   pub side_at : IsSide L.work good.work m.held.words (map (work_side L.table) m.views) r (work_side L.table x)
   side_at = work_at V K L good further layout laws home m.held m.views g.rule r x has
 
   -- what an atom of the work leaves
   pub after_none : side_atom L.table x.side ≡ None → (got : ℕ) → after_of L x got ≡ work_turned L x (L.work.after r x.work got)
-  after_none nothing got = after_work V K L good further layout laws home m.held m.views g.rule r x has nothing got ∙ ap (λ n. work_turned L x (L.work.after n x.work got)) (g.rule.own r x has)
+  after_none nothing got = after_work V K L good further layout laws home m.held m.views g.rule r x has nothing got
+      ∙ ap (λ n. work_turned L x (L.work.after n x.work got)) (g.rule.own r x has)
 
   -- its next atom is one of its work
   pub record IsOutside : Type 0 where
@@ -41,7 +43,8 @@ module _ (V K : Type 0) (L : LockAt V K) (good : Goods V K) (further : List Even
   pub outside : stand L.table x ≡ Out → L.work.is_open x.work ≡ true → IsOutside
   outside out busy =
       let plans : L.table.plan x.side.view ≡ None =
-      (laws.lock.rests (lock_of (split_of L m.held m.views g.rule.modes g.rule.past)) r x.side.view g.rule.lock_part.lock (get_map view_of (map side_of m.views) r x.side (get_map side_of m.views r x has))).1 (subst Rests (sym out) tt) in
+      (laws.lock.rests (lock_of (split_of L m.held m.views g.rule.modes g.rule.past)) r x.side.view g.rule.lock_part.lock
+      (get_map view_of (map side_of m.views) r x.side (get_map side_of m.views r x has))).1 (subst Rests (sym out) tt) in
       let free : x.side.card ≡ Free = ⊎_elim (λ f. f) (λ shut. absurd (let clash : true ≡ false = sym busy ∙ shut in cc)) (g.done r x has out) in
       let nothing : side_atom L.table x.side ≡ None = ap (λ p. card_atom L.table p x.side.card) plans ∙ ap (card_atom L.table None) free in
       record {
@@ -63,7 +66,8 @@ module _ (V K : Type 0) (L : LockAt V K) (good : Goods V K) (further : List Even
   pub resting : Rests (stand L.table x) → (side_atom L.table x.side ≡ None) ⊎ ((n : ℕ) × (next_of L x ≡ Some (Leave n)))
   resting rests =
       let plans : L.table.plan x.side.view ≡ None =
-      (laws.lock.rests (lock_of (split_of L m.held m.views g.rule.modes g.rule.past)) r x.side.view g.rule.lock_part.lock (get_map view_of (map side_of m.views) r x.side (get_map side_of m.views r x has))).1 rests in
+      (laws.lock.rests (lock_of (split_of L m.held m.views g.rule.modes g.rule.past)) r x.side.view g.rule.lock_part.lock
+      (get_map view_of (map side_of m.views) r x.side (get_map side_of m.views r x has))).1 rests in
       let same : side_atom L.table x.side ≡ card_atom L.table None x.side.card = ap (λ p. card_atom L.table p x.side.card) plans in
       ⊎_elim
       (λ none. inl (same ∙ none))
@@ -87,7 +91,9 @@ module _ (V K : Type 0) (L : LockAt V K) (good : Goods V K) (further : List Even
   each_atom at e =
       ⊎_elim
       (λ q. inl (record {
-        words = subst (λ z. SameWork L.work m.held.words (do_words z m.held.words)) q.2 (same_work L g.rule.base_is g.rule.behind_is q.0 m.held.words (lock_low V K L good further layout laws home m.held m.views g.rule r x has q.0 q.1));
+        words = subst (λ z. SameWork L.work m.held.words (do_words z m.held.words)) q.2
+            (same_work L g.rule.base_is g.rule.behind_is q.0 m.held.words
+            (lock_low V K L good further layout laws home m.held m.views g.rule r x has q.0 q.1));
         same = sym (after_lock V K L good further layout laws home x q.0 at (found at) q.1).1;
       }))
       (λ q. inr (record {

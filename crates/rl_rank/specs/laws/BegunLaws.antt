@@ -40,7 +40,8 @@ first_in (x ∷ xs) =
       all_of free rest zero u e = ap (λ (z : Side _). z.card) (sym (same_Some _ _ e)) ∙ free
       all_of free rest (suc r) u e = rest r u e
 
-      before_of : x.card ≡ Free → (r : ℕ) → ((k : ℕ) (u : Side _) → k < r → slice_get xs k ≡ Some u → u.card ≡ Free) → (k : ℕ) (u : Side _) → k < suc r → slice_get (x ∷ xs) k ≡ Some u → u.card ≡ Free
+      before_of : x.card ≡ Free → (r : ℕ) → ((k : ℕ) (u : Side _) → k < r → slice_get xs k ≡ Some u → u.card ≡ Free) →
+          (k : ℕ) (u : Side _) → k < suc r → slice_get (x ∷ xs) k ≡ Some u → u.card ≡ Free
       before_of free r old zero u lt e = ap (λ (z : Side _). z.card) (sym (same_Some _ _ e)) ∙ free
       before_of free r old (suc k) u lt e = let b : k < r = omega arith in old k u b e
 
@@ -59,7 +60,8 @@ module _ {V : Type 0} (T : LockTable V) where
       ap (λ y. begun T y (i + 1) xs) (free_begins z i x (free 0 x refl)) ∙ all_free_begin z (i + 1) xs (λ r u e. free (suc r) u e)
 
   -- one side is exchanged behind ranks that are in no card, and what it has begun is the same
-  pub same_begun : (xs : List (Side V)) (i r : ℕ) (x y : Side V) (z w : Sight V) → slice_get xs r ≡ Some x → ((k : ℕ) (u : Side V) → k < r → slice_get xs k ≡ Some u → u.card ≡ Free) →
+  pub same_begun : (xs : List (Side V)) (i r : ℕ) (x y : Side V) (z w : Sight V) → slice_get xs r ≡ Some x →
+      ((k : ℕ) (u : Side V) → k < r → slice_get xs k ≡ Some u → u.card ≡ Free) →
       begun_of T z (i + r) x ≡ begun_of T w (i + r) y → begun T z i xs ≡ begun T w i (slice_set xs r y)
   same_begun [] i r x y z w has before e = cc
   same_begun (u ∷ us) i zero x y z w has before e =
@@ -71,15 +73,18 @@ module _ {V : Type 0} (T : LockTable V) where
       let lt : 0 < suc r = omega arith in
       let free : u.card ≡ Free = before 0 u lt refl in
       ap (λ q. begun T q (i + 1) us) (free_begins z i u free)
-      ∙ same_begun us (i + 1) r x y z w has (λ k v b h. let c : suc k < suc r = omega arith in before (suc k) v c h) (subst (λ k. begun_of T z k x ≡ begun_of T w k y) at e)
+      ∙ same_begun us (i + 1) r x y z w has (λ k v b h. let c : suc k < suc r = omega arith in before (suc k) v c h)
+      (subst (λ k. begun_of T z k x ≡ begun_of T w k y) at e)
       ∙ ap (λ q. begun T q (i + 1) (slice_set us r y)) (sym (free_begins w i u free))
 
   -- where nobody was in a card, what is begun is what the exchanged side has begun
-  pub one_begun : (xs : List (Side V)) (i r : ℕ) (x y : Side V) (w : Sight V) → slice_get xs r ≡ Some x → AllFree xs → begun T w i (slice_set xs r y) ≡ begun_of T w (i + r) y
+  pub one_begun : (xs : List (Side V)) (i r : ℕ) (x y : Side V) (w : Sight V) → slice_get xs r ≡ Some x → AllFree xs →
+      begun T w i (slice_set xs r y) ≡ begun_of T w (i + r) y
   one_begun [] i r x y w has free = cc
   one_begun (u ∷ us) i zero x y w has free =
       let at : i ≡ i + 0 = omega arith in
       all_free_begin (begun_of T w i y) (i + 1) us (λ k v e. free (suc k) v e) ∙ ap (λ k. begun_of T w k y) at
   one_begun (u ∷ us) i (suc r) x y w has free =
       let at : (i + 1) + r ≡ i + suc r = omega arith in
-      ap (λ q. begun T q (i + 1) (slice_set us r y)) (free_begins w i u (free 0 u refl)) ∙ one_begun us (i + 1) r x y w has (λ k v e. free (suc k) v e) ∙ ap (λ k. begun_of T w k y) at
+      ap (λ q. begun T q (i + 1) (slice_set us r y)) (free_begins w i u (free 0 u refl))
+      ∙ one_begun us (i + 1) r x y w has (λ k v e. free (suc k) v e) ∙ ap (λ k. begun_of T w k y) at

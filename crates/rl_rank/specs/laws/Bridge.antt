@@ -81,7 +81,8 @@ is_work Work = true
 is_work (Stay c s) = false
 is_work (Learn c t l) = false
 
-first_no_work : (a : Act) (home got : ℕ) (b z : Bool) → is_work (cond b (cond z (Stay InCard Moved) (Stay Free (Busy home (got - 1)))) (Learn Free got (skips a got))) ≡ false
+first_no_work : (a : Act) (home got : ℕ) (b z : Bool) → is_work
+    (cond b (cond z (Stay InCard Moved) (Stay Free (Busy home (got - 1)))) (Learn Free got (skips a got))) ≡ false
 first_no_work a home got true true = refl
 first_no_work a home got true false = refl
 first_no_work a home got false z = refl
@@ -125,7 +126,8 @@ module _ {V K : Type 0} (L : LockAt V K) (base_is : L.base ≡ lock_base L.work.
       (λ high.
       let k : ℕ = w - L.base in
       let at : w ≡ L.base + k = omega arith in
-      ap (λ n. take L.table.size (drop L.base (slice_set ws n v))) at ∙ ap (take L.table.size) (drop-set-add L.base ws k v) ∙ take-set-le L.table.size (drop L.base ws) k v (omega arith))
+      ap (λ n. take L.table.size (drop L.base (slice_set ws n v))) at ∙ ap (take L.table.size) (drop-set-add L.base ws k v)
+      ∙ take-set-le L.table.size (drop L.base ws) k v (omega arith))
       h.place
 
   pub off_lock : (r : ℕ) (at : Atom) (ws cs : List ℕ) → IsWorkAtom L.work at → IsOffLock L r at ws cs

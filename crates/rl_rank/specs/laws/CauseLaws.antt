@@ -34,7 +34,8 @@ use Rattle.rl_work.specs.Ways.{WorkTable, IsWorkAtom, AnswersAs, IsNextLoad, IsW
 
 -- a plain act whose first atom is a load loads its word; no first atom of a plain act is a Take
 plain_load : {V K : Type 0} (L : LockAt V K) (a : Act) (word : ℕ) → by_card a ≡ false → shifted L.base (first_atom L.table a) ≡ atom.Load word → IsLoad a
-plain_load L a word e q = plain_cases (λ b. shifted L.base (first_atom L.table b) ≡ atom.Load word → IsLoad b) (λ w k. tt) (λ w v k. cc) (λ w old new k. cc) a e q
+plain_load L a word e q = plain_cases (λ b. shifted L.base (first_atom L.table b) ≡ atom.Load word → IsLoad b) (λ w k. tt) (λ w v k. cc)
+    (λ w old new k. cc) a e q
 
 plain_no_take : {V K : Type 0} (L : LockAt V K) (a : Act) (node : ℕ) → by_card a ≡ false → shifted L.base (first_atom L.table a) ≡ atom.Take node → ⊥
 plain_no_take L a node e q = plain_cases (λ b. shifted L.base (first_atom L.table b) ≡ atom.Take node → ⊥) (λ w k. cc) (λ w v k. cc) (λ w old new k. cc) a e q
@@ -92,12 +93,15 @@ told_skips : (a : Act) (g : ℕ) → by_card a ≡ false → skips a (told a g) 
 told_skips a g e = plain_cases (λ b. skips b (told b g) ≡ skips b g) (λ w. refl) (λ w v. refl) (λ w old new. refl) a e
 
 -- a plain act that skips its store is a local compare-and-swap, and one by card a CardCas
-plain_compares : {V K : Type 0} (L : LockAt V K) (a : Act) (got : ℕ) → by_card a ≡ false → skips a got ≡ true → Compares L.base a (shifted L.base (first_atom L.table a)) (guess_of a)
+plain_compares : {V K : Type 0} (L : LockAt V K) (a : Act) (got : ℕ) → by_card a ≡ false → skips a got ≡ true →
+    Compares L.base a (shifted L.base (first_atom L.table a)) (guess_of a)
 plain_compares L a got e s =
-    plain_cases (λ b. skips b got ≡ true → Compares L.base b (shifted L.base (first_atom L.table b)) (guess_of b)) (λ w k. cc) (λ w v k. cc) (λ w old new k. (refl, refl)) a e s
+    plain_cases (λ b. skips b got ≡ true → Compares L.base b (shifted L.base (first_atom L.table b)) (guess_of b)) (λ w k. cc) (λ w v k. cc)
+    (λ w old new k. (refl, refl)) a e s
 
 card_compares : (base : ℕ) (a : Act) (got : ℕ) → by_card a ≡ true → skips a got ≡ true → Compares base a (atom.CardLoad (base + word_of a)) (guess_of a)
-card_compares base a got e s = card_cases (λ b. skips b got ≡ true → Compares base b (atom.CardLoad (base + word_of b)) (guess_of b)) (λ w old new k. (refl, refl)) (λ w v k. cc) (λ w d k. cc) a e s
+card_compares base a got e s = card_cases (λ b. skips b got ≡ true → Compares base b (atom.CardLoad (base + word_of b)) (guess_of b))
+    (λ w old new k. (refl, refl)) (λ w v k. cc) (λ w d k. cc) a e s
 
 -- it saw another value than its guess
 skips_other : (a : Act) (got : ℕ) → skips a got ≡ true → got ≢ guess_of a
@@ -128,7 +132,8 @@ BeginsAgain L h v =
 
 module _ (V K : Type 0) (L : LockAt V K) (h : TheWindow) (v : V) (rounds : BeginsAgain L h v) where
   -- an atom that neither compares nor loads goes on, but for a Take
-  plain_sailing : (at : Atom) → ((node : ℕ) → at ≡ atom.Take node → slice_index h.cards node ≡ 0) → (IsCompare at → ⊥) → ((word : ℕ) → at ≡ atom.Load word → ⊥) → LockMoves L h v at
+  plain_sailing : (at : Atom) → ((node : ℕ) → at ≡ atom.Take node → slice_index h.cards node ≡ 0) → (IsCompare at → ⊥) →
+      ((word : ℕ) → at ≡ atom.Load word → ⊥) → LockMoves L h v at
   plain_sailing at free no_compare no_load =
       record {
         free = free;
@@ -137,8 +142,10 @@ module _ (V K : Type 0) (L : LockAt V K) (h : TheWindow) (v : V) (rounds : Begin
       }
 
   -- an answer of a plain act that lost no compare
-  learnt_cause : (a : Act) (got : ℕ) → L.table.plan v ≡ Some a → by_card a ≡ false → got ≡ told a (slice_index h.words (L.base + word_of a)) → skips a got ≡ false →
-      (b : Bool) → (L.table.learn v got).waits ≡ b → LockCause L h v (shifted L.base (first_atom L.table a)) (shifted_answer L.base (answer_of (Some a) got false b))
+  learnt_cause : (a : Act) (got : ℕ) → L.table.plan v ≡ Some a → by_card a ≡ false →
+      got ≡ told a (slice_index h.words (L.base + word_of a)) → skips a got ≡ false →
+      (b : Bool) → (L.table.learn v got).waits ≡ b → LockCause L h v (shifted L.base (first_atom L.table a))
+      (shifted_answer L.base (answer_of (Some a) got false b))
   learnt_cause a got pl bc tells sk true e =
       let round = rounds a pl (ap (λ z. (L.table.learn v z).waits) (sym tells) ∙ e) in
       record {
@@ -157,13 +164,15 @@ module _ (V K : Type 0) (L : LockAt V K) (h : TheWindow) (v : V) (rounds : Begin
             let same : l.act ≡ a = same_Some _ _ (sym l.planned ∙ pl) in
             let seen_is : slice_index h.words (L.base + word_of a) ≡ seen = ap (λ z. slice_index h.words (L.base + word_of z)) (sym same) ∙ l.found in
             let lost : skips a seen ≡ true = ap (λ z. skips z seen) (sym same) ∙ compares_skips L.base l.act _ guess seen l.compares l.other in
-            let not_lost : skips a seen ≡ false = ap (skips a) (sym seen_is) ∙ sym (told_skips a (slice_index h.words (L.base + word_of a)) bc) ∙ ap (skips a) (sym tells) ∙ sk in
+            let not_lost : skips a seen ≡ false = ap (skips a) (sym seen_is)
+            ∙ sym (told_skips a (slice_index h.words (L.base + word_of a)) bc) ∙ ap (skips a) (sym tells) ∙ sk in
             let bad : true ≡ false = sym lost ∙ not_lost in cc;
         met = λ word value w.
             let same : w.act ≡ a = same_Some _ _ (sym w.planned ∙ pl) in
             let loads : IsLoad a = plain_load L a word bc w.made in
             let here : word ≡ L.base + word_of a = w.same_word ∙ ap (λ z. L.base + word_of z) same in
-            let value_is : value ≡ got = w.tells ∙ ap (slice_index h.words) here ∙ sym (load_told a (slice_index h.words (L.base + word_of a)) loads) ∙ sym tells in
+            let value_is : value ≡ got = w.tells ∙ ap (slice_index h.words) here
+            ∙ sym (load_told a (slice_index h.words (L.base + word_of a)) loads) ∙ sym tells in
             let bad : true ≡ false = sym w.unmet ∙ ap (λ z. (L.table.learn v z).waits) value_is ∙ e in cc;
       }
 
@@ -178,7 +187,8 @@ module _ (V K : Type 0) (L : LockAt V K) (h : TheWindow) (v : V) (rounds : Begin
   plain_cause : (r : ℕ) (a : Act) (got : ℕ) → L.table.plan v ≡ Some a → by_card a ≡ false → got ≡ do_got (first_atom L.table a) (drop L.base h.words) h.cards →
       CauseOf (shifted L.base (first_atom L.table a)) (turned_side L.table r v (Some a) (Learn Free got (skips a got))).stepped
   plain_cause r a got pl bc eg =
-      let tells : got ≡ told a (slice_index h.words (L.base + word_of a)) = eg ∙ plain_got V L.table a (drop L.base h.words) h.cards bc ∙ ap (told a) (in_window (word_of a)) in
+      let tells : got ≡ told a (slice_index h.words (L.base + word_of a)) = eg ∙ plain_got V L.table a (drop L.base h.words) h.cards bc
+      ∙ ap (told a) (in_window (word_of a)) in
       ⊎_elim
       (λ sk. subst (λ b. CauseOf (shifted L.base (first_atom L.table a)) (answer_of (Some a) got b (L.table.learn v got).waits)) (sym sk)
       (record {
@@ -230,19 +240,22 @@ module _ (V K : Type 0) (L : LockAt V K) (h : TheWindow) (v : V) (rounds : Begin
         won = λ guess seen l.
             let same : l.act ≡ a = same_Some _ _ (sym l.planned ∙ pl) in
             let seen_is : got ≡ seen = eg ∙ in_window (word_of a) ∙ ap (λ z. slice_index h.words (L.base + word_of z)) (sym same) ∙ l.found in
-            let bad : true ≡ false = sym (ap (λ z. skips z seen) (sym same) ∙ compares_skips L.base l.act _ guess seen l.compares l.other) ∙ ap (skips a) (sym seen_is) ∙ sk in cc;
+            let bad : true ≡ false = sym (ap (λ z. skips z seen) (sym same) ∙ compares_skips L.base l.act _ guess seen l.compares l.other)
+            ∙ ap (skips a) (sym seen_is) ∙ sk in cc;
         met = λ word value w. cc;
       }))
       (bool_cases (skips a got))
 
   -- the store in a card
-  store_cause : (a : Act) (g : ℕ) (b : Bool) → L.table.plan v ≡ Some a → by_card a ≡ true → told a g ≡ told a (slice_index h.words (L.base + word_of a)) → (L.table.learn v (told a g)).waits ≡ b →
+  store_cause : (a : Act) (g : ℕ) (b : Bool) → L.table.plan v ≡ Some a → by_card a ≡ true →
+      told a g ≡ told a (slice_index h.words (L.base + word_of a)) → (L.table.learn v (told a g)).waits ≡ b →
       LockCause L h v (atom.CardStore (L.base + word_of a) (written a g)) (shifted_answer L.base (answer_of (Some a) (told a g) false b))
   store_cause a g true pl bc tells e = absurd (load_plain a (rounds a pl (ap (λ z. (L.table.learn v z).waits) (sym tells) ∙ e)).0 bc)
   store_cause a g false pl bc tells e = plain_sailing (atom.CardStore (L.base + word_of a) (written a g)) (λ node q. cc) (λ c. c) (λ word q. cc)
 
   -- every atom of the lock
-  lock_cause : (r : ℕ) (p : Option Act) (c : CardState) (b : Atom) → L.table.plan v ≡ p → StandsStill (drop L.base h.words) p c → card_atom L.table p c ≡ Some b →
+  lock_cause : (r : ℕ) (p : Option Act) (c : CardState) (b : Atom) → L.table.plan v ≡ p → StandsStill (drop L.base h.words) p c →
+      card_atom L.table p c ≡ Some b →
       CauseOf (shifted L.base b) (card_after L.table r v p c (do_got b (drop L.base h.words) h.cards)).stepped
   lock_cause r p (ToLeave n) b pl k e =
       subst (λ z. LockMoves L h v (shifted L.base z)) (same_Some _ _ e) (plain_sailing (atom.Leave n) (λ node q. cc) (λ c. c) (λ word q. cc))
@@ -270,7 +283,8 @@ work_no_take T (atom.CardStore w v) node h e = absurd h
 work_no_take T (atom.Leave n) node h e = absurd h
 
 -- a word that stands still among the first so many stands still
-still_longer : (n : ℕ) (ws : List ℕ) (p : Option Act) (c : CardState) → ((a : Act) → p ≡ Some a → word_of a < n) → StandsStill (take n ws) p c → StandsStill ws p c
+still_longer : (n : ℕ) (ws : List ℕ) (p : Option Act) (c : CardState) → ((a : Act) → p ≡ Some a → word_of a < n) →
+    StandsStill (take n ws) p c → StandsStill ws p c
 still_longer n ws p Free low s = tt
 still_longer n ws p (ToLeave m) low s = tt
 still_longer n ws None InCard low s = absurd s
@@ -279,7 +293,8 @@ still_longer n ws (Some a) InCard low s = s
 still_longer n ws (Some a) (Loaded g) low s = (s.0, s.1, sym (get_or-take n ws (word_of a) 0 (low a refl)) ∙ s.2)
 
 -- a cause by the lock is one of the answer, where the atom is the lock's
-lock_gives : {V K : Type 0} (L : LockAt V K) (h : TheWindow) (x : WholeView V K) (at b : Atom) → side_atom L.table x.side ≡ Some b → (s : Stepped) → LockCause L h x.side.view at s → Cause L h x (Some at) s
+lock_gives : {V K : Type 0} (L : LockAt V K) (h : TheWindow) (x : WholeView V K) (at b : Atom) → side_atom L.table x.side ≡ Some b →
+    (s : Stepped) → LockCause L h x.side.view at s → Cause L h x (Some at) s
 lock_gives L h x at b is Moved c = (c, λ w. let bad : Some b ≡ None = sym is ∙ w.0 in absurd (cc))
 lock_gives L h x at b is (Waiting word value) c = inl c
 lock_gives L h x at b is (Lost guess seen) c = inl c
@@ -287,8 +302,10 @@ lock_gives L h x at b is (Busy node holder) c = c
 lock_gives L h x at b is Finished c = absurd c
 
 -- the cause of an answer of the work
-work_gives : {V K : Type 0} (L : LockAt V K) (h : TheWindow) (x : WholeView V K) (at : Atom) → IsWork L x at → LockMoves L h x.side.view at → (s : Stepped) → (L.work.after x.rank x.work (do_got at h.words h.cards)).stepped ≡ s →
-    AnswersAs at (do_got at h.words h.cards) (L.work.next x.rank (L.work.after x.rank x.work (do_got at h.words h.cards)).work) (L.work.after x.rank x.work (do_got at h.words h.cards)).follow s → Cause L h x (Some at) s
+work_gives : {V K : Type 0} (L : LockAt V K) (h : TheWindow) (x : WholeView V K) (at : Atom) → IsWork L x at →
+    LockMoves L h x.side.view at → (s : Stepped) → (L.work.after x.rank x.work (do_got at h.words h.cards)).stepped ≡ s →
+    AnswersAs at (do_got at h.words h.cards) (L.work.next x.rank (L.work.after x.rank x.work (do_got at h.words h.cards)).work)
+    (L.work.after x.rank x.work (do_got at h.words h.cards)).follow s → Cause L h x (Some at) s
 work_gives L h x at is goes Moved e a = (goes, λ w. e)
 work_gives L h x at is goes (Waiting word value) e a =
     inr (record {
@@ -303,36 +320,50 @@ work_gives L h x at is goes (Lost guess seen) e a =
 work_gives L h x at is goes (Busy node holder) e a = absurd a
 work_gives L h x at is goes Finished e a = absurd a
 
-module _ (V K : Type 0) (L : LockAt V K) (good : Goods V K) (further : List Event → List Deed → Type 0) (layout : Layout) (laws : BothLaws L good further layout) (home : ℕ) where
+module _ (V K : Type 0) (L : LockAt V K) (good : Goods V K) (further : List Event → List Deed → Type 0) (layout : Layout)
+    (laws : BothLaws L good further layout) (home : ℕ) where
   -- by the lock's law
-  rounds_of : (h : TheWindow) (vs : List (WholeView V K)) (r : ℕ) (x : WholeView V K) → Good L good layout h vs → slice_get vs r ≡ Some x → BeginsAgain L h x.side.view
+  rounds_of : (h : TheWindow) (vs : List (WholeView V K)) (r : ℕ) (x : WholeView V K) → Good L good layout h vs → slice_get vs r ≡ Some x →
+      BeginsAgain L h x.side.view
   rounds_of h vs r x g has a pl e =
       let s : SplitState V = split_of L h vs g.modes g.past in
-      let low : word_of a < L.table.size = plan_there V K L good further layout laws home x a (record { held = h; views = vs; rank = r; is_ruled = g; has = has }) pl in
-      let here : told a (slice_index s.words (word_of a)) ≡ told a (slice_index h.words (L.base + word_of a)) = ap (told a) (get_or-take L.table.size (drop L.base h.words) (word_of a) 0 low ∙ get_or-drop L.base h.words (word_of a) 0) in
-      let law = laws.lock.waits_on_loads (lock_of s) r x.side.view a (record { is_good = g.lock_part.lock; has = get_map view_of s.sides r x.side (get_map side_of vs r x has); planned = pl })
+      let low : word_of a < L.table.size = plan_there V K L good further layout laws home x a
+      (record { held = h; views = vs; rank = r; is_ruled = g; has = has }) pl in
+      let here : told a (slice_index s.words (word_of a)) ≡ told a (slice_index h.words (L.base + word_of a)) =
+      ap (told a) (get_or-take L.table.size (drop L.base h.words) (word_of a) 0 low ∙ get_or-drop L.base h.words (word_of a) 0) in
+      let law = laws.lock.waits_on_loads (lock_of s) r x.side.view a
+      (record { is_good = g.lock_part.lock; has = get_map view_of s.sides r x.side (get_map side_of vs r x has); planned = pl })
       (ap (λ z. (L.table.learn x.side.view z).waits) here ∙ e) in
       (law.0, subst (λ z. PlansLoad (L.table.plan (L.table.learn x.side.view z).view)) here law.1)
 
-  pub answer_cause : (h : TheWindow) (vs : List (WholeView V K)) (r : ℕ) (x : WholeView V K) (at : Atom) → Good L good layout h vs → slice_get vs r ≡ Some x → next_of L x ≡ Some at →
+  pub answer_cause : (h : TheWindow) (vs : List (WholeView V K)) (r : ℕ) (x : WholeView V K) (at : Atom) → Good L good layout h vs →
+      slice_get vs r ≡ Some x → next_of L x ≡ Some at →
       Cause L h x (Some at) (after_of L x (do_got at h.words h.cards)).stepped
   answer_cause h vs r x at g has e =
       let got : ℕ = do_got at h.words h.cards in
       let may : MayBe (Good L good layout) x = record { held = h; views = vs; rank = r; is_ruled = g; has = has } in
       ⊎_elim
       (λ q.
-      let still = still_longer L.table.size (drop L.base h.words) (L.table.plan x.side.view) x.side.card (λ a pl. plan_there V K L good further layout laws home x a may pl) (g.lock_part.still r x.side (get_map side_of vs r x has)) in
+      let still = still_longer L.table.size (drop L.base h.words) (L.table.plan x.side.view) x.side.card
+      (λ a pl. plan_there V K L good further layout laws home x a may pl) (g.lock_part.still r x.side (get_map side_of vs r x has)) in
       let same : got ≡ do_got q.0 (drop L.base h.words) h.cards = ap (λ z. do_got z h.words h.cards) (sym q.2) ∙ shift_got L.base q.0 h.words h.cards in
       let calm = no_work (plan_home L.table (L.table.plan x.side.view)) (L.table.plan x.side.view) x.side.card got q.0 q.1 in
-      let answer : (after_of L x got).stepped ≡ shifted_answer L.base (card_after L.table x.rank x.side.view (L.table.plan x.side.view) x.side.card got).stepped =
-      ap (λ t. t.stepped) (lock_turned L x (L.work.after x.rank x.work got) (effect_at (plan_home L.table (L.table.plan x.side.view)) (L.table.plan x.side.view) x.side.card got) calm) in
-      let cause : LockCause L h x.side.view at (shifted_answer L.base (card_after L.table x.rank x.side.view (L.table.plan x.side.view) x.side.card got).stepped) =
-      subst (λ n. LockCause L h x.side.view at (shifted_answer L.base (card_after L.table x.rank x.side.view (L.table.plan x.side.view) x.side.card n).stepped)) (sym same)
-      (subst (λ z. LockCause L h x.side.view z (shifted_answer L.base (card_after L.table x.rank x.side.view (L.table.plan x.side.view) x.side.card (do_got q.0 (drop L.base h.words) h.cards)).stepped)) q.2
+      let answer : (after_of L x got).stepped ≡ shifted_answer L.base
+      (card_after L.table x.rank x.side.view (L.table.plan x.side.view) x.side.card got).stepped =
+      ap (λ t. t.stepped) (lock_turned L x (L.work.after x.rank x.work got)
+      (effect_at (plan_home L.table (L.table.plan x.side.view)) (L.table.plan x.side.view) x.side.card got) calm) in
+      let cause : LockCause L h x.side.view at (shifted_answer L.base
+      (card_after L.table x.rank x.side.view (L.table.plan x.side.view) x.side.card got).stepped) =
+      subst (λ n. LockCause L h x.side.view at (shifted_answer L.base
+      (card_after L.table x.rank x.side.view (L.table.plan x.side.view) x.side.card n).stepped)) (sym same)
+      (subst (λ z. LockCause L h x.side.view z (shifted_answer L.base
+      (card_after L.table x.rank x.side.view (L.table.plan x.side.view) x.side.card
+      (do_got q.0 (drop L.base h.words) h.cards)).stepped)) q.2
       (lock_cause V K L h x.side.view (rounds_of h vs r x g has) x.rank (L.table.plan x.side.view) x.side.card q.0 refl still q.1)) in
       lock_gives L h x at q.0 q.1 (after_of L x got).stepped (subst (LockCause L h x.side.view at) (sym answer) cause))
       (λ q.
-      let away = none_at V L.table good.lock further layout laws.lock (lock_words L h.words) (L.table.plan x.side.view) x.side.card (g.lock_part.still r x.side (get_map side_of vs r x has)) q.0 in
+      let away = none_at V L.table good.lock further layout laws.lock (lock_words L h.words) (L.table.plan x.side.view) x.side.card
+      (g.lock_part.still r x.side (get_map side_of vs r x has)) q.0 in
       let works = works_at V K L good further layout laws home h vs g r x has at q.1 q.2 in
       let plain : IsWorkAtom L.work at = laws.work.plain h.words (map (work_side L.table) vs) r (work_side L.table x) at works in
       let goes : LockMoves L h x.side.view at =
@@ -342,5 +373,6 @@ module _ (V K : Type 0) (L : LockAt V K) (good : Goods V K) (further : List Even
         met = λ word value w. let bad : None ≡ Some w.act = sym away.0 ∙ w.planned in cc;
       } in
       subst (Cause L h x (Some at)) (sym (ap (λ t. t.stepped) (after_work V K L good further layout laws home h vs g r x has q.0 got)))
-      (work_gives L h x at (q.0, q.2) goes (L.work.after x.rank x.work got).stepped refl (work_answers V K L good further layout laws home h vs g r x has at q.1 q.2)))
+      (work_gives L h x at (q.0, q.2) goes (L.work.after x.rank x.work got).stepped refl
+      (work_answers V K L good further layout laws home h vs g r x has at q.1 q.2)))
       (next_either V K L good further layout laws home x at e)

@@ -45,13 +45,15 @@ match_set : (ws rs ws' rs' : ℕ → Bool) (sts : List Standing) (r : ℕ) (old 
 match_set ws rs ws' rs' sts r old st m has others w1 w2 r1 r2 =
     record {
       writes = λ k e. ⊎_elim
-          (λ q. subst (λ z. slice_get (slice_set sts r st) z ≡ Some Writer) (sym q) (get_set_same sts r old st has ∙ ap (λ z. Some z) (w1 (subst (λ z. ws' z ≡ true) q e))))
+          (λ q. subst (λ z. slice_get (slice_set sts r st) z ≡ Some Writer) (sym q)
+          (get_set_same sts r old st has ∙ ap (λ z. Some z) (w1 (subst (λ z. ws' z ≡ true) q e))))
           (λ q. get_set_other sts r k st q ∙ m.writes k (sym (others k q).0 ∙ e)) (same_or_not k r);
       writer = λ k e. ⊎_elim
           (λ q. subst (λ z. ws' z ≡ true) (sym q.0) (w2 (sym q.1)))
           (λ q. (others k q.0).0 ∙ m.writer k q.1) (get_set_cases sts r k st Writer e);
       reads = λ k e. ⊎_elim
-          (λ q. subst (λ z. slice_get (slice_set sts r st) z ≡ Some Reader) (sym q) (get_set_same sts r old st has ∙ ap (λ z. Some z) (r1 (subst (λ z. rs' z ≡ true) q e))))
+          (λ q. subst (λ z. slice_get (slice_set sts r st) z ≡ Some Reader) (sym q)
+          (get_set_same sts r old st has ∙ ap (λ z. Some z) (r1 (subst (λ z. rs' z ≡ true) q e))))
           (λ q. get_set_other sts r k st q ∙ m.reads k (sym (others k q).1 ∙ e)) (same_or_not k r);
       reader = λ k e. ⊎_elim
           (λ q. subst (λ z. rs' z ≡ true) (sym q.0) (r2 (sym q.1)))
@@ -70,7 +72,8 @@ pub record Goes (ws rs : ℕ → Bool) (es : List Event) (sts : List Standing) :
   pub match : Match (writers_of ws es) (readers_of rs es) sts
   pub exclusive : ExclusiveFrom ws rs es
 
-quiet_goes : (ws rs : ℕ → Bool) (sts : List Standing) (r : ℕ) (old st : Standing) (es : List Event) → Match ws rs sts → AloneIn sts → slice_get sts r ≡ Some old → holds_only es ≡ [] →
+quiet_goes : (ws rs : ℕ → Bool) (sts : List Standing) (r : ℕ) (old st : Standing) (es : List Event) → Match ws rs sts → AloneIn sts →
+    slice_get sts r ≡ Some old → holds_only es ≡ [] →
     (old ≡ Writer → st ≡ Writer) → (st ≡ Writer → old ≡ Writer) → (old ≡ Reader → st ≡ Reader) → (st ≡ Reader → old ≡ Reader) →
     Goes ws rs es (slice_set sts r st)
 quiet_goes ws rs sts r old st es m a has q w1 w2 r1 r2 =
@@ -86,7 +89,8 @@ quiet_goes ws rs sts r old st es m a has q w1 w2 r1 r2 =
       one_of : (u v : Standing) → slice_get sts r ≡ Some v → old ≡ v
       one_of u v e = one_at sts r old v has e
 
-event_goes : (ws rs : ℕ → Bool) (sts sts' : List Standing) (es : List Event) (e : Event) → holds_only es ≡ e ∷ [] → Match ws rs sts → AloneIn sts → AloneIn sts' → TouchFits ws rs e →
+event_goes : (ws rs : ℕ → Bool) (sts sts' : List Standing) (es : List Event) (e : Event) → holds_only es ≡ e ∷ [] → Match ws rs sts →
+    AloneIn sts → AloneIn sts' → TouchFits ws rs e →
     Match (writers_after e ws) (readers_after e rs) sts' → Goes ws rs es sts'
 event_goes ws rs sts sts' es e h m a b t after =
     let o = one_holds ws rs es e h in
@@ -95,7 +99,8 @@ event_goes ws rs sts sts' es e h m a b t after =
       exclusive = o.exclusive (alone_of ws rs sts m a) t (alone_of (writers_after e ws) (readers_after e rs) sts' after b);
     }
 
-enter_w_goes : (ws rs : ℕ → Bool) (sts : List Standing) (r : ℕ) (es : List Event) → Match ws rs sts → AloneIn sts → AloneIn (slice_set sts r Writer) → slice_get sts r ≡ Some Asking → holds_only es ≡ EnterW r ∷ [] →
+enter_w_goes : (ws rs : ℕ → Bool) (sts : List Standing) (r : ℕ) (es : List Event) → Match ws rs sts → AloneIn sts →
+    AloneIn (slice_set sts r Writer) → slice_get sts r ≡ Some Asking → holds_only es ≡ EnterW r ∷ [] →
     Goes ws rs es (slice_set sts r Writer)
 enter_w_goes ws rs sts r es m a b has h =
     event_goes ws rs sts (slice_set sts r Writer) es (EnterW r) h m a b tt
@@ -103,7 +108,8 @@ enter_w_goes ws rs sts r es m a b has h =
     (λ k ne. (set_there k r true ws ne, refl))
     (λ e. refl) (λ e. set_here r true ws) (λ e. let q : Asking ≡ Reader = one_at sts r Asking Reader has (m.reads r e) in cc) (λ e. cc))
 
-enter_r_goes : (ws rs : ℕ → Bool) (sts : List Standing) (r : ℕ) (es : List Event) → Match ws rs sts → AloneIn sts → AloneIn (slice_set sts r Reader) → slice_get sts r ≡ Some Asking → holds_only es ≡ EnterR r ∷ [] →
+enter_r_goes : (ws rs : ℕ → Bool) (sts : List Standing) (r : ℕ) (es : List Event) → Match ws rs sts → AloneIn sts →
+    AloneIn (slice_set sts r Reader) → slice_get sts r ≡ Some Asking → holds_only es ≡ EnterR r ∷ [] →
     Goes ws rs es (slice_set sts r Reader)
 enter_r_goes ws rs sts r es m a b has h =
     event_goes ws rs sts (slice_set sts r Reader) es (EnterR r) h m a b tt
@@ -116,7 +122,8 @@ touch_w_fits : (ws rs : ℕ → Bool) (r : ℕ) (w : Bool) → ws r ≡ true →
 touch_w_fits ws rs r true here = here
 touch_w_fits ws rs r false here = λ f. absurd (true≢false (sym here ∙ f))
 
-touch_goes : (ws rs : ℕ → Bool) (sts : List Standing) (r : ℕ) (st : Standing) (w : Bool) (es : List Event) → Match ws rs sts → AloneIn sts → slice_get sts r ≡ Some st → es ≡ Touch r w ∷ [] → TouchFits ws rs (Touch r w) →
+touch_goes : (ws rs : ℕ → Bool) (sts : List Standing) (r : ℕ) (st : Standing) (w : Bool) (es : List Event) → Match ws rs sts → AloneIn sts →
+    slice_get sts r ≡ Some st → es ≡ Touch r w ∷ [] → TouchFits ws rs (Touch r w) →
     Goes ws rs es (slice_set sts r st)
 touch_goes ws rs sts r st w es m a has e fits =
     let same : slice_set sts r st ≡ sts = set_same_get sts r st has in
@@ -125,37 +132,46 @@ touch_goes ws rs sts r st w es m a has e fits =
     (record { match = subst (Match ws rs) (sym same) m; exclusive = (alone, fits, alone) })
 
 -- a holder's touch and leave
-leave_goes : (ws rs : ℕ → Bool) (sts : List Standing) (r : ℕ) (w : Bool) (e : Event) (es : List Event) → Match ws rs sts → AloneIn sts → AloneIn (slice_set sts r Leaving) → es ≡ Touch r w ∷ e ∷ [] →
-    TouchFits ws rs (Touch r w) → TouchFits ws rs e → Match (writers_after e ws) (readers_after e rs) (slice_set sts r Leaving) → Goes ws rs es (slice_set sts r Leaving)
+leave_goes : (ws rs : ℕ → Bool) (sts : List Standing) (r : ℕ) (w : Bool) (e : Event) (es : List Event) → Match ws rs sts → AloneIn sts →
+    AloneIn (slice_set sts r Leaving) → es ≡ Touch r w ∷ e ∷ [] →
+    TouchFits ws rs (Touch r w) → TouchFits ws rs e → Match (writers_after e ws) (readers_after e rs)
+    (slice_set sts r Leaving) → Goes ws rs es (slice_set sts r Leaving)
 leave_goes ws rs sts r w e es m a b h touch leave after =
     let alone : Alone ws rs = alone_of ws rs sts m a in
     subst (λ z. Goes ws rs z (slice_set sts r Leaving)) (sym h)
     (record { match = after; exclusive = (alone, touch, (alone, leave, alone_of (writers_after e ws) (readers_after e rs) (slice_set sts r Leaving) after b)) })
 
-left_w : (ws rs : ℕ → Bool) (sts : List Standing) (r : ℕ) → Match ws rs sts → slice_get sts r ≡ Some Writer → Match (writers_after (LeaveW r) ws) (readers_after (LeaveW r) rs) (slice_set sts r Leaving)
+left_w : (ws rs : ℕ → Bool) (sts : List Standing) (r : ℕ) → Match ws rs sts → slice_get sts r ≡ Some Writer →
+    Match (writers_after (LeaveW r) ws) (readers_after (LeaveW r) rs) (slice_set sts r Leaving)
 left_w ws rs sts r m has =
     match_set ws rs (writers_after (LeaveW r) ws) (readers_after (LeaveW r) rs) sts r Writer Leaving m has
     (λ k ne. (set_there k r false ws ne, refl))
-    (λ e. let q : false ≡ true = sym (set_here r false ws) ∙ e in cc) (λ e. cc) (λ e. let q : Writer ≡ Reader = one_at sts r Writer Reader has (m.reads r e) in cc) (λ e. cc)
+    (λ e. let q : false ≡ true = sym (set_here r false ws) ∙ e in cc) (λ e. cc)
+    (λ e. let q : Writer ≡ Reader = one_at sts r Writer Reader has (m.reads r e) in cc) (λ e. cc)
 
-left_r : (ws rs : ℕ → Bool) (sts : List Standing) (r : ℕ) → Match ws rs sts → slice_get sts r ≡ Some Reader → Match (writers_after (LeaveR r) ws) (readers_after (LeaveR r) rs) (slice_set sts r Leaving)
+left_r : (ws rs : ℕ → Bool) (sts : List Standing) (r : ℕ) → Match ws rs sts → slice_get sts r ≡ Some Reader →
+    Match (writers_after (LeaveR r) ws) (readers_after (LeaveR r) rs) (slice_set sts r Leaving)
 left_r ws rs sts r m has =
     match_set ws rs (writers_after (LeaveR r) ws) (readers_after (LeaveR r) rs) sts r Reader Leaving m has
     (λ k ne. (refl, set_there k r false rs ne))
-    (λ e. let q : Reader ≡ Writer = one_at sts r Reader Writer has (m.writes r e) in cc) (λ e. cc) (λ e. let q : false ≡ true = sym (set_here r false rs) ∙ e in cc) (λ e. cc)
+    (λ e. let q : Reader ≡ Writer = one_at sts r Reader Writer has (m.writes r e) in cc) (λ e. cc)
+    (λ e. let q : false ≡ true = sym (set_here r false rs) ∙ e in cc) (λ e. cc)
 
-leave_w_goes : (ws rs : ℕ → Bool) (sts : List Standing) (r : ℕ) (w : Bool) (es : List Event) → Match ws rs sts → AloneIn sts → AloneIn (slice_set sts r Leaving) → slice_get sts r ≡ Some Writer → es ≡ Touch r w ∷ LeaveW r ∷ [] →
+leave_w_goes : (ws rs : ℕ → Bool) (sts : List Standing) (r : ℕ) (w : Bool) (es : List Event) → Match ws rs sts → AloneIn sts →
+    AloneIn (slice_set sts r Leaving) → slice_get sts r ≡ Some Writer → es ≡ Touch r w ∷ LeaveW r ∷ [] →
     Goes ws rs es (slice_set sts r Leaving)
 leave_w_goes ws rs sts r w es m a b has h =
     leave_goes ws rs sts r w (LeaveW r) es m a b h (touch_w_fits ws rs r w (m.writer r has)) tt (left_w ws rs sts r m has)
 
-leave_r_goes : (ws rs : ℕ → Bool) (sts : List Standing) (r : ℕ) (es : List Event) → Match ws rs sts → AloneIn sts → AloneIn (slice_set sts r Leaving) → slice_get sts r ≡ Some Reader → es ≡ Touch r false ∷ LeaveR r ∷ [] →
+leave_r_goes : (ws rs : ℕ → Bool) (sts : List Standing) (r : ℕ) (es : List Event) → Match ws rs sts → AloneIn sts →
+    AloneIn (slice_set sts r Leaving) → slice_get sts r ≡ Some Reader → es ≡ Touch r false ∷ LeaveR r ∷ [] →
     Goes ws rs es (slice_set sts r Leaving)
 leave_r_goes ws rs sts r es m a b has h =
     leave_goes ws rs sts r false (LeaveR r) es m a b h (λ f. m.reader r has) tt (left_r ws rs sts r m has)
 
 -- a step that changes a rank's standing as it may keeps the match, and its events are exclusive
-pub goes : (ws rs : ℕ → Bool) (sts : List Standing) (r : ℕ) (old st : Standing) (es : List Event) → Match ws rs sts → AloneIn sts → AloneIn (slice_set sts r st) → slice_get sts r ≡ Some old →
+pub goes : (ws rs : ℕ → Bool) (sts : List Standing) (r : ℕ) (old st : Standing) (es : List Event) → Match ws rs sts → AloneIn sts →
+    AloneIn (slice_set sts r st) → slice_get sts r ≡ Some old →
     Change r old st es → Goes ws rs es (slice_set sts r st)
 goes ws rs sts r Out Out es m a b has h = quiet_goes ws rs sts r Out Out es m a has h (λ e. cc) (λ e. cc) (λ e. cc) (λ e. cc)
 goes ws rs sts r Out Asking es m a b has h = quiet_goes ws rs sts r Out Asking es m a has h (λ e. cc) (λ e. cc) (λ e. cc) (λ e. cc)
@@ -192,7 +208,8 @@ goes ws rs sts r Leaving Reader es m a b has h = absurd h
 goes ws rs sts r Leaving Leaving es m a b has h = quiet_goes ws rs sts r Leaving Leaving es m a has h (λ e. cc) (λ e. cc) (λ e. cc) (λ e. cc)
 
 -- the changes of an act of the lock are five
-pub shift_cases : (r : ℕ) (hs : List Event) (P : Standing → Standing → Type 0) → (hs ≡ [] → P Asking Asking) → (hs ≡ EnterW r ∷ [] → P Asking Writer) → (hs ≡ EnterR r ∷ [] → P Asking Reader) →
+pub shift_cases : (r : ℕ) (hs : List Event) (P : Standing → Standing → Type 0) → (hs ≡ [] → P Asking Asking) →
+    (hs ≡ EnterW r ∷ [] → P Asking Writer) → (hs ≡ EnterR r ∷ [] → P Asking Reader) →
     (hs ≡ [] → P Leaving Leaving) → (hs ≡ [] → P Leaving Out) → (old st : Standing) → Shift r old st hs → P old st
 shift_cases r hs P asks writes reads leaves out Out st h = absurd h
 shift_cases r hs P asks writes reads leaves out Asking Out h = absurd h
@@ -233,14 +250,16 @@ out_change r touch On t = out_quiet r touch On t
 out_change r touch (Ask m) t = out_quiet r touch (Ask m) t
 out_change r touch Over t = out_quiet r touch Over t
 
-holder_change_w : (r : ℕ) (touch : Option Bool) (follow : Follow) → AsksOut follow Writer → Change r Writer (standing_after follow Writer) (work_events r touch Writer follow)
+holder_change_w : (r : ℕ) (touch : Option Bool) (follow : Follow) → AsksOut follow Writer →
+    Change r Writer (standing_after follow Writer) (work_events r touch Writer follow)
 holder_change_w r None On a = inl refl
 holder_change_w r (Some w) On a = inr (w, refl)
 holder_change_w r touch (Ask m) a = absurd (cc)
 holder_change_w r None Over a = inl refl
 holder_change_w r (Some w) Over a = inr (w, refl)
 
-holder_change_r : (r : ℕ) (touch : Option Bool) (follow : Follow) → TouchesAs touch Reader → AsksOut follow Reader → Change r Reader (standing_after follow Reader) (work_events r touch Reader follow)
+holder_change_r : (r : ℕ) (touch : Option Bool) (follow : Follow) → TouchesAs touch Reader → AsksOut follow Reader →
+    Change r Reader (standing_after follow Reader) (work_events r touch Reader follow)
 holder_change_r r None On t a = inl refl
 holder_change_r r (Some true) On t a = absurd (cc)
 holder_change_r r (Some false) On t a = inr refl
@@ -249,7 +268,8 @@ holder_change_r r None Over t a = inl refl
 holder_change_r r (Some true) Over t a = absurd (cc)
 holder_change_r r (Some false) Over t a = inr refl
 
-pub work_change : (r : ℕ) (st : Standing) (touch : Option Bool) (follow : Follow) (new : Standing) → Rests st → TouchesAs touch st → AsksOut follow st → new ≡ standing_after follow st → Change r st new (work_events r touch st follow)
+pub work_change : (r : ℕ) (st : Standing) (touch : Option Bool) (follow : Follow) (new : Standing) → Rests st → TouchesAs touch st →
+    AsksOut follow st → new ≡ standing_after follow st → Change r st new (work_events r touch st follow)
 work_change r Out touch follow new h t a e = subst (λ z. Change r Out z (work_events r touch Out follow)) (sym e) (out_change r touch follow t)
 work_change r Asking touch follow new h t a e = absurd h
 work_change r Writer touch follow new h t a e = subst (λ z. Change r Writer z (work_events r touch Writer follow)) (sym e) (holder_change_w r touch follow a)

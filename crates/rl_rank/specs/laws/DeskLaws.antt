@@ -32,11 +32,25 @@ use Rattle.rl_rank.specs.laws.WorkEnds.{atom_work, atom_turn}
 pub keeps_all : {V K : Type 0} (L : LockAt V K) (words : List ℕ) (r : ℕ) (x : WholeView V K) →
     (L.work.transcript words r x.work ≡ (L.work.kept x.work).items) × (L.work.owes words r x.work ≡ L.work.pends x.work) → told_desk L words r x ≡ own_desk L x
 keeps_all L words r x same =
-    ap (λ z. record { kept = record { items = z; room = (L.work.kept x.work).room }; is_open = is_open L x; owes = L.work.is_open x.work && L.work.owes words r x.work; calls = L.work.calls x.work; seq = L.work.seq x.work }) same.0
-    ∙ ap (λ b. record { kept = record { items = (L.work.kept x.work).items; room = (L.work.kept x.work).room }; is_open = is_open L x; owes = L.work.is_open x.work && b; calls = L.work.calls x.work; seq = L.work.seq x.work }) same.1
+    ap (λ z. record {
+      kept = record { items = z; room = (L.work.kept x.work).room };
+      is_open = is_open L x;
+      owes =
+          L.work.is_open x.work && L.work.owes words r x.work;
+      calls = L.work.calls x.work;
+      seq = L.work.seq x.work;
+    }) same.0
+    ∙ ap (λ b. record {
+      kept = record { items = (L.work.kept x.work).items; room = (L.work.kept x.work).room };
+      is_open = is_open L x;
+      owes = L.work.is_open x.work && b;
+      calls = L.work.calls x.work;
+      seq = L.work.seq x.work;
+    }) same.1
 
 -- a look that goes on is a desk that does
-way_of : (shard rank : ℕ) (p q : Bool) (a b : Look) → AtomWork shard rank a b → KeepsBlock (desk_by p a) (desk_by q b) ⊎ EndsBlock shard rank (desk_by p a) (desk_by q b)
+way_of : (shard rank : ℕ) (p q : Bool) (a b : Look) → AtomWork shard rank a b →
+    KeepsBlock (desk_by p a) (desk_by q b) ⊎ EndsBlock shard rank (desk_by p a) (desk_by q b)
 way_of shard rank p q a b w =
     ⊎_elim
     (λ (g : BlockGoesOn a b). inl (record {
@@ -92,7 +106,8 @@ own_front site rank t more o =
       place = let p = o.place in omega (arith, count-append updates t more);
     }
 
-module _ (V K : Type 0) (L : LockAt V K) (good : Goods V K) (further : List Event → List Deed → Type 0) (layout : Layout) (laws : BothLaws L good further layout) (home : ℕ) where
+module _ (V K : Type 0) (L : LockAt V K) (good : Goods V K) (further : List Event → List Deed → Type 0) (layout : Layout)
+    (laws : BothLaws L good further layout) (home : ℕ) where
   -- before its first block
   pub first_is_new : (room rank : ℕ) → IsNewDesk room (own_desk L (first_view L room rank))
   first_is_new room rank =
@@ -107,7 +122,8 @@ module _ (V K : Type 0) (L : LockAt V K) (good : Goods V K) (further : List Even
     told_is =
         record {
           own = laws.work.own h.words (map (work_side L.table) vs) r (work_side L.table x) (work_at V K L good further layout laws home h vs g r x has);
-          owing = λ e. or_true (is_at_work (L.table.standing x.side.view) x.side.card) (L.work.is_open x.work) (and_first (L.work.is_open x.work) (L.work.owes h.words r x.work) e);
+          owing = λ e. or_true (is_at_work (L.table.standing x.side.view) x.side.card) (L.work.is_open x.work)
+              (and_first (L.work.is_open x.work) (L.work.owes h.words r x.work) e);
         }
 
     pub own_is : IsDeskOf L.work.site r (own_desk L x)
@@ -115,30 +131,50 @@ module _ (V K : Type 0) (L : LockAt V K) (good : Goods V K) (further : List Even
         let at = work_at V K L good further layout laws home h vs g r x has in
         let keeps = laws.work.keeps h.words (map (work_side L.table) vs) r (work_side L.table x) at in
         record {
-          own = own_front L.work.site r (L.work.kept x.work).items keeps.0 (subst (IsOwnTranscript L.work.site r) keeps.1 (laws.work.own h.words (map (work_side L.table) vs) r (work_side L.table x) at));
-          owing = λ e. or_true (is_at_work (L.table.standing x.side.view) x.side.card) (L.work.is_open x.work) (and_first (L.work.is_open x.work) (L.work.pends x.work) e);
+          own = own_front L.work.site r (L.work.kept x.work).items keeps.0
+              (subst (IsOwnTranscript L.work.site r) keeps.1 (laws.work.own h.words (map (work_side L.table) vs) r (work_side L.table x)
+              at));
+          owing = λ e. or_true (is_at_work (L.table.standing x.side.view) x.side.card) (L.work.is_open x.work)
+              (and_first (L.work.is_open x.work) (L.work.pends x.work) e);
         }
 
     -- where no block is open both are one
     pub settled_is : is_open L x ≡ false → told_desk L h.words r x ≡ own_desk L x
     settled_is shut =
         let closed : L.work.is_open x.work ≡ false = or_false (is_at_work (L.table.standing x.side.view) x.side.card) (L.work.is_open x.work) shut in
-        let items = (laws.work.closed h.words (map (work_side L.table) vs) r (work_side L.table x) (work_at V K L good further layout laws home h vs g r x has) closed).0 in
+        let items = (laws.work.closed h.words (map (work_side L.table) vs) r (work_side L.table x)
+        (work_at V K L good further layout laws home h vs g r x has) closed).0 in
         let owes : (L.work.is_open x.work && L.work.owes h.words r x.work) ≡ (L.work.is_open x.work && L.work.pends x.work) =
         ap (λ b. b && L.work.owes h.words r x.work) closed ∙ sym (ap (λ b. b && L.work.pends x.work) closed) in
-        ap (λ z. record { kept = record { items = z; room = (L.work.kept x.work).room }; is_open = is_open L x; owes = L.work.is_open x.work && L.work.owes h.words r x.work; calls = L.work.calls x.work; seq = L.work.seq x.work }) items
-        ∙ ap (λ b. record { kept = record { items = (L.work.kept x.work).items; room = (L.work.kept x.work).room }; is_open = is_open L x; owes = b; calls = L.work.calls x.work; seq = L.work.seq x.work }) owes
+        ap (λ z. record {
+          kept = record { items = z; room = (L.work.kept x.work).room };
+          is_open = is_open L x;
+          owes =
+              L.work.is_open x.work && L.work.owes h.words r x.work;
+          calls = L.work.calls x.work;
+          seq = L.work.seq x.work;
+        }) items
+        ∙ ap (λ b. record {
+          kept = record { items = (L.work.kept x.work).items; room = (L.work.kept x.work).room };
+          is_open = is_open L x;
+          owes = b;
+          calls = L.work.calls x.work;
+          seq = L.work.seq x.work;
+        }) owes
 
     -- a block is opened where none is
-    module _ (calls : List Call) (seq : ℕ) (none : next_of L x ≡ None) (fits : IsOpen L.work.site r calls seq (L.work.kept x.work)) (takes : Takes L.work calls) where
+    module _ (calls : List Call) (seq : ℕ) (none : next_of L x ≡ None) (fits : IsOpen L.work.site r calls seq (L.work.kept x.work))
+        (takes : Takes L.work calls) where
       abbrev y : WholeView V K
       y = opened_in L calls seq x
 
       opens_looks : (look L.work h.words r (L.work.opens r x.work calls seq) ≡ opened_look (look L.work h.words r x.work) calls seq)
-          × (own_look L.work (L.work.opens r x.work calls seq) ≡ opened_look (own_look L.work x.work) calls seq) × (L.work.is_open (L.work.opens r x.work calls seq) ≡ true)
+          × (own_look L.work (L.work.opens r x.work calls seq) ≡ opened_look (own_look L.work x.work) calls seq) ×
+          (L.work.is_open (L.work.opens r x.work calls seq) ≡ true)
       opens_looks =
           let parts = closed_parts V K L good further layout laws home h vs r x g has none in
-          let o = laws.work.opened h.words (map (work_side L.table) vs) r (work_side L.table x) calls seq (work_at V K L good further layout laws home h vs g r x has) parts.0 parts.2 fits takes in
+          let o = laws.work.opened h.words (map (work_side L.table) vs) r (work_side L.table x) calls seq
+          (work_at V K L good further layout laws home h vs g r x has) parts.0 parts.2 fits takes in
           (o.0, o.1, o.2)
 
       abbrev SeenOpen : ℕ → Type 0
@@ -149,14 +185,21 @@ module _ (V K : Type 0) (L : LockAt V K) (good : Goods V K) (further : List Even
 
       pub told_opens : OpensBlock calls seq (told_desk L h.words r x) (told_desk L h.words r y)
       told_opens =
-          subst (λ n. OpensBlock calls seq (told_desk L h.words r x) (told_desk L h.words r (record { side = y.side; kept = x.kept; rank = x.rank; work = L.work.opens n x.work calls seq }))) (sym (g.own r x has))
-          (opened_by (is_open L x) (is_open L (record { side = y.side; kept = x.kept; rank = x.rank; work = L.work.opens r x.work calls seq })) (look L.work h.words r x.work) (look L.work h.words r (L.work.opens r x.work calls seq)) calls seq
+          subst (λ n. OpensBlock calls seq (told_desk L h.words r x)
+          (told_desk L h.words r (record { side = y.side; kept = x.kept; rank = x.rank; work = L.work.opens n x.work calls seq })))
+          (sym (g.own r x has))
+          (opened_by (is_open L x) (is_open L
+          (record { side = y.side; kept = x.kept; rank = x.rank; work = L.work.opens r x.work calls seq }))
+          (look L.work h.words r x.work) (look L.work h.words r (L.work.opens r x.work calls seq)) calls seq
           opens_looks.0 (is_opened r opens_looks.2))
 
       pub own_opens : OpensBlock calls seq (own_desk L x) (own_desk L y)
       own_opens =
-          subst (λ n. OpensBlock calls seq (own_desk L x) (own_desk L (record { side = y.side; kept = x.kept; rank = x.rank; work = L.work.opens n x.work calls seq }))) (sym (g.own r x has))
-          (opened_by (is_open L x) (is_open L (record { side = y.side; kept = x.kept; rank = x.rank; work = L.work.opens r x.work calls seq })) (own_look L.work x.work) (own_look L.work (L.work.opens r x.work calls seq)) calls seq
+          subst (λ n. OpensBlock calls seq (own_desk L x) (own_desk L
+          (record { side = y.side; kept = x.kept; rank = x.rank; work = L.work.opens n x.work calls seq }))) (sym (g.own r x has))
+          (opened_by (is_open L x) (is_open L
+          (record { side = y.side; kept = x.kept; rank = x.rank; work = L.work.opens r x.work calls seq })) (own_look L.work x.work)
+          (own_look L.work (L.work.opens r x.work calls seq)) calls seq
           opens_looks.1 (is_opened r opens_looks.2))
 
     -- the rank makes an atom
@@ -165,13 +208,16 @@ module _ (V K : Type 0) (L : LockAt V K) (good : Goods V K) (further : List Even
       z = (after_of L x (do_got at h.words h.cards)).view
 
       has_block : is_open L x ≡ false → ⊥
-      has_block shut = let bad : None ≡ Some at = sym (shut_is_none V K L good further layout laws home x (record { held = h; views = vs; rank = r; is_ruled = g; has = has }) shut) ∙ e in cc
+      has_block shut = let bad : None ≡ Some at =
+          sym (shut_is_none V K L good further layout laws home x (record { held = h; views = vs; rank = r; is_ruled = g; has = has }) shut)
+          ∙ e in cc
 
       pub own_turns : Turns L.work.site.shard r (own_desk L x) (own_desk L z)
       own_turns =
           record {
             opens_none = λ shut. absurd (has_block shut);
-            way = way_of L.work.site.shard r (is_open L x) (is_open L z) (own_look L.work x.work) (own_look L.work z.work) (atom_turn V K L good further layout laws home h vs r x at g has e);
+            way = way_of L.work.site.shard r (is_open L x) (is_open L z) (own_look L.work x.work) (own_look L.work z.work)
+                (atom_turn V K L good further layout laws home h vs r x at g has e);
           }
 
       pub told_turns : (j : ℕ) (u w : WholeView V K) → slice_get vs j ≡ Some u → slice_get (slice_set vs r z) j ≡ Some w →

@@ -22,7 +22,8 @@ use Rattle.rl_rank.specs.laws.WholeLaws.{next_either, works_at}
 use Rattle.rl_rank.specs.Split.{SplitState, LockGood, lock_of, view_of, side_atom, card_atom, card_in, first_at, home_of}
 use Rattle.rl_work.specs.Ways.{WorkTable, IsWorkAtom}
 
-module _ (V : Type 0) (T : LockTable V) (good : LockState V → Type 0) (further : List Event → List Deed → Type 0) (layout : Layout) (laws : LockLaws T good further layout) where
+module _ (V : Type 0) (T : LockTable V) (good : LockState V → Type 0) (further : List Event → List Deed → Type 0) (layout : Layout)
+    (laws : LockLaws T good further layout) where
   -- the first atom of an act is of its kind
   first_kind : (home : ℕ) (a : Act) → (IsCardAtom (first_at home a) → by_card a ≡ true) × (IsLocalAtom (first_at home a) → IsLocalAct a)
   first_kind home (act.Load w) = (λ h. absurd h, λ h. h)
@@ -32,32 +33,53 @@ module _ (V : Type 0) (T : LockTable V) (good : LockState V → Type 0) (further
   first_kind home (act.CardSwap w v) = (λ h. refl, λ h. h)
   first_kind home (act.CardAdd w d) = (λ h. refl, λ h. h)
 
-  at_atom : (s : SplitState V) (r : ℕ) (v : V) (p : Option Act) (h : CardState) (at : Atom) → LockGood T good layout s → slice_get s.sides r ≡ Some (record { view = v; card = h }) → T.plan v ≡ p → card_atom T p h ≡ Some at → IsCardAtom at → UsesCards T.may_make r
+  at_atom : (s : SplitState V) (r : ℕ) (v : V) (p : Option Act) (h : CardState) (at : Atom) → LockGood T good layout s →
+      slice_get s.sides r ≡ Some (record { view = v; card = h }) → T.plan v ≡ p → card_atom T p h ≡ Some at → IsCardAtom at →
+      UsesCards T.may_make r
   at_atom s r v p (ToLeave n) at g has pl e c = g.domain r n (record { view = v; card = ToLeave n }) has refl
   at_atom s r v None Free at g has pl e c = cc
   at_atom s r v None InCard at g has pl e c = cc
   at_atom s r v None (Loaded k) at g has pl e c = cc
-  at_atom s r v (Some a) Free at g has pl e c =
-      (a, (first_kind (home_of T (word_of a)) a).0 (subst IsCardAtom (sym (same_Some _ _ e)) c), (laws.lawful (lock_of s) r v a (record { is_good = g.lock; has = get_map view_of s.sides r (record { view = v; card = Free }) has; planned = pl })).1)
+  at_atom s r v (Some a) Free at g has pl e c = (
+    a,
+    (first_kind (home_of T (word_of a)) a).0 (subst IsCardAtom (sym (same_Some _ _ e)) c),
+    (laws.lawful (lock_of s) r v a (record {
+      is_good = g.lock;
+      has = get_map view_of s.sides r (record { view = v; card = Free }) has;
+      planned = pl;
+    })).1,
+  )
   at_atom s r v (Some a) InCard at g has pl e c = g.domain r (home_of T (word_of a)) (record { view = v; card = InCard }) has (ap (λ q. card_in T q InCard) pl)
-  at_atom s r v (Some a) (Loaded k) at g has pl e c = g.domain r (home_of T (word_of a)) (record { view = v; card = Loaded k }) has (ap (λ q. card_in T q (Loaded k)) pl)
+  at_atom s r v (Some a) (Loaded k) at g has pl e c = g.domain r (home_of T (word_of a)) (record { view = v; card = Loaded k }) has
+      (ap (λ q. card_in T q (Loaded k)) pl)
 
   -- a rank whose next atom is one of a card may make acts through cards
-  pub card_atom_allowed : (s : SplitState V) (r : ℕ) (x : Side V) (at : Atom) → LockGood T good layout s → slice_get s.sides r ≡ Some x → side_atom T x ≡ Some at → IsCardAtom at → UsesCards T.may_make r
+  pub card_atom_allowed : (s : SplitState V) (r : ℕ) (x : Side V) (at : Atom) → LockGood T good layout s → slice_get s.sides r ≡ Some x →
+      side_atom T x ≡ Some at → IsCardAtom at → UsesCards T.may_make r
   card_atom_allowed s r x at g has e c = at_atom s r x.view (T.plan x.view) x.card at g has refl e c
 
-  local_at : (s : SplitState V) (r : ℕ) (v : V) (p : Option Act) (h : CardState) (at : Atom) → LockGood T good layout s → slice_get s.sides r ≡ Some (record { view = v; card = h }) → T.plan v ≡ p → card_atom T p h ≡ Some at → IsLocalAtom at → UsesLocals T.may_make r
+  local_at : (s : SplitState V) (r : ℕ) (v : V) (p : Option Act) (h : CardState) (at : Atom) → LockGood T good layout s →
+      slice_get s.sides r ≡ Some (record { view = v; card = h }) → T.plan v ≡ p → card_atom T p h ≡ Some at → IsLocalAtom at →
+      UsesLocals T.may_make r
   local_at s r v p (ToLeave n) at g has pl e c = absurd (subst IsLocalAtom (sym (same_Some _ _ e)) c)
   local_at s r v None Free at g has pl e c = cc
   local_at s r v None InCard at g has pl e c = cc
   local_at s r v None (Loaded k) at g has pl e c = cc
-  local_at s r v (Some a) Free at g has pl e c =
-      (a, (first_kind (home_of T (word_of a)) a).1 (subst IsLocalAtom (sym (same_Some _ _ e)) c), (laws.lawful (lock_of s) r v a (record { is_good = g.lock; has = get_map view_of s.sides r (record { view = v; card = Free }) has; planned = pl })).1)
+  local_at s r v (Some a) Free at g has pl e c = (
+    a,
+    (first_kind (home_of T (word_of a)) a).1 (subst IsLocalAtom (sym (same_Some _ _ e)) c),
+    (laws.lawful (lock_of s) r v a (record {
+      is_good = g.lock;
+      has = get_map view_of s.sides r (record { view = v; card = Free }) has;
+      planned = pl;
+    })).1,
+  )
   local_at s r v (Some a) InCard at g has pl e c = absurd (subst IsLocalAtom (sym (same_Some _ _ e)) c)
   local_at s r v (Some a) (Loaded k) at g has pl e c = absurd (subst IsLocalAtom (sym (same_Some _ _ e)) c)
 
   -- a rank whose next atom is a local compare-and-swap may make one
-  pub local_atom_allowed : (s : SplitState V) (r : ℕ) (x : Side V) (at : Atom) → LockGood T good layout s → slice_get s.sides r ≡ Some x → side_atom T x ≡ Some at → IsLocalAtom at → UsesLocals T.may_make r
+  pub local_atom_allowed : (s : SplitState V) (r : ℕ) (x : Side V) (at : Atom) → LockGood T good layout s → slice_get s.sides r ≡ Some x →
+      side_atom T x ≡ Some at → IsLocalAtom at → UsesLocals T.may_make r
   local_atom_allowed s r x at g has e c = local_at s r x.view (T.plan x.view) x.card at g has refl e c
 
 -- an atom of the work is neither
@@ -81,20 +103,28 @@ unshifted base (atom.CardStore w v) = (λ h. h, λ h. h)
 unshifted base (atom.Leave n) = (λ h. h, λ h. h)
 
 -- a rank's next atom of the whole machine
-module _ (V K : Type 0) (L : LockAt V K) (good : Goods V K) (further : List Event → List Deed → Type 0) (layout : Layout) (laws : BothLaws L good further layout) (home : ℕ) where
+module _ (V K : Type 0) (L : LockAt V K) (good : Goods V K) (further : List Event → List Deed → Type 0) (layout : Layout)
+    (laws : BothLaws L good further layout) (home : ℕ) where
   -- a kind of atoms, none of which is the work's, and that a rank's lock makes only where it may
-  module _ (IsKind : Atom → Type 0) (Uses : ℕ → Type 0) (same : (at : Atom) → IsKind (shifted L.base at) → IsKind at) (no_work : (at : Atom) → IsWorkAtom L.work at → IsKind at → ⊥)
-      (allowed : (s : SplitState V) (r : ℕ) (x : Side V) (at : Atom) → LockGood L.table good.lock layout s → slice_get s.sides r ≡ Some x → side_atom L.table x ≡ Some at → IsKind at → Uses r) where
+  module _ (IsKind : Atom → Type 0) (Uses : ℕ → Type 0) (same : (at : Atom) → IsKind (shifted L.base at) → IsKind at)
+      (no_work : (at : Atom) → IsWorkAtom L.work at → IsKind at → ⊥)
+      (allowed : (s : SplitState V) (r : ℕ) (x : Side V) (at : Atom) → LockGood L.table good.lock layout s → slice_get s.sides r ≡ Some x →
+      side_atom L.table x ≡ Some at → IsKind at → Uses r) where
     next_allowed : (x : WholeView V K) (at : Atom) → MayBe (Good L good layout) x → next_of L x ≡ Some at → IsKind at → Uses x.rank
     next_allowed x at m e c =
         ⊎_elim
-        (λ q. subst Uses (sym (m.is_ruled.own m.rank x m.has)) (allowed _ m.rank x.side q.0 m.is_ruled.lock_part (get_map side_of m.views m.rank x m.has) q.1 (same q.0 (subst IsKind (sym q.2) c))))
+        (λ q. subst Uses (sym (m.is_ruled.own m.rank x m.has)) (allowed _ m.rank x.side q.0 m.is_ruled.lock_part
+        (get_map side_of m.views m.rank x m.has) q.1 (same q.0 (subst IsKind (sym q.2) c))))
         (λ q. absurd (no_work at (laws.work.plain m.held.words (map (work_side L.table) m.views) m.rank (work_side L.table x) at
         (works_at V K L good further layout laws home m.held m.views m.is_ruled m.rank x m.has at q.1 q.2)) c))
         (next_either V K L good further layout laws home x at e)
 
-  pub next_card_allowed : (x : WholeView V K) (at : Atom) → MayBe (Good L good layout) x → next_of L x ≡ Some at → IsCardAtom at → UsesCards L.table.may_make x.rank
-  next_card_allowed = next_allowed IsCardAtom (UsesCards L.table.may_make) (λ at. (unshifted L.base at).0) (λ at p. (plain_neither L.work at p).0) (card_atom_allowed V L.table good.lock further layout laws.lock)
+  pub next_card_allowed : (x : WholeView V K) (at : Atom) → MayBe (Good L good layout) x → next_of L x ≡ Some at → IsCardAtom at →
+      UsesCards L.table.may_make x.rank
+  next_card_allowed = next_allowed IsCardAtom (UsesCards L.table.may_make) (λ at. (unshifted L.base at).0)
+      (λ at p. (plain_neither L.work at p).0) (card_atom_allowed V L.table good.lock further layout laws.lock)
 
-  pub next_local_allowed : (x : WholeView V K) (at : Atom) → MayBe (Good L good layout) x → next_of L x ≡ Some at → IsLocalAtom at → UsesLocals L.table.may_make x.rank
-  next_local_allowed = next_allowed IsLocalAtom (UsesLocals L.table.may_make) (λ at. (unshifted L.base at).1) (λ at p. (plain_neither L.work at p).1) (local_atom_allowed V L.table good.lock further layout laws.lock)
+  pub next_local_allowed : (x : WholeView V K) (at : Atom) → MayBe (Good L good layout) x → next_of L x ≡ Some at → IsLocalAtom at →
+      UsesLocals L.table.may_make x.rank
+  next_local_allowed = next_allowed IsLocalAtom (UsesLocals L.table.may_make) (λ at. (unshifted L.base at).1)
+      (λ at p. (plain_neither L.work at p).1) (local_atom_allowed V L.table good.lock further layout laws.lock)

@@ -29,11 +29,13 @@ pub record AreEvents (queues : List QueueOf) (cohort : ℕ → Bool) (es : List 
   pub few : length es ≤ 8
   pub named : AllNamed queues cohort es
 
-pub all_named : (queues : List QueueOf) (cohort : ℕ → Bool) (t es : List Event) → AllNamed queues cohort t → AllNamed queues cohort es → AllNamed queues cohort (t ++ es)
+pub all_named : (queues : List QueueOf) (cohort : ℕ → Bool) (t es : List Event) → AllNamed queues cohort t → AllNamed queues cohort es →
+    AllNamed queues cohort (t ++ es)
 all_named queues cohort [] es a b = b
 all_named queues cohort (e ∷ t) es a b = (a.0, all_named queues cohort t es a.1 b)
 
-work_are : (queues : List QueueOf) (cohort : ℕ → Bool) (r : ℕ) (touch : Option Bool) (st : Standing) (follow : Follow) → AreEvents queues cohort (work_events r touch st follow)
+work_are : (queues : List QueueOf) (cohort : ℕ → Bool) (r : ℕ) (touch : Option Bool) (st : Standing) (follow : Follow) →
+    AreEvents queues cohort (work_events r touch st follow)
 work_are queues cohort r None st On = record { order = tt; few = omega arith; named = tt }
 work_are queues cohort r None st (Ask m) = record { order = tt; few = omega arith; named = tt }
 work_are queues cohort r None Out Over = record { order = tt; few = omega arith; named = tt }
@@ -49,9 +51,12 @@ work_are queues cohort r (Some write) Writer Over = record { order = (omega arit
 work_are queues cohort r (Some write) Reader Over = record { order = (omega arith, tt); few = omega arith; named = (tt, (tt, tt)) }
 work_are queues cohort r (Some write) Leaving Over = record { order = tt; few = omega arith; named = (tt, tt) }
 
-module _ (V K : Type 0) (L : LockAt V K) (good : Goods V K) (further : List Event → List Deed → Type 0) (layout : Layout) (laws : BothLaws L good further layout) (home : ℕ)
-    (h : TheWindow) (vs : List (WholeView V K)) (r : ℕ) (x : WholeView V K) (at : Atom) (g : Good L good layout h vs) (has : slice_get vs r ≡ Some x) (e : next_of L x ≡ Some at) where
-  effect_events : (w : Worked K) (t : Effect) → effect_at (plan_home L.table (L.table.plan x.side.view)) (L.table.plan x.side.view) x.side.card (do_got at h.words h.cards) ≡ t →
+module _ (V K : Type 0) (L : LockAt V K) (good : Goods V K) (further : List Event → List Deed → Type 0) (layout : Layout)
+    (laws : BothLaws L good further layout) (home : ℕ)
+    (h : TheWindow) (vs : List (WholeView V K)) (r : ℕ) (x : WholeView V K) (at : Atom) (g : Good L good layout h vs)
+    (has : slice_get vs r ≡ Some x) (e : next_of L x ≡ Some at) where
+  effect_events : (w : Worked K) (t : Effect) → effect_at (plan_home L.table (L.table.plan x.side.view)) (L.table.plan x.side.view)
+      x.side.card (do_got at h.words h.cards) ≡ t →
       AreEvents L.table.queues L.table.cohort (effect_turned L x w t).events
   effect_events w Work q = work_are L.table.queues L.table.cohort x.rank (L.work.touch x.work) (L.table.standing x.side.view) w.follow
   effect_events w (Stay hand answer) q = record { order = tt; few = omega arith; named = tt }
@@ -60,11 +65,19 @@ module _ (V K : Type 0) (L : LockAt V K) (good : Goods V K) (further : List Even
       record { held = h; views = vs; rank = r; atom = at; plans = record { is_ruled = g; has = has; planned = e }; gives = refl } in
       let s : SplitState V = split_of L h vs g.modes g.past in
       let here : slice_get s.sides r ≡ Some x.side = get_map side_of vs r x has in
-      let l = learns_at V L.table good.lock further layout laws.lock s r x.side.view (L.table.plan x.side.view) x.side.card (do_got at h.words h.cards) hand told' lost g.lock_part here refl q
+      let l = learns_at V L.table good.lock further layout laws.lock s r x.side.view (L.table.plan x.side.view) x.side.card
+      (do_got at h.words h.cards) hand told' lost g.lock_part here refl q
       (λ b f. got_is V K L good further layout laws home x (do_got at h.words h.cards) m b f) in
-      let acts : Acts L.table good.lock (lock_of s) r x.side.view l.0 = record { is_good = g.lock_part.lock; has = get_map view_of s.sides r x.side here; planned = l.1 } in
+      let acts : Acts L.table good.lock (lock_of s) r x.side.view l.0 =
+      record { is_good = g.lock_part.lock; has = get_map view_of s.sides r x.side here; planned = l.1 } in
       subst (λ k. AreEvents L.table.queues L.table.cohort (L.table.learn x.side.view k).events) (sym l.2)
-      (record { order = (laws.lock.orders (lock_of s) r x.side.view l.0 acts).0; few = (laws.lock.orders (lock_of s) r x.side.view l.0 acts).1; named = laws.lock.names (lock_of s) r x.side.view l.0 acts })
+      (record {
+        order = (laws.lock.orders (lock_of s) r x.side.view l.0 acts).0;
+        few =
+            (laws.lock.orders (lock_of s) r x.side.view l.0 acts).1;
+        named = laws.lock.names (lock_of s) r x.side.view l.0 acts;
+      })
 
   pub atom_events : AreEvents L.table.queues L.table.cohort (after_of L x (do_got at h.words h.cards)).events
-  atom_events = effect_events (L.work.after x.rank x.work (do_got at h.words h.cards)) (effect_at (plan_home L.table (L.table.plan x.side.view)) (L.table.plan x.side.view) x.side.card (do_got at h.words h.cards)) refl
+  atom_events = effect_events (L.work.after x.rank x.work (do_got at h.words h.cards))
+      (effect_at (plan_home L.table (L.table.plan x.side.view)) (L.table.plan x.side.view) x.side.card (do_got at h.words h.cards)) refl

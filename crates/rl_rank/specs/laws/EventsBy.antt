@@ -39,9 +39,11 @@ change_by n r Asking Asking es low c = holders_are n es [] c tt
 change_by n r Asking Writer es low c = holders_are n es (EnterW r ∷ []) c (low, tt)
 change_by n r Asking Reader es low c = holders_are n es (EnterR r ∷ []) c (low, tt)
 change_by n r Writer Writer es low c = ⊎_elim (λ q. holders_are n es [] q tt) (λ q. these_are n es (Touch r q.0 ∷ []) q.1 (low, tt)) c
-change_by n r Writer Leaving es low c = ⊎_elim (λ q. these_are n es (LeaveW r ∷ []) q (low, tt)) (λ q. these_are n es (Touch r q.0 ∷ LeaveW r ∷ []) q.1 (low, (low, tt))) c
+change_by n r Writer Leaving es low c = ⊎_elim (λ q. these_are n es (LeaveW r ∷ []) q (low, tt))
+    (λ q. these_are n es (Touch r q.0 ∷ LeaveW r ∷ []) q.1 (low, (low, tt))) c
 change_by n r Reader Reader es low c = ⊎_elim (λ q. holders_are n es [] q tt) (λ q. these_are n es (Touch r false ∷ []) q (low, tt)) c
-change_by n r Reader Leaving es low c = ⊎_elim (λ q. these_are n es (LeaveR r ∷ []) q (low, tt)) (λ q. these_are n es (Touch r false ∷ LeaveR r ∷ []) q (low, (low, tt))) c
+change_by n r Reader Leaving es low c = ⊎_elim (λ q. these_are n es (LeaveR r ∷ []) q (low, tt))
+    (λ q. these_are n es (Touch r false ∷ LeaveR r ∷ []) q (low, (low, tt))) c
 change_by n r Leaving Leaving es low c = holders_are n es [] c tt
 change_by n r Leaving Out es low c = holders_are n es [] c tt
 change_by n r Out Out es low c = holders_are n es [] c tt

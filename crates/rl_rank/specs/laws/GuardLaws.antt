@@ -47,8 +47,10 @@ touches_held (LeaveR k ∷ es) = touches_held es
 -- so an act of the lock is no touch
 shift_quiet : (r : ℕ) (old st : Standing) (es : List Event) → Shift r old st (holds_only es) → touches_of es ≡ []
 shift_quiet r old st es h =
-    let quiet : (hs : List Event) → touches_of hs ≡ [] → holds_only es ≡ hs → touches_of es ≡ [] = λ hs none e. sym (touches_held es) ∙ ap touches_of e ∙ none in
-    shift_cases r (holds_only es) (λ o s. touches_of es ≡ []) (quiet [] refl) (quiet (EnterW r ∷ []) refl) (quiet (EnterR r ∷ []) refl) (quiet [] refl) (quiet [] refl) old st h
+    let quiet : (hs : List Event) → touches_of hs ≡ [] → holds_only es ≡ hs → touches_of es ≡ [] = λ hs none e. sym (touches_held es)
+    ∙ ap touches_of e ∙ none in
+    shift_cases r (holds_only es) (λ o s. touches_of es ≡ []) (quiet [] refl) (quiet (EnterW r ∷ []) refl) (quiet (EnterR r ∷ []) refl)
+    (quiet [] refl) (quiet [] refl) old st h
 
 -- an atom of the work is the touch that it is told as
 depart_quiet : (r : ℕ) (st : Standing) (follow : Follow) → touches_of (departure_by r st follow) ≡ []
@@ -75,7 +77,8 @@ not_some None never = refl
 not_some (Some w) never = absurd (never (λ e. cc))
 
 -- an atom of the lock names a word of the lock
-lock_guarded : (base low r : ℕ) → base ≡ low → (b : Atom) (st : Standing) (calls : List Call) (es : List Event) → touches_of es ≡ [] → IsGuarded low r (shifted base b) st calls es
+lock_guarded : (base low r : ℕ) → base ≡ low → (b : Atom) (st : Standing) (calls : List Call) (es : List Event) → touches_of es ≡ [] →
+    IsGuarded low r (shifted base b) st calls es
 lock_guarded base low r same (atom.Load w) st calls es quiet = (λ under. absurd (omega arith), λ past. quiet)
 lock_guarded base low r same (atom.Store w v) st calls es quiet = (λ under. absurd (omega arith), λ past. quiet)
 lock_guarded base low r same (atom.LocalCas w old new) st calls es quiet = (omega arith, quiet)
@@ -101,7 +104,8 @@ out_asks Reader b next goes some e = absurd (cc)
 out_asks Leaving b next goes some e = absurd (cc)
 
 -- an atom of the work is told as its touch says
-work_guarded : {K : Type 0} (T : WorkTable K) (base r : ℕ) (at : Atom) (st on : Standing) (calls : List Call) (touch : Option Bool) (follow : Follow) → IsWorkAtom T at → (IsHolder st → on ≡ st) → (st ≡ Out → on ≡ Asking) →
+work_guarded : {K : Type 0} (T : WorkTable K) (base r : ℕ) (at : Atom) (st on : Standing) (calls : List Call) (touch : Option Bool)
+    (follow : Follow) → IsWorkAtom T at → (IsHolder st → on ≡ st) → (st ≡ Out → on ≡ Asking) →
     TellsTouch base at st calls touch → TouchesAs touch st → (touch ≢ None → IsFrontAtom base at) → IsGuarded base r at on calls (work_events r touch st follow)
 work_guarded T base r (atom.Load w) st on calls touch follow plain holds out told fits front = (
   λ under. ⊎_elim
@@ -125,9 +129,11 @@ work_guarded T base r (atom.CardLoad w) st on calls touch follow plain holds out
 work_guarded T base r (atom.CardStore w v) st on calls touch follow plain holds out told fits front = absurd plain
 work_guarded T base r (atom.Leave n) st on calls touch follow plain holds out told fits front = absurd plain
 
-module _ (V K : Type 0) (L : LockAt V K) (good : Goods V K) (further : List Event → List Deed → Type 0) (layout : Layout) (laws : BothLaws L good further layout) (home : ℕ) where
+module _ (V K : Type 0) (L : LockAt V K) (good : Goods V K) (further : List Event → List Deed → Type 0) (layout : Layout)
+    (laws : BothLaws L good further layout) (home : ℕ) where
   -- an atom of the lock comes with no touch
-  lock_quiet : (h : TheWindow) (vs : List (WholeView V K)) (r : ℕ) (x : WholeView V K) (at : Atom) (g : Good L good layout h vs) → slice_get vs r ≡ Some x → next_of L x ≡ Some at → (t : Effect) →
+  lock_quiet : (h : TheWindow) (vs : List (WholeView V K)) (r : ℕ) (x : WholeView V K) (at : Atom) (g : Good L good layout h vs) →
+      slice_get vs r ≡ Some x → next_of L x ≡ Some at → (t : Effect) →
       effect_at (plan_home L.table (L.table.plan x.side.view)) (L.table.plan x.side.view) x.side.card (do_got at h.words h.cards) ≡ t → is_work t ≡ false →
       touches_of (effect_turned L x (L.work.after x.rank x.work (do_got at h.words h.cards)) t).events ≡ []
   lock_quiet h vs r x at g has e Work q calm = absurd (cc)
@@ -137,13 +143,17 @@ module _ (V K : Type 0) (L : LockAt V K) (good : Goods V K) (further : List Even
       record { held = h; views = vs; rank = r; atom = at; plans = record { is_ruled = g; has = has; planned = e }; gives = refl } in
       let s : SplitState V = split_of L h vs g.modes g.past in
       let here : slice_get s.sides r ≡ Some x.side = get_map side_of vs r x has in
-      let l = learns_at V L.table good.lock further layout laws.lock s r x.side.view (L.table.plan x.side.view) x.side.card (do_got at h.words h.cards) hand told' lost g.lock_part here refl q
+      let l = learns_at V L.table good.lock further layout laws.lock s r x.side.view (L.table.plan x.side.view) x.side.card
+      (do_got at h.words h.cards) hand told' lost g.lock_part here refl q
       (λ b f. got_is V K L good further layout laws home x (do_got at h.words h.cards) m b f) in
       subst (λ k. touches_of (L.table.learn x.side.view k).events ≡ []) (sym l.2)
-      (shift_quiet r _ _ (learnt L.table (lock_of s) x.side.view l.0).events (laws.lock.shifts (lock_of s) r x.side.view l.0 (record { is_good = g.lock_part.lock; has = get_map view_of s.sides r x.side here; planned = l.1 })))
+      (shift_quiet r _ _ (learnt L.table (lock_of s) x.side.view l.0).events
+      (laws.lock.shifts (lock_of s) r x.side.view l.0
+      (record { is_good = g.lock_part.lock; has = get_map view_of s.sides r x.side here; planned = l.1 })))
 
   -- so each atom of a rank is
-  pub guarded : (h : TheWindow) (vs : List (WholeView V K)) (r : ℕ) (x : WholeView V K) (at : Atom) → Good L good layout h vs → slice_get vs r ≡ Some x → next_of L x ≡ Some at →
+  pub guarded : (h : TheWindow) (vs : List (WholeView V K)) (r : ℕ) (x : WholeView V K) (at : Atom) → Good L good layout h vs →
+      slice_get vs r ≡ Some x → next_of L x ≡ Some at →
       IsGuarded (lock_base L.work.site) r at (stand_on L x) (L.work.calls x.work) (after_of L x (do_got at h.words h.cards)).events
   guarded h vs r x at g has e =
       let got : ℕ = do_got at h.words h.cards in
@@ -152,14 +162,21 @@ module _ (V K : Type 0) (L : LockAt V K) (good : Goods V K) (further : List Even
       (λ q.
       let calm : is_work ef ≡ false = no_work (plan_home L.table (L.table.plan x.side.view)) (L.table.plan x.side.view) x.side.card got q.0 q.1 in
       subst (λ z. IsGuarded (lock_base L.work.site) r z (stand_on L x) (L.work.calls x.work) (after_of L x (do_got at h.words h.cards)).events) q.2
-      (lock_guarded L.base (lock_base L.work.site) r g.base_is q.0 (stand_on L x) (L.work.calls x.work) (after_of L x (do_got at h.words h.cards)).events (lock_quiet h vs r x at g has e ef refl calm)))
+      (lock_guarded L.base (lock_base L.work.site) r g.base_is q.0 (stand_on L x) (L.work.calls x.work)
+      (after_of L x (do_got at h.words h.cards)).events (lock_quiet h vs r x at g has e ef refl calm)))
       (λ q.
-      let works : Works L.work good.work h.words (map (work_side L.table) vs) r (work_side L.table x) at = works_at V K L good further layout laws home h vs g r x has at q.1 q.2 in
-      let goes : GoesOnAt (stand L.table x) (L.work.is_open x.work) (L.work.next r x.work) = laws.work.goes_on h.words (map (work_side L.table) vs) r (work_side L.table x) (work_at V K L good further layout laws home h vs g r x has) in
+      let works : Works L.work good.work h.words (map (work_side L.table) vs) r (work_side L.table x) at =
+      works_at V K L good further layout laws home h vs g r x has at q.1 q.2 in
+      let goes : GoesOnAt (stand L.table x) (L.work.is_open x.work) (L.work.next r x.work) =
+      laws.work.goes_on h.words (map (work_side L.table) vs) r (work_side L.table x)
+      (work_at V K L good further layout laws home h vs g r x has) in
       let some : is_some (L.work.next r x.work) ≡ true = ap is_some works.planned in
-      subst (λ (t : Turned (WholeView V K)). IsGuarded (lock_base L.work.site) r at (stand_on L x) (L.work.calls x.work) t.events) (sym (after_work V K L good further layout laws home h vs g r x has q.0 got))
-      (subst (λ n. IsGuarded (lock_base L.work.site) r at (stand_on L x) (L.work.calls x.work) (work_events n (L.work.touch x.work) (stand L.table x) (L.work.after x.rank x.work got).follow)) (sym (g.own r x has))
-      (work_guarded L.work (lock_base L.work.site) r at (stand L.table x) (stand_on L x) (L.work.calls x.work) (L.work.touch x.work) (L.work.after x.rank x.work got).follow
+      subst (λ (t : Turned (WholeView V K)). IsGuarded (lock_base L.work.site) r at (stand_on L x) (L.work.calls x.work) t.events)
+      (sym (after_work V K L good further layout laws home h vs g r x has q.0 got))
+      (subst (λ n. IsGuarded (lock_base L.work.site) r at (stand_on L x) (L.work.calls x.work)
+      (work_events n (L.work.touch x.work) (stand L.table x) (L.work.after x.rank x.work got).follow)) (sym (g.own r x has))
+      (work_guarded L.work (lock_base L.work.site) r at (stand L.table x) (stand_on L x) (L.work.calls x.work) (L.work.touch x.work)
+      (L.work.after x.rank x.work got).follow
       (laws.work.plain h.words (map (work_side L.table) vs) r (work_side L.table x) at works)
       (holds_so (stand L.table x) (L.work.is_open x.work))
       (out_asks (stand L.table x) (L.work.is_open x.work) (L.work.next r x.work) goes some)

@@ -45,14 +45,16 @@ module _ {V : Type 0} (T : LockTable V) where
   act_atom p (Loaded g) = asked_atom p (Loaded g)
   act_atom p (ToLeave n) = refl
 
-  pub act_effect : (p : Option Act) (c : CardState) (got : ℕ) → effect_at (word_home T (card_word (asked_act p c) c)) (asked_act p c) c got ≡ effect_at (plan_home T p) p c got
+  pub act_effect : (p : Option Act) (c : CardState) (got : ℕ) →
+      effect_at (word_home T (card_word (asked_act p c) c)) (asked_act p c) c got ≡ effect_at (plan_home T p) p c got
   act_effect p Free got = asked_effect p Free got
   act_effect p InCard got = asked_effect p InCard got
   act_effect p (Loaded g) got = asked_effect p (Loaded g) got
   act_effect p (ToLeave n) got = refl
 
 -- where something is learnt the act was asked for
-pub learnt_act : (home : ℕ) (p : Option Act) (c : CardState) (got : ℕ) (hand : CardState) (t : ℕ) (lost : Bool) → effect_at home p c got ≡ Learn hand t lost → asked_act p c ≡ p
+pub learnt_act : (home : ℕ) (p : Option Act) (c : CardState) (got : ℕ) (hand : CardState) (t : ℕ) (lost : Bool) →
+    effect_at home p c got ≡ Learn hand t lost → asked_act p c ≡ p
 learnt_act home p Free got hand t lost e = refl
 learnt_act home p InCard got hand t lost e = refl
 learnt_act home p (Loaded g) got hand t lost e = refl

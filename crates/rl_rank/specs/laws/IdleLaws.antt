@@ -34,12 +34,14 @@ isnt_false : (b : Bool) → (b ≡ false → ⊥) → b ≡ true
 isnt_false true f = refl
 isnt_false false f = absurd (f refl)
 
-open_with : (V K : Type 0) (L : LockAt V K) (good : Goods V K) (further : List Event → List Deed → Type 0) (layout : Layout) (laws : BothLaws L good further layout) (home : ℕ) (x : WholeView V K) →
+open_with : (V K : Type 0) (L : LockAt V K) (good : Goods V K) (further : List Event → List Deed → Type 0) (layout : Layout)
+    (laws : BothLaws L good further layout) (home : ℕ) (x : WholeView V K) →
     MayBe (Good L good layout) x → (at : Atom) → next_of L x ≡ Some at → is_open L x ≡ true
 open_with V K L good further layout laws home x may at next =
     isnt_false (is_open L x) (λ shut. let bad : Some at ≡ None = sym next ∙ shut_is_none V K L good further layout laws home x may shut in cc)
 
-module _ {V K : Type 0} (L : LockAt V K) (x : WholeView V K) (a : Act) (planned : L.table.plan x.side.view ≡ Some a) (free : x.side.card ≡ Free) (card : by_card a ≡ true) where
+module _ {V K : Type 0} (L : LockAt V K) (x : WholeView V K) (a : Act) (planned : L.table.plan x.side.view ≡ Some a)
+    (free : x.side.card ≡ Free) (card : by_card a ≡ true) where
   abbrev node : ℕ
   node = home_of L.table (word_of a)
 
@@ -49,7 +51,8 @@ module _ {V K : Type 0} (L : LockAt V K) (x : WholeView V K) (a : Act) (planned 
       (ap (card_atom L.table (L.table.plan x.side.view)) free ∙ ap (λ q. card_atom L.table q Free) planned ∙ ap (λ z. Some z) (begins_so node a card))
 
   -- it changes nothing where another rank is in the card
-  pub held_idle : (home : ℕ) (h : TheWindow) (k : ℕ) → (slice_index h.cards node == 0) ≡ false → IsIdle (whole_shard L home) h k x (next_of L x) (Busy node (slice_index h.cards node - 1))
+  pub held_idle : (home : ℕ) (h : TheWindow) (k : ℕ) → (slice_index h.cards node == 0) ≡ false →
+      IsIdle (whole_shard L home) h k x (next_of L x) (Busy node (slice_index h.cards node - 1))
   held_idle home h k held =
       let got : ℕ = slice_index h.cards node in
       let means : effect_at (plan_home L.table (L.table.plan x.side.view)) (L.table.plan x.side.view) x.side.card got ≡ Stay Free (Busy node (got - 1)) =
@@ -57,7 +60,8 @@ module _ {V K : Type 0} (L : LockAt V K) (x : WholeView V K) (a : Act) (planned 
       ∙ ap (λ q. effect_at (plan_home L.table q) q Free got) planned
       ∙ ap (λ b. if b then (if got == 0 then Stay InCard Moved else Stay Free (Busy node (got - 1))) else Learn Free got (skips a got)) card
       ∙ ap (λ z. if z then Stay InCard Moved else Stay Free (Busy node (got - 1))) held in
-      let turned : after_of L x got ≡ effect_turned L x (L.work.after x.rank x.work got) (Stay Free (Busy node (got - 1))) = after_effect L x got (Stay Free (Busy node (got - 1))) means in
+      let turned : after_of L x got ≡ effect_turned L x (L.work.after x.rank x.work got) (Stay Free (Busy node (got - 1))) =
+      after_effect L x got (Stay Free (Busy node (got - 1))) means in
       subst (λ o. IsIdle (whole_shard L home) h k x o (Busy node (got - 1))) (sym take_next) (
         ap (λ b. record { words = h.words; cards = if b then slice_set h.cards node (k + 1) else h.cards }) held,
         ap (λ z. z.view) turned ∙ ap (λ c. record { side = record { view = x.side.view; card = c }; kept = x.kept; rank = x.rank; work = x.work }) (sym free),
@@ -65,7 +69,8 @@ module _ {V K : Type 0} (L : LockAt V K) (x : WholeView V K) (a : Act) (planned 
         ap (λ z. z.stepped) turned,
       )
 
-  module _ (good : Goods V K) (further : List Event → List Deed → Type 0) (layout : Layout) (laws : BothLaws L good further layout) (home : ℕ) (may : MayBe (Good L good layout) x) where
+  module _ (good : Goods V K) (further : List Event → List Deed → Type 0) (layout : Layout) (laws : BothLaws L good further layout)
+      (home : ℕ) (may : MayBe (Good L good layout) x) where
     plans : Plans (whole_table L home) (Good L good layout) may.held may.views may.rank x (atom.Take node)
     plans = record { is_ruled = may.is_ruled; has = may.has; planned = take_next }
 
@@ -81,10 +86,13 @@ module _ {V K : Type 0} (L : LockAt V K) (x : WholeView V K) (w : ℕ) (planned 
       ∙ ap (λ q. effect_at (plan_home L.table q) q Free got) planned
 
   -- it changes nothing where what is learnt leaves the view, and nothing happens with it
-  pub load_idle : (home : ℕ) (h : TheWindow) (k got : ℕ) → got ≡ slice_index h.words (L.base + w) → (L.table.learn x.side.view got).view ≡ x.side.view → (L.table.learn x.side.view got).events ≡ [] → (L.table.learn x.side.view got).waits ≡ true →
+  pub load_idle : (home : ℕ) (h : TheWindow) (k got : ℕ) → got ≡ slice_index h.words (L.base + w) →
+      (L.table.learn x.side.view got).view ≡ x.side.view → (L.table.learn x.side.view got).events ≡ [] →
+      (L.table.learn x.side.view got).waits ≡ true →
       IsIdle (whole_shard L home) h k x (next_of L x) (Waiting (L.base + w) got)
   load_idle home h k got is same none waits =
-      let turned : after_of L x got ≡ effect_turned L x (L.work.after x.rank x.work got) (Learn Free got false) = after_effect L x got (Learn Free got false) (load_means got) in
+      let turned : after_of L x got ≡ effect_turned L x (L.work.after x.rank x.work got) (Learn Free got false) =
+      after_effect L x got (Learn Free got false) (load_means got) in
       let view : (after_of L x got).view ≡ x =
       ap (λ z. z.view) turned ∙ ap (λ v. record { side = record { view = v; card = Free }; kept = x.kept; rank = x.rank; work = x.work }) same
       ∙ ap (λ c. record { side = record { view = x.side.view; card = c }; kept = x.kept; rank = x.rank; work = x.work }) (sym free) in
@@ -98,7 +106,8 @@ module _ {V K : Type 0} (L : LockAt V K) (x : WholeView V K) (w : ℕ) (planned 
         subst (λ g. (after_of L x g).stepped ≡ Waiting (L.base + w) got) is answer,
       )
 
-  module _ (good : Goods V K) (further : List Event → List Deed → Type 0) (layout : Layout) (laws : BothLaws L good further layout) (home : ℕ) (may : MayBe (Good L good layout) x) where
+  module _ (good : Goods V K) (further : List Event → List Deed → Type 0) (layout : Layout) (laws : BothLaws L good further layout)
+      (home : ℕ) (may : MayBe (Good L good layout) x) where
     -- the word is there, and what it has may be learnt
     pub load_there : L.base + w < length may.held.words
     load_there =
@@ -119,21 +128,32 @@ module _ {V K : Type 0} (L : LockAt V K) (x : WholeView V K) (w : ℕ) (planned 
     load_learns =
         let got : ℕ = slice_index may.held.words (L.base + w) in
         let may_get : MayGet (whole_table L home) (Good L good layout) x got =
-        record { held = may.held; views = may.views; rank = may.rank; atom = atom.Load (L.base + w); plans = record { is_ruled = may.is_ruled; has = may.has; planned = load_next }; gives = refl } in
+        record {
+          held = may.held;
+          views = may.views;
+          rank = may.rank;
+          atom = atom.Load (L.base + w);
+          plans =
+              record { is_ruled = may.is_ruled; has = may.has; planned = load_next };
+          gives = refl;
+        } in
         may_learn V K L good further layout laws home x got Free got false may_get (load_means got)
 
 -- a load of the work
 module _ {V K : Type 0} (L : LockAt V K) (x : WholeView V K) (w : ℕ) (loads : next_of L x ≡ Some (atom.Load w)) where
-  own_means : L.table.plan x.side.view ≡ None → x.side.card ≡ Free → (got : ℕ) → effect_at (plan_home L.table (L.table.plan x.side.view)) (L.table.plan x.side.view) x.side.card got ≡ effect.Work
+  own_means : L.table.plan x.side.view ≡ None → x.side.card ≡ Free → (got : ℕ) →
+      effect_at (plan_home L.table (L.table.plan x.side.view)) (L.table.plan x.side.view) x.side.card got ≡ effect.Work
   own_means planned free got =
       ap (λ c. effect_at (plan_home L.table (L.table.plan x.side.view)) (L.table.plan x.side.view) c got) free
       ∙ ap (λ q. effect_at (plan_home L.table q) q Free got) planned
 
   -- it changes nothing where the rank waits on by it
-  pub own_idle : L.table.plan x.side.view ≡ None → x.side.card ≡ Free → (home : ℕ) (h : TheWindow) (k got : ℕ) → got ≡ slice_index h.words w → WaitsOn L.work x.rank x.work w got →
+  pub own_idle : L.table.plan x.side.view ≡ None → x.side.card ≡ Free → (home : ℕ) (h : TheWindow) (k got : ℕ) →
+      got ≡ slice_index h.words w → WaitsOn L.work x.rank x.work w got →
       IsIdle (whole_shard L home) h k x (next_of L x) (Waiting w got)
   own_idle planned free home h k got is waits =
-      let turned : after_of L x got ≡ work_turned L x (record { work = x.work; follow = On; stepped = Waiting w got }) = after_effect L x got effect.Work (own_means planned free got) ∙ ap (work_turned L x) waits.0 in
+      let turned : after_of L x got ≡ work_turned L x (record { work = x.work; follow = On; stepped = Waiting w got }) =
+      after_effect L x got effect.Work (own_means planned free got) ∙ ap (work_turned L x) waits.0 in
       let view : (after_of L x got).view ≡ x =
       ap (λ z. z.view) turned ∙ ap (λ c. record { side = record { view = x.side.view; card = c }; kept = x.kept; rank = x.rank; work = x.work }) (sym free) in
       let events : (after_of L x got).events ≡ [] = ap (λ z. z.events) turned ∙ ap (λ t. touch_by x.rank t ++ []) waits.1 in
@@ -144,7 +164,8 @@ module _ {V K : Type 0} (L : LockAt V K) (x : WholeView V K) (w : ℕ) (loads : 
         subst (λ g. (after_of L x g).stepped ≡ Waiting w got) is (ap (λ z. z.stepped) turned),
       )
 
-  module _ (good : Goods V K) (further : List Event → List Deed → Type 0) (layout : Layout) (laws : BothLaws L good further layout) (home : ℕ) (may : MayBe (Good L good layout) x) where
+  module _ (good : Goods V K) (further : List Event → List Deed → Type 0) (layout : Layout) (laws : BothLaws L good further layout)
+      (home : ℕ) (may : MayBe (Good L good layout) x) where
     own_plans : Plans (whole_table L home) (Good L good layout) may.held may.views may.rank x (atom.Load w)
     own_plans = record { is_ruled = may.is_ruled; has = may.has; planned = loads }
 

@@ -9,9 +9,9 @@ use Rattle.rl_step.specs.declared.cores.Plan.{Plan}
 use Rattle.rl_step.specs.Lock.{LockTable}
 use Rattle.rl_rank.specs.declared.card_state.CardState.{CardState}
 use Rattle.rl_rank.specs.declared.card_state.CardState.TheVariants.{Free, InCard, Loaded, ToLeave}
-use Rattle.rl_rank.specs.declared.effect.Effect.TheVariants.{Stay, Learn}
+use Rattle.rl_rank.specs.declared.effect.Effect.TheVariants.{Work, Stay, Learn}
 use Rattle.rl_rank.specs.declared.whole.WholeView.{WholeView}
-use Rattle.rl_rank.specs.Split.{SideTurned, StandsStill, card_word, word_home, home_of, asked_act, card_in, card_after, turned_side, effect_at, skips}
+use Rattle.rl_rank.specs.Split.{SideTurned, StandsStill, card_word, word_home, home_of, asked_act, card_in, card_after, turned_side, effect_at, atom_at, skips}
 use Rattle.rl_rank.specs.Whole.{planned_in, plan_kept, IsKept}
 
 -- in no card nothing has to be kept
@@ -36,7 +36,8 @@ module _ {V : Type 0} (T : LockTable V) where
 
   module _ (rank : ℕ) (v : V) (got : ℕ) (kept : Plan) where
     first_kept : (a : Act) (home : ℕ) (b z : Bool) → T.plan v ≡ Some a →
-        IsKeptBy (turned_side T rank v (Some a) (if b then (if z then Stay InCard Moved else Stay Free (Busy home (got - 1))) else Learn Free got (skips a got)))
+        IsKeptBy (turned_side T rank v (Some a) (if b then (if z then Stay InCard Moved else Stay Free (Busy home (got - 1))) else Learn
+        Free got (skips a got)))
         (record { act = Some a; home = word_home T (if b then Some (word_of a) else None) }) kept
     first_kept a home true true pl = ap (λ p. plan_at p InCard) (sym pl)
     first_kept a home true false pl = tt
@@ -48,7 +49,8 @@ module _ {V : Type 0} (T : LockTable V) where
     load_kept a home false pl k = k ∙ ap (λ p. plan_at p InCard) pl ∙ ap (λ p. plan_at p (Loaded got)) (sym pl)
 
     -- behind an atom of the lock
-    pub kept_turned : (p : Option Act) (c : CardState) → T.plan v ≡ p → IsKept c (plan_at (T.plan v) c) kept → IsKeptBy (card_after T rank v p c got) (plan_at p c) kept
+    pub kept_turned : (p : Option Act) (c : CardState) → T.plan v ≡ p → IsKept c (plan_at (T.plan v) c) kept →
+        IsKeptBy (card_after T rank v p c got) (plan_at p c) kept
     kept_turned p (ToLeave n) pl k = tt
     kept_turned None Free pl k = tt
     kept_turned None InCard pl k = tt
@@ -58,8 +60,10 @@ module _ {V : Type 0} (T : LockTable V) where
     kept_turned (Some a) (Loaded g) pl k = tt
 
   -- of each rank after one rank's view was changed
-  pub kept_after : {K : Type 0} (vs : List (WholeView V K)) (r : ℕ) (y : WholeView V K) → ((i : ℕ) (u : WholeView V K) → slice_get vs i ≡ Some u → IsKept u.side.card (planned_in T u) u.kept) →
-      IsKept y.side.card (planned_in T y) y.kept → (i : ℕ) (u : WholeView V K) → slice_get (slice_set vs r y) i ≡ Some u → IsKept u.side.card (planned_in T u) u.kept
+  pub kept_after : {K : Type 0} (vs : List (WholeView V K)) (r : ℕ) (y : WholeView V K) →
+      ((i : ℕ) (u : WholeView V K) → slice_get vs i ≡ Some u → IsKept u.side.card (planned_in T u) u.kept) →
+      IsKept y.side.card (planned_in T y) y.kept → (i : ℕ) (u : WholeView V K) → slice_get (slice_set vs r y) i ≡ Some u →
+      IsKept u.side.card (planned_in T u) u.kept
   kept_after vs r y keeps mine i u q =
       ⊎_elim (λ p. subst (λ (z : WholeView V _). IsKept z.side.card (planned_in T z) z.kept) (sym p.1) mine) (λ p. keeps i u p.1) (get_set_cases vs r i y u q)
 
@@ -72,29 +76,68 @@ module _ {V : Type 0} (T : LockTable V) where
   home_loaded ws None g s = absurd s
   home_loaded ws (Some a) g s = refl
 
-  pub node_in : (ws : List ℕ) (v : V) (c : CardState) (kept : Plan) → c ≡ InCard → IsKept c (plan_at (T.plan v) c) kept → StandsStill ws (T.plan v) c → Some kept.home ≡ card_in T (T.plan v) c
+  pub node_in : (ws : List ℕ) (v : V) (c : CardState) (kept : Plan) → c ≡ InCard → IsKept c (plan_at (T.plan v) c) kept →
+      StandsStill ws (T.plan v) c → Some kept.home ≡ card_in T (T.plan v) c
   node_in ws v c kept e k s =
       ap (λ z. Some z.home) (kept_in c (plan_at (T.plan v) c) kept e k) ∙ ap (λ z. Some (plan_at (T.plan v) z).home) e
       ∙ home_in ws (T.plan v) (subst (StandsStill ws (T.plan v)) e s) ∙ ap (card_in T (T.plan v)) (sym e)
 
-  pub node_loaded : (ws : List ℕ) (v : V) (c : CardState) (kept : Plan) (g : ℕ) → c ≡ Loaded g → IsKept c (plan_at (T.plan v) c) kept → StandsStill ws (T.plan v) c → Some kept.home ≡ card_in T (T.plan v) c
+  pub node_loaded : (ws : List ℕ) (v : V) (c : CardState) (kept : Plan) (g : ℕ) → c ≡ Loaded g → IsKept c (plan_at (T.plan v) c) kept →
+      StandsStill ws (T.plan v) c → Some kept.home ≡ card_in T (T.plan v) c
   node_loaded ws v c kept g e k s =
       ap (λ z. Some z.home) (kept_loaded c g (plan_at (T.plan v) c) kept e k) ∙ ap (λ z. Some (plan_at (T.plan v) z).home) e
       ∙ home_loaded ws (T.plan v) g (subst (StandsStill ws (T.plan v)) e s) ∙ ap (card_in T (T.plan v)) (sym e)
 
+  -- and it has an act to go on with
+  asks_in : (ws : List ℕ) (p : Option Act) (home : ℕ) → StandsStill ws p InCard → atom_at home p InCard ≡ None → ⊥
+  asks_in ws None home s e = absurd s
+  asks_in ws (Some a) home s e = cc
+
+  asks_loaded : (ws : List ℕ) (p : Option Act) (g home : ℕ) → StandsStill ws p (Loaded g) → atom_at home p (Loaded g) ≡ None → ⊥
+  asks_loaded ws None g home s e = absurd s
+  asks_loaded ws (Some a) g home s e = cc
+
+  pub acts_in : (ws : List ℕ) (v : V) (c : CardState) (kept : Plan) → c ≡ InCard → IsKept c (plan_at (T.plan v) c) kept →
+      StandsStill ws (T.plan v) c → atom_at kept.home kept.act InCard ≡ None → ⊥
+  acts_in ws v c kept e k s n =
+      asks_in ws (T.plan v) (plan_at (T.plan v) InCard).home (subst (StandsStill ws (T.plan v)) e s)
+      (ap (λ (p : Plan). atom_at p.home p.act InCard) (sym (kept_in c (plan_at (T.plan v) c) kept e k ∙ ap (plan_at (T.plan v)) e)) ∙ n)
+
+  pub acts_loaded : (ws : List ℕ) (v : V) (c : CardState) (kept : Plan) (g : ℕ) → c ≡ Loaded g → IsKept c (plan_at (T.plan v) c) kept →
+      StandsStill ws (T.plan v) c → atom_at kept.home kept.act (Loaded g) ≡ None → ⊥
+  acts_loaded ws v c kept g e k s n =
+      asks_loaded ws (T.plan v) g (plan_at (T.plan v) (Loaded g)).home (subst (StandsStill ws (T.plan v)) e s)
+      (ap (λ (p : Plan). atom_at p.home p.act (Loaded g)) (sym (kept_loaded c g (plan_at (T.plan v) c) kept e k ∙ ap (plan_at (T.plan v)) e)) ∙ n)
+
+-- an atom of the work is made in no card
+load_works : (home got : ℕ) (b : Bool) → (if b then Learn (ToLeave home) got true else Stay (Loaded got) Moved) ≡ Work → InCard ≡ Free
+load_works home got true e = cc
+load_works home got false e = cc
+
+pub works_free : (home : ℕ) (ws : List ℕ) (p : Option Act) (c : CardState) (got : ℕ) → StandsStill ws p c → effect_at home p c got ≡ Work → c ≡ Free
+works_free home ws p (ToLeave n) got s e = cc
+works_free home ws p Free got s e = refl
+works_free home ws None InCard got s e = absurd s
+works_free home ws None (Loaded g) got s e = absurd s
+works_free home ws (Some a) InCard got s e = load_works home got (skips a got) e
+works_free home ws (Some a) (Loaded g) got s e = cc
+
 -- where something is learnt a rank keeps what it kept
 module _ (plan kept : Plan) where
   first_learnt : (a : Act) (home got : ℕ) (b z : Bool) (hand : CardState) (t : ℕ) (lost : Bool) →
-      (if b then (if z then Stay InCard Moved else Stay Free (Busy home (got - 1))) else Learn Free got (skips a got)) ≡ Learn hand t lost → plan_kept hand plan kept ≡ kept
+      (if b then (if z then Stay InCard Moved else Stay Free (Busy home (got - 1))) else Learn Free got (skips a got)) ≡ Learn hand t lost →
+      plan_kept hand plan kept ≡ kept
   first_learnt a home got true true hand t lost e = cc
   first_learnt a home got true false hand t lost e = cc
   first_learnt a home got false z hand t lost e = let is : hand ≡ Free = cc in ap (λ h. plan_kept h plan kept) is
 
-  load_learnt : (home got : ℕ) (b : Bool) (hand : CardState) (t : ℕ) (lost : Bool) → (if b then Learn (ToLeave home) got true else Stay (Loaded got) Moved) ≡ Learn hand t lost → plan_kept hand plan kept ≡ kept
+  load_learnt : (home got : ℕ) (b : Bool) (hand : CardState) (t : ℕ) (lost : Bool) →
+      (if b then Learn (ToLeave home) got true else Stay (Loaded got) Moved) ≡ Learn hand t lost → plan_kept hand plan kept ≡ kept
   load_learnt home got true hand t lost e = let is : hand ≡ ToLeave home = cc in ap (λ h. plan_kept h plan kept) is
   load_learnt home got false hand t lost e = cc
 
-  pub learnt_keeps : (home : ℕ) (p : Option Act) (c : CardState) (got : ℕ) (hand : CardState) (t : ℕ) (lost : Bool) → effect_at home p c got ≡ Learn hand t lost → plan_kept hand plan kept ≡ kept
+  pub learnt_keeps : (home : ℕ) (p : Option Act) (c : CardState) (got : ℕ) (hand : CardState) (t : ℕ) (lost : Bool) →
+      effect_at home p c got ≡ Learn hand t lost → plan_kept hand plan kept ≡ kept
   learnt_keeps home p (ToLeave n) got hand t lost e = cc
   learnt_keeps home None Free got hand t lost e = cc
   learnt_keeps home None InCard got hand t lost e = cc

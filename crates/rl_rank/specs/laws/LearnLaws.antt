@@ -30,8 +30,10 @@ pub load_learns : (home got : ℕ) (b : Bool) (h : CardState) (t : ℕ) (l : Boo
 load_learns home got true h t l e = (refl, cc)
 load_learns home got false h t l e = cc
 
-module _ (V : Type 0) (T : LockTable V) (good : LockState V → Type 0) (further : List Event → List Deed → Type 0) (layout : Layout) (laws : LockLaws T good further layout) where
-  pub learns_at : (s : SplitState V) (r : ℕ) (v : V) (p : Option Act) (h : CardState) (got : ℕ) (hand : CardState) (t : ℕ) (lost : Bool) → LockGood T good layout s →
+module _ (V : Type 0) (T : LockTable V) (good : LockState V → Type 0) (further : List Event → List Deed → Type 0) (layout : Layout)
+    (laws : LockLaws T good further layout) where
+  pub learns_at : (s : SplitState V) (r : ℕ) (v : V) (p : Option Act) (h : CardState) (got : ℕ) (hand : CardState) (t : ℕ) (lost : Bool) →
+      LockGood T good layout s →
       slice_get s.sides r ≡ Some (record { view = v; card = h }) → T.plan v ≡ p → effect_at (plan_home T p) p h got ≡ Learn hand t lost →
       ((at : Atom) → card_atom T p h ≡ Some at → got ≡ do_got at s.words s.cards) →
       (a : Act) × (p ≡ Some a) × (t ≡ told a (slice_index s.words (word_of a)))
@@ -52,8 +54,10 @@ module _ (V : Type 0) (T : LockTable V) (good : LockState V → Type 0) (further
       (a, refl, same ∙ ap (told a) (sym holds.2))
 
   -- what an atom of the lock does to its rank's standing
-  pub moves_by : (s : SplitState V) (r : ℕ) (v : V) (c : CardState) (got : ℕ) (e : Effect) → LockGood T good layout s → slice_get s.sides r ≡ Some (record { view = v; card = c }) →
-      effect_at (plan_home T (T.plan v)) (T.plan v) c got ≡ e → is_work e ≡ false → ((at : Atom) → card_atom T (T.plan v) c ≡ Some at → got ≡ do_got at s.words s.cards) →
+  pub moves_by : (s : SplitState V) (r : ℕ) (v : V) (c : CardState) (got : ℕ) (e : Effect) → LockGood T good layout s →
+      slice_get s.sides r ≡ Some (record { view = v; card = c }) →
+      effect_at (plan_home T (T.plan v)) (T.plan v) c got ≡ e → is_work e ≡ false →
+      ((at : Atom) → card_atom T (T.plan v) c ≡ Some at → got ≡ do_got at s.words s.cards) →
       Moves r (T.standing v) (T.standing (turned_side T r v (T.plan v) e).side.view) (turned_side T r v (T.plan v) e).events
   moves_by s r v c got Work g has is calm k = absurd (cc)
   moves_by s r v c got (Stay d answer) g has is calm k = inl (refl, refl)

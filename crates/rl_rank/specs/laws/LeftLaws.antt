@@ -25,16 +25,19 @@ module _ {V : Type 0} (T : LockTable V) (left : List ℕ → List V → ℕ) whe
   four a b n m k le e = omega arith
 
   pub quiet_turn : (words : List ℕ) (sides : List (Side V)) (r most : ℕ) (x y : Side V) → AllFree sides → slice_get sides r ≡ Some x → y.card ≡ Free →
-      left words (slice_set (map view_of sides) r y.view) ≤ left words (map view_of sides) + most → lock_left T left words (slice_set sides r y) ≤ lock_left T left words sides + 4 * most
+      left words (slice_set (map view_of sides) r y.view) ≤ left words (map view_of sides) + most → lock_left T left words
+      (slice_set sides r y) ≤ lock_left T left words sides + 4 * most
   quiet_turn words sides r most x y free has out adds =
-      let free_then : AllFree (slice_set sides r y) = λ i u e. ⊎_elim (λ q. ap (λ (z : Side V). z.card) q.1 ∙ out) (λ q. free i u q.1) (get_set_cases sides r i y u e) in
+      let free_then : AllFree (slice_set sides r y) = λ i u e. ⊎_elim (λ q. ap (λ (z : Side V). z.card) q.1 ∙ out) (λ q. free i u q.1)
+      (get_set_cases sides r i y u e) in
       let now : left_at T left (begun_in T (state words sides)) ≡ left words (map view_of sides) = quiet_begun words sides free in
       let then_is : left_at T left (begun_in T (state words (slice_set sides r y))) ≡ left words (slice_set (map view_of sides) r y.view) =
       quiet_begun words (slice_set sides r y) free_then ∙ ap (left words) (map_set view_of sides r y) in
       let none_x : atoms_of x ≡ 0 = ap atoms_in (free r x has) in
       let none_y : atoms_of y ≡ 0 = ap atoms_in out in
       let turned = sum_turned atoms_of sides r x y has in
-      four (left_at T left (begun_in T (state words (slice_set sides r y)))) (left_at T left (begun_in T (state words sides))) (sum_by atoms_of (slice_set sides r y)) (sum_by atoms_of sides) most
+      four (left_at T left (begun_in T (state words (slice_set sides r y)))) (left_at T left (begun_in T (state words sides)))
+      (sum_by atoms_of (slice_set sides r y)) (sum_by atoms_of sides) most
       (omega (arith, now, then_is, adds)) (omega (arith, none_x, none_y, turned))
 
 -- an atom of the lock; an atom of the work; and a block that is opened
@@ -61,7 +64,8 @@ some_next None e = cc
 some_next (Some x) e = (x, refl)
 
 -- an element of which a test says true, or none
-pub some_or_all : {X : Type 0} (f : X → Bool) (xs : List X) → ((r : ℕ) × (x : X) × (slice_get xs r ≡ Some x) × (f x ≡ true)) ⊎ ((r : ℕ) (x : X) → slice_get xs r ≡ Some x → f x ≡ false)
+pub some_or_all : {X : Type 0} (f : X → Bool) (xs : List X) → ((r : ℕ) × (x : X) × (slice_get xs r ≡ Some x) × (f x ≡ true)) ⊎
+    ((r : ℕ) (x : X) → slice_get xs r ≡ Some x → f x ≡ false)
 some_or_all f [] = inr (λ r x e. cc)
 some_or_all f (x ∷ xs) =
     ⊎_elim

@@ -59,7 +59,8 @@ abbrev pub asked_modes : List Mode → ℕ → Option Mode → List Mode
 asked_modes modes r None = modes
 asked_modes modes r (Some m) = slice_set modes r m
 
-asked_here : (modes : List Mode) (r : ℕ) (m : Mode) (o : Option Mode) → slice_get modes r ≡ Some m → slice_get (asked_modes modes r o) r ≡ Some (opened_mode o m)
+asked_here : (modes : List Mode) (r : ℕ) (m : Mode) (o : Option Mode) → slice_get modes r ≡ Some m →
+    slice_get (asked_modes modes r o) r ≡ Some (opened_mode o m)
 asked_here modes r m None e = e
 asked_here modes r m (Some n) e = get_set_same modes r m n e
 
@@ -67,7 +68,8 @@ asked_there : (modes : List Mode) (r i : ℕ) (o : Option Mode) → (i ≡ r →
 asked_there modes r i None ne = refl
 asked_there modes r i (Some n) ne = get_set_other modes r i n ne
 
-module _ (V K : Type 0) (L : LockAt V K) (good : Goods V K) (further : List Event → List Deed → Type 0) (layout : Layout) (laws : BothLaws L good further layout) (home : ℕ) where
+module _ (V K : Type 0) (L : LockAt V K) (good : Goods V K) (further : List Event → List Deed → Type 0) (layout : Layout)
+    (laws : BothLaws L good further layout) (home : ℕ) where
   -- a rank's view before its first call
   pub record IsFirstView (r : ℕ) (x : WholeView V K) : Type 0 where
     pub lock : x.side.view ≡ L.table.first r
@@ -76,11 +78,13 @@ module _ (V K : Type 0) (L : LockAt V K) (good : Goods V K) (further : List Even
     pub room : ℕ
     pub work : x.work ≡ L.work.first r room
 
-  lock_views : (from : ℕ) (vs : List (WholeView V K)) → ((r : ℕ) (x : WholeView V K) → slice_get vs r ≡ Some x → x.side.view ≡ L.table.first (from + r)) → map view_of (map side_of vs) ≡ first_views L.table.first from (length vs)
+  lock_views : (from : ℕ) (vs : List (WholeView V K)) → ((r : ℕ) (x : WholeView V K) → slice_get vs r ≡ Some x →
+      x.side.view ≡ L.table.first (from + r)) → map view_of (map side_of vs) ≡ first_views L.table.first from (length vs)
   lock_views from [] first = refl
   lock_views from (x ∷ vs) first =
       let here : x.side.view ≡ L.table.first from = first 0 x refl ∙ ap L.table.first (omega arith) in
-      let rest : map view_of (map side_of vs) ≡ first_views L.table.first (from + 1) (length vs) = lock_views (from + 1) vs (λ r y h. first (suc r) y h ∙ ap L.table.first (omega arith)) in
+      let rest : map view_of (map side_of vs) ≡ first_views L.table.first (from + 1) (length vs) =
+      lock_views (from + 1) vs (λ r y h. first (suc r) y h ∙ ap L.table.first (omega arith)) in
       ap (λ z. z ∷ map view_of (map side_of vs)) here ∙ ap (λ z. L.table.first from ∷ z) rest
 
   writes_at : (n r : ℕ) → r < n → slice_get (replicate n mode.Write) r ≡ Some mode.Write
@@ -92,7 +96,8 @@ module _ (V K : Type 0) (L : LockAt V K) (good : Goods V K) (further : List Even
   first_side r x f = record { out = ap L.table.standing f.lock ∙ laws.lock.first_out r; room = f.room; work = f.work }
 
   -- the start meets the rule
-  pub opening_rule : GeomFits L.work.site.geom → L.base ≡ lock_base L.work.site → L.work.behind ≡ L.base + L.table.size → L.base + L.table.size + L.work.size < 2 ^ 32 → length layout.node_of < 2 ^ 32 → length L.work.site.rooms ≡ length layout.node_of →
+  pub opening_rule : GeomFits L.work.site.geom → L.base ≡ lock_base L.work.site → L.work.behind ≡ L.base + L.table.size →
+      L.base + L.table.size + L.work.size < 2 ^ 32 → length layout.node_of < 2 ^ 32 → length L.work.site.rooms ≡ length layout.node_of →
       (vs : List (WholeView V K)) → length vs ≡ length layout.node_of → ((r : ℕ) (x : WholeView V K) → slice_get vs r ≡ Some x → IsFirstView r x) →
       (q : Good L good layout (opening_held L.work.site (L.table.size + L.work.size) layout.nodes) vs) × (q.past ≡ record { trace = []; deeds = [] })
   opening_rule fits is behind low few rooms vs all first =
@@ -104,16 +109,28 @@ module _ (V K : Type 0) (L : LockAt V K) (good : Goods V K) (further : List Even
       laws.work.begins fits size (omega arith) (omega arith) (map (work_side L.table) vs) (length-map vs (work_side L.table) ∙ all ∙ sym rooms)
       (λ r y h. let q = get_map_back (work_side L.table) vs r y h in subst (IsFirst L.work r) q.2 (first_side r q.0 (first r q.0 q.1))) in
       let long : length (opening_words L.work.site) ≡ L.base = opening_size L.work.site ∙ sym is in
-      let many : length words ≡ L.base + L.table.size + L.work.size = length-append (opening_words L.work.site) (replicate size 0) ∙ omega (arith, length-replicate {A = ℕ} size 0) in
-      let lock_is : lock_words L words ≡ replicate L.table.size 0 = ap (take L.table.size) (drop_at (opening_words L.work.site) (replicate size 0) L.base long) ∙ zeros_taken L.table.size L.work.size in
+      let many : length words ≡ L.base + L.table.size + L.work.size = length-append (opening_words L.work.site) (replicate size 0)
+      ∙ omega (arith, length-replicate {A = ℕ} size 0) in
+      let lock_is : lock_words L words ≡ replicate L.table.size 0 =
+      ap (take L.table.size) (drop_at (opening_words L.work.site) (replicate size 0) L.base long)
+      ∙ zeros_taken L.table.size L.work.size in
       let laid = laid_by L words is behind many low in
-      let s : SplitState V = record { words = replicate L.table.size 0; cards = replicate layout.nodes 0; sides = map side_of vs; modes = modes; past = record { trace = []; deeds = [] } } in (
+      let s : SplitState V = record {
+        words = replicate L.table.size 0;
+        cards = replicate layout.nodes 0;
+        sides = map side_of vs;
+        modes =
+            modes;
+        past = record { trace = []; deeds = [] };
+      } in (
         record {
           modes = modes;
           past = record { trace = []; deeds = [] };
-          lock_part = split_at V L.table good.lock further layout laws.lock s (split_of L (opening_held L.work.site size layout.nodes) vs modes (record { trace = []; deeds = [] }))
+          lock_part = split_at V L.table good.lock further layout laws.lock s
+              (split_of L (opening_held L.work.site size layout.nodes) vs modes (record { trace = []; deeds = [] }))
               (sym lock_is) refl refl refl refl
-              (opening_good V L.table good.lock further layout laws.lock (map side_of vs) (lock_views 0 vs (λ r x h. (first r x h).lock ∙ ap L.table.first (omega arith)) ∙ ap (first_views L.table.first 0) all)
+              (opening_good V L.table good.lock further layout laws.lock (map side_of vs)
+              (lock_views 0 vs (λ r x h. (first r x h).lock ∙ ap L.table.first (omega arith)) ∙ ap (first_views L.table.first 0) all)
               (λ r y h. let q = get_map_back side_of vs r y h in ap (λ z. z.card) (sym q.2) ∙ (first r q.0 q.1).free));
           work_part = work;
           asked_as = λ r x h. let f = first r x h in
@@ -121,9 +138,11 @@ module _ (V K : Type 0) (L : LockAt V K) (good : Goods V K) (further : List Even
           left_as = λ r x h.
               let f = first r x h in
               let shut : L.work.is_open x.work ≡ false = ap L.work.is_open f.work ∙ (laws.work.first r f.room).2 in
-              let side : IsSide L.work good.work words (map (work_side L.table) vs) r (work_side L.table x) = record { is_good = work; laid = laid; there = get_map (work_side L.table) vs r x h } in
+              let side : IsSide L.work good.work words (map (work_side L.table) vs) r (work_side L.table x) =
+              record { is_good = work; laid = laid; there = get_map (work_side L.table) vs r x h } in
               let none : L.work.ended x.work ≡ [] =
-              (laws.work.closed words (map (work_side L.table) vs) r (work_side L.table x) side shut).1 ∙ ap (λ z. (L.work.kept z).items) f.work ∙ ap (λ (z : TheTranscript). z.items) (laws.work.first r f.room).0 in
+              (laws.work.closed words (map (work_side L.table) vs) r (work_side L.table x) side shut).1
+              ∙ ap (λ z. (L.work.kept z).items) f.work ∙ ap (λ (z : TheTranscript). z.items) (laws.work.first r f.room).0 in
               ap (count_by (counts L)) (sym none);
           keeps = λ r x h. kept_free x.side.card (planned_in L.table x) x.kept (first r x h).free;
           own = λ r x h. (first r x h).rank;
@@ -149,16 +168,22 @@ module _ (V K : Type 0) (L : LockAt V K) (good : Goods V K) (further : List Even
     pub closed_parts : next_of L x ≡ None → (L.table.standing x.side.view ≡ Out) × (x.side.card ≡ Free) × (L.work.is_open x.work ≡ false)
     closed_parts e =
         let none = nothing_planned L.base (side_atom L.table x.side) (work_plan (L.table.standing x.side.view) (L.work.next x.rank x.work)) e in
-        let away : (L.table.plan x.side.view ≡ None) × (x.side.card ≡ Free) = none_at V L.table good.lock further layout laws.lock (lock_words L h.words) (L.table.plan x.side.view) x.side.card (g.lock_part.still r x.side here) none.0 in
-        let rests : Rests (L.table.standing x.side.view) = (laws.lock.rests (lock_of (split_of L h vs g.modes g.past)) r x.side.view g.lock_part.lock (get_map view_of (map side_of vs) r x.side here)).0 away.0 in
+        let away : (L.table.plan x.side.view ≡ None) × (x.side.card ≡ Free) =
+        none_at V L.table good.lock further layout laws.lock (lock_words L h.words) (L.table.plan x.side.view) x.side.card
+        (g.lock_part.still r x.side here) none.0 in
+        let rests : Rests (L.table.standing x.side.view) =
+        (laws.lock.rests (lock_of (split_of L h vs g.modes g.past)) r x.side.view g.lock_part.lock
+        (get_map view_of (map side_of vs) r x.side here)).0 away.0 in
         let out = none_out (L.table.standing x.side.view) (L.work.is_open x.work) (L.work.next x.rank x.work) rests goes_on none.1 in
         (out.0, away.1, out.1)
 
     out_is_closed : L.table.standing x.side.view ≡ Out → x.side.card ≡ Free → L.work.is_open x.work ≡ false → next_of L x ≡ None
     out_is_closed out free shut =
         let plans : L.table.plan x.side.view ≡ None =
-        (laws.lock.rests (lock_of (split_of L h vs g.modes g.past)) r x.side.view g.lock_part.lock (get_map view_of (map side_of vs) r x.side here)).1 (subst Rests (sym out) tt) in
-        let open_is : is_some (L.work.next x.rank x.work) ≡ L.work.is_open x.work = subst (λ st. GoesOnAt st (L.work.is_open x.work) (L.work.next x.rank x.work)) out goes_on in
+        (laws.lock.rests (lock_of (split_of L h vs g.modes g.past)) r x.side.view g.lock_part.lock
+        (get_map view_of (map side_of vs) r x.side here)).1 (subst Rests (sym out) tt) in
+        let open_is : is_some (L.work.next x.rank x.work) ≡ L.work.is_open x.work =
+        subst (λ st. GoesOnAt st (L.work.is_open x.work) (L.work.next x.rank x.work)) out goes_on in
         let no_next : L.work.next x.rank x.work ≡ None = none_is (L.work.next x.rank x.work) (open_is ∙ shut) in
         ap (λ st. lock_or_work L.base (side_atom L.table x.side) (work_plan st (L.work.next x.rank x.work))) out
         ∙ ap (λ n. lock_or_work L.base (side_atom L.table x.side) n) no_next
@@ -180,8 +205,11 @@ module _ (V K : Type 0) (L : LockAt V K) (good : Goods V K) (further : List Even
           split_at V L.table good.lock further layout laws.lock (split_of L h vs g.modes g.past) (split_of L h (slice_set vs r (opened_by None)) g.modes g.past)
           refl refl (sym (map_set side_of vs r (opened_by None) ∙ set_same_get (map side_of vs) r x.side here)) refl refl g.lock_part
       asked_part (Some m) =
-          ask_keeps V L.table good.lock further layout laws.lock (split_of L h vs g.modes g.past) (split_of L h (slice_set vs r (opened_by (Some m))) (slice_set g.modes r m) g.past) r x.side m g.lock_part here parts.1 parts.0
-          refl refl (map_set side_of vs r (opened_by (Some m)) ∙ ap (λ k. slice_set (map side_of vs) r (record { view = L.table.ask x.side.view m; card = k })) parts.1) refl refl
+          ask_keeps V L.table good.lock further layout laws.lock (split_of L h vs g.modes g.past)
+          (split_of L h (slice_set vs r (opened_by (Some m))) (slice_set g.modes r m) g.past) r x.side m g.lock_part here parts.1
+          parts.0
+          refl refl (map_set side_of vs r (opened_by (Some m)) ∙ ap
+          (λ k. slice_set (map side_of vs) r (record { view = L.table.ask x.side.view m; card = k })) parts.1) refl refl
 
       asked_stands : (m : Option Mode) → L.table.standing (asked_if L.table x.side.view m) ≡ opened_standing m
       asked_stands None = parts.0
@@ -205,11 +233,14 @@ module _ (V K : Type 0) (L : LockAt V K) (good : Goods V K) (further : List Even
               work_part = subst (good.work h.words) (sym (map_set (work_side L.table) vs r y ∙ ap (slice_set sides r) (sym stands)))
                   (laws.work.opens h.words sides r (work_side L.table x) c seq at parts.0 parts.2 o takes);
               asked_as = λ i u q. ⊎_elim
-                  (λ p. ap (slice_get (asked_modes g.modes r m)) p.0 ∙ asked_here g.modes r (L.work.mode x.work) m (g.asked_as r x has) ∙ ap (λ z. Some z) (sym opened.4) ∙ ap (λ z. Some (L.work.mode z)) same ∙ ap (λ z. Some (L.work.mode z.work)) (sym p.1))
+                  (λ p. ap (slice_get (asked_modes g.modes r m)) p.0 ∙ asked_here g.modes r (L.work.mode x.work) m (g.asked_as r x has)
+                  ∙ ap (λ z. Some z) (sym opened.4) ∙ ap (λ z. Some (L.work.mode z)) same
+                  ∙ ap (λ z. Some (L.work.mode z.work)) (sym p.1))
                   (λ p. asked_there g.modes r i m p.0 ∙ g.asked_as i u p.1)
                   (get_set_cases vs r i y u q);
               left_as = λ i u q. ⊎_elim
-                  (λ p. ap (λ z. leaves z g.past.trace) p.0 ∙ g.left_as r x has ∙ ap (count_by (counts L)) (sym opened.3) ∙ ap (λ z. count_by (counts L) (L.work.ended z)) same ∙ ap (λ z. count_by (counts L) (L.work.ended z.work)) (sym p.1))
+                  (λ p. ap (λ z. leaves z g.past.trace) p.0 ∙ g.left_as r x has ∙ ap (count_by (counts L)) (sym opened.3)
+                  ∙ ap (λ z. count_by (counts L) (L.work.ended z)) same ∙ ap (λ z. count_by (counts L) (L.work.ended z.work)) (sym p.1))
                   (λ p. g.left_as i u p.1)
                   (get_set_cases vs r i y u q);
               keeps = kept_after L.table vs r y g.keeps (kept_free x.side.card (planned_in L.table y) x.kept parts.1);
@@ -232,7 +263,8 @@ module _ (V K : Type 0) (L : LockAt V K) (good : Goods V K) (further : List Even
   closed_work x m e = (closed_parts m.held m.views m.rank x m.is_ruled m.has e).2
 
   -- so a call is open exactly where the rank isn't out or is in a card, or its block is open
-  open_either : (st : Standing) (c : CardState) (w : Bool) (o : Option Atom) → (o ≡ None → (st ≡ Out) × (c ≡ Free) × (w ≡ false)) → (st ≡ Out → c ≡ Free → w ≡ false → o ≡ None) → (is_at_work st c || w) ≡ is_some o
+  open_either : (st : Standing) (c : CardState) (w : Bool) (o : Option Atom) → (o ≡ None → (st ≡ Out) × (c ≡ Free) × (w ≡ false)) →
+      (st ≡ Out → c ≡ Free → w ≡ false → o ≡ None) → (is_at_work st c || w) ≡ is_some o
   open_either st c w None none closed = let p = none refl in ap (λ z. is_at_work z c || w) p.0 ∙ ap (λ z. is_at_work Out z || w) p.1 ∙ p.2
   open_either Out Free false (Some at) none closed = absurd (let bad : Some at ≡ None = closed refl refl refl in cc)
   open_either Out Free true (Some at) none closed = refl
@@ -246,7 +278,8 @@ module _ (V K : Type 0) (L : LockAt V K) (good : Goods V K) (further : List Even
 
   pub open_is : (x : WholeView V K) → MayBe (Good L good layout) x → is_open L x ≡ is_some (next_of L x)
   open_is x m =
-      open_either (L.table.standing x.side.view) x.side.card (L.work.is_open x.work) (next_of L x) (closed_parts m.held m.views m.rank x m.is_ruled m.has) (out_is_closed m.held m.views m.rank x m.is_ruled m.has)
+      open_either (L.table.standing x.side.view) x.side.card (L.work.is_open x.work) (next_of L x)
+      (closed_parts m.held m.views m.rank x m.is_ruled m.has) (out_is_closed m.held m.views m.rank x m.is_ruled m.has)
 
   -- and none is exactly where there is no atom
   pub shut_is_none : (x : WholeView V K) → MayBe (Good L good layout) x → is_open L x ≡ false → next_of L x ≡ None

@@ -34,7 +34,8 @@ pub none_there : {X : Type 0} (xs : List X) → (length xs == 0) ≡ true → xs
 none_there xs e = ⊎_elim (λ q. no_length xs q.1) (λ q. let bad : true ≡ false = sym e ∙ q.0 in cc) (eqb_tells (length xs) 0)
 
 -- a load that was seen is made so whatever the window is, while its word has the value
-module _ {V K : Type 0} (L : LockAt V K) (home : ℕ) (h : TheWindow) (x : WholeView V K) (leg : Leg V) (s : IsSeenLoad L h x.side.view leg) (free : x.side.card ≡ Free) where
+module _ {V K : Type 0} (L : LockAt V K) (home : ℕ) (h : TheWindow) (x : WholeView V K) (leg : Leg V) (s : IsSeenLoad L h x.side.view leg)
+    (free : x.side.card ≡ Free) where
   seen_next : next_of L x ≡ Some (atom.Load (L.base + s.load))
   seen_next = load_next L x s.load s.planned free
 
@@ -46,13 +47,15 @@ module _ {V K : Type 0} (L : LockAt V K) (home : ℕ) (h : TheWindow) (x : Whole
   goes_by k w shows =
       let got : ℕ = leg.value in
       let is : got ≡ slice_index w.words (L.base + s.load) = sym shows ∙ ap (slice_index w.words) s.word in
-      let turned : after_of L x got ≡ effect_turned L x (L.work.after x.rank x.work got) (Learn Free got false) = after_effect L x got (Learn Free got false) (load_means L x s.load s.planned free got) in
+      let turned : after_of L x got ≡ effect_turned L x (L.work.after x.rank x.work got) (Learn Free got false) =
+      after_effect L x got (Learn Free got false) (load_means L x s.load s.planned free got) in
       let view : (after_of L x got).view ≡ with_lock x leg.sight =
       ap (λ z. z.view) turned ∙ ap (λ v. record { side = record { view = v; card = Free }; kept = x.kept; rank = x.rank; work = x.work }) s.view
       ∙ ap (λ c. record { side = record { view = leg.sight; card = c }; kept = x.kept; rank = x.rank; work = x.work }) (sym free) in
       let answer : (after_of L x got).stepped ≡ leg_answer leg =
       ap (λ z. z.stepped) turned ∙ ap (λ q. shifted_answer L.base (answer_of q got false (L.table.learn x.side.view got).waits)) s.planned
-      ∙ ap (λ b. shifted_answer L.base (answer_of (Some (act.Load s.load)) got false b)) s.waits ∙ answered leg.waits ∙ ap (λ n. load_answer n got leg.waits) (sym s.word) in
+      ∙ ap (λ b. shifted_answer L.base (answer_of (Some (act.Load s.load)) got false b)) s.waits ∙ answered leg.waits
+      ∙ ap (λ n. load_answer n got leg.waits) (sym s.word) in
       subst (Makes (whole_shard L home) with_lock w k x leg) (sym seen_next) (
         refl,
         subst (λ g. (after_of L x g).view ≡ with_lock x leg.sight) is view,
@@ -60,17 +63,22 @@ module _ {V K : Type 0} (L : LockAt V K) (home : ℕ) (h : TheWindow) (x : Whole
         subst (λ g. (after_of L x g).stepped ≡ leg_answer leg) is answer,
       )
 
-module _ {V K : Type 0} (L : LockAt V K) (good : Goods V K) (further : List Event → List Deed → Type 0) (layout : Layout) (laws : BothLaws L good further layout) (home : ℕ) (x : WholeView V K) (may : MayBe (Good L good layout) x) (free : x.side.card ≡ Free) where
+module _ {V K : Type 0} (L : LockAt V K) (good : Goods V K) (further : List Event → List Deed → Type 0) (layout : Layout)
+    (laws : BothLaws L good further layout) (home : ℕ) (x : WholeView V K) (may : MayBe (Good L good layout) x)
+    (free : x.side.card ≡ Free) where
   -- the view after a load that was seen may be there
   after_leg : (leg : Leg V) → IsSeenLoad L may.held x.side.view leg → MayBe (Good L good layout) (with_lock x leg.sight)
   after_leg leg s =
       let at : Atom = atom.Load (L.base + s.load) in
       let is : slice_index may.held.words (L.base + s.load) ≡ leg.value = ap (slice_index may.held.words) (sym s.word) ∙ s.shows in
       let planned : next_of L x ≡ Some at = seen_next L home may.held x leg s free in
-      let plans : Plans (whole_table L home) (Good L good layout) may.held may.views may.rank x at = record { is_ruled = may.is_ruled; has = may.has; planned = planned } in
+      let plans : Plans (whole_table L home) (Good L good layout) may.held may.views may.rank x at =
+      record { is_ruled = may.is_ruled; has = may.has; planned = planned } in
       let kept : Good L good layout may.held (slice_set may.views may.rank (after_of L x (slice_index may.held.words (L.base + s.load))).view) =
       (whole_laws V K L good further layout laws home).keeps may.held may.views may.rank x at plans (subst (λ n. n < 2 ^ 64) (sym is) s.fits) in
-      let made : Makes (whole_shard L home) with_lock may.held may.rank x leg (Some at) = subst (Makes (whole_shard L home) with_lock may.held may.rank x leg) planned (goes_by L home may.held x leg s free may.rank may.held s.shows) in
+      let made : Makes (whole_shard L home) with_lock may.held may.rank x leg (Some at) =
+      subst (Makes (whole_shard L home) with_lock may.held may.rank x leg) planned
+      (goes_by L home may.held x leg s free may.rank may.held s.shows) in
       record {
         held = may.held;
         views = slice_set may.views may.rank (with_lock x leg.sight);
@@ -81,10 +89,18 @@ module _ {V K : Type 0} (L : LockAt V K) (good : Goods V K) (further : List Even
 
   pub at_next : (h : TheWindow) → may.held ≡ h → (leg : Leg V) → IsSeenLoad L h x.side.view leg → IsAtLoad (Good L good layout) h leg.sight
   unfolding after_leg
-  at_next h held leg s = record { view = with_lock x leg.sight; may = after_leg leg (subst (λ w. IsSeenLoad L w x.side.view leg) (sym held) s); held = held; is = refl; free = free }
+  at_next h held leg s = record {
+    view = with_lock x leg.sight;
+    may =
+        after_leg leg (subst (λ w. IsSeenLoad L w x.side.view leg) (sym held) s);
+    held = held;
+    is = refl;
+    free = free;
+  }
 
   -- two loads that were seen, of which the second leads back, are a round
-  pub round_seen : (h : TheWindow) → may.held ≡ h → (here there : Leg V) → IsSeenLoad L h x.side.view here → IsSeenLoad L h here.sight there → there.sight ≡ x.side.view → (k : ℕ) →
+  pub round_seen : (h : TheWindow) → may.held ≡ h → (here there : Leg V) → IsSeenLoad L h x.side.view here →
+      IsSeenLoad L h here.sight there → there.sight ≡ x.side.view → (k : ℕ) →
       IsRound (whole_shard L home) with_lock (length h.words) k x (record { here = here; there = there })
   round_seen h held here there a b back k =
       let y : WholeView V K = with_lock x here.sight in

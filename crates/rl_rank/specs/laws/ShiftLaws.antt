@@ -14,14 +14,17 @@ use Rattle.rl_rank.specs.Whole.{shifted, home_of_word, lock_words}
 pub shift_words : (base : ℕ) (at : Atom) (ws : List ℕ) → drop base (do_words (shifted base at) ws) ≡ do_words at (drop base ws)
 shift_words base (atom.Load w) ws = refl
 shift_words base (atom.Store w v) ws = drop-set-add base ws w v
-shift_words base (atom.LocalCas w old new) ws = cas_drops base ws w old new (slice_index ws (base + w)) (slice_index (drop base ws) w) (sym (get_or-drop base ws w 0)) where
-  cas_drops : (base : ℕ) (ws : List ℕ) (w old new g k : ℕ) → g ≡ k →
-      drop base (if g == old then slice_set ws (base + w) new else ws) ≡ (if k == old then slice_set (drop base ws) w new else drop base ws)
-  cas_drops base ws w old new g k e = subst (λ z. drop base (if g == old then slice_set ws (base + w) new else ws) ≡ (if z == old then slice_set (drop base ws) w new else drop base ws)) e
-      (either (g == old)) where
-        either : (b : Bool) → drop base (if b then slice_set ws (base + w) new else ws) ≡ (if b then slice_set (drop base ws) w new else drop base ws)
-        either true = drop-set-add base ws w new
-        either false = refl
+shift_words base (atom.LocalCas w old new) ws = cas_drops base ws w old new (slice_index ws (base + w)) (slice_index (drop base ws) w)
+    (sym (get_or-drop base ws w 0)) where
+      cas_drops : (base : ℕ) (ws : List ℕ) (w old new g k : ℕ) → g ≡ k →
+          drop base (if g == old then slice_set ws (base + w) new else ws) ≡ (if k == old then slice_set (drop base ws) w new else drop base ws)
+      cas_drops base ws w old new g k e =
+          subst (λ z. drop base (if g == old then slice_set ws (base + w) new else ws) ≡
+          (if z == old then slice_set (drop base ws) w new else drop base ws)) e
+          (either (g == old)) where
+            either : (b : Bool) → drop base (if b then slice_set ws (base + w) new else ws) ≡ (if b then slice_set (drop base ws) w new else drop base ws)
+            either true = drop-set-add base ws w new
+            either false = refl
 shift_words base (atom.Take n) ws = refl
 shift_words base (atom.CardLoad w) ws = refl
 shift_words base (atom.CardStore w v) ws = drop-set-add base ws w v
@@ -95,7 +98,9 @@ pub take_words : (n : ℕ) (at : Atom) (ws : List ℕ) → IsLow n at → take n
 take_words n (atom.Load w) ws low = refl
 take_words n (atom.Store w v) ws low = take_set_in n ws w v low
 take_words n (atom.LocalCas w old new) ws low =
-    subst (λ z. take n (if slice_index ws w == old then slice_set ws w new else ws) ≡ (if z == old then slice_set (take n ws) w new else take n ws)) (sym (get_or-take n ws w 0 low)) (either (slice_index ws w == old)) where
+    subst (λ z. take n (if slice_index ws w == old then slice_set ws w new else ws) ≡
+    (if z == old then slice_set (take n ws) w new else take n ws)) (sym (get_or-take n ws w 0 low))
+    (either (slice_index ws w == old)) where
       either : (b : Bool) → take n (if b then slice_set ws w new else ws) ≡ (if b then slice_set (take n ws) w new else take n ws)
       either true = take_set_in n ws w new low
       either false = refl
@@ -105,10 +110,12 @@ take_words n (atom.CardStore w v) ws low = take_set_in n ws w v low
 take_words n (atom.Leave m) ws low = refl
 
 -- so the lock's atoms, shifted, do to the lock's words
-pub lock_words_made : {V K : Type 0} (L : LockAt V K) (at : Atom) (ws : List ℕ) → IsLow L.table.size at → lock_words L (do_words (shifted L.base at) ws) ≡ do_words at (lock_words L ws)
+pub lock_words_made : {V K : Type 0} (L : LockAt V K) (at : Atom) (ws : List ℕ) → IsLow L.table.size at →
+    lock_words L (do_words (shifted L.base at) ws) ≡ do_words at (lock_words L ws)
 lock_words_made L at ws low = ap (take L.table.size) (shift_words L.base at ws) ∙ take_words L.table.size at (drop L.base ws) low
 
-pub lock_got : {V K : Type 0} (L : LockAt V K) (at : Atom) (ws cs : List ℕ) → IsLow L.table.size at → do_got (shifted L.base at) ws cs ≡ do_got at (lock_words L ws) cs
+pub lock_got : {V K : Type 0} (L : LockAt V K) (at : Atom) (ws cs : List ℕ) → IsLow L.table.size at →
+    do_got (shifted L.base at) ws cs ≡ do_got at (lock_words L ws) cs
 lock_got L at ws cs low = shift_got L.base at ws cs ∙ take_got L.table.size at (drop L.base ws) cs low
 
 -- and leave the words behind the lock's

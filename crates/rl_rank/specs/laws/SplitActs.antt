@@ -55,7 +55,8 @@ zeros (suc m) zero = refl
 zeros (suc m) (suc n) = zeros m n
 
 -- acts by card, and acts of one atom
-pub card_cases : (P : Act → Type 0) → ((w old new : ℕ) → P (act.CardCas w old new)) → ((w v : ℕ) → P (act.CardSwap w v)) → ((w d : ℕ) → P (act.CardAdd w d)) → (a : Act) → by_card a ≡ true → P a
+pub card_cases : (P : Act → Type 0) → ((w old new : ℕ) → P (act.CardCas w old new)) → ((w v : ℕ) → P (act.CardSwap w v)) →
+    ((w d : ℕ) → P (act.CardAdd w d)) → (a : Act) → by_card a ≡ true → P a
 card_cases P cas swap add (act.Load w) e = cc
 card_cases P cas swap add (act.Store w v) e = cc
 card_cases P cas swap add (act.LocalCas w old new) e = cc
@@ -63,7 +64,8 @@ card_cases P cas swap add (act.CardCas w old new) e = cas w old new
 card_cases P cas swap add (act.CardSwap w v) e = swap w v
 card_cases P cas swap add (act.CardAdd w d) e = add w d
 
-pub plain_cases : (P : Act → Type 0) → ((w : ℕ) → P (act.Load w)) → ((w v : ℕ) → P (act.Store w v)) → ((w old new : ℕ) → P (act.LocalCas w old new)) → (a : Act) → by_card a ≡ false → P a
+pub plain_cases : (P : Act → Type 0) → ((w : ℕ) → P (act.Load w)) → ((w v : ℕ) → P (act.Store w v)) →
+    ((w old new : ℕ) → P (act.LocalCas w old new)) → (a : Act) → by_card a ≡ false → P a
 plain_cases P load store cas (act.Load w) e = load w
 plain_cases P load store cas (act.Store w v) e = store w v
 plain_cases P load store cas (act.LocalCas w old new) e = cas w old new
@@ -80,7 +82,8 @@ module _ (V : Type 0) (T : LockTable V) where
   first_card a e = begins_so (home_of T (word_of a)) a e
 
   -- any other act is one atom
-  pub plain_words : (a : Act) (ws : List ℕ) → by_card a ≡ false → do_words (first_atom T a) ws ≡ slice_set ws (word_of a) (written a (slice_index ws (word_of a)))
+  pub plain_words : (a : Act) (ws : List ℕ) → by_card a ≡ false →
+      do_words (first_atom T a) ws ≡ slice_set ws (word_of a) (written a (slice_index ws (word_of a)))
   plain_words a ws e =
       plain_cases (λ b. do_words (first_atom T b) ws ≡ slice_set ws (word_of b) (written b (slice_index ws (word_of b))))
       (λ w. sym (set-get_or ws w 0)) (λ w v. refl) (λ w old new. cas_writes ws w old new (slice_index ws w == old)) a e
@@ -105,24 +108,29 @@ module _ (V : Type 0) (T : LockTable V) where
   card_class nodes r spot a e l = card_cases (λ b. IsAllowed nodes r spot b → spot.class ≡ class.Card) (λ w old new k. k) (λ w v k. k) (λ w d k. k) a e l
 
   -- an act of one atom writes nothing, or its word is of no Card class
-  pub plain_class : (nodes : List ℕ) (r : ℕ) (spot : Spot) (a : Act) → by_card a ≡ false → IsAllowed nodes r spot a → ((g : ℕ) → written a g ≡ g) ⊎ (spot.class ≢ class.Card)
+  pub plain_class : (nodes : List ℕ) (r : ℕ) (spot : Spot) (a : Act) → by_card a ≡ false → IsAllowed nodes r spot a →
+      ((g : ℕ) → written a g ≡ g) ⊎ (spot.class ≢ class.Card)
   plain_class nodes r spot a e l =
       plain_cases (λ b. IsAllowed nodes r spot b → ((g : ℕ) → written b g ≡ g) ⊎ (spot.class ≢ class.Card))
       (λ w k. inl (λ g. refl)) (λ w v k. inr (λ c. plain_not_card (sym k ∙ c))) (λ w old new k. inr (λ c. local_not_card (sym k.0 ∙ c))) a e l
 
   -- what an atom leaves, by cases
-  pub after_plain : (r : ℕ) (v : V) (a : Act) (got : ℕ) → by_card a ≡ false → card_after T r v (Some a) Free got ≡ turned_side T r v (Some a) (Learn Free got (skips a got))
+  pub after_plain : (r : ℕ) (v : V) (a : Act) (got : ℕ) → by_card a ≡ false →
+      card_after T r v (Some a) Free got ≡ turned_side T r v (Some a) (Learn Free got (skips a got))
   after_plain r v a got e = rw e
 
-  pub after_take : (r : ℕ) (v : V) (a : Act) (got : ℕ) → by_card a ≡ true → (got == 0) ≡ true → card_after T r v (Some a) Free got ≡ turned_side T r v (Some a) (Stay InCard Moved)
+  pub after_take : (r : ℕ) (v : V) (a : Act) (got : ℕ) → by_card a ≡ true → (got == 0) ≡ true →
+      card_after T r v (Some a) Free got ≡ turned_side T r v (Some a) (Stay InCard Moved)
   after_take r v a got e z = rw (e, z)
 
   pub after_busy : (r : ℕ) (v : V) (a : Act) (got : ℕ) → by_card a ≡ true → (got == 0) ≡ false →
       card_after T r v (Some a) Free got ≡ turned_side T r v (Some a) (Stay Free (Busy (home_of T (word_of a)) (got - 1)))
   after_busy r v a got e z = rw (e, z)
 
-  pub after_load : (r : ℕ) (v : V) (a : Act) (got : ℕ) → skips a got ≡ false → card_after T r v (Some a) InCard got ≡ turned_side T r v (Some a) (Stay (Loaded got) Moved)
+  pub after_load : (r : ℕ) (v : V) (a : Act) (got : ℕ) → skips a got ≡ false →
+      card_after T r v (Some a) InCard got ≡ turned_side T r v (Some a) (Stay (Loaded got) Moved)
   after_load r v a got e = rw e
 
-  pub after_skip : (r : ℕ) (v : V) (a : Act) (got : ℕ) → skips a got ≡ true → card_after T r v (Some a) InCard got ≡ turned_side T r v (Some a) (Learn (ToLeave (home_of T (word_of a))) got true)
+  pub after_skip : (r : ℕ) (v : V) (a : Act) (got : ℕ) → skips a got ≡ true →
+      card_after T r v (Some a) InCard got ≡ turned_side T r v (Some a) (Learn (ToLeave (home_of T (word_of a))) got true)
   after_skip r v a got e = rw e

@@ -13,5 +13,6 @@ abbrev pub look_of : {V K : Type 0} → LockAt V K → List ℕ → WholeView V 
 look_of L words x = look L.work words x.rank x.work
 
 pub after_effect : {V K : Type 0} (L : LockAt V K) (x : WholeView V K) (got : ℕ) (e : Effect) →
-    effect_at (plan_home L.table (L.table.plan x.side.view)) (L.table.plan x.side.view) x.side.card got ≡ e → after_of L x got ≡ effect_turned L x (L.work.after x.rank x.work got) e
+    effect_at (plan_home L.table (L.table.plan x.side.view)) (L.table.plan x.side.view) x.side.card got ≡ e → after_of L x got ≡
+    effect_turned L x (L.work.after x.rank x.work got) e
 after_effect L x got e is = ap (effect_turned L x (L.work.after x.rank x.work got)) is

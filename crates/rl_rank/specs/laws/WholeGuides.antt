@@ -59,8 +59,10 @@ out_shut : (b : Bool) → out_urgency standing.Out b ≡ None → b ≡ false
 out_shut true e = cc
 out_shut false e = refl
 
-module _ (V K : Type 0) (L : LockAt V K) (good : Goods V K) (further : List Event → List Deed → Type 0) (layout : Layout) (laws : BothLaws L good further layout) (home : ℕ)
-    (left : List ℕ → List V → ℕ) (most : ℕ) (ends : LockEnds L.table left good.lock most) (work_left : List ℕ → List K → ℕ) (work_most : ℕ) (work_ends : WorkEnds L.work good.work work_left work_most)
+module _ (V K : Type 0) (L : LockAt V K) (good : Goods V K) (further : List Event → List Deed → Type 0) (layout : Layout)
+    (laws : BothLaws L good further layout) (home : ℕ)
+    (left : List ℕ → List V → ℕ) (most : ℕ) (ends : LockEnds L.table left good.lock most) (work_left : List ℕ → List K → ℕ) (work_most : ℕ)
+    (work_ends : WorkEnds L.work good.work work_left work_most)
     (urgent : UrgencyOf V) (guides : LockGuides L.table left good.lock urgent) where
   module _ (h : TheWindow) (vs : List (WholeView V K)) (g : Good L good layout h vs) where
     abbrev state : SplitState V
@@ -94,7 +96,8 @@ module _ (V K : Type 0) (L : LockAt V K) (good : Goods V K) (further : List Even
     view_there r x has = get_map view_of (map side_of vs) r x.side (get_map side_of vs r x has)
 
     -- the urgency of a rank that is in no card, by what the lock says
-    free_is : (x : WholeView V K) (o : Option ℕ) → x.side.card ≡ Free → by_lock x.side.view ≡ o → urgency x ≡ free_urgency o (L.table.standing x.side.view) (L.work.is_open x.work)
+    free_is : (x : WholeView V K) (o : Option ℕ) → x.side.card ≡ Free → by_lock x.side.view ≡ o →
+        urgency x ≡ free_urgency o (L.table.standing x.side.view) (L.work.is_open x.work)
     free_is x o free is =
         ap (λ c. card_urgency c (free_urgency (by_lock x.side.view) (L.table.standing x.side.view) (L.work.is_open x.work))) free
         ∙ ap (λ z. free_urgency z (L.table.standing x.side.view) (L.work.is_open x.work)) is
@@ -106,7 +109,8 @@ module _ (V K : Type 0) (L : LockAt V K) (good : Goods V K) (further : List Even
     all_free : (n : ℕ) → 0 < n → ((i : ℕ) (u : WholeView V K) (k : ℕ) → slice_get vs i ≡ Some u → urgency u ≡ Some k → n ≤ k) → AllFree (map side_of vs)
     all_free n some least i side has =
         let u = get_map_back side_of vs i side has in
-        subst (λ (z : Side V). z.card ≡ Free) u.2 (⊎_elim (λ free. free) (λ not. let low = least i u.0 0 u.1 (in_is u.0 not) in absurd (omega arith)) (free_or_in u.0.side.card))
+        subst (λ (z : Side V). z.card ≡ Free) u.2 (⊎_elim (λ free. free)
+        (λ not. let low = least i u.0 0 u.1 (in_is u.0 not) in absurd (omega arith)) (free_or_in u.0.side.card))
 
     is_free : AllFree (map side_of vs) → (i : ℕ) (u : WholeView V K) → slice_get vs i ≡ Some u → u.side.card ≡ Free
     is_free quiet i u has = quiet i u.side (get_map side_of vs i u has)
@@ -153,7 +157,8 @@ module _ (V K : Type 0) (L : LockAt V K) (good : Goods V K) (further : List Even
           let can = guides.goes (lock_of state) r g.lock_part.lock chosen in
           let same : can.view ≡ x.side.view = same_Some _ _ (sym can.has ∙ view_there r x c.has) in
           ⊎_elim
-          (λ holds. holder_works V K L good further layout laws home left most ends work_left work_most work_ends h vs g r x c.has quiet (subst (λ v. IsHolder (L.table.standing v)) same holds))
+          (λ holds. holder_works V K L good further layout laws home left most ends work_left work_most work_ends h vs g r x c.has quiet
+          (subst (λ v. IsHolder (L.table.standing v)) same holds))
           (λ nears. atom_leads V K L good further layout laws home left most ends work_left work_most work_ends h vs g r x c.has
           (act_goes V L.table good.lock further layout laws.lock left most ends state r can.view g.lock_part quiet can.has nears))
           can.way
@@ -173,10 +178,12 @@ module _ (V K : Type 0) (L : LockAt V K) (good : Goods V K) (further : List Even
           let le = c.least i o.whole (some.0 + 1) o.has (by_lock_is quiet i v some.0 o some.1) in
           let few = guides.few (lock_words L h.words) v some.0 some.1 in absurd (omega arith))
           (some_or_not (by_lock v)) in
-          out_works V K L good further layout laws home left most ends work_left work_most work_ends h vs g r x c.has quiet (outs (guides.rest (lock_of state) g.lock_part.lock nobody)) last.0
+          out_works V K L good further layout laws home left most ends work_left work_most work_ends h vs g r x c.has quiet
+          (outs (guides.rest (lock_of state) g.lock_part.lock nobody)) last.0
 
       chosen_goes : Goes r x
-      chosen_goes = ⊎_elim (λ free. ⊎_elim (λ none. out_goes free none) (λ some. lock_goes free some.0 some.1) (some_or_not (by_lock x.side.view))) (λ not. in_goes not) (free_or_in x.side.card)
+      chosen_goes = ⊎_elim (λ free. ⊎_elim (λ none. out_goes free none) (λ some. lock_goes free some.0 some.1)
+          (some_or_not (by_lock x.side.view))) (λ not. in_goes not) (free_or_in x.side.card)
 
     -- nobody is urgent
     module _ (none : NoneUrgent urgency vs) where
@@ -200,13 +207,15 @@ module _ (V K : Type 0) (L : LockAt V K) (good : Goods V K) (further : List Even
           let out : L.table.standing x.side.view ≡ standing.Out = outs (guides.rest (lock_of state) g.lock_part.lock nobody) r x has in
           let free : x.side.card ≡ Free = is_free quiet r x has in
           let shut : L.work.is_open x.work ≡ false =
-          out_shut (L.work.is_open x.work) (ap (λ st. out_urgency st (L.work.is_open x.work)) (sym out) ∙ sym (free_is x None free (nobody r x.side.view (view_there r x has))) ∙ none r x has) in
+          out_shut (L.work.is_open x.work) (ap (λ st. out_urgency st (L.work.is_open x.work)) (sym out) ∙ sym
+          (free_is x None free (nobody r x.side.view (view_there r x has))) ∙ none r x has) in
           ap (λ st. is_at_work st x.side.card || L.work.is_open x.work) out ∙ ap (λ c. is_at_work standing.Out c || L.work.is_open x.work) free ∙ shut
 
   pub whole_guides : ShardGuides (whole_says L good further layout home) (whole_left L left most work_left) (whole_urgent L urgent)
   whole_guides =
       record {
         goes = λ m r v s c.
-            subst (λ z. Lessens (whole_shard L home) (whole_left L left most work_left) m.held m.views r z) (same_Some _ _ (sym c.has ∙ s.has)) (chosen_goes m.held m.views s.is_good.rule r c);
+            subst (λ z. Lessens (whole_shard L home) (whole_left L left most work_left) m.held m.views r z)
+            (same_Some _ _ (sym c.has ∙ s.has)) (chosen_goes m.held m.views s.is_good.rule r c);
         rest = λ m g none. all_shut m.held m.views g.rule none;
       }

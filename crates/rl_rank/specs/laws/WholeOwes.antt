@@ -40,7 +40,8 @@ load_works : (home got : ℕ) (b : Bool) → (if b then Learn (ToLeave home) got
 load_works home got true e = cc
 load_works home got false e = cc
 
-module _ (V K : Type 0) (L : LockAt V K) (good : Goods V K) (further : List Event → List Deed → Type 0) (layout : Layout) (laws : BothLaws L good further layout) (home : ℕ) where
+module _ (V K : Type 0) (L : LockAt V K) (good : Goods V K) (further : List Event → List Deed → Type 0) (layout : Layout)
+    (laws : BothLaws L good further layout) (home : ℕ) where
   -- what the machine owes to the calls of the lock
 
   pub may_step : (x : WholeView V K) → MayBe (Good L good layout) x → MayStep good.lock x.side.view
@@ -55,7 +56,8 @@ module _ (V K : Type 0) (L : LockAt V K) (good : Goods V K) (further : List Even
   pub may_be : (x : WholeView V K) (got : ℕ) → MayGet (whole_table L home) (Good L good layout) x got → MayBe (Good L good layout) x
   may_be x got m = record { held = m.held; views = m.views; rank = m.rank; is_ruled = m.plans.is_ruled; has = m.plans.has }
 
-  lawful_of : (x : WholeView V K) (a : Act) (m : MayBe (Good L good layout) x) → L.table.plan x.side.view ≡ Some a → IsLawful L.table.size L.table.spot layout m.rank a
+  lawful_of : (x : WholeView V K) (a : Act) (m : MayBe (Good L good layout) x) → L.table.plan x.side.view ≡ Some a →
+      IsLawful L.table.size L.table.spot layout m.rank a
   unfolding may_step
   lawful_of x a m pl = (laws.lock.lawful _ m.rank x.side.view a (record { is_good = (may_step x m).is_good; has = (may_step x m).has; planned = pl })).0
 
@@ -74,14 +76,17 @@ module _ (V K : Type 0) (L : LockAt V K) (good : Goods V K) (further : List Even
   first_shifts (act.CardSwap w v) f h = tt
   first_shifts (act.CardAdd w d) f h = tt
 
-  shifts_at : (p : Option Act) (h : CardState) (at : Atom) → L.base + L.table.size < 2 ^ 32 → ((a : Act) → p ≡ Some a → word_of a < L.table.size) → card_atom L.table p h ≡ Some at → IsShiftable L.base at
+  shifts_at : (p : Option Act) (h : CardState) (at : Atom) → L.base + L.table.size < 2 ^ 32 →
+      ((a : Act) → p ≡ Some a → word_of a < L.table.size) → card_atom L.table p h ≡ Some at → IsShiftable L.base at
   shifts_at p (ToLeave n) at f k e = subst (IsShiftable L.base) (same_Some _ _ e) tt
   shifts_at None Free at f k e = cc
   shifts_at None InCard at f k e = cc
   shifts_at None (Loaded g) at f k e = cc
   shifts_at (Some a) Free at f k e = subst (IsShiftable L.base) (same_Some _ _ e) (first_shifts a f (k a refl))
-  shifts_at (Some a) InCard at f k e = let h : word_of a < L.table.size = k a refl in let b : L.base + word_of a < 2 ^ 32 = omega arith in subst (IsShiftable L.base) (same_Some _ _ e) b
-  shifts_at (Some a) (Loaded g) at f k e = let h : word_of a < L.table.size = k a refl in let b : L.base + word_of a < 2 ^ 32 = omega arith in subst (IsShiftable L.base) (same_Some _ _ e) b
+  shifts_at (Some a) InCard at f k e = let h : word_of a < L.table.size = k a refl in let b : L.base + word_of a < 2 ^ 32 = omega arith in
+      subst (IsShiftable L.base) (same_Some _ _ e) b
+  shifts_at (Some a) (Loaded g) at f k e = let h : word_of a < L.table.size = k a refl in
+      let b : L.base + word_of a < 2 ^ 32 = omega arith in subst (IsShiftable L.base) (same_Some _ _ e) b
 
   pub shifts : (x : WholeView V K) (at : Atom) → MayBe (Good L good layout) x → side_atom L.table x.side ≡ Some at → IsShiftable L.base at
   shifts x at m e = shifts_at (L.table.plan x.side.view) x.side.card at (fits_u32 x m) (λ a pl. plan_there x a m pl) e
@@ -98,7 +103,10 @@ module _ (V K : Type 0) (L : LockAt V K) (good : Goods V K) (further : List Even
   pub got_is : (x : WholeView V K) (got : ℕ) (m : MayGet (whole_table L home) (Good L good layout) x got) (at : Atom) → side_atom L.table x.side ≡ Some at →
       got ≡ do_got at (lock_words L m.held.words) m.held.cards
   got_is x got m at e =
-      m.gives ∙ ap (λ z. do_got z m.held.words m.held.cards) (same_Some _ _ (sym m.plans.planned ∙ ap (λ o. lock_or_work L.base o (work_plan (L.table.standing x.side.view) (L.work.next x.rank x.work))) e)) ∙ lock_got L at m.held.words m.held.cards (lock_low V K L good further layout laws home m.held m.views m.plans.is_ruled m.rank x m.plans.has at e)
+      m.gives ∙ ap (λ z. do_got z m.held.words m.held.cards) (same_Some _ _
+      (sym m.plans.planned ∙ ap (λ o. lock_or_work L.base o (work_plan (L.table.standing x.side.view) (L.work.next x.rank x.work))) e))
+      ∙ lock_got L at m.held.words m.held.cards (lock_low V K L good further layout laws home m.held m.views m.plans.is_ruled m.rank x
+      m.plans.has at e)
 
   fits_at : (s : SplitState V) (p : Option Act) (h : CardState) (got : ℕ) → LockGood L.table good.lock layout s → length s.sides < 2 ^ 32 →
       ((at : Atom) → card_atom L.table p h ≡ Some at → got ≡ do_got at s.words s.cards) → HolderFits p h got
@@ -107,23 +115,36 @@ module _ (V K : Type 0) (L : LockAt V K) (good : Goods V K) (further : List Even
   fits_at s None InCard got g few k = tt
   fits_at s None (Loaded v) got g few k = tt
   fits_at s (Some a) Free got g few k =
-      λ bc. card_small s (home_of L.table (word_of a)) got g few (sym (k (atom.Take (home_of L.table (word_of a))) (ap (λ z. Some z) (first_card V L.table a bc))))
+      λ bc. card_small s (home_of L.table (word_of a)) got g few
+      (sym (k (atom.Take (home_of L.table (word_of a))) (ap (λ z. Some z) (first_card V L.table a bc))))
   fits_at s (Some a) InCard got g few k = tt
   fits_at s (Some a) (Loaded v) got g few k = tt
 
-  pub holder_fits : (x : WholeView V K) (got : ℕ) → MayGet (whole_table L home) (Good L good layout) x got → HolderFits (L.table.plan x.side.view) x.side.card got
+  pub holder_fits : (x : WholeView V K) (got : ℕ) → MayGet (whole_table L home) (Good L good layout) x got →
+      HolderFits (L.table.plan x.side.view) x.side.card got
   holder_fits x got m =
       let rule = m.plans.is_ruled in
-      fits_at (split_of L m.held m.views rule.modes rule.past) (L.table.plan x.side.view) x.side.card got rule.lock_part (subst (λ n. n < 2 ^ 32) (sym (length-map m.views side_of)) rule.few) (λ at e. got_is x got m at e)
+      fits_at (split_of L m.held m.views rule.modes rule.past) (L.table.plan x.side.view) x.side.card got rule.lock_part
+      (subst (λ n. n < 2 ^ 32) (sym (length-map m.views side_of)) rule.few) (λ at e. got_is x got m at e)
 
   pub may_learn : (x : WholeView V K) (got : ℕ) (hand : CardState) (t : ℕ) (lost : Bool) → MayGet (whole_table L home) (Good L good layout) x got →
-      effect_at (plan_home L.table (L.table.plan x.side.view)) (L.table.plan x.side.view) x.side.card got ≡ Learn hand t lost → MayLearn L.table good.lock x.side.view t
+      effect_at (plan_home L.table (L.table.plan x.side.view)) (L.table.plan x.side.view) x.side.card got ≡ Learn hand t lost → MayLearn
+      L.table good.lock x.side.view t
   may_learn x got hand t lost m e =
       let rule = m.plans.is_ruled in
       let s : SplitState V = split_of L m.held m.views rule.modes rule.past in
       let has : slice_get s.sides m.rank ≡ Some x.side = get_map side_of m.views m.rank x m.plans.has in
-      let q = learns_at V L.table good.lock further layout laws.lock s m.rank x.side.view (L.table.plan x.side.view) x.side.card got hand t lost rule.lock_part has refl e (λ at f. got_is x got m at f) in
-      record { state = lock_of s; rank = m.rank; act = q.0; is_good = rule.lock_part.lock; has = get_map view_of s.sides m.rank x.side has; planned = q.1; gives = q.2 }
+      let q = learns_at V L.table good.lock further layout laws.lock s m.rank x.side.view
+      (L.table.plan x.side.view) x.side.card got hand t lost rule.lock_part has refl e (λ at f. got_is x got m at f) in
+      record {
+        state = lock_of s;
+        rank = m.rank;
+        act = q.0;
+        is_good = rule.lock_part.lock;
+        has = get_map view_of s.sides m.rank x.side has;
+        planned = q.1;
+        gives = q.2;
+      }
 
   works_at : (p : Option Act) (h : CardState) (got : ℕ) → effect_at (plan_home L.table p) p h got ≡ Work → card_atom L.table p h ≡ None
   works_at p (ToLeave n) got e = cc
@@ -136,29 +157,40 @@ module _ (V K : Type 0) (L : LockAt V K) (good : Goods V K) (further : List Even
 
   -- the atom of a rank whose atom was one of the work
   pub work_planned : (x : WholeView V K) (got : ℕ) (m : MayGet (whole_table L home) (Good L good layout) x got) →
-      effect_at (plan_home L.table (L.table.plan x.side.view)) (L.table.plan x.side.view) x.side.card got ≡ Work → Rests (L.table.standing x.side.view) × (L.work.next x.rank x.work ≡ Some m.atom)
+      effect_at (plan_home L.table (L.table.plan x.side.view)) (L.table.plan x.side.view) x.side.card got ≡ Work → Rests
+      (L.table.standing x.side.view) × (L.work.next x.rank x.work ≡ Some m.atom)
   work_planned x got m e =
       let none : side_atom L.table x.side ≡ None = works_at (L.table.plan x.side.view) x.side.card got e in
-      ⊎_elim (λ q. let bad : Some q.0 ≡ None = sym q.1 ∙ none in cc) (λ q. (q.1, q.2)) (next_either V K L good further layout laws home x m.atom m.plans.planned)
+      ⊎_elim (λ q. let bad : Some q.0 ≡ None = sym q.1 ∙ none in cc) (λ q. (q.1, q.2))
+      (next_either V K L good further layout laws home x m.atom m.plans.planned)
 
   pub work_rests : (x : WholeView V K) (got : ℕ) → MayGet (whole_table L home) (Good L good layout) x got →
       effect_at (plan_home L.table (L.table.plan x.side.view)) (L.table.plan x.side.view) x.side.card got ≡ Work → Rests (L.table.standing x.side.view)
   work_rests x got m e = (work_planned x got m e).0
 
   -- the rank is about to make that atom
-  pub work_made : (x : WholeView V K) (got : ℕ) (m : MayGet (whole_table L home) (Good L good layout) x got) → effect_at (plan_home L.table (L.table.plan x.side.view)) (L.table.plan x.side.view) x.side.card got ≡ Work →
+  pub work_made : (x : WholeView V K) (got : ℕ) (m : MayGet (whole_table L home) (Good L good layout) x got) →
+      effect_at (plan_home L.table (L.table.plan x.side.view)) (L.table.plan x.side.view) x.side.card got ≡ Work →
       Works L.work good.work m.held.words (map (work_side L.table) m.views) m.rank (work_side L.table x) m.atom
-  work_made x got m e = let p = work_planned x got m e in at_work V K L good further layout laws home m.held m.views m.plans.is_ruled m.rank x m.plans.has m.atom p.0 p.1
+  work_made x got m e = let p = work_planned x got m e in at_work V K L good further layout laws home m.held m.views m.plans.is_ruled m.rank
+      x m.plans.has m.atom p.0 p.1
 
   -- the work can name its atom
   pub may_work : (x : WholeView V K) → MayBe (Good L good layout) x → MayWork L.work good.work x.rank x.work
   may_work x m =
       let g = m.is_ruled in
       subst (λ n. MayWork L.work good.work n x.work) (sym (g.own m.rank x m.has))
-      (record { words = m.held.words; sides = map (work_side L.table) m.views; standing = L.table.standing x.side.view; side = work_at V K L good further layout laws home m.held m.views g m.rank x m.has })
+      (record {
+        words = m.held.words;
+        sides = map (work_side L.table) m.views;
+        standing = L.table.standing x.side.view;
+        side =
+            work_at V K L good further layout laws home m.held m.views g m.rank x m.has;
+      })
 
   -- a good state with these words has its side
-  pub may_see : (x : WholeView V K) (h : TheWindow) (r : ℕ) (m : MayBe (Good L good layout) x) → m.held ≡ h → m.rank ≡ r → (w : MayWork L.work good.work r x.work) × (w.words ≡ h.words)
+  pub may_see : (x : WholeView V K) (h : TheWindow) (r : ℕ) (m : MayBe (Good L good layout) x) → m.held ≡ h → m.rank ≡ r →
+      (w : MayWork L.work good.work r x.work) × (w.words ≡ h.words)
   may_see x h r m same at =
       let side = work_at V K L good further layout laws home m.held m.views m.is_ruled m.rank x m.has in
       subst (λ n. (w : MayWork L.work good.work n x.work) × (w.words ≡ h.words)) at
@@ -182,7 +214,8 @@ module _ (V K : Type 0) (L : LockAt V K) (good : Goods V K) (further : List Even
 
   -- the lock is asked for where the rank is out
   pub work_asks : (x : WholeView V K) (got : ℕ) → MayGet (whole_table L home) (Good L good layout) x got →
-      effect_at (plan_home L.table (L.table.plan x.side.view)) (L.table.plan x.side.view) x.side.card got ≡ Work → AsksOut (L.work.after x.rank x.work got).follow (L.table.standing x.side.view)
+      effect_at (plan_home L.table (L.table.plan x.side.view)) (L.table.plan x.side.view) x.side.card got ≡ Work → AsksOut
+      (L.work.after x.rank x.work got).follow (L.table.standing x.side.view)
   work_asks x got m e =
       let g = m.plans.is_ruled in
       subst (λ n. AsksOut (L.work.after n x.work got).follow (L.table.standing x.side.view)) (sym (g.own m.rank x m.plans.has))
@@ -196,6 +229,9 @@ module _ (V K : Type 0) (L : LockAt V K) (good : Goods V K) (further : List Even
   pub plan_word_there : (x : WholeView V K) (w : ℕ) → MayBe (Good L good layout) x → plan_word (L.table.plan x.side.view) ≡ Some w → w < L.table.size
   plan_word_there x w m e = word_there (L.table.plan x.side.view) w (λ a pl. plan_there x a m pl) e
 
-  pub answer_fits : (x : WholeView V K) (got : ℕ) (lost waits : Bool) → MayBe (Good L good layout) x → IsAnswerShiftable L.base (answer_of (L.table.plan x.side.view) got lost waits)
+  pub answer_fits : (x : WholeView V K) (got : ℕ) (lost waits : Bool) → MayBe (Good L good layout) x →
+      IsAnswerShiftable L.base (answer_of (L.table.plan x.side.view) got lost waits)
   answer_fits x got lost waits m =
-      answer_shifts L.base (L.table.plan x.side.view) got lost waits (λ a pl. let h : word_of a < L.table.size = plan_there x a m pl in let f : L.base + L.table.size < 2 ^ 32 = fits_u32 x m in omega arith)
+      answer_shifts L.base (L.table.plan x.side.view) got lost waits
+      (λ a pl. let h : word_of a < L.table.size = plan_there x a m pl in let f : L.base + L.table.size < 2 ^ 32 = fits_u32 x m in omega
+      arith)

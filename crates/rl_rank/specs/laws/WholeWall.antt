@@ -73,17 +73,20 @@ laid_with lock work placed shape home knobs site =
     record { site_is = p.0; words_are = omega arith; own_last = let b = p.1 in omega arith }
 
 -- the first views, one by one
-first_one : {V K : Type 0} (L : LockAt V K) (home from : ℕ) (rooms : List ℕ) (r : ℕ) (x : WholeView V K) → slice_get (first_views (whole_shard L home) from rooms) r ≡ Some x → x ≡ first_view L (slice_index rooms r) (from + r)
+first_one : {V K : Type 0} (L : LockAt V K) (home from : ℕ) (rooms : List ℕ) (r : ℕ) (x : WholeView V K) →
+    slice_get (first_views (whole_shard L home) from rooms) r ≡ Some x → x ≡ first_view L (slice_index rooms r) (from + r)
 first_one L home from [] r x e = absurd (cc)
 first_one L home from (room ∷ rooms) zero x e = sym (same_Some _ _ e) ∙ (let at : from ≡ from + 0 = omega arith in ap (first_view L room) at)
-first_one L home from (room ∷ rooms) (suc r) x e = first_one L home (from + 1) rooms r x e ∙ (let at : (from + 1) + r ≡ from + suc r = omega arith in ap (first_view L (slice_index rooms r)) at)
+first_one L home from (room ∷ rooms) (suc r) x e = first_one L home (from + 1) rooms r x e
+    ∙ (let at : (from + 1) + r ≡ from + suc r = omega arith in ap (first_view L (slice_index rooms r)) at)
 
 firsts_long : {V K : Type 0} (L : LockAt V K) (home from : ℕ) (rooms : List ℕ) → length (first_views (whole_shard L home) from rooms) ≡ length rooms
 firsts_long L home from [] = refl
 firsts_long L home from (room ∷ rooms) = ap suc (firsts_long L home (from + 1) rooms)
 
 -- the entries of the ranks are their transcripts
-kept_all : {V K : Type 0} (L : LockAt V K) (home : ℕ) (words : List ℕ) (r : ℕ) (vs : List (WholeView V K)) → kept_in (whole_shard L home) words r vs ≡ transcripts_from L.work words r (map (work_side L.table) vs)
+kept_all : {V K : Type 0} (L : LockAt V K) (home : ℕ) (words : List ℕ) (r : ℕ) (vs : List (WholeView V K)) →
+    kept_in (whole_shard L home) words r vs ≡ transcripts_from L.work words r (map (work_side L.table) vs)
 kept_all L home words r [] = refl
 kept_all L home words r (x ∷ vs) = ap (λ z. L.work.transcript words r x.work ∷ z) (kept_all L home words (r + 1) vs)
 
@@ -114,11 +117,13 @@ takes_card T p (ToLeave n) node e = absurd (cc)
 takes_card T None Free node e = absurd (cc)
 takes_card T None InCard node e = absurd (cc)
 takes_card T None (Loaded g) node e = absurd (cc)
-takes_card T (Some a) Free node e = let q = take_first T node (home_of T (word_of a)) a (same_Some _ _ e) in record { a = a; planned = refl; free = refl; card = q.0; at_home = q.1 }
+takes_card T (Some a) Free node e = let q = take_first T node (home_of T (word_of a)) a (same_Some _ _ e) in
+    record { a = a; planned = refl; free = refl; card = q.0; at_home = q.1 }
 takes_card T (Some a) InCard node e = absurd (cc)
 takes_card T (Some a) (Loaded g) node e = absurd (cc)
 
-module _ (V K : Type 0) (L : LockAt V K) (good : Goods V K) (further : List Event → List Deed → Type 0) (layout : Layout) (laws : BothLaws L good further layout) (home : ℕ) where
+module _ (V K : Type 0) (L : LockAt V K) (good : Goods V K) (further : List Event → List Deed → Type 0) (layout : Layout)
+    (laws : BothLaws L good further layout) (home : ℕ) where
   abbrev T : ShardTable (WholeView V K)
   T = whole_shard L home
 
@@ -144,7 +149,8 @@ module _ (V K : Type 0) (L : LockAt V K) (good : Goods V K) (further : List Even
   all_fit m g = let fits = g.rule.fits in let base = g.rule.base_is in omega arith
 
   all_ranks : (m : Moment (WholeView V K)) → G m → length m.views ≡ length layout.node_of
-  all_ranks m g = sym (length-map m.views side_of) ∙ sym (length-map (map side_of m.views) view_of) ∙ (laws.lock.sized (locked m.held m.views g.rule) g.rule.lock_part.lock).1
+  all_ranks m g = sym (length-map m.views side_of) ∙ sym (length-map (map side_of m.views) view_of)
+      ∙ (laws.lock.sized (locked m.held m.views g.rule) g.rule.lock_part.lock).1
 
   sizes : (m : Moment (WholeView V K)) → G m → GeomFits L.work.site.geom
   sizes m g = (laws.work.fits m.held.words (map (work_side L.table) m.views) g.rule.work_part).0
@@ -183,7 +189,8 @@ module _ (V K : Type 0) (L : LockAt V K) (good : Goods V K) (further : List Even
       }
 
   -- a rank comes out of the lock only from leaving it, where its block is over
-  shut_by : (r : ℕ) (st : Standing) (b : Bool) (next : Option Atom) (es : List Event) → Change r st Out es → GoesOnAt st b next → (st ≡ Out → b ≡ false) → b ≡ false
+  shut_by : (r : ℕ) (st : Standing) (b : Bool) (next : Option Atom) (es : List Event) → Change r st Out es → GoesOnAt st b next →
+      (st ≡ Out → b ≡ false) → b ≡ false
   shut_by r Out b next es c at out = out refl
   shut_by r Asking b next es c at out = absurd c
   shut_by r Writer b next es c at out = absurd c
@@ -191,7 +198,8 @@ module _ (V K : Type 0) (L : LockAt V K) (good : Goods V K) (further : List Even
   shut_by r Leaving b next es c at out = at
 
   -- so who is only in a card yet stays done
-  done_after : (m : Moment (WholeView V K)) (r : ℕ) (x : WholeView V K) (at : Atom) → IsNext S m r x at → IsDoneInCard L (after_of L x (do_got at m.held.words m.held.cards)).view
+  done_after : (m : Moment (WholeView V K)) (r : ℕ) (x : WholeView V K) (at : Atom) → IsNext S m r x at →
+      IsDoneInCard L (after_of L x (do_got at m.held.words m.held.cards)).view
   done_after m r x at n out =
       let s = n.seated in
       let e = n.next in
@@ -201,7 +209,8 @@ module _ (V K : Type 0) (L : LockAt V K) (good : Goods V K) (further : List Even
       ⊎_elim
       (λ q.
       let planned_none : stand L.table x ≡ Out → L.table.plan x.side.view ≡ None = λ was.
-      (laws.lock.rests (locked m.held m.views g.rule) r x.side.view g.rule.lock_part.lock (get_map view_of (map side_of m.views) r x.side (get_map side_of m.views r x s.has))).1 (subst Rests (sym was) tt) in
+      (laws.lock.rests (locked m.held m.views g.rule) r x.side.view g.rule.lock_part.lock
+      (get_map view_of (map side_of m.views) r x.side (get_map side_of m.views r x s.has))).1 (subst Rests (sym was) tt) in
       let was_shut : stand L.table x ≡ Out → L.work.is_open x.work ≡ false = λ was. ⊎_elim
       (λ free.
       let none : side_atom L.table x.side ≡ None = ap (λ p. card_atom L.table p x.side.card) (planned_none was) ∙ ap (card_atom L.table None) free in
@@ -213,11 +222,15 @@ module _ (V K : Type 0) (L : LockAt V K) (good : Goods V K) (further : List Even
       inr (ap L.work.is_open (sym same)
       ∙ shut_by r (stand L.table x) (L.work.is_open x.work) (L.work.next r x.work) es
       (subst (λ z. Change r (stand L.table x) z es) out (atom_change V K L good further layout laws home m.held m.views r x at g.rule s.has e))
-      (laws.work.goes_on m.held.words (map (work_side L.table) m.views) r (work_side L.table x) (work_at V K L good further layout laws home m.held m.views g.rule r x s.has)) was_shut))
-      (λ q. inl (ap (λ (z : Turned (WholeView V K)). z.view.side.card) (after_work V K L good further layout laws home m.held m.views g.rule r x s.has q.0 got)))
+      (laws.work.goes_on m.held.words (map (work_side L.table) m.views) r (work_side L.table x)
+      (work_at V K L good further layout laws home m.held m.views g.rule r x s.has)) was_shut))
+      (λ q. inl (ap (λ (z : Turned (WholeView V K)). z.view.side.card)
+      (after_work V K L good further layout laws home m.held m.views g.rule r x s.has q.0 got)))
       (next_either V K L good further layout laws home x at e)
 
-  done_set : (vs : List (WholeView V K)) (r : ℕ) (y : WholeView V K) → ((i : ℕ) (u : WholeView V K) → slice_get vs i ≡ Some u → IsDoneInCard L u) → IsDoneInCard L y → (i : ℕ) (u : WholeView V K) → slice_get (slice_set vs r y) i ≡ Some u → IsDoneInCard L u
+  done_set : (vs : List (WholeView V K)) (r : ℕ) (y : WholeView V K) →
+      ((i : ℕ) (u : WholeView V K) → slice_get vs i ≡ Some u → IsDoneInCard L u) → IsDoneInCard L y → (i : ℕ) (u : WholeView V K) →
+      slice_get (slice_set vs r y) i ≡ Some u → IsDoneInCard L u
   done_set vs r y done here i u e = ⊎_elim (λ q. subst (IsDoneInCard L) (sym q.1) here) (λ q. done i u q.1) (get_set_cases vs r i y u e)
 
   atom_keeps : (m : Moment (WholeView V K)) (r : ℕ) (x : WholeView V K) (at : Atom) → IsNext S m r x at → G (after_atom T m r x at)
@@ -229,7 +242,8 @@ module _ (V K : Type 0) (L : LockAt V K) (good : Goods V K) (further : List Even
       let es : List Event = (after_of L x (do_got at m.held.words m.held.cards)).events in
       let q = keeps_at V K L good further layout laws home m.held m.views r x at g.rule s.has e in
       let went : Goes (writers_of nobody m.trace) (readers_of nobody m.trace) es (slice_set (map (stand L.table) m.views) r (stand L.table y)) =
-      goes (writers_of nobody m.trace) (readers_of nobody m.trace) (map (stand L.table) m.views) r (stand L.table x) (stand L.table y) es g.match (alone_in V K L good further layout laws home m.held m.views g.rule)
+      goes (writers_of nobody m.trace) (readers_of nobody m.trace) (map (stand L.table) m.views) r (stand L.table x)
+      (stand L.table y) es g.match (alone_in V K L good further layout laws home m.held m.views g.rule)
       (subst AloneIn (map_set (stand L.table) m.views r y) (alone_in V K L good further layout laws home (do_atom r at m.held) (slice_set m.views r y) q.0))
       (get_map (stand L.table) m.views r x s.has) (atom_change V K L good further layout laws home m.held m.views r x at g.rule s.has e) in
       record {
@@ -237,23 +251,30 @@ module _ (V K : Type 0) (L : LockAt V K) (good : Goods V K) (further : List Even
         same = ap (λ z. z.trace) q.1 ∙ ap (λ z. z ++ es) g.same;
         made = ap (λ z. z.deeds) q.1 ∙ ap (λ z. z ++ made_deeds L.table x (do_got at m.held.words m.held.cards)) g.made;
         match = subst (λ z. Match z (readers_of nobody (m.trace ++ es)) (map (stand L.table) (slice_set m.views r y))) (sym (writers_append nobody m.trace es))
-            (subst (λ z. Match (writers_of (writers_of nobody m.trace) es) z (map (stand L.table) (slice_set m.views r y))) (sym (readers_append nobody m.trace es))
-            (subst (Match (writers_of (writers_of nobody m.trace) es) (readers_of (readers_of nobody m.trace) es)) (sym (map_set (stand L.table) m.views r y)) went.match));
+            (subst (λ z. Match (writers_of (writers_of nobody m.trace) es) z (map (stand L.table) (slice_set m.views r y)))
+            (sym (readers_append nobody m.trace es))
+            (subst (Match (writers_of (writers_of nobody m.trace) es) (readers_of (readers_of nobody m.trace) es))
+            (sym (map_set (stand L.table) m.views r y)) went.match));
         exclusive = exclusive_append nobody nobody m.trace es g.exclusive went.exclusive;
-        named = all_named L.table.queues L.table.cohort m.trace es g.named (atom_events V K L good further layout laws home m.held m.views r x at g.rule s.has e).named;
+        named = all_named L.table.queues L.table.cohort m.trace es g.named
+            (atom_events V K L good further layout laws home m.held m.views r x at g.rule s.has e).named;
         by_ranks = subst (λ n. AreByRanks n (m.trace ++ es)) (sym (length-set m.views r y))
             (by_ranks_more (length m.views) m.trace es g.by_ranks
-            (change_by (length m.views) r (stand L.table x) (stand L.table y) es (slice_get_within m.views r x s.has) (atom_change V K L good further layout laws home m.held m.views r x at g.rule s.has e)));
+            (change_by (length m.views) r (stand L.table x) (stand L.table y) es (slice_get_within m.views r x s.has)
+            (atom_change V K L good further layout laws home m.held m.views r x at g.rule s.has e)));
         done = done_set m.views r y g.done (done_after m r x at n);
       }
 
-  open_good : (m : Moment (WholeView V K)) (r : ℕ) (x : WholeView V K) (calls : List Call) (seq : ℕ) → IsSeated S m r x → MayOpen T r x calls seq → G (after_opening T m r x calls seq)
+  open_good : (m : Moment (WholeView V K)) (r : ℕ) (x : WholeView V K) (calls : List Call) (seq : ℕ) → IsSeated S m r x →
+      MayOpen T r x calls seq → G (after_opening T m r x calls seq)
   open_good m r x calls seq s o =
       let g = s.is_good in
       let y : WholeView V K = opened_in L calls seq x in
-      let q = open_keeps V K L good further layout laws home m.held m.views r x g.rule s.has calls seq (shut_is_none V K L good further layout laws home x (may m r x s) o.shut) o.fits o.takes in
+      let q = open_keeps V K L good further layout laws home m.held m.views r x g.rule s.has calls seq
+      (shut_is_none V K L good further layout laws home x (may m r x s) o.shut) o.fits o.takes in
       let went : Goes (writers_of nobody m.trace) (readers_of nobody m.trace) [] (slice_set (map (stand L.table) m.views) r (stand L.table y)) =
-      goes (writers_of nobody m.trace) (readers_of nobody m.trace) (map (stand L.table) m.views) r (stand L.table x) (stand L.table y) [] g.match (alone_in V K L good further layout laws home m.held m.views g.rule)
+      goes (writers_of nobody m.trace) (readers_of nobody m.trace) (map (stand L.table) m.views) r (stand L.table x)
+      (stand L.table y) [] g.match (alone_in V K L good further layout laws home m.held m.views g.rule)
       (subst AloneIn (map_set (stand L.table) m.views r y) (alone_in V K L good further layout laws home m.held (slice_set m.views r y) q.0))
       (get_map (stand L.table) m.views r x s.has)
       (subst (λ z. Change r z (stand L.table y) []) (sym q.2) (asked_change V K L good further layout laws home r x (L.work.asks calls) q.2)) in
@@ -265,7 +286,9 @@ module _ (V K : Type 0) (L : LockAt V K) (good : Goods V K) (further : List Even
         exclusive = g.exclusive;
         named = g.named;
         by_ranks = subst (λ n. AreByRanks n m.trace) (sym (length-set m.views r y)) g.by_ranks;
-        done = done_set m.views r y g.done (λ out. inl (closed_parts V K L good further layout laws home m.held m.views r x g.rule s.has (shut_is_none V K L good further layout laws home x (may m r x s) o.shut)).1);
+        done = done_set m.views r y g.done
+            (λ out. inl (closed_parts V K L good further layout laws home m.held m.views r x g.rule s.has
+            (shut_is_none V K L good further layout laws home x (may m r x s) o.shut)).1);
       }
 
   -- whoever stands as a holder on the shard stands so at the lock
@@ -280,23 +303,31 @@ module _ (V K : Type 0) (L : LockAt V K) (good : Goods V K) (further : List Even
   alone_on : (h : TheWindow) (vs : List (WholeView V K)) → Good L good layout h vs → AloneIn (map (stand_on L) vs)
   alone_on h vs g =
       let a : AloneIn (map (stand L.table) vs) = alone_in V K L good further layout laws home h vs g in
-      let holder : (p : Standing) → IsHolder p → (i : ℕ) → slice_get (map (stand_on L) vs) i ≡ Some p → slice_get (map (stand L.table) vs) i ≡ Some p = λ p holds i e.
+      let holder : (p : Standing) → IsHolder p → (i : ℕ) → slice_get (map (stand_on L) vs) i ≡ Some p → slice_get
+      (map (stand L.table) vs) i ≡ Some p = λ p holds i e.
       let x = get_map_back (stand_on L) vs i p e in
       get_map (stand L.table) vs i x.0 x.1 ∙ ap (λ z. Some z) (holder_at p holds (stand L.table x.0) (L.work.is_open x.0.work) x.2) in
-      record { one = λ i j p q. a.one i j (holder Writer tt i p) (holder Writer tt j q); none = λ i j p q. a.none i j (holder Writer tt i p) (holder Reader tt j q) }
+      record {
+        one = λ i j p q. a.one i j (holder Writer tt i p) (holder Writer tt j q);
+        none =
+            λ i j p q. a.none i j (holder Writer tt i p) (holder Reader tt j q);
+      }
 
-  stands_so : (m : Moment (WholeView V K)) (r : ℕ) (x : WholeView V K) → IsSeated S m r x → ((stand_on L x ≡ Writer) ↔ writers m.trace r) × ((stand_on L x ≡ Reader) ↔ readers m.trace r)
+  stands_so : (m : Moment (WholeView V K)) (r : ℕ) (x : WholeView V K) → IsSeated S m r x →
+      ((stand_on L x ≡ Writer) ↔ writers m.trace r) × ((stand_on L x ≡ Reader) ↔ readers m.trace r)
   stands_so m r x s =
       let m0 : Match (writers_of nobody m.trace) (readers_of nobody m.trace) (map (stand L.table) m.views) = s.is_good.match in
       let b : Bool = L.work.is_open x.work in
       let here : slice_get (map (stand L.table) m.views) r ≡ Some (stand L.table x) = get_map (stand L.table) m.views r x s.has in (
         (
           λ e. is_writer m.trace r (m0.writer r (here ∙ ap (λ z. Some z) (holder_at Writer tt (stand L.table x) b e))),
-          λ w. let same : stand L.table x ≡ Writer = same_Some _ _ (sym here ∙ m0.writes r (writer_found m.trace r w)) in ap (λ z. standing_while z (L.work.is_open x.work)) same,
+          λ w. let same : stand L.table x ≡ Writer = same_Some _ _ (sym here ∙ m0.writes r (writer_found m.trace r w)) in
+              ap (λ z. standing_while z (L.work.is_open x.work)) same,
         ),
         (
           λ e. is_reader m.trace r (m0.reader r (here ∙ ap (λ z. Some z) (holder_at Reader tt (stand L.table x) b e))),
-          λ w. let same : stand L.table x ≡ Reader = same_Some _ _ (sym here ∙ m0.reads r (reader_found m.trace r w)) in ap (λ z. standing_while z (L.work.is_open x.work)) same,
+          λ w. let same : stand L.table x ≡ Reader = same_Some _ _ (sym here ∙ m0.reads r (reader_found m.trace r w)) in
+              ap (λ z. standing_while z (L.work.is_open x.work)) same,
         ),
       )
 
@@ -323,19 +354,22 @@ module _ (V K : Type 0) (L : LockAt V K) (good : Goods V K) (further : List Even
   NoneOpen vs = (r : ℕ) (x : WholeView V K) → slice_get vs r ≡ Some x → is_open L x ≡ false
 
   left : (m : Moment (WholeView V K)) → G m → NoneOpen m.views →
-      IsVolume L.work.site.geom L.work.site.shard (volume_of L.work.site.geom m.held.words) (table_after L.work.site.geom finite.empty (journal_at T m.held.words))
+      IsVolume L.work.site.geom L.work.site.shard (volume_of L.work.site.geom m.held.words)
+      (table_after L.work.site.geom finite.empty (journal_at T m.held.words))
   left m g shut =
       let rests : (r : ℕ) (y : WorkSide K) → slice_get (map (work_side L.table) m.views) r ≡ Some y → L.work.is_open y.work ≡ false = λ r y e.
       let x = get_map_back (work_side L.table) m.views r y e in
       let m0 : MayBe (Good L good layout) x.0 = record { held = m.held; views = m.views; rank = r; is_ruled = g.rule; has = x.1 } in
-      ap (λ (z : WorkSide K). L.work.is_open z.work) (sym x.2) ∙ closed_work V K L good further layout laws home x.0 m0 (shut_is_none V K L good further layout laws home x.0 m0 (shut r x.0 x.1)) in
+      ap (λ (z : WorkSide K). L.work.is_open z.work) (sym x.2) ∙ closed_work V K L good further layout laws home x.0 m0 (shut_is_none V K L
+      good further layout laws home x.0 m0 (shut r x.0 x.1)) in
       subst (λ l. IsVolume L.work.site.geom L.work.site.shard l (table_after L.work.site.geom finite.empty (journal_at T m.held.words)))
       (volume_before (volume_words L.work.site.geom) (lock_base L.work.site) m.held.words (omega arith))
       (laws.work.volume m.held.words (map (work_side L.table) m.views) g.rule.work_part (laid V K L good further layout laws home m.held m.views g.rule) rests)
 
   queues : (m : Moment (WholeView V K)) → G m → KeepQueues L.table.queues m.trace
   queues m g =
-      let within : KeepBudgets L.table.queues m.trace = subst (KeepBudgets L.table.queues) g.same (λ i budget queue has b. laws.lock.within _ i budget queue g.rule.lock_part.lock has b) in
+      let within : KeepBudgets L.table.queues m.trace = subst (KeepBudgets L.table.queues) g.same
+      (λ i budget queue has b. laws.lock.within _ i budget queue g.rule.lock_part.lock has b) in
       record {
         budgets = within;
         totals = λ i budget queue has b. within_bound m.trace i budget (within i budget queue has b);
@@ -348,15 +382,18 @@ module _ (V K : Type 0) (L : LockAt V K) (good : Goods V K) (further : List Even
       let y = get_map_back view_of (map side_of m.views) r v e in
       let x = get_map_back side_of m.views r y.0 y.1 in
       let m0 : MayBe (Good L good layout) x.0 = record { held = m.held; views = m.views; rank = r; is_ruled = g.rule; has = x.1 } in
-      ap L.table.standing (sym y.2 ∙ ap view_of (sym x.2)) ∙ closed_is_out V K L good further layout laws home x.0 m0 (shut_is_none V K L good further layout laws home x.0 m0 (shut r x.0 x.1)) in
+      ap L.table.standing (sym y.2 ∙ ap view_of (sym x.2)) ∙ closed_is_out V K L good further layout laws home x.0 m0
+      (shut_is_none V K L good further layout laws home x.0 m0 (shut r x.0 x.1)) in
       λ i queue has. subst (λ z. settled i z + passed i z ≡ tenures queue z) g.same (laws.lock.counted _ i queue g.rule.lock_part.lock out has)
 
-  left_count : (m : Moment (WholeView V K)) (r : ℕ) (x : WholeView V K) → IsSeated S m r x → is_open L x ≡ false → leaves r m.trace ≡ count_by (counts L) (L.work.kept x.work).items
+  left_count : (m : Moment (WholeView V K)) (r : ℕ) (x : WholeView V K) → IsSeated S m r x → is_open L x ≡ false →
+      leaves r m.trace ≡ count_by (counts L) (L.work.kept x.work).items
   left_count m r x s shut =
       let g = s.is_good in
       let closed : L.work.is_open x.work ≡ false = closed_work V K L good further layout laws home x (may m r x s) (none_open m r x s shut) in
       ap (leaves r) (sym g.same) ∙ g.rule.left_as r x s.has
-      ∙ ap (count_by (counts L)) (laws.work.closed m.held.words (map (work_side L.table) m.views) r (work_side L.table x) (work_at V K L good further layout laws home m.held m.views g.rule r x s.has) closed).1
+      ∙ ap (count_by (counts L)) (laws.work.closed m.held.words (map (work_side L.table) m.views) r (work_side L.table x)
+      (work_at V K L good further layout laws home m.held m.views g.rule r x s.has) closed).1
 
   -- ---- answers
 
@@ -366,13 +403,16 @@ module _ (V K : Type 0) (L : LockAt V K) (good : Goods V K) (further : List Even
       ((after_of L x (do_got (atom.Take n) k.words k.cards)).view ≡ x) × ((after_of L x (do_got (atom.Take n) k.words k.cards)).events ≡ []) ×
       ((after_of L x (do_got (atom.Take n) k.words k.cards)).stepped ≡ Busy n (slice_index k.cards n - 1))
 
-  idle_held : (x : WholeView V K) (k : TheWindow) (r n : ℕ) (o : Option Atom) → o ≡ Some (atom.Take n) → IsIdle T k r x o (Busy n (slice_index k.cards n - 1)) → LeftHeld x k n
+  idle_held : (x : WholeView V K) (k : TheWindow) (r n : ℕ) (o : Option Atom) → o ≡ Some (atom.Take n) →
+      IsIdle T k r x o (Busy n (slice_index k.cards n - 1)) → LeftHeld x k n
   idle_held x k r n None e i = absurd (cc)
   idle_held x k r n (Some at) e i =
       let same : at ≡ atom.Take n = same_Some _ _ e in
-      subst (λ z. ((after_of L x (do_got z k.words k.cards)).view ≡ x) × ((after_of L x (do_got z k.words k.cards)).events ≡ []) × ((after_of L x (do_got z k.words k.cards)).stepped ≡ Busy n (slice_index k.cards n - 1))) same (i.1, i.2, i.3)
+      subst (λ z. ((after_of L x (do_got z k.words k.cards)).view ≡ x) × ((after_of L x (do_got z k.words k.cards)).events ≡ []) ×
+      ((after_of L x (do_got z k.words k.cards)).stepped ≡ Busy n (slice_index k.cards n - 1))) same (i.1, i.2, i.3)
 
-  held : (m : Moment (WholeView V K)) (r : ℕ) (x : WholeView V K) (node : ℕ) (k : TheWindow) → IsNext S m r x (atom.Take node) → (slice_index k.cards node == 0) ≡ false →
+  held : (m : Moment (WholeView V K)) (r : ℕ) (x : WholeView V K) (node : ℕ) (k : TheWindow) → IsNext S m r x (atom.Take node) →
+      (slice_index k.cards node == 0) ≡ false →
       LeftHeld x k node
   held m r x node k n full =
       let s = n.seated in
@@ -384,10 +424,13 @@ module _ (V K : Type 0) (L : LockAt V K) (good : Goods V K) (further : List Even
       subst (LeftHeld x k) b.at_home
       (idle_held x k r (home_of L.table (word_of b.a)) (next_of L x) (e ∙ ap (λ n. Some (atom.Take n)) (sym b.at_home))
       (held_idle L x b.a b.planned b.free b.card home k r (ap (λ n. slice_index k.cards n == 0) b.at_home ∙ full))))
-      (λ q. absurd (work_no_take L.work (atom.Take node) node (laws.work.plain m.held.words (map (work_side L.table) m.views) r (work_side L.table x) (atom.Take node) (works_at V K L good further layout laws home m.held m.views g r x s.has (atom.Take node) q.1 q.2)) refl))
+      (λ q. absurd (work_no_take L.work (atom.Take node) node (laws.work.plain m.held.words (map (work_side L.table) m.views) r
+      (work_side L.table x) (atom.Take node) (works_at V K L good further layout laws home m.held m.views g r x s.has (atom.Take node)
+      q.1 q.2)) refl))
       (next_either V K L good further layout laws home x (atom.Take node) e)
 
-  cause_of : (m : Moment (WholeView V K)) (r : ℕ) (x : WholeView V K) (at : Atom) → IsNext S m r x at → Cause L m.held x (Some at) (after_of L x (do_got at m.held.words m.held.cards)).stepped
+  cause_of : (m : Moment (WholeView V K)) (r : ℕ) (x : WholeView V K) (at : Atom) → IsNext S m r x at →
+      Cause L m.held x (Some at) (after_of L x (do_got at m.held.words m.held.cards)).stepped
   cause_of m r x at n = answer_cause V K L good further layout laws home m.held m.views r x at n.seated.is_good.rule n.seated.has n.next
 
   pub whole_shard_laws : ShardCoreLaws S
@@ -408,8 +451,10 @@ module _ (V K : Type 0) (L : LockAt V K) (good : Goods V K) (further : List Even
         open_is = λ m r x s. (none_is_shut V K L good further layout laws home x (may m r x s), none_open m r x s);
         knows_open = λ m r x s. refl;
         settled = λ m r x s shut. settled_is V K L good further layout laws home m.held m.views r x s.is_good.rule s.has shut;
-        opens_own = λ m r x calls seq s o. own_opens V K L good further layout laws home m.held m.views r x s.is_good.rule s.has calls seq (none_open m r x s o.shut) o.fits o.takes;
-        opens_told = λ m r x calls seq s o. told_opens V K L good further layout laws home m.held m.views r x s.is_good.rule s.has calls seq (none_open m r x s o.shut) o.fits o.takes;
+        opens_own = λ m r x calls seq s o. own_opens V K L good further layout laws home m.held m.views r x s.is_good.rule s.has calls seq
+            (none_open m r x s o.shut) o.fits o.takes;
+        opens_told = λ m r x calls seq s o. told_opens V K L good further layout laws home m.held m.views r x s.is_good.rule s.has calls seq
+            (none_open m r x s o.shut) o.fits o.takes;
         turns_own = λ m r x at n. own_turns V K L good further layout laws home m.held m.views r x n.seated.is_good.rule n.seated.has at n.next;
         turns_told = λ m r x at n. told_turns V K L good further layout laws home m.held m.views r x n.seated.is_good.rule n.seated.has at n.next;
         exclusive = λ m g. is_exclusive m.trace g.exclusive;
@@ -424,17 +469,23 @@ module _ (V K : Type 0) (L : LockAt V K) (good : Goods V K) (further : List Even
         left_as = left_count;
         named = λ m g. g.named;
         by_ranks = λ m g. g.by_ranks;
-        orders = λ m r x at n. let a = atom_events V K L good further layout laws home m.held m.views r x at n.seated.is_good.rule n.seated.has n.next in (a.order, a.few);
+        orders = λ m r x at n. let a = atom_events V K L good further layout laws home m.held m.views r x at n.seated.is_good.rule
+            n.seated.has n.next in (a.order, a.few);
         guards = λ m r x at n. guarded V K L good further layout laws home m.held m.views r x at n.seated.is_good.rule n.seated.has n.next;
-        cards = λ m r x at n kind. subst (λ k. (a : Act) × (by_card a ≡ true) × (L.table.may_make k a ≡ true)) (n.seated.is_good.rule.own r x n.seated.has) (next_card_allowed V K L good further layout laws home x at (may m r x n.seated) n.next kind);
-        locals = λ m r x at n kind. subst (λ k. (a : Act) × IsLocalAct a × (L.table.may_make k a ≡ true)) (n.seated.is_good.rule.own r x n.seated.has) (next_local_allowed V K L good further layout laws home x at (may m r x n.seated) n.next kind);
+        cards = λ m r x at n kind. subst (λ k. (a : Act) × (by_card a ≡ true) × (L.table.may_make k a ≡ true))
+            (n.seated.is_good.rule.own r x n.seated.has) (next_card_allowed V K L good further layout laws home x at (may m r x n.seated)
+            n.next kind);
+        locals = λ m r x at n kind. subst (λ k. (a : Act) × IsLocalAct a × (L.table.may_make k a ≡ true))
+            (n.seated.is_good.rule.own r x n.seated.has) (next_local_allowed V K L good further layout laws home x at (may m r x n.seated)
+            n.next kind);
         goes_on = λ m r x at n fin. subst (Cause L m.held x (Some at)) fin (cause_of m r x at n);
         busy = λ m r x at node holder n b. subst (Cause L m.held x (Some at)) b (cause_of m r x at n);
         held = held;
         answers = λ m r x at n. cause_answers L m.held x at (after_of L x (do_got at m.held.words m.held.cards)).stepped (cause_of m r x at n);
         causes = cause_of;
         rests = λ h x. tt;
-        unhindered = λ m r x answer one s c. unhindered V K L good further layout laws home one m.held m.views r x s.is_good.rule s.has (next_of L x) refl answer c;
+        unhindered = λ m r x answer one s c. unhindered V K L good further layout laws home one m.held m.views r x s.is_good.rule s.has
+            (next_of L x) refl answer c;
         says = λ m g. subst (λ z. further z m.acts) g.same (subst (further g.rule.past.trace) g.made (laws.lock.goes_further _ g.rule.lock_part.lock));
         shows = λ m r x at n. acts_shown V K L good further layout laws home m.held m.views r x n.seated.is_good.rule n.seated.has at n.next;
       }

@@ -19,7 +19,8 @@ use Rattle.rl_step.specs.Batches.{readers_in, lowers, lowerings, since_after, si
 pub shown_next : (ds es : List Deed) (ts : List Transition) (x : Transition) → AreShown ds ts → AreActsOf es x → AreShown (ds ++ es) (ts ++ x ∷ [])
 shown_next _ es _ x AreShown.none is = subst (λ z. AreShown z (x ∷ [])) (append-nil es) (AreShown.more es [] x [] is AreShown.none)
 shown_next _ es _ x (AreShown.more ds later y ys here rest) is =
-    subst (λ z. AreShown z (y ∷ (ys ++ x ∷ []))) (sym (append_assoc ds later es)) (AreShown.more ds (later ++ es) y (ys ++ x ∷ []) here (shown_next later es ys x rest is))
+    subst (λ z. AreShown z (y ∷ (ys ++ x ∷ []))) (sym (append_assoc ds later es))
+    (AreShown.more ds (later ++ es) y (ys ++ x ∷ []) here (shown_next later es ys x rest is))
 
 -- where the atoms fall into two parts, so do the acts that they show
 record SplitAt (ds : List Deed) (p s : List Transition) : Type 0 where
@@ -78,12 +79,16 @@ written_more (CardAdd w d) x up = grind (arith, nat_tests)
 pub shows_act : (r : ℕ) (a : Act) (x : Transition) → slice_index x.after (word_of a) ≡ written a (slice_index x.before (word_of a)) →
     AreActsOf (record { rank = r; act = a; got = told a (slice_index x.before (word_of a)); events = x.events } ∷ []) x
 shows_act r a x wrote = record { lowered = λ w up. at w up; entered = λ mine. omega arith } where
-  at : (w : ℕ) → slice_index x.before w ≤ slice_index x.after w → count ((word_of a == w) && nat_lt (written a (told a (slice_index x.before (word_of a)))) (told a (slice_index x.before (word_of a)))) + 0 ≡ 0
+  at : (w : ℕ) → slice_index x.before w ≤ slice_index x.after w →
+      count ((word_of a == w) && nat_lt (written a (told a (slice_index x.before (word_of a)))) (told a (slice_index x.before (word_of a))))
+      + 0 ≡ 0
   at w up =
       ⊎_elim
       (λ q.
-      let here : slice_index x.before (word_of a) ≤ slice_index x.after (word_of a) = subst (λ z. slice_index x.before z ≤ slice_index x.after z) (sym q.1) up in
-      let more : slice_index x.before (word_of a) ≤ written a (slice_index x.before (word_of a)) = subst (λ z. slice_index x.before (word_of a) ≤ z) wrote here in
+      let here : slice_index x.before (word_of a) ≤ slice_index x.after (word_of a) =
+      subst (λ z. slice_index x.before z ≤ slice_index x.after z) (sym q.1) up in
+      let more : slice_index x.before (word_of a) ≤ written a (slice_index x.before (word_of a)) =
+      subst (λ z. slice_index x.before (word_of a) ≤ z) wrote here in
       ap (λ z. count (z && nat_lt (written a (told a (slice_index x.before (word_of a)))) (told a (slice_index x.before (word_of a)))) + 0) q.0
       ∙ ap (λ z. count z + 0) (written_more a (slice_index x.before (word_of a)) more))
       (λ q. ap (λ z. count (z && nat_lt (written a (told a (slice_index x.before (word_of a)))) (told a (slice_index x.before (word_of a)))) + 0) q.0)
@@ -100,7 +105,8 @@ module _ (mine : ℕ → Bool) (w bound : ℕ) where
   since-append n [] es = refl
   since-append n (d ∷ ds) es = since-append (since_after mine w n d) ds es
 
-  pub batched-append : (n : ℕ) (ds es : List Deed) → BatchedFrom mine w bound n ds → BatchedFrom mine w bound (since mine w n ds) es → BatchedFrom mine w bound n (ds ++ es)
+  pub batched-append : (n : ℕ) (ds es : List Deed) → BatchedFrom mine w bound n ds → BatchedFrom mine w bound (since mine w n ds) es →
+      BatchedFrom mine w bound n (ds ++ es)
   batched-append n [] es b c = c
   batched-append n (d ∷ ds) es b c = (b.0, batched-append (since_after mine w n d) ds es b.1 c)
 
@@ -112,14 +118,17 @@ module _ (mine : ℕ → Bool) (w bound : ℕ) where
   stretch_low : (n : ℕ) (u s : List Deed) → n ≤ bound → BatchedFrom mine w bound n (u ++ s) → lowerings w u ≡ 0 → n + readers_in mine u ≤ bound
   stretch_low n [] s h b z = omega arith
   stretch_low n (d ∷ u) s h b z = by (lowers w d) z b.0 (stretch_low (since_after mine w n d) u s b.0 b.1) where
-    by : (x : Bool) → count x + lowerings w u ≡ 0 → (if x then 0 else n + reader_entries mine d.events) ≤ bound → (lowerings w u ≡ 0 → (if lowers w d then 0 else n + reader_entries mine d.events) + readers_in mine u ≤ bound) → n + (reader_entries mine d.events + readers_in mine u) ≤ bound
+    by : (x : Bool) → count x + lowerings w u ≡ 0 → (if x then 0 else n + reader_entries mine d.events) ≤ bound →
+        (lowerings w u ≡ 0 → (if lowers w d then 0 else n + reader_entries mine d.events) + readers_in mine u ≤ bound) →
+        n + (reader_entries mine d.events + readers_in mine u) ≤ bound
     by true y l rec = absurd (omega arith)
     by false y l rec = at (lowers w d) refl where
       at : (x : Bool) → lowers w d ≡ x → n + (reader_entries mine d.events + readers_in mine u) ≤ bound
       at true e = let k : count (lowers w d) ≡ 1 = ap count e in absurd (omega arith)
       at false e =
           let r : (if lowers w d then 0 else n + reader_entries mine d.events) + readers_in mine u ≤ bound = rec (omega arith) in
-          let k : (if lowers w d then 0 else n + reader_entries mine d.events) ≡ n + reader_entries mine d.events = ap (λ q. if q then 0 else n + reader_entries mine d.events) e in omega arith
+          let k : (if lowers w d then 0 else n + reader_entries mine d.events) ≡ n + reader_entries mine d.events =
+          ap (λ q. if q then 0 else n + reader_entries mine d.events) e in omega arith
 
   low_since : (n : ℕ) (ds s : List Deed) → n ≤ bound → BatchedFrom mine w bound n (ds ++ s) → since mine w n ds ≤ bound
   low_since n [] s h b = h
@@ -139,7 +148,8 @@ module _ (mine : ℕ → Bool) (w bound : ℕ) where
             let q : SplitAt ds p (u ++ s) = split_shown ds p (u ++ s) (subst (AreShown ds) e shown) in
             let r : SplitAt q.later u s = split_shown q.later u s q.later_shown in
             let whole : ds ≡ q.first ++ (r.first ++ r.later) = q.is ∙ ap (λ z. q.first ++ z) r.is in
-            let k : readers_in mine r.first ≤ bound = stretch_of q.first r.first r.later (subst (BatchedFrom mine w bound 0) whole b) (none_lowers w r.first u r.first_shown never) in
+            let k : readers_in mine r.first ≤ bound = stretch_of q.first r.first r.later (subst (BatchedFrom mine w bound 0) whole b)
+            (none_lowers w r.first u r.first_shown never) in
             subst (λ n. n ≤ bound) (same_readers mine r.first u r.first_shown) k;
       }
 
@@ -154,8 +164,11 @@ module _ (mine : ℕ → Bool) (w bound : ℕ) where
     at false e = inr (e, grind (arith, nat_tests))
 
   -- Each act keeps it that tells what it finds in the word, and that lets readers enter so.
-  pub act_batches : (words : List ℕ) (deeds : List Deed) (r : ℕ) (a : Act) (es : List Event) → w < length words → Batched mine w bound words deeds → (word_of a ≡ w → told a (slice_index words (word_of a)) ≡ slice_index words (word_of a)) → MayEnter a (slice_index words (word_of a)) es →
-      Batched mine w bound (slice_set words (word_of a) (written a (slice_index words (word_of a)))) (deeds ++ record { rank = r; act = a; got = told a (slice_index words (word_of a)); events = es } ∷ [])
+  pub act_batches : (words : List ℕ) (deeds : List Deed) (r : ℕ) (a : Act) (es : List Event) → w < length words →
+      Batched mine w bound words deeds → (word_of a ≡ w → told a (slice_index words (word_of a)) ≡ slice_index words (word_of a)) →
+      MayEnter a (slice_index words (word_of a)) es →
+      Batched mine w bound (slice_set words (word_of a) (written a (slice_index words (word_of a))))
+      (deeds ++ record { rank = r; act = a; got = told a (slice_index words (word_of a)); events = es } ∷ [])
   act_batches words deeds r a es there b tells enter =
       let d : Deed = record { rank = r; act = a; got = told a (slice_index words (word_of a)); events = es } in
       let n : ℕ = since mine w 0 deeds in
@@ -164,7 +177,9 @@ module _ (mine : ℕ → Bool) (w bound : ℕ) where
       ⊎_elim
       (λ q.
       let same : told a (slice_index words (word_of a)) ≡ slice_index words (word_of a) = tells q.1 in
-      let now : slice_index us w ≡ written a (slice_index words (word_of a)) = ap (slice_index us) (sym q.1) ∙ get_or-set_same words (word_of a) (written a (slice_index words (word_of a))) 0 (subst (λ z. z < length words) (sym q.1) there) in
+      let now : slice_index us w ≡ written a (slice_index words (word_of a)) = ap (slice_index us) (sym q.1)
+      ∙ get_or-set_same words (word_of a) (written a (slice_index words (word_of a))) 0
+      (subst (λ z. z < length words) (sym q.1) there) in
       let old : n ≤ slice_index words (word_of a) = subst (λ z. n ≤ slice_index words z) (sym q.1) b.counted in
       ⊎_elim
       (λ l.
@@ -178,14 +193,16 @@ module _ (mine : ℕ → Bool) (w bound : ℕ) where
       ⊎_elim
       (λ z. (let h : n ≤ bound = low in omega arith, omega arith))
       (λ z.
-      let add : written a (slice_index words (word_of a)) ≡ (slice_index words (word_of a) + 1) % 2 ^ 64 = ap (λ y. written y (slice_index words (word_of a))) z.0 in
+      let add : written a (slice_index words (word_of a)) ≡ (slice_index words (word_of a) + 1) % 2 ^ 64 =
+      ap (λ y. written y (slice_index words (word_of a))) z.0 in
       let m : ℕ = slice_index words (word_of a) in
       (omega arith, omega arith)) enter)
       (lt_tells (written a d.got) d.got))
       (λ q.
       let no : lowers w d ≡ false = ap (λ z. z && nat_lt (written a d.got) d.got) q.0 in
       let sum : since_after mine w n d ≡ n + reader_entries mine es = ap (λ z. if z then 0 else n + reader_entries mine es) no in
-      let still : slice_index us w ≡ slice_index words w = get_or-set_other words (word_of a) w (written a (slice_index words (word_of a))) 0 (λ e. q.1 (sym e)) in
+      let still : slice_index us w ≡ slice_index words w = get_or-set_other words (word_of a) w (written a (slice_index words (word_of a)))
+      0 (λ e. q.1 (sym e)) in
       let old : n ≤ slice_index words w = b.counted in
       ⊎_elim
       (λ z. (let h : n ≤ bound = low in omega arith, omega arith))

@@ -9,7 +9,12 @@ use Rattle.rl_step.specs.declared.events.Event.{Event}
 use Rattle.rl_step.specs.declared.events.Stepped.{Stepped}
 use Rattle.rl_step.specs.declared.events.Stepped.TheVariants.{Finished}
 use Rattle.rl_step.specs.Do.{TheWindow, do_words, do_atom, do_got, CanDo}
-use Rattle.rl_step.specs.Core.{CoreTable, CoreLaws, Plans, MayGet, Performs, MadeFlat, card_word_of}
+use Rattle.rl_step.specs.Core.{CoreTable, CoreLaws, MayBe, Plans, MayGet, Performs, MadeFlat, card_word_of}
+
+-- the view of a rank in a state under the rule is one that some such state has
+pub may_be : {V : Type 0} (rule : TheWindow → List V → Type 0) (h : TheWindow) (vs : List V) (r : ℕ) (v : V) → rule h vs →
+    slice_get vs r ≡ Some v → MayBe rule v
+may_be rule h vs r v ruled has = record { held = h; views = vs; rank = r; is_ruled = ruled; has = has }
 
 -- an atom doesn't change how many words there are
 pub length-do_words : (at : Atom) (ws : List ℕ) → length (do_words at ws) ≡ length ws
@@ -48,7 +53,8 @@ rule_after C rule laws h k vs r u v w at got p eu ek eg low ew =
     (laws.keeps h vs r v at p (subst (λ n. n < 2 ^ 64) eg low)))
 
 -- what an atom changes that was made on told words, with the view u, and left the view x
-pub performs_made : {V : Type 0} (C : CoreTable V) (rule : TheWindow → List V → Type 0) (h k : TheWindow) (vs : List V) (r : ℕ) (u v x w : V) (at : Atom) (got : ℕ) (events : List Event) (stepped : Stepped) →
+pub performs_made : {V : Type 0} (C : CoreTable V) (rule : TheWindow → List V → Type 0) (h k : TheWindow) (vs : List V) (r : ℕ)
+    (u v x w : V) (at : Atom) (got : ℕ) (events : List Event) (stepped : Stepped) →
     Plans C rule h vs r v at → u ≡ v → w ≡ x → k ≡ do_atom r at h → got ≡ do_got at h.words h.cards → x ≡ (C.after u got).view →
     events ≡ (C.after u got).events → stepped ≡ (C.after u got).stepped → Performs C rule r at v w (Some h) (Some k) events stepped
 performs_made C rule h k vs r u v x w at got events stepped p eu ex ek eg ew ev es =
@@ -71,9 +77,11 @@ performs_answers C rule laws r v w at old new events stepped p e =
     laws.goes_on m.held m.views m.rank v m.atom m.plans (ap (λ n. (C.after v n).stepped) (sym m.gives) ∙ sym p.answer.same_answer ∙ e)
 
 -- what a made atom changes of plain words and views, from what its port says
-pub made_flat : {V : Type 0} (C : CoreTable V) (rule : TheWindow → List V → Type 0) (h k : TheWindow) (vs ws : List V) (r : ℕ) (v : V) (at : Atom) (events : List Event) (stepped : Stepped) →
+pub made_flat : {V : Type 0} (C : CoreTable V) (rule : TheWindow → List V → Type 0) (h k : TheWindow) (vs ws : List V) (r : ℕ) (v : V)
+    (at : Atom) (events : List Event) (stepped : Stepped) →
     ((x y : V) (b : Atom) → slice_get vs r ≡ Some x → slice_get ws r ≡ Some y → C.next x ≡ Some b → Performs C rule r b x y (Some h) (Some k) events stepped) →
-    ((y : V) → slice_get ws r ≡ Some y → ws ≡ slice_set vs r y) → r < length ws → slice_get vs r ≡ Some v → C.next v ≡ Some at → MadeFlat C h k vs ws r v at events stepped
+    ((y : V) → slice_get ws r ≡ Some y → ws ≡ slice_set vs r y) → r < length ws → slice_get vs r ≡ Some v → C.next v ≡ Some at → MadeFlat C
+    h k vs ws r v at events stepped
 made_flat C rule h k vs ws r v at events stepped made frame there has next =
     let y = get_or ws r v in
     let new : slice_get ws r ≡ Some y = slice_get-get_or ws r v there in
@@ -82,5 +90,9 @@ made_flat C rule h k vs ws r v at events stepped made frame there has next =
     record {
       held = same_Some _ _ t.0;
       views = frame y new ∙ ap (slice_set vs r) (p.view ∙ ap (λ n. (C.after v n).view) t.1);
-      answer = record { same_events = p.answer.same_events ∙ ap (λ n. (C.after v n).events) t.1; same_answer = p.answer.same_answer ∙ ap (λ n. (C.after v n).stepped) t.1 };
+      answer = record {
+        same_events = p.answer.same_events ∙ ap (λ n. (C.after v n).events) t.1;
+        same_answer = p.answer.same_answer
+            ∙ ap (λ n. (C.after v n).stepped) t.1;
+      };
     }

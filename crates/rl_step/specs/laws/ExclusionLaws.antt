@@ -9,7 +9,8 @@ use Rattle.rl_step.specs.Lock.{holds_only}
 use Rattle.rl_step.specs.Exclusion.{Has, IsInside, writers, readers, IsExclusive, writers_after, readers_after, Alone, TouchFits, ExclusiveFrom, nobody, along, writers_of, readers_of}
 
 -- a trace after another one
-pub exclusive_append : (ws rs : ℕ → Bool) (t es : List Event) → ExclusiveFrom ws rs t → ExclusiveFrom (writers_of ws t) (readers_of rs t) es → ExclusiveFrom ws rs (t ++ es)
+pub exclusive_append : (ws rs : ℕ → Bool) (t es : List Event) → ExclusiveFrom ws rs t →
+    ExclusiveFrom (writers_of ws t) (readers_of rs t) es → ExclusiveFrom ws rs (t ++ es)
 exclusive_append ws rs [] es a b = b
 exclusive_append ws rs (e ∷ t) es a b = (a.0, a.1, exclusive_append (writers_after e ws) (readers_after e rs) t es a.2 b)
 
@@ -80,10 +81,14 @@ one_here ws rs d es e same rest =
 -- a stretch with one event of a holder changes what that event changes
 pub one_holds : (ws rs : ℕ → Bool) (es : List Event) (e : Event) → holds_only es ≡ e ∷ [] → OneHolds ws rs es e
 one_holds ws rs [] e h = cc
-one_holds ws rs (Join q m ∷ es) e h = let o = one_holds ws rs es e h in record { writers = o.writers; readers = o.readers; exclusive = λ a t b. (a, tt, o.exclusive a t b) }
-one_holds ws rs (Announce c ∷ es) e h = let o = one_holds ws rs es e h in record { writers = o.writers; readers = o.readers; exclusive = λ a t b. (a, tt, o.exclusive a t b) }
-one_holds ws rs (Pass q m ∷ es) e h = let o = one_holds ws rs es e h in record { writers = o.writers; readers = o.readers; exclusive = λ a t b. (a, tt, o.exclusive a t b) }
-one_holds ws rs (Settle q m ∷ es) e h = let o = one_holds ws rs es e h in record { writers = o.writers; readers = o.readers; exclusive = λ a t b. (a, tt, o.exclusive a t b) }
+one_holds ws rs (Join q m ∷ es) e h = let o = one_holds ws rs es e h in
+    record { writers = o.writers; readers = o.readers; exclusive = λ a t b. (a, tt, o.exclusive a t b) }
+one_holds ws rs (Announce c ∷ es) e h = let o = one_holds ws rs es e h in
+    record { writers = o.writers; readers = o.readers; exclusive = λ a t b. (a, tt, o.exclusive a t b) }
+one_holds ws rs (Pass q m ∷ es) e h = let o = one_holds ws rs es e h in
+    record { writers = o.writers; readers = o.readers; exclusive = λ a t b. (a, tt, o.exclusive a t b) }
+one_holds ws rs (Settle q m ∷ es) e h = let o = one_holds ws rs es e h in
+    record { writers = o.writers; readers = o.readers; exclusive = λ a t b. (a, tt, o.exclusive a t b) }
 one_holds ws rs (Touch k w ∷ es) e h = one_here ws rs (Touch k w) es e (cc) (cc)
 one_holds ws rs (EnterW k ∷ es) e h = one_here ws rs (EnterW k) es e (cc) (cc)
 one_holds ws rs (EnterR k ∷ es) e h = one_here ws rs (EnterR k) es e (cc) (cc)
@@ -130,10 +135,12 @@ module _ (enter leave : ℕ → Event) (step : Event → (ℕ → Bool) → ℕ 
 
 -- an event that sets the test of rank j, or clears it
 sets : (ws : ℕ → Bool) (j k : ℕ) → ((j ≡ k) × ((if k == j then true else ws k) ≡ true)) ⊎ ((j ≢ k) × ((if k == j then true else ws k) ≡ ws k))
-sets ws j k = ⊎_elim (λ q. inl (sym q.1, ap (λ b. if b then true else ws k) q.0)) (λ q. inr (λ e. q.1 (sym e), ap (λ b. if b then true else ws k) q.0)) (eqb_tells k j)
+sets ws j k = ⊎_elim (λ q. inl (sym q.1, ap (λ b. if b then true else ws k) q.0))
+    (λ q. inr (λ e. q.1 (sym e), ap (λ b. if b then true else ws k) q.0)) (eqb_tells k j)
 
 clears : (ws : ℕ → Bool) (j k : ℕ) → ((j ≡ k) × ((if k == j then false else ws k) ≡ false)) ⊎ ((j ≢ k) × ((if k == j then false else ws k) ≡ ws k))
-clears ws j k = ⊎_elim (λ q. inl (sym q.1, ap (λ b. if b then false else ws k) q.0)) (λ q. inr (λ e. q.1 (sym e), ap (λ b. if b then false else ws k) q.0)) (eqb_tells k j)
+clears ws j k = ⊎_elim (λ q. inl (sym q.1, ap (λ b. if b then false else ws k) q.0))
+    (λ q. inr (λ e. q.1 (sym e), ap (λ b. if b then false else ws k) q.0)) (eqb_tells k j)
 
 writer_cases : (e : Event) (ws : ℕ → Bool) (k : ℕ) → StepCase EnterW LeaveW writers_after e ws k
 writer_cases (Join q m) ws k = inr (inr (λ e. cc, refl))
@@ -205,7 +212,8 @@ is_exclusive t a =
           ⊎_elim (λ w. inl (is_writer p k w)) (λ f. inr (is_reader p k ((at p (Touch k false ∷ s) e).1 f))) (true_or_false (writers_of nobody p k));
     }
 
-touch_fits : (t : List Event) → IsExclusive t → (p : List Event) (e : Event) (s : List Event) → t ≡ p ++ e ∷ s → TouchFits (writers_of nobody p) (readers_of nobody p) e
+touch_fits : (t : List Event) → IsExclusive t → (p : List Event) (e : Event) (s : List Event) → t ≡ p ++ e ∷ s →
+    TouchFits (writers_of nobody p) (readers_of nobody p) e
 touch_fits t x p (Join q m) s h = tt
 touch_fits t x p (Announce c) s h = tt
 touch_fits t x p (Pass q m) s h = tt
@@ -220,10 +228,18 @@ touch_fits t x p (LeaveR k) s h = tt
 
 exclusive_on : (t : List Event) → IsExclusive t → (p s : List Event) → t ≡ p ++ s → ExclusiveFrom (writers_of nobody p) (readers_of nobody p) s
 exclusive_on t x p [] h =
-    record { one = λ i j a b. x.one_writer p [] i j h (is_writer p i a) (is_writer p j b); none = λ i j a b. x.no_reader p [] i j h (is_writer p i a) (is_reader p j b) }
+    record {
+      one = λ i j a b. x.one_writer p [] i j h (is_writer p i a) (is_writer p j b);
+      none =
+          λ i j a b. x.no_reader p [] i j h (is_writer p i a) (is_reader p j b);
+    }
 exclusive_on t x p (e ∷ s) h =
     let alone : Alone (writers_of nobody p) (readers_of nobody p) =
-    record { one = λ i j a b. x.one_writer p (e ∷ s) i j h (is_writer p i a) (is_writer p j b); none = λ i j a b. x.no_reader p (e ∷ s) i j h (is_writer p i a) (is_reader p j b) } in
+    record {
+      one = λ i j a b. x.one_writer p (e ∷ s) i j h (is_writer p i a) (is_writer p j b);
+      none =
+          λ i j a b. x.no_reader p (e ∷ s) i j h (is_writer p i a) (is_reader p j b);
+    } in
     let rest : ExclusiveFrom (writers_of nobody (p ++ e ∷ [])) (readers_of nobody (p ++ e ∷ [])) s =
     exclusive_on t x (p ++ e ∷ []) s (h ∙ sym (append_assoc p (e ∷ []) s)) in (
       alone,

@@ -13,11 +13,13 @@ module _ (mine : ℕ → Bool) (cohort : ℕ) where
   window-append w [] es = refl
   window-append w (e ∷ t) es = window-append (window_after mine cohort w e) t es
 
-  pub overtaken-append : (bound : ℕ) (w : Option ℕ) (t es : List Event) → OvertakenFrom mine cohort bound w t → OvertakenFrom mine cohort bound (window_of mine cohort w t) es → OvertakenFrom mine cohort bound w (t ++ es)
+  pub overtaken-append : (bound : ℕ) (w : Option ℕ) (t es : List Event) → OvertakenFrom mine cohort bound w t →
+      OvertakenFrom mine cohort bound (window_of mine cohort w t) es → OvertakenFrom mine cohort bound w (t ++ es)
   overtaken-append bound w [] es a b = b
   overtaken-append bound w (e ∷ t) es a b = (a.0, overtaken-append bound (window_after mine cohort w e) t es a.1 b)
 
-  rest_of : (bound : ℕ) (w : Option ℕ) (p s : List Event) → OvertakenFrom mine cohort bound w (p ++ s) → OvertakenFrom mine cohort bound (window_of mine cohort w p) s
+  rest_of : (bound : ℕ) (w : Option ℕ) (p s : List Event) → OvertakenFrom mine cohort bound w (p ++ s) →
+      OvertakenFrom mine cohort bound (window_of mine cohort w p) s
   rest_of bound w [] s a = a
   rest_of bound w (e ∷ p) s a = rest_of bound (window_after mine cohort w e) p s a.1
 
@@ -31,7 +33,8 @@ module _ (mine : ℕ → Bool) (cohort : ℕ) where
   stays_open false n = refl
 
   -- along a stretch in which no rank of the cohort enters the window counts the entries of others
-  counts : (bound n : ℕ) (u s : List Event) → n ≤ bound → OvertakenFrom mine cohort bound (Some n) (u ++ s) → entries mine u ≡ 0 → n + entries (λ k. not (mine k)) u ≤ bound
+  counts : (bound n : ℕ) (u s : List Event) → n ≤ bound → OvertakenFrom mine cohort bound (Some n) (u ++ s) → entries mine u ≡ 0 →
+      n + entries (λ k. not (mine k)) u ≤ bound
   counts bound n [] s h a z = omega arith
   counts bound n (Join q m ∷ u) s h a z = let r = counts bound n u s h a.1 (omega arith) in omega arith
   counts bound n (Announce c ∷ u) s h a z =
@@ -40,7 +43,8 @@ module _ (mine : ℕ → Bool) (cohort : ℕ) where
   counts bound n (Settle q m ∷ u) s h a z = let r = counts bound n u s h a.1 (omega arith) in omega arith
   counts bound n (Touch k w ∷ u) s h a z = let r = counts bound n u s h a.1 (omega arith) in omega arith
   counts bound n (EnterW k ∷ u) s h a z = at (mine k) refl (λ low b y. counts bound (n + 1) u s low b y) where
-    at : (b : Bool) → mine k ≡ b → (n + 1 ≤ bound → OvertakenFrom mine cohort bound (Some (n + 1)) (u ++ s) → entries mine u ≡ 0 → (n + 1) + entries (λ i. not (mine i)) u ≤ bound) → n + (count (not (mine k)) + entries (λ i. not (mine i)) u) ≤ bound
+    at : (b : Bool) → mine k ≡ b → (n + 1 ≤ bound → OvertakenFrom mine cohort bound (Some (n + 1)) (u ++ s) → entries mine u ≡ 0 →
+        (n + 1) + entries (λ i. not (mine i)) u ≤ bound) → n + (count (not (mine k)) + entries (λ i. not (mine i)) u) ≤ bound
     at true e rec = let one : count (mine k) ≡ 1 = ap count e in absurd (omega arith)
     at false e rec =
         let none : count (mine k) ≡ 0 = ap count e in
@@ -61,9 +65,11 @@ module _ (mine : ℕ → Bool) (cohort : ℕ) where
   is_overtaken bound t a =
       record {
         stretch = λ p u s e z.
-            let b : OvertakenFrom mine cohort bound (window_of mine cohort None p) (Announce cohort ∷ (u ++ s)) = rest_of bound None p (Announce cohort ∷ (u ++ s)) (subst (OvertakenFrom mine cohort bound None) e a) in
+            let b : OvertakenFrom mine cohort bound (window_of mine cohort None p) (Announce cohort ∷ (u ++ s)) =
+            rest_of bound None p (Announce cohort ∷ (u ++ s)) (subst (OvertakenFrom mine cohort bound None) e a) in
             let o = open_window (window_of mine cohort None p) in
-            let w : (if cohort == cohort then opened (window_of mine cohort None p) else window_of mine cohort None p) ≡ Some o.0 = ap (λ y. if y then opened (window_of mine cohort None p) else window_of mine cohort None p) same_test ∙ o.1 in
+            let w : (if cohort == cohort then opened (window_of mine cohort None p) else window_of mine cohort None p) ≡ Some o.0 =
+            ap (λ y. if y then opened (window_of mine cohort None p) else window_of mine cohort None p) same_test ∙ o.1 in
             let low : o.0 ≤ bound = b.0 o.0 w in
             let r : o.0 + entries (λ k. not (mine k)) u ≤ bound = counts bound o.0 u s low (subst (λ y. OvertakenFrom mine cohort bound y (u ++ s)) w b.1) z in
             omega arith;

@@ -149,7 +149,8 @@ Stretches q B t = (p u s : List Event) → t ≡ p ++ (u ++ s) → settled q u �
 
 begins_on : (q B room : ℕ) (e : Event) (t : List Event) → Begins q room (e ∷ t) → Stretches q B (e ∷ t) → Begins q (room_after q B e room) t
 begins_on q B room (Join k m) t b g u s h z = let f : 0 + passed q u ≤ room = b (Join k m ∷ u) s (ap (λ y. Join k m ∷ y) h) (omega (arith, z)) in omega arith
-begins_on q B room (Announce c) t b g u s h z = let f : 0 + passed q u ≤ room = b (Announce c ∷ u) s (ap (λ y. Announce c ∷ y) h) (omega (arith, z)) in omega arith
+begins_on q B room (Announce c) t b g u s h z = let f : 0 + passed q u ≤ room =
+    b (Announce c ∷ u) s (ap (λ y. Announce c ∷ y) h) (omega (arith, z)) in omega arith
 begins_on q B room (Pass k m) t b g u s h z = pass_room (k == q) room (passed q u) (b (Pass k m ∷ u) s (ap (λ y. Pass k m ∷ y) h) (omega (arith, z)))
 begins_on q B room (Settle k m) t b g u s h z =
     settle_room (k == q) B room (passed q u) (g (Settle k m ∷ []) u s (ap (λ y. Settle k m ∷ y) h) z)

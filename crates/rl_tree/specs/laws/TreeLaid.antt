@@ -103,3 +103,7 @@ proper_laid K proper homed budgeted low = subst (IsTreeLaid K) (sym (levels_are 
             let c : length K.shape.leaf_of ≡ K.shape.nodes = proper.each_node in omega arith;
         modest = modest;
       }
+
+-- by the levels of the shape itself
+pub well_shaped : (K : Rooted) → IsTreeLaid K (levels_of K.shape) → IsWellShaped K (levels_of K.shape)
+well_shaped K laid = laid_shaped K (levels_of K.shape) laid

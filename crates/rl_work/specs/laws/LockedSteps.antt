@@ -1,8 +1,7 @@
 -- Each atom of a block under its lock leaves less to do.
-use Rattle.std.specs.Prelude.{◌≡◌, ◌⊎◌, ℕ, zero, suc, ◌+◌, ◌*◌, ◌-◌, ◌<◌, ◌≤◌, ◌==◌, ◌^◌, Bool, true, false, cond, if◌then◌else◌, nat_lt, List, [], ◌∷◌, ◌++◌, length, slice_get, Option, Some, None, refl}
-use Rattle.std.proofs.Common.{sym, ap, subst, inl, inr, ⊎_elim, arith, length-append, length-drop}
+use Rattle.std.specs.Prelude.{◌≡◌, ℕ, ◌+◌, ◌*◌, ◌-◌, ◌<◌, ◌≤◌, ◌==◌, ◌^◌, Bool, true, false, if◌then◌else◌, nat_lt, List, [], ◌∷◌, ◌++◌, length, slice_get, Option, Some, None, refl}
+use Rattle.std.proofs.Common.{ap, subst, arith, length-append, length-drop}
 use Rattle.std.proofs.lemmas.Option.{slice_get_within}
-use Rattle.std.proofs.lemmas.Bool.Decides.{nat_tests}
 use Rattle.rl_model.specs.declared.call.Call.{Call}
 use Rattle.rl_model.specs.declared.call.Call.TheVariants.{Put, Get, Del, Add, Cas, Hold}
 use Rattle.rl_model.specs.declared.entry.Reply.{Reply}
@@ -14,7 +13,7 @@ use Rattle.rl_volume.specs.declared.place.Place.TheVariants.{Absent, Inline, InC
 use Rattle.rl_volume.specs.declared.write.Write.{Write}
 use Rattle.rl_volume.specs.Words.{state_word, named, volume_words}
 use Rattle.rl_volume.specs.Volume.{Words}
-use Rattle.rl_volume.specs.Seen.{value_of, with_value, patched, next_word, value_or_zero}
+use Rattle.rl_volume.specs.Seen.{patched, next_word, value_or_zero}
 use Rattle.rl_volume.specs.Decision.{decision, put_in_cell, put_by, add_by, cas_by, take_inline, take_out, place_in, value_word_of}
 use Rattle.rl_work.specs.declared.stage.Stage.{Stage}
 use Rattle.rl_work.specs.declared.stage.Stage.TheVariants.{Rest, Begin, Read, Journal, Volume}

@@ -1,35 +1,28 @@
-use Rattle.std.proofs.Common.{◌∙◌, subst, Ok, Err}
-use Rattle.std.proofs.lemmas.Result.{err_from_is_err_and}
-use Rattle.rl_inputs.specs.Reading.{WasRead, called, scheduled}
+use Rattle.std.proofs.Common.{◌∙◌}
+use Rattle.rl_inputs.specs.Files.{WereRead}
+use Rattle.rl_inputs.proofs.ReadLemmas.{ended, still_read}
 use Rattle.rl_inputs.proofs.ReplayLemmas.{place_stops, calls_stop, schedule_stops, all_read}
 use Rattle.rl_inputs.proofs.replay.read_replay.Goals as goal
 
 pub returns-in_err-place-clause-read : goal.returns-in_err-place-clause-read
-returns-in_err-place-clause-read g c =
-    let p = err_from_is_err_and c.from_residual.result c.from_residual.ensures.1 in
-    rw (p.1, p.2) (place_stops _ _ _ c.in_err-place.ensures.read)
+returns-in_err-place-clause-read g c = ended (WereRead _ _) _ _ c.from_residual.ensures.1 (place_stops _ _ _ c.in_err-place.ensures.read)
 
 pub returns-in_err-ops-clause-read : goal.returns-in_err-ops-clause-read
 returns-in_err-ops-clause-read g c =
-    let p = err_from_is_err_and c.from_residual-in_err-ops.result c.from_residual-in_err-ops.ensures.1 in
-    rw (p.1, p.2)
-    (calls_stop _ _ _ _ c.in_ok-place.ensures.read
-    (subst (λ told. WasRead told (λ ops. ops) (called c.in_ok-place.place) (Err c.in_err-ops.field-0.0)) (c.in_ok-place.ensures.same.files c.args.files.calls.now) c.in_err-ops.ensures.read))
+    ended (WereRead _ _) _ _ c.from_residual-in_err-ops.ensures.1
+    (calls_stop _ _ _ _ c.in_ok-place.ensures.read (still_read (c.in_ok-place.ensures.same.files c.args.files.calls.now) c.in_err-ops.ensures.read))
 
 pub returns-in_err-schedule-clause-read : goal.returns-in_err-schedule-clause-read
 returns-in_err-schedule-clause-read g c =
-    let p = err_from_is_err_and c.from_residual-in_err-schedule.result c.from_residual-in_err-schedule.ensures.1 in
     let name = c.args.files.schedule.now in
-    rw (p.1, p.2)
+    ended (WereRead _ _) _ _ c.from_residual-in_err-schedule.ensures.1
     (schedule_stops _ _ _ _ _ c.in_ok-place.ensures.read
-    (subst (λ told. WasRead told (λ ops. ops) (called c.in_ok-place.place) (Ok c.in_ok-ops.ops)) (c.in_ok-place.ensures.same.files c.args.files.calls.now) c.in_ok-ops.ensures.read)
-    (subst (λ told. WasRead told (λ schedule. schedule) (scheduled c.in_ok-place.place) (Err c.in_err-schedule.field-0.0))
-    (c.in_ok-ops.ensures.same.files name ∙ c.in_ok-place.ensures.same.files name) c.in_err-schedule.ensures.read))
+    (still_read (c.in_ok-place.ensures.same.files c.args.files.calls.now) c.in_ok-ops.ensures.read)
+    (still_read (c.in_ok-ops.ensures.same.files name ∙ c.in_ok-place.ensures.same.files name) c.in_err-schedule.ensures.read))
 
 pub returns-clause-read : goal.returns-clause-read
 returns-clause-read g c =
     let name = c.args.files.schedule.now in
     all_read _ _ _ _ _ c.in_ok-place.ensures.read
-    (subst (λ told. WasRead told (λ ops. ops) (called c.in_ok-place.place) (Ok c.in_ok-ops.ops)) (c.in_ok-place.ensures.same.files c.args.files.calls.now) c.in_ok-ops.ensures.read)
-    (subst (λ told. WasRead told (λ schedule. schedule) (scheduled c.in_ok-place.place) (Ok c.in_ok-schedule.schedule))
-    (c.in_ok-ops.ensures.same.files name ∙ c.in_ok-place.ensures.same.files name) c.in_ok-schedule.ensures.read)
+    (still_read (c.in_ok-place.ensures.same.files c.args.files.calls.now) c.in_ok-ops.ensures.read)
+    (still_read (c.in_ok-ops.ensures.same.files name ∙ c.in_ok-place.ensures.same.files name) c.in_ok-schedule.ensures.read)

@@ -4,7 +4,8 @@ use Rattle.rl_report.specs.Spelling.{report_spelling}
 use Rattle.rl_check.specs.LawfulReplays.{IsLawfulReplay}
 use Rattle.rl_check.specs.Legal.{IsLegalReport}
 use Rattle.rl_program.specs.Answer.{WasReplayed}
-use Rattle.rl_program.proofs.ReplayLemmas.{ended, still_read, place_stops, calls_stop, schedule_stops, memory_stops, all_read}
+use Rattle.rl_inputs.proofs.ReadLemmas.{ended, still_read}
+use Rattle.rl_program.proofs.ReplayLemmas.{place_stops, calls_stop, schedule_stops, memory_stops, all_read}
 use Rattle.rl_program.proofs.replaying.replayed.Goals as goal
 
 pub returns-in_err-place-clause-replayed : goal.returns-in_err-place-clause-replayed

@@ -1,5 +1,5 @@
 use Rattle.rl_program.specs.RunAnswer.{WasRun}
-use Rattle.rl_program.proofs.ReplayLemmas.{ended, still_read}
+use Rattle.rl_inputs.proofs.ReadLemmas.{ended, still_read}
 use Rattle.rl_program.proofs.RunningLemmas.{place_stops, calls_stop, memory_stops, was_run}
 use Rattle.rl_program.proofs.running.run_text.Goals as goal
 

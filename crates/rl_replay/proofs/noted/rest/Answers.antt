@@ -7,7 +7,11 @@ use Rattle.rl_replay.specs.laws.RestedLaws.{over_rests, counted_run, keeps_with}
 use Rattle.rl_replay.proofs.noted.rest.Goals as goal
 
 pub rest_waiting-requires-clause-rested : goal.rest_waiting-requires-clause-rested
-rest_waiting-requires-clause-rested g c = subst (Rested g.C.Resting.with_sight (running g.C.ShardCore.says c.args.machine.now) c.args.rank) c.in-Waits.is c.requires.rested
+rest_waiting-requires-clause-rested g c = (c.args.rank, subst (Rested g.C.Resting.with_sight (running g.C.ShardCore.says c.args.machine.now) c.args.rank) c.in-Waits.is c.requires.rested)
+
+pub returns-in-Waits-clause-run : goal.returns-in-Waits-clause-run
+returns-in-Waits-clause-run g c = λ is. c.rest_waiting.ensures.run is c.args.rank
+    (subst (Rested g.C.Resting.with_sight (running g.C.ShardCore.says c.args.machine.now) c.args.rank) c.in-Waits.is c.requires.rested)
 
 pub returns-in-Finished-clause-run : goal.returns-in-Finished-clause-run
 returns-in-Finished-clause-run g c = λ _.

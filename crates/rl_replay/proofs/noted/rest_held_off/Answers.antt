@@ -9,25 +9,25 @@ use Rattle.rl_replay.proofs.noted.rest_held_off.Goals.{After-words}
 use Rattle.rl_replay.proofs.noted.rest_held_off.Given.{Over}
 
 pub words-requires : goal.words-requires
-words-requires g c = shards_there g.C.ShardCore.says c.args.machine.now c.args.shard c.requires.rested.shard c.requires.rested.has
+words-requires g c = shards_there g.C.ShardCore.says c.args.machine.now c.args.shard c.requires.rested.1.shard c.requires.rested.1.has
 
 -- the window is that of the shard
-held : (g : Over) (c : After-words g) → c.words.result.now ≡ c.requires.rested.shard.held
-held g c = window_at (running g.C.ShardCore.says c.args.machine.now) c.args.shard c.requires.rested.shard c.words.result.now c.requires.rested.has c.words.ensures
+held : (g : Over) (c : After-words g) → c.words.result.now ≡ c.requires.rested.1.shard.held
+held g c = window_at (running g.C.ShardCore.says c.args.machine.now) c.args.shard c.requires.rested.1.shard c.words.result.now c.requires.rested.1.has c.words.ensures
 
 pub card-requires : goal.card-requires
-card-requires g c = subst (λ h. c.args.node < length h.cards) (sym (held g (goal.at.card-requires g c).After-words)) c.requires.rested.named
+card-requires g c = subst (λ h. c.args.node < length h.cards) (sym (held g (goal.at.card-requires g c).After-words)) c.requires.rested.1.named
 
 pub returns-clause-run : goal.returns-clause-run
-returns-clause-run g c = λ _.
+returns-clause-run g c = λ _ rank is.
     let h = c.words.result.now in
     let card : ℕ = slice_index h.cards c.args.node in
     let some : (card == 0) ≡ false = not_free card (λ none. c.if-card-eq0.false (c.card.ensures ∙ none)) in
     let m = running g.C.ShardCore.says c.args.machine.now in
-    let rests = still_rests m c.args._rank c.args.shard (Busy c.args.node 0) (Busy c.args.node (card - 1)) c.requires.rested
+    let rests = still_rests m rank c.args.shard (Busy c.args.node 0) (Busy c.args.node (card - 1)) is
     (subst (λ (w : TheWindow). ((slice_index w.cards c.args.node == 0) ≡ false) × (Busy c.args.node (card - 1) ≡ Busy c.args.node (slice_index w.cards c.args.node - 1)))
-    (held g (goal.at.returns-clause-run g c).After-words) (some, refl)) in
-    counted_run m (running g.C.ShardCore.says c.count_more.new.self) c.args._rank c.args.count (Busy c.args.node (card - 1)) rests c.count_more.ensures.counted
+    (window_at m c.args.shard is.shard c.words.result.now is.has c.words.ensures) (some, refl)) in
+    counted_run m (running g.C.ShardCore.says c.count_more.new.self) rank c.args.count (Busy c.args.node (card - 1)) rests c.count_more.ensures.counted
 
 pub returns-clause-noted : goal.returns-clause-noted
 returns-clause-noted g c =

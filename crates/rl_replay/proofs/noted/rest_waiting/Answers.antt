@@ -9,23 +9,23 @@ use Rattle.rl_replay.proofs.noted.rest_waiting.Goals.{After-words}
 use Rattle.rl_replay.proofs.noted.rest_waiting.Given.{Over}
 
 pub words-requires : goal.words-requires
-words-requires g c = shards_there g.C.ShardCore.says c.args.machine.now c.args.shard c.requires.rested.shard c.requires.rested.has
+words-requires g c = shards_there g.C.ShardCore.says c.args.machine.now c.args.shard c.requires.rested.1.shard c.requires.rested.1.has
 
 -- the window is that of the shard
-held : (g : Over) (c : After-words g) → c.words.result.now ≡ c.requires.rested.shard.held
-held g c = window_at (running g.C.ShardCore.says c.args.machine.now) c.args.shard c.requires.rested.shard c.words.result.now c.requires.rested.has c.words.ensures
+held : (g : Over) (c : After-words g) → c.words.result.now ≡ c.requires.rested.1.shard.held
+held g c = window_at (running g.C.ShardCore.says c.args.machine.now) c.args.shard c.requires.rested.1.shard c.words.result.now c.requires.rested.1.has c.words.ensures
 
 pub value-requires : goal.value-requires
-value-requires g c = subst (λ h. c.args.word < length h.words) (sym (held g (goal.at.value-requires g c).After-words)) c.requires.rested.named
+value-requires g c = subst (λ h. c.args.word < length h.words) (sym (held g (goal.at.value-requires g c).After-words)) c.requires.rested.1.named
 
 pub returns-clause-run : goal.returns-clause-run
-returns-clause-run g c = λ _.
+returns-clause-run g c = λ _ rank is.
     let m = running g.C.ShardCore.says c.args.machine.now in
     let waiting = Waiting c.args.word c.args.value in
     let still : slice_index c.words.result.now.words c.args.word ≡ c.args.value = sym c.value.ensures ∙ c.if-value.false in
-    let rests = still_rests m c.args._rank c.args.shard waiting waiting c.requires.rested
-    (subst (λ (w : TheWindow). slice_index w.words c.args.word ≡ c.args.value) (held g (goal.at.returns-clause-run g c).After-words) still, refl) in
-    counted_run m (running g.C.ShardCore.says c.count_more.new.self) c.args._rank c.args.count waiting rests c.count_more.ensures.counted
+    let rests = still_rests m rank c.args.shard waiting waiting is
+    (subst (λ (w : TheWindow). slice_index w.words c.args.word ≡ c.args.value) (window_at m c.args.shard is.shard c.words.result.now is.has c.words.ensures) still, refl) in
+    counted_run m (running g.C.ShardCore.says c.count_more.new.self) rank c.args.count waiting rests c.count_more.ensures.counted
 
 pub returns-clause-noted : goal.returns-clause-noted
 returns-clause-noted g c =

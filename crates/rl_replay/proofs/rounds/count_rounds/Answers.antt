@@ -19,11 +19,10 @@ now g c =
     ∙ ap (λ z. with_steps z (counted_more (leg_answer c.args.round.there) n z.steps)) here
 
 pub returns-clause-run : goal.returns-clause-run
-returns-clause-run g c =
+returns-clause-run g c = λ rank s count within shown.
     let m = running g.C.ShardCore.says c.args.machine.now in
-    let shown = c.requires.shows in
     now g (goal.at.returns-clause-run g c).After-count_more-2
-    ∙ sym (rounds_run g.C.Resting.with_sight c.args._rank c.args._shard c.args.round m shown.0 c.args.rounds c.args._count c.requires.within shown.1)
+    ∙ sym (rounds_run g.C.Resting.with_sight rank s c.args.round m shown.0 c.args.rounds count within shown.1)
 
 pub returns-clause-counted : goal.returns-clause-counted
 returns-clause-counted g c =

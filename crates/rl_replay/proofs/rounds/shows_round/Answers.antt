@@ -8,16 +8,16 @@ use Rattle.rl_replay.proofs.rounds.shows_round.Goals.{After-words}
 use Rattle.rl_replay.proofs.rounds.shows_round.Given.{Over}
 
 pub words-requires : goal.words-requires
-words-requires g c = shards_there g.C.ShardCore.says c.args.machine.now c.args.shard c.requires.in_round.shard c.requires.in_round.has
+words-requires g c = shards_there g.C.ShardCore.says c.args.machine.now c.args.shard c.requires.in_round.1.shard c.requires.in_round.1.has
 
-held : (g : Over) (c : After-words g) → c.words.result.now ≡ c.requires.in_round.shard.held
-held g c = window_at (running g.C.ShardCore.says c.args.machine.now) c.args.shard c.requires.in_round.shard c.words.result.now c.requires.in_round.has c.words.ensures
+held : (g : Over) (c : After-words g) → c.words.result.now ≡ c.requires.in_round.1.shard.held
+held g c = window_at (running g.C.ShardCore.says c.args.machine.now) c.args.shard c.requires.in_round.1.shard c.words.result.now c.requires.in_round.1.has c.words.ensures
 
 pub shows-requires-clause-here : goal.shows-requires-clause-here
-shows-requires-clause-here g c = subst (λ h. c.args.round.here.word < length h.words) (sym (held g (goal.at.shows-requires-clause-here g c).After-words)) c.requires.in_round.is_round.word_here
+shows-requires-clause-here g c = subst (λ h. c.args.round.here.word < length h.words) (sym (held g (goal.at.shows-requires-clause-here g c).After-words)) c.requires.in_round.1.is_round.word_here
 
 pub shows-requires-clause-there : goal.shows-requires-clause-there
-shows-requires-clause-there g c = subst (λ h. c.args.round.there.word < length h.words) (sym (held g (goal.at.shows-requires-clause-there g c).After-words)) c.requires.in_round.is_round.word_there
+shows-requires-clause-there g c = subst (λ h. c.args.round.there.word < length h.words) (sym (held g (goal.at.shows-requires-clause-there g c).After-words)) c.requires.in_round.1.is_round.word_there
 
 pub returns : goal.returns
-returns g c = λ shown. (c.requires.in_round, subst (λ h. ShowsRound h c.args.round c.args.count) (held g (goal.at.returns g c).After-words) (c.shows.ensures shown))
+returns g c = λ shown rank is. (is, subst (λ h. ShowsRound h c.args.round c.args.count) (window_at (running g.C.ShardCore.says c.args.machine.now) c.args.shard is.shard c.words.result.now is.has c.words.ensures) (c.shows.ensures shown))

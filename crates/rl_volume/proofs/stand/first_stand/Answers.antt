@@ -2,7 +2,6 @@ use Rattle.std.proofs.Common.{◌≡◌, ◌∙◌, sym, ap, Some}
 use Rattle.rl_model.specs.Geom.{bucket_of}
 use Rattle.rl_volume.specs.Words.{state_word, key_word}
 use Rattle.rl_volume.specs.Seen.{value_of}
-use Rattle.rl_volume.specs.Stand.{GoesOn}
 use Rattle.rl_volume.proofs.StandLaws.{at_front}
 use Rattle.rl_volume.proofs.stand.first_stand.Goals as goal
 
