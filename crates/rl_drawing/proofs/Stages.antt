@@ -1,5 +1,5 @@
 -- What the turns of a stage tell of its machine.
-use Rattle.std.proofs.Common.{◌≡◌, ℕ, ◌+◌, ◌<◌, List, [], ◌∷◌, ◌++◌, length, refl, sym, ap, subst, ◌∙◌, arith}
+use Rattle.std.proofs.Common.{◌≡◌, ℕ, ◌+◌, ◌-◌, ◌<◌, ◌≤◌, Bool, List, [], ◌∷◌, ◌++◌, length, replicate, refl, sym, ap, subst, ◌∙◌, arith}
 use Rattle.std.specs.List.{AllByRecursion}
 use Rattle.std.proofs.lemmas.List.{append-nil}
 use Rattle.rl_step.specs.Answers.{steps_made}
@@ -7,14 +7,18 @@ use Rattle.rl_place.specs.Places.{ThePlace}
 use Rattle.rl_ops.specs.declared.ops.Ops.{Ops}
 use Rattle.rl_ops.specs.Ops.{OpsFit}
 use Rattle.rl_ops.specs.declared.schedule.Turn.{Turn}
+use Rattle.rl_ops.specs.declared.schedule.Turn.TheVariants as turn
 use Rattle.rl_ops.specs.Schedule.{TurnFits, steps_of}
-use Rattle.rl_machine.specs.Running.{Running}
+use Rattle.rl_core.specs.Moments.{CoreSays}
+use Rattle.rl_machine.specs.Running.{Running, TheMachine, running}
 use Rattle.rl_machine.specs.Run.{stepped, run_of, turn_ranks, ranks_of_turns, steps_in}
 use Rattle.rl_machine.specs.laws.ReplayLaws.{stepped_one, run_append}
 use Rattle.rl_locks.specs.Kinds.{Defined}
 use Rattle.rl_shown.proofs.FrontLaws.{ranks_append, ranks_long}
 use Rattle.rl_locks.specs.Runs.{start_with}
-use Rattle.rl_drawing.specs.Leads.{HasCome}
+use Rattle.rl_drawing.specs.declared.stage.Stage.{Stage}
+use Rattle.rl_drawing.specs.declared.looking.Scene.{Scene}
+use Rattle.rl_drawing.specs.Leads.{HasCome, SceneFits, OnStage}
 use Rattle.rl_drawing.proofs.Leading.{steps_append}
 
 run_counts : {V : Type 0} (m : Running V) (ks : List ℕ) → (steps_made (run_of m ks).steps ≡ steps_made m.steps + length ks) × ((run_of m ks).calls ≡ m.calls)
@@ -86,3 +90,22 @@ module _ {V : Type 0} (defined : Defined V) (place : ThePlace) (ops : Ops) where
   -- no turn yet
   pub stage_first : (m : Running V) → m ≡ start_with defined place ops → HasCome defined place ops m [] 2000000
   stage_first m is = record { machine = is; fit = tt; left_is = omega arith }
+
+-- ---- what a rank's steps ask of the stage, and the stage behind them
+
+module _ {C V : Type 0} (says : C → CoreSays V) (defined : Defined V) (scene : Scene) (s : Stage C V) (on : OnStage says defined scene s) where
+  -- the machine has the rank
+  pub rank_there : {batches : Bool} (k : ℕ) → SceneFits batches scene → k < length scene.place.now.paths → k < length s.machine.calls
+  rank_there k fits there = there_at defined scene.place.now scene.ops.now (running says s.machine) s.turns s.left k fits.calls on there
+
+  -- the steps that were made and those that are left are all that there may be
+  pub made_and_left : s.left + steps_made s.machine.steps ≡ 2000000
+  made_and_left = ap (λ n. s.left + n) (steps_at defined scene.place.now scene.ops.now (running says s.machine) s.turns s.left on) ∙ on.left_is
+
+  -- so many steps of rank k were made, and are a turn
+  pub steps_on : (now : TheMachine C V) (turns : List Turn) (k made n : ℕ) → running says now ≡ run_of (running says s.machine) (replicate n made) → made ≡ k → turns ≡ s.turns ++ turn.Steps k n ∷ [] → n ≤ s.left →
+      k < length scene.place.now.paths → HasCome defined scene.place.now scene.ops.now (running says now) turns (s.left - n)
+  steps_on now turns k made n run same are few there =
+      let fewer : (s.left - n) + n ≡ s.left = omega (arith, few) in
+      let m = running says s.machine in
+      stage_on defined scene.place.now scene.ops.now m (running says now) s.turns turns (turn.Steps k n) s.left (s.left - n) on (run ∙ ap (λ j. run_of m (replicate n j)) same) are fewer there

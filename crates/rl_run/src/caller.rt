@@ -174,7 +174,9 @@ impl<C: ShardCore> Caller<C> {
                 Stepped::Finished => break,
                 stepped => {
                     gate.after(rank, answer_number(&stepped));
-                    patience.after(&stepped);
+                    if !patience.is_calm(&stepped) {
+                        patience.after(&stepped);
+                    }
                 }
             }
         }

@@ -44,6 +44,12 @@ impl Patience {
         }
     }
 
+    /// Whether this answer is one of a row that moved, long enough: then there is nothing to do. After a Lost no such row has begun.
+    #[inline(always)]
+    pub fn is_calm(&self, stepped: &Stepped) -> bool {
+        self.calm == CALM_STEPS && matches!(stepped, Stepped::Moved)
+    }
+
     /// Waits as long as the answer of the last step asks for.
     #[inline(always)]
     pub fn after(&mut self, stepped: &Stepped) {

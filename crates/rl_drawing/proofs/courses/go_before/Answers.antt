@@ -1,6 +1,5 @@
 -- The steps were made up to the one that shows it, and are a turn; the machine is made anew.
-use Rattle.std.proofs.Common.{◌≡◌, ◌+◌, ◌-◌, ◌<◌, [], ◌∷◌, length, refl, ap, subst, ◌∙◌, arith}
-use Rattle.rl_step.specs.Answers.{steps_made}
+use Rattle.std.proofs.Common.{◌≡◌, ◌+◌, ◌-◌, ◌<◌, [], ◌∷◌, refl, ap, subst, ◌∙◌, arith}
 use Rattle.rl_ops.specs.declared.schedule.Turn.TheVariants as turn
 use Rattle.rl_machine.specs.Running.{running}
 use Rattle.rl_machine.specs.Run.{run_of, ranks_of_turns, steps_in}
@@ -8,23 +7,18 @@ use Rattle.rl_locks.specs.Runs.{start_with}
 use Rattle.rl_drawing.specs.Drawing.{IsFirst}
 use Rattle.rl_drawing.specs.Leads.{sees}
 use Rattle.rl_drawing.proofs.Leading.{steps_append, before_same}
-use Rattle.rl_drawing.proofs.Stages.{steps_at, there_at, stage_anew}
+use Rattle.rl_drawing.proofs.Stages.{rank_there, made_and_left, stage_anew}
 use Rattle.rl_drawing.proofs.courses.go_before.Goals as goal
 
 pub steps_before-requires-clause-there : goal.steps_before-requires-clause-there
 steps_before-requires-clause-there g c =
-    let stage = c.args.stage.now in
-    let low : c.args.rank < length stage.machine.calls =
-    there_at g.C.ShardCore.defined c.args.scene.place.now c.args.scene.ops.now (running g.C.ShardCore.says stage.machine) stage.turns stage.left c.args.rank c.requires.scene.calls c.requires.stage c.requires.there in
-    omega arith
+    let low = rank_there g.C.ShardCore.says g.C.ShardCore.defined c.args.scene c.args.stage.now c.requires.stage c.args.rank c.requires.scene c.requires.there in
+    omega (arith, low)
 
 pub steps_before-requires-clause-few : goal.steps_before-requires-clause-few
 steps_before-requires-clause-few g c =
-    let stage = c.args.stage.now in
-    let made : steps_made stage.machine.steps ≡ steps_in stage.turns =
-    steps_at g.C.ShardCore.defined c.args.scene.place.now c.args.scene.ops.now (running g.C.ShardCore.says stage.machine) stage.turns stage.left c.requires.stage in
-    let all : stage.left + steps_in stage.turns ≡ 2000000 = c.requires.stage.left_is in
-    omega arith
+    let all = made_and_left g.C.ShardCore.says g.C.ShardCore.defined c.args.scene c.args.stage.now c.requires.stage in
+    omega (arith, all)
 
 pub machine_after-requires-clause-few : goal.machine_after-requires-clause-few
 machine_after-requires-clause-few g c =

@@ -37,6 +37,14 @@ loop-preserved g c =
       c.step_with.ensures.none,
     )
 
+pub loop-preserved-then-not-is_calm : goal.loop-preserved-then-not-is_calm
+loop-preserved-then-not-is_calm g c =
+    let d = (goal.at.loop-preserved-then-not-is_calm g c).After-index-shards-at in (
+      steps_with g.C.ShardCore.says g.met.C.ShardCore.shard_laws c.args.shards.now c.args.self.now c.requires.caller c.index-shards-at.result c.index_mut-seat.result.now (has_shard g d) (has_seat g d)
+          c.loop.seat c.step_with.new.self c.loop.invariant.0 c.step_with.ensures.step.seat c.step_with.ensures.step.rank c.step_with.ensures.step.turned,
+      c.step_with.ensures.none,
+    )
+
 pub returns-clause-caller : goal.returns-clause-caller
 returns-clause-caller g c =
     let d = (goal.at.returns-clause-caller g c).After-index-shards-at in
