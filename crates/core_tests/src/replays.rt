@@ -1,10 +1,7 @@
 //! Small replays, and the state before a step of one.
 
 ghost use Rattle.std.specs.Prelude.{length, IfOk};
-ghost use Rattle.rl_place.specs.Places.{IsProper};
-ghost use Rattle.rl_ops.specs.Ops.{OpsFit};
-ghost use Rattle.rl_ops.specs.Schedule.{ScheduleFits};
-ghost use Rattle.rl_inputs.specs.Reading.{SuitsLock};
+ghost use Rattle.rl_inputs.specs.Fitting.{IsProper, OpsFit, SuitsLock, ScheduleFits};
 
 use rl_ops::{Ops, Schedule, read_ops, read_schedule};
 use rl_place::{Lock, Place, read_place};

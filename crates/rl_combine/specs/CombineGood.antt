@@ -19,7 +19,7 @@ use Rattle.rl_site.specs.Transcript.{TheTranscript}
 use Rattle.rl_work.specs.Work.{TheWork, more_entries, work_atom, work_after, at_rest}
 use Rattle.rl_site.specs.Opens.{IsOpen}
 use Rattle.rl_work.specs.Ways.{WorkSide}
-use Rattle.rl_work.specs.WorkGood.{WorkSide as Seat, WorkGood, IsDone}
+use Rattle.rl_work.specs.WorkGood.{WorkSide as Seat, WorkGood, IsDone, IsInCall}
 use Rattle.rl_combine.specs.declared.stage.CombineStage.{CombineStage}
 use Rattle.rl_combine.specs.declared.stage.CombineStage.TheVariants.{Rest, Post, Raise, Look, Count, Sweep, Copy, Read, Journal, Volume, Answer, Mark, Collect, Lower}
 use Rattle.rl_combine.specs.Posts.{ThePost, combine_ranks, post_of, post_spelling, answer_spelling, answered_entry}
@@ -98,14 +98,6 @@ pub record IsCollecting (S : WaySite) (p : ThePost) (rank : ℕ) (o : Opened) (y
   pub done : IsAnswered S p rank o y
   pub same : copied ≡ take made p.answer
 
--- a rank that has asked stands so until it leaves
-abbrev pub HasAsked : Standing → Type 0
-HasAsked Out = ⊥
-HasAsked Asking = Unit {0}
-HasAsked Writer = Unit {0}
-HasAsked Reader = Unit {0}
-HasAsked Leaving = ⊥
-
 -- a writer whose call is posted
 abbrev pub IsCombiner : WaySite → ThePost → ℕ → RankSide → Seat → Type 0
 IsCombiner S p rank x y = (x.standing ≡ Writer) × IsPosted S p rank (opened_of x.work) y
@@ -115,7 +107,7 @@ abbrev pub OwnAt : WaySite → ThePost → ℕ → RankSide → Seat → Combine
 OwnAt S p rank x y Rest = IsDone x.standing × (p.flag ≡ 0) × IsFree y x.work.kept
 OwnAt S p rank x y (Post made) = (x.standing ≡ Out) × (made < 5) × IsPosting S p rank (opened_of x.work) y made
 OwnAt S p rank x y Raise = (x.standing ≡ Out) × IsPosting S p rank (opened_of x.work) y 5
-OwnAt S p rank x y Look = HasAsked x.standing × IsPosted S p rank (opened_of x.work) y
+OwnAt S p rank x y Look = IsInCall x.standing × IsPosted S p rank (opened_of x.work) y
 OwnAt S p rank x y Count = IsCombiner S p rank x y
 OwnAt S p rank x y (Sweep owner) = IsCombiner S p rank x y
 OwnAt S p rank x y (Copy owner made) = IsCombiner S p rank x y
@@ -157,23 +149,11 @@ reading x stage at entries t =
       };
     }
 
--- and after that
+-- and after that: it has seen what it read, and knows its entry and what it writes
 abbrev pub deciding : TheCombineSide → BlockStage → SeenWords → TheTranscript → Seat
 deciding x stage seen t =
-    record {
-      standing = Writer;
-      work = record {
-        stage = stage;
-        calls = x.posted ∷ [];
-        seq = x.posted_number;
-        seen = seen;
-        replies = x.entry.reply ∷ [];
-        at = x.count;
-        entries = x.entry ∷ [];
-        writes = x.writes;
-        transcript = t;
-      };
-    }
+    let before : Seat = reading x stage x.count (x.entry ∷ []) t in
+    record before { work = record before.work { seen = seen; replies = x.entry.reply ∷ []; writes = x.writes } }
 
 -- the entry of a call in hand, which is decided
 abbrev pub HasEntry : WaySite → Call → ℕ → Entry → ℕ → Type 0

@@ -340,6 +340,14 @@ impl Work for CombineWork {
     }
 
     #[inline(always)]
+    fn rests(&self, side: &CombineSide) -> bool {
+        match side.stage {
+            CombineStage::Rest | CombineStage::Look => false,
+            _ => true,
+        }
+    }
+
+    #[inline(always)]
     fn touch(&self, side: &CombineSide) -> Option<bool> {
         side.stage.touch()
     }

@@ -1,16 +1,10 @@
 //! A schedule with the turns behind it by which all calls of all ranks end.
 ghost use Rattle.std.specs.Prelude.{◌≡◌, ◌<◌, ◌≤◌, ◌^◌, ◌++◌, length, sum_by, IfOk, IfErr};
-ghost use Rattle.std.specs.List.{AllByRecursion};
-ghost use Rattle.rl_step.specs.LockQueues.{does_batches};
-ghost use Rattle.rl_place.specs.LockWords.{name_of};
-ghost use Rattle.rl_place.specs.Places.{IsProper};
-ghost use Rattle.rl_place.specs.Shapes.{shape_of, knobs_of};
-ghost use Rattle.rl_ops.specs.Ops.{OpsFit};
-ghost use Rattle.rl_ops.specs.Schedule.{ScheduleFits, schedule_spelling, steps_of};
+ghost use Rattle.rl_inputs.specs.Fitting.{IsProper, shape_of, knobs_of, name_of, does_batches, OpsFit, SuitsLock, ScheduleFits};
+ghost use Rattle.rl_ops.specs.Schedule.{schedule_spelling, steps_of};
 ghost use Rattle.rl_ops.specs.ScheduleReading.{IsReadAsSchedule};
-ghost use Rattle.rl_inputs.specs.Reading.{SuitsLock};
 ghost use Rattle.rl_locks.specs.Urgencies.{EachUrgency};
-ghost use Rattle.rl_completed.specs.Completing.{MakesSteps, MayGoOn, ComeBehind, IsCompleteUnder, IsWhyNotUnder, IsLong};
+ghost use Rattle.rl_completed.specs.Completing.{MayGoOn, ComeBehind, IsCompleteUnder, IsWhyNotUnder, IsLong};
 
 use crate::stops::first_stop;
 use crate::uncompleted::{Reason, Uncompleted};
@@ -43,10 +37,7 @@ fn way_on_with<C: Resting + ShardGuiding>(
     requires proper { IsProper place.now }
     requires knobs { C.suits_knobs (shape_of place.now) (knobs_of place.now.lock) }
     requires batches { C.batches ≡ does_batches (name_of place.now.lock) }
-    requires calls { OpsFit (length place.now.paths) place.now.geom.shards ops }
-    requires suits { SuitsLock place.now ops }
-    requires schedule { ScheduleFits (length place.now.paths) schedule.now }
-    requires unstopped { AllByRecursion MakesSteps schedule.now.turns }
+    requires may { MayGoOn place.now ops schedule.now }
     ensures { EachUrgency C.says C.urgent C.defined (λ urgent. ComeBehind C.defined urgent place.now ops schedule.now) result }
 {
     let shape = place.shape(alloc)?;

@@ -1,4 +1,3 @@
-pub mod Outcomes
 pub mod Leading
 pub mod Stages
 pub mod Stopping

@@ -83,10 +83,6 @@ module _ {V : Type 0} (defined : Defined V) (place : ThePlace) (ops : Ops) where
       ∙ run_append first (ranks_of_turns x) (turn_ranks t) ∙ ap (λ n. run_of n (turn_ranks t)) (sym old.machine))
       are fewer fits
 
-  -- so many steps are left as there were, but for those of the turns that were added
-  pub same_left : (m now : Running V) (x y : List Turn) (left rest : ℕ) → HasCome defined place ops m x left → HasCome defined place ops now y rest → rest + steps_in y ≡ left + steps_in x
-  same_left m now x y left rest old new = new.left_is ∙ sym old.left_is
-
   -- no turn yet
   pub stage_first : (m : Running V) → m ≡ start_with defined place ops → HasCome defined place ops m [] 2000000
   stage_first m is = record { machine = is; fit = tt; left_is = omega arith }
@@ -94,13 +90,16 @@ module _ {V : Type 0} (defined : Defined V) (place : ThePlace) (ops : Ops) where
 -- ---- what a rank's steps ask of the stage, and the stage behind them
 
 module _ {C V : Type 0} (says : C → CoreSays V) (defined : Defined V) (scene : Scene) (s : Stage C V) (on : OnStage says defined scene s) where
-  -- the machine has the rank
-  pub rank_there : {batches : Bool} (k : ℕ) → SceneFits batches scene → k < length scene.place.now.paths → k < length s.machine.calls
-  rank_there k fits there = there_at defined scene.place.now scene.ops.now (running says s.machine) s.turns s.left k fits.calls on there
+  -- so many steps are left on a later stage as there are, but for those of the turns that were added
+  pub same_left : (t : Stage C V) → OnStage says defined scene t → t.left + steps_in t.turns ≡ s.left + steps_in s.turns
+  same_left t now = now.left_is ∙ sym on.left_is
 
-  -- the steps that were made and those that are left are all that there may be
-  pub made_and_left : s.left + steps_made s.machine.steps ≡ 2000000
-  made_and_left = ap (λ n. s.left + n) (steps_at defined scene.place.now scene.ops.now (running says s.machine) s.turns s.left on) ∙ on.left_is
+  -- the machine has the rank; and the steps that were made and those that are left are all that there may be
+  pub may_step : {batches : Bool} (k : ℕ) → SceneFits batches scene → k < length scene.place.now.paths → (k < length s.machine.calls) × (s.left + steps_made s.machine.steps ≡ 2000000)
+  may_step k fits there = (
+    there_at defined scene.place.now scene.ops.now (running says s.machine) s.turns s.left k fits.calls on there,
+    ap (λ n. s.left + n) (steps_at defined scene.place.now scene.ops.now (running says s.machine) s.turns s.left on) ∙ on.left_is,
+  )
 
   -- so many steps of rank k were made, and are a turn
   pub steps_on : (now : TheMachine C V) (turns : List Turn) (k made n : ℕ) → running says now ≡ run_of (running says s.machine) (replicate n made) → made ≡ k → turns ≡ s.turns ++ turn.Steps k n ∷ [] → n ≤ s.left →

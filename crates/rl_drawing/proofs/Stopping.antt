@@ -20,7 +20,7 @@ use Rattle.rl_sketch.specs.declared.sketch.Course.TheVariants as course
 use Rattle.rl_sketch.specs.declared.sketch.SketchLine.{SketchLine}
 use Rattle.rl_sketch.specs.declared.sketch.SketchLine.TheVariants as line
 use Rattle.rl_sketch.specs.Sketch.{is_among, named_ranks, stopped_after, stopped_by, EachOnce, RanksFit, LineFits, LinesFit}
-use Rattle.rl_drawing.proofs.Outcomes.{or_false, neither, differ}
+use Rattle.rl_sketch.proofs.Outcomes.{or_false, neither, differ}
 use Rattle.rl_drawing.specs.Sights.{shows, ends_calls, is_over}
 use Rattle.rl_drawing.specs.Drawing.{steps_each, stops_each, laps, drawn_turns, AreEach, IsUntil, IsBefore, AreInTurn, AreOfCourse, AreToTheEnd, AreOfLine, AreOfLines}
 use Rattle.rl_drawing.proofs.Stages.{all_append}

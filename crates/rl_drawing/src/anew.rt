@@ -2,7 +2,7 @@
 
 ghost use Rattle.std.specs.Prelude.{◌≡◌, ◌≤◌, length, IfOk};
 ghost use Rattle.std.specs.List.{AllByRecursion};
-ghost use Rattle.rl_place.specs.Shapes.{shape_of, knobs_of};
+ghost use Rattle.rl_inputs.specs.Fitting.{shape_of, knobs_of};
 ghost use Rattle.rl_ops.specs.declared.schedule.TheConstants.{MOST_STEPS};
 ghost use Rattle.rl_ops.specs.Schedule.{TurnFits};
 ghost use Rattle.rl_machine.specs.Run.{steps_in};

@@ -2,7 +2,7 @@
 
 ghost use Rattle.std.specs.Prelude.{◌≡◌, ◌+◌, ◌-◌, ◌≤◌, ◌<◌, ◌++◌, [], ◌∷◌, ℕ, length, OnOk, Err};
 ghost use Rattle.std.specs.List.{AllByRecursion};
-ghost use Rattle.rl_place.specs.Shapes.{shape_of, knobs_of};
+ghost use Rattle.rl_inputs.specs.Fitting.{shape_of, knobs_of};
 ghost use Rattle.rl_drawing.specs.Drawing.{AreEach};
 ghost use Rattle.rl_drawing.specs.Leads.{SceneFits, OnStage, IsOf, Draws, DrawsOne};
 

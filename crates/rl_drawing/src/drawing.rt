@@ -2,15 +2,9 @@
 
 ghost use Rattle.std.specs.Prelude.{◌≡◌, ◌+◌, ◌≤◌, ◌<◌, ℕ, [], length, IfOk, OnOk};
 ghost use Rattle.std.specs.List.{AllByRecursion};
-ghost use Rattle.rl_step.specs.LockQueues.{does_batches};
-ghost use Rattle.rl_place.specs.LockWords.{name_of};
-ghost use Rattle.rl_place.specs.Places.{IsProper};
-ghost use Rattle.rl_place.specs.Shapes.{shape_of, knobs_of};
-ghost use Rattle.rl_ops.specs.Ops.{OpsFit};
-ghost use Rattle.rl_inputs.specs.Reading.{SuitsLock};
+ghost use Rattle.rl_inputs.specs.Fitting.{IsProper, shape_of, knobs_of, name_of, does_batches, OpsFit, SuitsLock};
 ghost use Rattle.rl_locks.specs.Kinds.{lock_kind_of};
 ghost use Rattle.rl_sketch.specs.Sketch.{named_ranks, RanksFit, LineFits, LinesFit, SketchFits};
-ghost use Rattle.rl_locks.specs.Runs.{start_with};
 ghost use Rattle.rl_drawing.specs.Drawing.{AreOfCourse, ComesTo, FitsWhole, SketchSuits, ComesFitting};
 ghost use Rattle.rl_drawing.specs.Leads.{SceneFits, OnStage, Draws, DrawsLine, LinesCome, is_done, is_until_done, is_to_the_end};
 

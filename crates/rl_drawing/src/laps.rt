@@ -3,7 +3,7 @@
 ghost use Rattle.std.specs.Prelude.{◌≡◌, ◌+◌, ◌-◌, ◌≤◌, ◌<◌, ◌++◌, [], ◌∷◌, ℕ, not, filter, length, if◌then◌else◌, IfOk, OnOk};
 ghost use Rattle.std.specs.List.{AllByRecursion};
 ghost use Rattle.rl_chance.specs.Draws.{first_state};
-ghost use Rattle.rl_place.specs.Shapes.{shape_of, knobs_of};
+ghost use Rattle.rl_inputs.specs.Fitting.{shape_of, knobs_of};
 ghost use Rattle.rl_machine.specs.Running.{running};
 ghost use Rattle.rl_machine.specs.Run.{stepped};
 ghost use Rattle.rl_drawing.specs.Sights.{is_over};

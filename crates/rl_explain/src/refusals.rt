@@ -77,13 +77,30 @@ fn explanation<'a>(
 }
 
 /// A text that is longer than a file of its kind may be.
-fn too_long(text: &KeptText, most: u32) -> Explained<'_> {
-    Explained {
+fn too_long(text: &KeptText, most: u32) -> Option<Explained<'_>>
+    ensures { result ≡ None → length text.now.bytes.items ≤ most }
+{
+    if text.bytes.len() <= most as usize {
+        return None;
+    }
+    Some(Explained {
         name: text.name.as_str(),
         line: 0,
         word: 0,
         found: Found::TooMany,
         wanted: Wanted::Bytes(most),
+    })
+}
+
+/// Why a text whose first line is of this kind was refused; nothing where it was read, or memory was short.
+fn of_reading<'a, T: Drop>(
+    start: Standing<'a>,
+    text: &'a KeptText,
+    read: Result<T, TextErr>,
+) -> Option<Explained<'a>> {
+    match read {
+        Err(TextErr::Refused(refusal)) => explanation(start, text, refusal),
+        _ => None,
     }
 }
 
@@ -100,18 +117,14 @@ pub fn place_in(alloc: Global, text: &KeptText) -> Option<Place>
 
 /// Why a kept text is no placement; nothing where it is one, or memory is short.
 pub fn explain_place(alloc: Global, text: &KeptText) -> Option<Explained<'_>> {
-    let bytes = text.bytes.as_slice();
-    if bytes.len() > MOST_WORDS as usize {
-        return Some(too_long(text, MOST_WORDS));
+    if let Some(long) = too_long(text, MOST_WORDS) {
+        return Some(long);
     }
     let start = Standing {
         kind: LineKind::PlaceHead,
         known: Known::nothing(),
     };
-    match read_place(alloc, bytes) {
-        Err(TextErr::Refused(refusal)) => explanation(start, text, refusal),
-        _ => None,
-    }
+    of_reading(start, text, read_place(alloc, text.bytes.as_slice()))
 }
 
 /// The first line of a calls file that begins a batch.
@@ -148,16 +161,15 @@ pub fn explain_calls<'a>(
     place: &Place,
     text: &'a KeptText,
 ) -> Option<Explained<'a>> {
-    let bytes = text.bytes.as_slice();
-    if bytes.len() > MOST_WORDS as usize {
-        return Some(too_long(text, MOST_WORDS));
+    if let Some(long) = too_long(text, MOST_WORDS) {
+        return Some(long);
     }
     let known = Known::of(place);
     let start = Standing {
         kind: LineKind::CallsHead,
         known,
     };
-    match read_ops(alloc, known.ranks, known.shards, bytes) {
+    match read_ops(alloc, known.ranks, known.shards, text.bytes.as_slice()) {
         Err(TextErr::Refused(refusal)) => explanation(start, text, refusal),
         Err(TextErr::Memory) => None,
         Ok(_) => batch_found(text),
@@ -172,19 +184,15 @@ pub fn explain_schedule<'a>(
 ) -> Option<Explained<'a>>
     requires { IsProper place.now }
 {
-    let bytes = text.bytes.as_slice();
-    if bytes.len() > MOST_TURNS as usize {
-        return Some(too_long(text, MOST_TURNS));
+    if let Some(long) = too_long(text, MOST_TURNS) {
+        return Some(long);
     }
-    let known = Known::of(place);
     let start = Standing {
         kind: LineKind::ScheduleHead,
-        known,
+        known: Known::of(place),
     };
-    match read_schedule(alloc, place.paths.len() as u8, bytes) {
-        Err(TextErr::Refused(refusal)) => explanation(start, text, refusal),
-        _ => None,
-    }
+    let read = read_schedule(alloc, place.paths.len() as u8, text.bytes.as_slice());
+    of_reading(start, text, read)
 }
 
 /// Why a kept text is no report of a placement, whose names are these; nothing where it is one, or memory is short.
@@ -196,9 +204,8 @@ pub fn explain_report<'a>(
 ) -> Option<Explained<'a>>
     requires { IsProper place.now }
 {
-    let bytes = text.bytes.as_slice();
-    if bytes.len() > MOST_TURNS as usize {
-        return Some(too_long(text, MOST_TURNS));
+    if let Some(long) = too_long(text, MOST_TURNS) {
+        return Some(long);
     }
     let known = Known {
         naming: Some(naming),
@@ -208,10 +215,11 @@ pub fn explain_report<'a>(
         kind: LineKind::ReportHead,
         known,
     };
-    match read_report(alloc, place, bytes) {
-        Err(TextErr::Refused(refusal)) => explanation(start, text, refusal),
-        _ => None,
-    }
+    of_reading(
+        start,
+        text,
+        read_report(alloc, place, text.bytes.as_slice()),
+    )
 }
 
 /// Writes a place of a file: its line and its word, or nothing for the whole.

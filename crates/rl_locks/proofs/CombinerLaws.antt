@@ -51,10 +51,11 @@ use Rattle.rl_rank.specs.Whole.{shifted, work_side, next_of, after_of, work_turn
 use Rattle.rl_rank.specs.laws.WholeLaws.{lock_low, works_at, next_either}
 use Rattle.rl_rank.specs.laws.Bridge.{same_work}
 use Rattle.rl_rank.specs.WholeShards.{stand, standing_while, whole_shard, WholeGood}
-use Rattle.rl_rank.specs.laws.AtWork.{IsOfLock, IsOfWork, side_at, resting, after_none, each_atom}
+use Rattle.rl_rank.specs.laws.AtWork.{IsOfLock, IsOfWork, side_at, each_atom}
 use Rattle.rl_locks.proofs.SweepLaws.{GoesOnFound}
 use Rattle.rl_locks.specs.Combining.{answers, rank_side, EndsVisit, ReadsFor, KeepsCombining}
 use Rattle.rl_locks.proofs.DecidedLaws.{read_at}
+use Rattle.rl_locks.proofs.LockAtoms.{loads_of_lock, works_at_rest}
 
 -- a rank whose sweep has found a flag combines
 found_combines : (st : CombineStage) (owner : ℕ) → found st ≡ Some owner → Combines st
@@ -265,21 +266,16 @@ module _ (V : Type 0) (base : ℕ) (table : LockTable V) (S : WaySite) (node : �
         (λ (o : HasOne S m.held.words r x.work y.0). let one : length (early S m.held.words r x.work) ≡ 1 = ap length o.one in omega arith)
         (shown S m.held.words sides s.is_good r (work_side table x) y.0 y.1 s.there)
 
+    rests_on : (r : ℕ) (x : WholeView V TheCombineSide) → slice_get m.views r ≡ Some x → Combines x.work.stage → Rests (stand table x)
+    rests_on r x has c = subst Rests (sym (combiner_writes r x has c)) tt
+
     -- the next load of who combines is one of its work
     combines_on : (r w got : ℕ) (x : WholeView V TheCombineSide) → slice_get m.views r ≡ Some x → Combines x.work.stage → next_of L x ≡ Some (Load w) → after_of L x got ≡ work_turned L x (combine_stage_after S r x.work got x.work.stage)
-    combines_on r w got x has c next =
-        ⊎_elim
-        (λ none. after_none V TheCombineSide L good further layout laws home m g r x has none got)
-        (λ q. let clash = q.1 in absurd (cc))
-        (resting V TheCombineSide L good further layout laws home m g r x has (subst Rests (sym (combiner_writes r x has c)) tt))
+    combines_on r w got x has c next = works_at_rest V TheCombineSide L good further layout laws home m g r x has (rests_on r x has c) (Load w) (λ n e. absurd (cc)) next got
 
     -- so is its next store
     marks_on : (r w v got : ℕ) (x : WholeView V TheCombineSide) → slice_get m.views r ≡ Some x → Combines x.work.stage → next_of L x ≡ Some (atom.Store w v) → after_of L x got ≡ work_turned L x (combine_stage_after S r x.work got x.work.stage)
-    marks_on r w v got x has c next =
-        ⊎_elim
-        (λ none. after_none V TheCombineSide L good further layout laws home m g r x has none got)
-        (λ q. let clash = q.1 in absurd (cc))
-        (resting V TheCombineSide L good further layout laws home m g r x has (subst Rests (sym (combiner_writes r x has c)) tt))
+    marks_on r w v got x has c next = works_at_rest V TheCombineSide L good further layout laws home m g r x has (rests_on r x has c) (atom.Store w v) (λ n e. absurd (cc)) next got
 
     many : length m.views ≡ combine_ranks S
     many = sym (length-map m.views (work_side table)) ∙ rule.ranks
@@ -421,18 +417,7 @@ module _ (V : Type 0) (base : ℕ) (table : LockTable V) (S : WaySite) (node : �
         let f = reads_for r owner word x q in
         few_loads S.site (front_of S m.held.words) rule.seats rule.work owner (seat_for owner word x f) f.seat x.work.posted x.work.count word refl refl
 
-    -- the lock's words and the post words lie behind the volume
-    loads_of_lock : (b : Atom) (word : ℕ) → word < volume_words S.site.geom → shifted base b ≡ Load (volume_base + word) → ⊥
-    loads_of_lock (atom.Load w) word low e =
-        let there : base ≡ lock_base S.site = g.rule.base_is in
-        let same : base + w ≡ volume_base + word = (cc) in omega arith
-    loads_of_lock (atom.Store w v) word low e = absurd (cc)
-    loads_of_lock (atom.LocalCas w old new) word low e = absurd (cc)
-    loads_of_lock (atom.Take n) word low e = absurd (cc)
-    loads_of_lock (atom.CardLoad w) word low e = absurd (cc)
-    loads_of_lock (atom.CardStore w v) word low e = absurd (cc)
-    loads_of_lock (atom.Leave n) word low e = absurd (cc)
-
+    -- the post words lie behind the volume
     posts_behind : (i word : ℕ) → word < volume_words S.site.geom → S.behind + i ≡ volume_base + word → ⊥
     posts_behind i word low same =
         let there : base ≡ lock_base S.site = g.rule.base_is in
@@ -462,7 +447,7 @@ module _ (V : Type 0) (base : ℕ) (table : LockTable V) (S : WaySite) (node : �
     loads_so : (r word : ℕ) (x : WholeView V TheCombineSide) → slice_get m.views r ≡ Some x → next_of L x ≡ Some (Load (volume_base + word)) → word < volume_words S.site.geom → (owner : ℕ) × ReadsFor T m.held m.views r owner word x
     loads_so r word x has next low =
         ⊎_elim
-        (λ q. absurd (loads_of_lock q.0 word low q.2))
+        (λ q. absurd (loads_of_lock S.site base g.rule.base_is q.0 word low q.2))
         (λ q. let p = reads_there x.rank x.work word x.work.stage refl low q.2 in (p.0, record { there = has; reads = p.1 }))
         (next_either V TheCombineSide L good further layout laws home x (Load (volume_base + word)) next)
 

@@ -3,8 +3,6 @@ use Rattle.std.proofs.Common.{◌≡◌, ◌<◌, ℕ, ◌+◌, Bool, true, fals
 use Rattle.std.proofs.lemmas.Option.{same_Some}
 use Rattle.rl_word.specs.laws.Places.{get_map}
 use Rattle.rl_word.specs.Acts.{Layout}
-use Rattle.rl_word.specs.declared.acts.Atom.{Atom}
-use Rattle.rl_word.specs.declared.acts.Atom.TheVariants as atom
 use Rattle.rl_word.specs.declared.acts.Atom.TheVariants.{Load}
 use Rattle.rl_model.specs.declared.call.Call.{Call}
 use Rattle.rl_step.specs.declared.events.Event.{Event}
@@ -31,12 +29,12 @@ use Rattle.rl_core.specs.ShardTables.{ShardTable}
 use Rattle.rl_core.specs.Moments.{Moment}
 use Rattle.rl_rank.specs.declared.whole.WholeView.{WholeView}
 use Rattle.rl_rank.specs.Running.{LockAt, Goods, BothLaws}
-use Rattle.rl_rank.specs.Whole.{shifted, work_side, next_of, after_of, work_turned}
+use Rattle.rl_rank.specs.Whole.{work_side, next_of, after_of, work_turned}
 use Rattle.rl_rank.specs.laws.WholeLaws.{apart, next_either}
 use Rattle.rl_rank.specs.WholeShards.{stand, standing_while, whole_shard, WholeGood}
-use Rattle.rl_rank.specs.laws.AtWork.{resting, after_none}
 use Rattle.rl_locks.specs.Holding.{Reads, ReadsAlone, KeepsReads}
 use Rattle.rl_locks.proofs.DecidedLaws.{reads_on}
+use Rattle.rl_locks.proofs.LockAtoms.{loads_of_lock, works_at_rest}
 
 -- a holder rests at the lock, and on the shard it stands as it does there
 holder_rests : (st : Standing) → IsHolder st → Rests st
@@ -113,11 +111,7 @@ module _ (V : Type 0) (base : ℕ) (table : LockTable V) (site : Site) (behind :
 
     -- the next load of a holder is one of its work
     loads_on : (r w got : ℕ) (x : WholeView V TheWork) → slice_get m.views r ≡ Some x → IsHolder (stand table x) → next_of L x ≡ Some (Load w) → after_of L x got ≡ work_turned L x (locked_turn (stage_after site.geom site.shard r x.work got x.work.stage))
-    loads_on r w got x has holds next =
-        ⊎_elim
-        (λ none. after_none V TheWork L good further layout laws home m g r x has none got)
-        (λ q. let clash = q.1 in absurd (cc))
-        (resting V TheWork L good further layout laws home m g r x has (holder_rests (stand table x) holds))
+    loads_on r w got x has holds next = works_at_rest V TheWork L good further layout laws home m g r x has (holder_rests (stand table x) holds) (Load w) (λ n e. absurd (cc)) next got
 
     -- what an atom of the work leaves of the work
     work_is : (r w got : ℕ) (x : WholeView V TheWork) → slice_get m.views r ≡ Some x → IsHolder (stand table x) → next_of L x ≡ Some (Load w) → (after_of L x got).view.work ≡ (stage_after site.geom site.shard r x.work got x.work.stage).work
@@ -165,21 +159,10 @@ module _ (V : Type 0) (base : ℕ) (table : LockTable V) (site : Site) (behind :
       stores (Some v) q = absurd (cc)
       stores None q = absurd (cc)
 
-    loads_of_lock : (b : Atom) (word : ℕ) → word < volume_words site.geom → shifted base b ≡ Load (volume_base + word) → ⊥
-    loads_of_lock (atom.Load w) word low e =
-        let there : base ≡ lock_base site = g.rule.base_is in
-        let same : base + w ≡ volume_base + word = (cc) in omega arith
-    loads_of_lock (atom.Store w v) word low e = absurd (cc)
-    loads_of_lock (atom.LocalCas w old new) word low e = absurd (cc)
-    loads_of_lock (atom.Take n) word low e = absurd (cc)
-    loads_of_lock (atom.CardLoad w) word low e = absurd (cc)
-    loads_of_lock (atom.CardStore w v) word low e = absurd (cc)
-    loads_of_lock (atom.Leave n) word low e = absurd (cc)
-
     loads_so : (r word : ℕ) (x : WholeView V TheWork) → slice_get m.views r ≡ Some x → next_of L x ≡ Some (Load (volume_base + word)) → word < volume_words site.geom → (count : ℕ) × Reads T m.held m.views r count word x
     loads_so r word x has next low =
         ⊎_elim
-        (λ q. absurd (loads_of_lock q.0 word low q.2))
+        (λ q. absurd (loads_of_lock site base g.rule.base_is q.0 word low q.2))
         (λ q. let p = reads_there x.work word x.work.stage refl q.2 in (p.0, record { there = has; reads = p.1 }))
         (next_either V TheWork L good further layout laws home x (Load (volume_base + word)) next)
 

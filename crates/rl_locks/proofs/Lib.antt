@@ -1,6 +1,7 @@
 pub mod BudgetLaws
 pub mod SeatLoads
 pub mod DecidedLaws
+pub mod LockAtoms
 pub mod HolderLaws
 pub mod ReaderLaws
 pub mod SweepLaws

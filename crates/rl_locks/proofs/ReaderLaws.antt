@@ -5,11 +5,9 @@ use Rattle.rl_word.specs.laws.Places.{get_map, get_map_back}
 use Rattle.rl_word.specs.Acts.{Layout}
 use Rattle.rl_word.specs.declared.acts.Atom.{Atom}
 use Rattle.rl_word.specs.declared.acts.Atom.TheVariants.{Load}
-use Rattle.rl_model.specs.declared.call.Call.{Call}
-use Rattle.rl_model.specs.declared.call.Call.TheVariants.{Put, Get, Del, Add, Cas, Hold}
+use Rattle.rl_model.specs.declared.call.Call.TheVariants.{Get}
 use Rattle.rl_model.specs.declared.entry.Entry.{Entry}
 use Rattle.rl_model.specs.Asked.{asks_update}
-use Rattle.rl_model.specs.Call.{reads}
 use Rattle.rl_step.specs.declared.events.Event.{Event}
 use Rattle.rl_step.specs.declared.events.Standing.TheVariants.{Out}
 use Rattle.rl_step.specs.Core.{Turned}
@@ -36,7 +34,7 @@ use Rattle.rl_seq.specs.laws.Cases.{checked_by}
 use Rattle.rl_seq.specs.laws.Cases.{looked_by}
 use Rattle.rl_seq.specs.SeqGood.{SeqRank, SeqGood, IsGetting, is_between, as_locked, locked_at}
 use Rattle.rl_seq.specs.Rule.{is_getting, found_count}
-use Rattle.rl_seq.specs.laws.CheckLaws.{get_alone}
+use Rattle.rl_seq.specs.laws.CheckLaws.{get_key, get_alone}
 use Rattle.rl_seq.specs.laws.OutcomeLaws.{IsReadOff, reads_off}
 use Rattle.rl_seq.specs.laws.FitLaws.{fit_at, locked_there}
 use Rattle.rl_seq.specs.laws.VersionLaws.{odd_between, writers_odd, never_lowers, no_lower, stands_still, gets_load, reads_few, waits_at, loses_at}
@@ -69,15 +67,6 @@ gets_open w stage.Decided e = absurd (cc)
 gets_open w (stage.Open v) e = absurd (cc)
 gets_open w (stage.Write v) e = absurd (cc)
 gets_open w (stage.Close v) e = absurd (cc)
-
--- a get's only call
-get_key : (c : Call) → reads c ≡ true → (key : ℕ) × (c ≡ Get key)
-get_key (Put key value) e = absurd (cc)
-get_key (Get key) e = (key, refl)
-get_key (Del key) e = absurd (cc)
-get_key (Add key by) e = absurd (cc)
-get_key (Cas key old new) e = absurd (cc)
-get_key (Hold shard) e = absurd (cc)
 
 -- whoever stores asks for an update
 stores_updates : (site : Site) (words : List ℕ) (journal : List Entry) (before : List ℕ) (r : ℕ) (y : WorkSide) (st : BlockStage) → FitsAt site words journal before r y st → stores st ≡ true → asks_update y.work.calls ≡ true

@@ -28,4 +28,5 @@ mod state;
 mod step_end;
 
 pub use machine::{Machine, NextAtom, RestAt, RoundAt, no_dead_end, rules, soundness};
+pub use state::steps_made;
 pub use step_end::{StepEnd, StepOutcome};

@@ -43,9 +43,9 @@ pub struct FullStep {
     pub answer: Stepped,
 }
 
-/// How many steps were made.
+/// How many steps were made, of all answers.
 #[inline(always)]
-fn made(steps: Steps) -> u32
+pub fn steps_made(steps: Steps) -> u32
     requires { steps_made steps < 2 ^ 32 }
     ensures { result ≡ steps_made steps }
 {
@@ -251,7 +251,7 @@ fn step_at<C: ShardCore>(
     ensures cores { cores_of (machine_view state.new) ≡ cores_of (machine_view state.old) }
     ensures kept { OnErr result (machine_view state.new ≡ machine_view state.old) }
 {
-    let step = made(state.steps);
+    let step = steps_made(state.steps);
     let answer = atom_at(&mut state.shards[place as usize], rank, step)?;
     state.steps.count(answer);
     Ok(FullStep { place, answer })
@@ -297,7 +297,7 @@ pub fn step_block<C: ShardCore>(
     let first = state.opened[at];
     let block = next_block(&state.ops, rank, first);
     let place = block_shard(state.geom, block);
-    let step = made(state.steps);
+    let step = steps_made(state.steps);
     let shard = &mut state.shards[place as usize];
     let answer = block_at(shard, rank, step, block, first)?;
     state.opened[at] = first + block.len() as u32;

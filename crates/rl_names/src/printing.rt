@@ -4,7 +4,7 @@ ghost use Rattle.std.specs.Prelude.{◌≡◌, ◌++◌, ◌∷◌, [], codes, d
 ghost use Rattle.rl_model.specs.Geom.{GeomFits};
 ghost use Rattle.rl_report.specs.Naming.{queue_word};
 ghost use Rattle.rl_report.specs.Printing.{spaced};
-ghost use Rattle.rl_names.specs.Spelling.{post_part, name_words, word_words, found_words, store_words, swap_words, atom_words, answer_words};
+ghost use Rattle.rl_names.specs.Spelling.{post_part, name_words, word_words, swap_words, atom_words, answer_words};
 
 use crate::word_map::WordMap;
 use crate::word_name::WordName;
@@ -125,37 +125,21 @@ fn put_act(
     put_name(out, naming, map.name_of(word))
 }
 
-/// A load, and what it found.
-fn put_load(
+/// What is done to a word, and the value that was found, or is written, behind this sign.
+fn put_valued(
     out: &mut Vec<u8>,
     naming: &Naming,
     map: &WordMap,
     act: &[u8],
     word: u32,
-    found: u64,
-) -> Result<(), OutOfMemory>
-    requires { GeomFits map.now.geom }
-    ensures { OnOk result (out.new.items ≡ out.old.items ++ spaced (act.now ∷ (word_words naming.now map.now word ++ found_words found))) }
-{
-    put_act(out, naming, map, act, word)?;
-    put_word(out, b"=")?;
-    put_value(out, found)
-}
-
-/// A store, and what it writes.
-fn put_store(
-    out: &mut Vec<u8>,
-    naming: &Naming,
-    map: &WordMap,
-    act: &[u8],
-    word: u32,
+    sign: &[u8],
     value: u64,
 ) -> Result<(), OutOfMemory>
     requires { GeomFits map.now.geom }
-    ensures { OnOk result (out.new.items ≡ out.old.items ++ spaced (store_words act.now naming.now map.now word value)) }
+    ensures { OnOk result (out.new.items ≡ out.old.items ++ spaced (act.now ∷ (word_words naming.now map.now word ++ sign.now ∷ decimal value ∷ []))) }
 {
     put_act(out, naming, map, act, word)?;
-    put_word(out, b":=")?;
+    put_word(out, sign)?;
     put_value(out, value)
 }
 
@@ -192,13 +176,13 @@ pub fn put_atom(
     ensures { OnOk result (out.new.items ≡ out.old.items ++ spaced (atom_words naming.now map.now atom found)) }
 {
     match atom {
-        Atom::Load { word } => put_load(out, naming, map, b"load", word, found),
-        Atom::Store { word, value } => put_store(out, naming, map, b"store", word, value),
+        Atom::Load { word } => put_valued(out, naming, map, b"load", word, b"=", found),
+        Atom::Store { word, value } => put_valued(out, naming, map, b"store", word, b":=", value),
         Atom::LocalCas { word, old, new } => put_swap(out, naming, map, word, old, new, found),
         Atom::Take { node } => put_both_of(out, b"take", b"card", node),
-        Atom::CardLoad { word } => put_load(out, naming, map, b"card-load", word, found),
+        Atom::CardLoad { word } => put_valued(out, naming, map, b"card-load", word, b"=", found),
         Atom::CardStore { word, value } => {
-            put_store(out, naming, map, b"card-store", word, value)
+            put_valued(out, naming, map, b"card-store", word, b":=", value)
         }
         Atom::Leave { node } => put_both_of(out, b"leave", b"card", node),
     }

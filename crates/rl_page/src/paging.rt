@@ -1,16 +1,10 @@
 //! The data of a page, one text behind the other.
 
 ghost use Rattle.std.specs.Prelude.{◌≡◌, ◌≤◌, ◌++◌, length, IfOk, OnOk};
-ghost use Rattle.rl_place.specs.Places.{IsProper};
-ghost use Rattle.rl_ops.specs.Ops.{OpsFit};
-ghost use Rattle.rl_ops.specs.Schedule.{ScheduleFits};
-ghost use Rattle.rl_inputs.specs.Reading.{SuitsLock};
+ghost use Rattle.rl_inputs.specs.Fitting.{IsProper, OpsFit, SuitsLock, ScheduleFits, ReplayFits};
 ghost use Rattle.rl_report.specs.Naming.{naming_of};
 ghost use Rattle.rl_report.specs.Spelling.{report_spelling};
-ghost use Rattle.rl_locks.specs.Kinds.{lock_kind_of};
 ghost use Rattle.rl_program.specs.Replay.{report_of_replay};
-ghost use Rattle.rl_shown.specs.State.{state_with};
-ghost use Rattle.rl_shown.specs.Listing.{listing_with};
 ghost use Rattle.rl_page.specs.PageData.{files_text, replay_text, page_data, IsPageData};
 
 use crate::own_lines::{own_lines, shown_of};
@@ -42,9 +36,7 @@ fn report_part(
     schedule: &Schedule,
 ) -> Result<Vec<u8>, OutOfMemory>
     requires proper { IsProper place.now }
-    requires calls { OpsFit (length place.now.paths) place.now.geom.shards ops }
-    requires suits { SuitsLock place.now ops }
-    requires schedule { ScheduleFits (length place.now.paths) schedule.now }
+    requires fits { ReplayFits place.now ops schedule.now }
     ensures { IfOk result (λ text. text.items ≡ report_spelling (naming_of place.now) (report_of_replay place.now ops schedule.now)) }
 {
     let report = replay_report(alloc, place, ops, schedule)?;
@@ -60,9 +52,7 @@ fn replay_text(
     window: Window,
 ) -> Result<Vec<u8>, OutOfMemory>
     requires proper { IsProper place.now }
-    requires calls { OpsFit (length place.now.paths) place.now.geom.shards ops }
-    requires suits { SuitsLock place.now ops }
-    requires schedule { ScheduleFits (length place.now.paths) schedule.now }
+    requires fits { ReplayFits place.now ops schedule.now }
     requires few { window.to ≤ 2000000 }
     ensures { IfOk result (λ text. text.items ≡ replay_text place.now ops schedule.now window) }
 {

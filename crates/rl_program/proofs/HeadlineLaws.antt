@@ -1,5 +1,5 @@
 -- What a replay writes with status 0 is the report of a replay that keeps its promises.
-use Rattle.std.proofs.Common.{◌≡◌, ◌<◌, ◌^◌, ℕ, List, length, Ok, arith}
+use Rattle.std.proofs.Common.{◌≡◌, ℕ, List, Ok}
 use Rattle.rl_place.specs.Places.{ThePlace}
 use Rattle.rl_ops.specs.declared.ops.Ops.{Ops}
 use Rattle.rl_ops.specs.declared.schedule.Schedule.{Schedule}
@@ -24,11 +24,7 @@ pub is_replay : (names : Names) (texts : Texts) (place : ThePlace) (ops : Ops) (
     report_at (naming_of place) text ≡ Ok (report_of_replay place ops schedule) → IsReplayReadBack texts text
 is_replay names texts place ops schedule text p c s is kept lawful legal again =
     let read : PlaceRead texts.place place = place_read names.place texts.place place p in
-    let most = read.proper.most_ranks in
-    let ranks : length place.paths < 2 ^ 32 = omega (arith, most) in
-    let few = read.proper.geom.shards in
-    let shards : place.geom.shards < 2 ^ 32 = omega (arith, few) in
-    let turns = schedule_read names.schedule place texts.schedule schedule ranks s in
+    let turns = schedule_read names.schedule place texts.schedule schedule read.ranks s in
     record {
       replay = record {
         place = place;
@@ -37,7 +33,7 @@ is_replay names texts place ops schedule text p c s is kept lawful legal again =
         proper = read.proper;
         fits = turns.0;
         place_spelled = read.spelled;
-        calls_spelled = calls_read names.calls place texts.calls ops ranks shards c;
+        calls_spelled = calls_read names.calls place texts.calls ops read.ranks read.shards c;
         schedule_spelled = turns.1;
         bytes = is;
         kept = kept;

@@ -1,5 +1,5 @@
 -- A run by threads, from what its two files came to.
-use Rattle.std.proofs.Common.{◌≡◌, ◌<◌, ◌^◌, ℕ, List, [], length, Option, Some, Ok, Err, refl, sym, subst, arith, unwrap_or, Vec, Global}
+use Rattle.std.proofs.Common.{◌≡◌, ℕ, List, [], length, Option, Some, Ok, Err, refl, sym, subst, arith, unwrap_or, Vec, Global}
 use Rattle.std.specs.FinMap as map
 use Rattle.std.proofs.lemmas.Option.{slice_get_within}
 use Rattle.std.specs.List.{slice_get}
@@ -45,10 +45,6 @@ is_run : LegalIsLawful → (names : RunNames) (texts : Texts) (place : ThePlace)
     IsRunBy (lock_kind_of place.lock).defined place ops report → report_at (naming_of place) text ≡ Ok report → IsRunReadBack texts text
 is_run laws names texts place ops report text fit p c is lawful made again =
     let read : PlaceRead texts.place place = place_read names.place texts.place place p in
-    let most = read.proper.most_ranks in
-    let ranks : length place.paths < 2 ^ 32 = omega (arith, most) in
-    let few = read.proper.geom.shards in
-    let shards : place.geom.shards < 2 ^ 32 = omega (arith, few) in
     record {
       run = record {
         place = place;
@@ -56,7 +52,7 @@ is_run laws names texts place ops report text fit p c is lawful made again =
         report = report;
         proper = read.proper;
         place_spelled = read.spelled;
-        calls_spelled = calls_read names.calls place texts.calls ops ranks shards c;
+        calls_spelled = calls_read names.calls place texts.calls ops read.ranks read.shards c;
         bytes = is;
         lawful = lawful;
         made = made;

@@ -1,5 +1,5 @@
 -- Files that are read spell what was read.
-use Rattle.std.proofs.Common.{◌≡◌, ℕ, ◌<◌, ◌^◌, List, length, Bool, true, false, nat_le, not, ◌&&◌, Result, Ok, Err, refl, sym, ap, subst, ◌∙◌, if◌then◌else◌}
+use Rattle.std.proofs.Common.{◌≡◌, ℕ, ◌<◌, ◌^◌, List, length, Bool, true, false, nat_le, not, ◌&&◌, Result, Ok, Err, refl, sym, ap, subst, ◌∙◌, if◌then◌else◌, arith}
 use Rattle.rl_text.specs.declared.causes.Refusal.{Refusal}
 use Rattle.rl_step.specs.LockQueues.{does_batches}
 use Rattle.rl_place.specs.LockWords.{name_of}
@@ -51,16 +51,20 @@ read_ok name most reading bytes x e =
     let same : bytes ≡ a.0 = (passed_with (nat_le (length bytes) most) bytes a.0 _ a.1).1 in
     subst (λ text. reading text ≡ Ok x) (sym same) (refused_ok name (reading a.0) x a.2)
 
--- a placement that was read
+-- a placement that was read: it has few ranks and shards
 pub record PlaceRead (bytes : List ℕ) (place : ThePlace) : Type 0 where
   pub proper : IsProper place
   pub spelled : bytes ≡ place_spelling place
+  pub ranks : length place.paths < 2 ^ 32
+  pub shards : place.geom.shards < 2 ^ 32
 
 pub place_read : (name bytes : List ℕ) (place : ThePlace) → placed name bytes ≡ Ok place → PlaceRead bytes place
 unfolding placed
 place_read name bytes place e =
     let taken = place-takes bytes place (read_ok name 4194304 place_at bytes place e) in
-    record { proper = taken.proper; spelled = taken.spelled }
+    let most = taken.proper.most_ranks in
+    let few = taken.proper.geom.shards in
+    record { proper = taken.proper; spelled = taken.spelled; ranks = omega (arith, most); shards = omega (arith, few) }
 
 pub calls_read : (name : List ℕ) (place : ThePlace) (bytes : List ℕ) (ops : Ops) → length place.paths < 2 ^ 32 →
     place.geom.shards < 2 ^ 32 → called name place bytes ≡ Ok ops → SpellsOps (length place.paths) place.geom.shards ops bytes

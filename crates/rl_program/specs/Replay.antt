@@ -10,9 +10,6 @@ use Rattle.rl_place.specs.Places.{ThePlace}
 use Rattle.rl_ops.specs.declared.ops.Ops.{Ops}
 use Rattle.rl_ops.specs.declared.schedule.Schedule.{Schedule}
 use Rattle.rl_ops.specs.declared.schedule.TheConstants.{MOST_STEPS}
-use Rattle.rl_ops.specs.Ops.{OpsFit}
-use Rattle.rl_ops.specs.Schedule.{ScheduleFits}
-use Rattle.rl_inputs.specs.Reading.{SuitsLock}
 use Rattle.rl_report.specs.Lawful.{queues_at}
 use Rattle.rl_word.specs.LockFacts.{has_cohorts}
 use Rattle.rl_report.specs.Naming.{queue_kind}
@@ -29,10 +26,6 @@ replay_of place ops schedule = machine_after (lock_kind_of place.lock).defined p
 -- a report is that of the replay of a machine which is defined so
 abbrev pub IsReportOf : {V : Type 0} → (TheShape → ℕ → Knobs → Site → ShardTable V) → ThePlace → Ops → Schedule → TheReport → Type 0
 IsReportOf defined place ops schedule report = report ≡ report_in (queue_count place) (machine_after defined place ops schedule.turns)
-
--- these calls and this schedule can be replayed at the placement
-abbrev pub MayReplay : ThePlace → Ops → Schedule → Type 0
-MayReplay place ops schedule = OpsFit (length place.paths) place.geom.shards ops × SuitsLock place ops × ScheduleFits (length place.paths) schedule
 
 -- the report of a replay
 abbrev pub report_of_replay : ThePlace → Ops → Schedule → TheReport

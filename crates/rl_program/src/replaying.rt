@@ -1,19 +1,14 @@
 //! A replay: of a placement, calls and a schedule, and of the files that spell them.
 ghost use Rattle.std.specs.Prelude.{◌≡◌, length, IfOk, Some};
-ghost use Rattle.rl_step.specs.LockQueues.{lock_under, does_batches};
-ghost use Rattle.rl_place.specs.LockWords.{name_of};
-ghost use Rattle.rl_place.specs.Places.{IsProper};
-ghost use Rattle.rl_place.specs.Shapes.{shape_of, knobs_of};
-ghost use Rattle.rl_ops.specs.Ops.{OpsFit};
-ghost use Rattle.rl_ops.specs.Schedule.{ScheduleFits};
+ghost use Rattle.rl_inputs.specs.Fitting.{IsProper, shape_of, knobs_of, name_of, lock_under, does_batches, OpsFit, SuitsLock, ScheduleFits, ReplayFits};
 ghost use Rattle.rl_check.specs.LawfulReplays.{IsLawfulReplay};
 ghost use Rattle.rl_check.specs.Legal.{IsLegalReport};
 ghost use Rattle.rl_inputs.specs.Files.{named};
 ghost use Rattle.rl_program.specs.Command.{Replay};
-ghost use Rattle.rl_program.specs.Replay.{IsReportOf, MayReplay, report_of_replay};
+ghost use Rattle.rl_program.specs.Replay.{IsReportOf, report_of_replay};
 ghost use Rattle.rl_program.specs.Headline.{IsKept, KeepsPromises};
 ghost use Rattle.rl_io.specs.Whole.{RisesWithFault};
-ghost use Rattle.rl_inputs.specs.Reading.{SuitsLock, stopped_by_fault};
+ghost use Rattle.rl_inputs.specs.Reading.{stopped_by_fault};
 ghost use Rattle.rl_program.specs.Answer.{MayRead, WasReplayed};
 
 use rl_check::report_laws;
@@ -39,9 +34,7 @@ fn report_with<C: Resting + Promising>(
     requires knobs { C.suits_knobs (shape_of place.now) (knobs_of place.now.lock) }
     requires kind { C.name ≡ lock_under (name_of place.now.lock) }
     requires batches { C.batches ≡ does_batches (name_of place.now.lock) }
-    requires calls { OpsFit (length place.now.paths) place.now.geom.shards ops }
-    requires suits { SuitsLock place.now ops }
-    requires schedule { ScheduleFits (length place.now.paths) schedule.now }
+    requires may { ReplayFits place.now ops schedule.now }
     ensures report { IfOk result (IsReportOf C.defined place.now ops schedule.now) }
     ensures kept { IfOk result (λ _. IsKept C.defined C.promised C.ways place.now ops schedule.now) }
     ensures lawful { IfOk result (λ report. IsLawfulReplay place.now ops report) }
@@ -66,7 +59,7 @@ struct ReplayTask<'a> {
 impl CoreTask for ReplayTask<'_> {
     type Out = Result<Report, OutOfMemory>;
 
-    ghost takes = { λ r place. MayReplay place r.ops r.schedule.now };
+    ghost takes = { λ r place. ReplayFits place r.ops r.schedule.now };
 
     ghost gives = { λ r place kind urgent result.
         IfOk result (IsReportOf kind.defined place r.ops r.schedule.now)

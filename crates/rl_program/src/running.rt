@@ -1,12 +1,11 @@
 //! A run: of a placement and calls by threads, and of the files that spell them.
 ghost use Rattle.std.specs.Prelude.{◌≡◌, length, IfOk, Some};
-ghost use Rattle.rl_place.specs.Places.{IsProper};
-ghost use Rattle.rl_ops.specs.Ops.{OpsFit};
+ghost use Rattle.rl_inputs.specs.Fitting.{IsProper, OpsFit, SuitsLock};
 ghost use Rattle.rl_report.specs.Lawful.{IsLawful};
 ghost use Rattle.rl_run.specs.Made.{IsRunBy};
 ghost use Rattle.rl_locks.specs.Kinds.{lock_kind_of};
 ghost use Rattle.rl_io.specs.Whole.{RisesWithFault};
-ghost use Rattle.rl_inputs.specs.Reading.{SuitsLock, stopped_by_fault};
+ghost use Rattle.rl_inputs.specs.Reading.{stopped_by_fault};
 ghost use Rattle.rl_program.specs.Command.{Run, run_named};
 ghost use Rattle.rl_program.specs.Answer.{MayRead};
 ghost use Rattle.rl_program.specs.RunAnswer.{WasRun};

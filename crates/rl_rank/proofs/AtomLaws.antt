@@ -1,5 +1,5 @@
 -- What a rank's next atom is, and what it leaves of the rank's view, by where the rank stands and by the plan that is handed on.
-use Rattle.std.specs.Prelude.{◌≡◌, ℕ, List, [], Bool, Option, Some}
+use Rattle.std.specs.Prelude.{◌≡◌, ℕ, List, [], Bool, Option, Some, None}
 use Rattle.std.proofs.Common.{ap, sym, ◌∙◌, subst}
 use Rattle.rl_word.specs.Acts.{Layout}
 use Rattle.rl_word.specs.declared.acts.Atom.{Atom}
@@ -7,24 +7,37 @@ use Rattle.rl_step.specs.declared.cores.Plan.{Plan}
 use Rattle.rl_step.specs.declared.events.Event.{Event}
 use Rattle.rl_step.specs.declared.events.Stepped.{Stepped}
 use Rattle.rl_step.specs.Core.{MayGet, turned_with}
-use Rattle.rl_step.specs.Lock.{Told, Deed, MayLearn}
+use Rattle.rl_step.specs.Lock.{Told, Deed, Rests, MayLearn}
 use Rattle.rl_rank.specs.declared.card_state.CardState.{CardState}
+use Rattle.rl_rank.specs.declared.card_state.CardState.TheVariants.{Free}
 use Rattle.rl_rank.specs.declared.effect.Effect.{Effect}
 use Rattle.rl_rank.specs.declared.effect.Effect.TheVariants.{Stay, Learn}
 use Rattle.rl_rank.specs.declared.whole.WholeView.{WholeView}
 use Rattle.rl_rank.specs.Running.{LockAt, Goods, BothLaws}
-use Rattle.rl_rank.specs.Split.{HolderFits, side_atom, plan_home, atom_at, effect_at, answer_of}
+use Rattle.rl_rank.specs.Split.{HolderFits, card_atom, side_atom, plan_home, atom_at, effect_at, answer_of}
 use Rattle.rl_rank.specs.Whole.{Good, IsAnswerShiftable, whole_table, next_of, after_of, effect_turned, planned_in, plan_kept}
 use Rattle.rl_rank.specs.Whole.{lock_or_work, work_plan, shifted, shifted_answer}
 use Rattle.rl_rank.specs.laws.HomeLaws.{act_atom, act_effect, act_holder, learnt_act}
 use Rattle.rl_rank.specs.laws.AnswerLaws.{stays_answer}
-use Rattle.rl_rank.specs.laws.KeptLaws.{learnt_keeps}
+use Rattle.rl_rank.specs.laws.KeptLaws.{plan_at, learnt_keeps}
 use Rattle.rl_rank.specs.laws.Whole.{after_effect}
+use Rattle.rl_rank.specs.laws.WholeEnding.{rests_next}
 use Rattle.rl_rank.specs.laws.WholeOwes.{may_be, holder_fits, may_learn, answer_fits}
 
 -- a view with its lock's side and what it keeps changed
-abbrev with_side : {V K : Type 0} → WholeView V K → V → CardState → Plan → WholeView V K
+abbrev pub with_side : {V K : Type 0} → WholeView V K → V → CardState → Plan → WholeView V K
 with_side x v card kept = record { side = record { view = v; card = card }; kept = kept; rank = x.rank; work = x.work }
+
+-- in no card, where nothing is planned: the plan of a rank that rests, and its next atom, which is its work's
+module _ {V K : Type 0} (L : LockAt V K) (x : WholeView V K) (free : x.side.card ≡ Free) (none : L.table.plan x.side.view ≡ None) where
+  pub none_planned : record { act = None; home = 0 } ≡ planned_in L.table x
+  none_planned = sym (ap (λ p. plan_at L.table p x.side.card) none ∙ ap (plan_at L.table None) free)
+
+  pub work_next : Rests (L.table.standing x.side.view) → L.work.next x.rank x.work ≡ next_of L x
+  work_next rests =
+      sym (ap (λ p. lock_or_work L.base (card_atom L.table p x.side.card) (work_plan (L.table.standing x.side.view) (L.work.next x.rank x.work))) none
+      ∙ ap (λ c. lock_or_work L.base (card_atom L.table None c) (work_plan (L.table.standing x.side.view) (L.work.next x.rank x.work))) free
+      ∙ rests_next (L.table.standing x.side.view) (L.work.next x.rank x.work) rests)
 
 module _ {V K : Type 0} (L : LockAt V K) (x : WholeView V K) (here : CardState) (plan : Plan) (stands : x.side.card ≡ here)
     (planned : plan ≡ planned_in L.table x) where

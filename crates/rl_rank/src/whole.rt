@@ -11,7 +11,7 @@ ghost use Rattle.rl_rank.specs.Opening.{first_view, opened_in};
 ghost use Rattle.rl_rank.specs.Running.{lock_at, tables, goods, kinds, HasLock};
 ghost use Rattle.rl_rank.specs.Split.{card_of, card_word, word_home};
 ghost use Rattle.rl_site.specs.Site.{site_of};
-ghost use Rattle.rl_rank.specs.Whole.{whole_table, planned_in, plan_kept, next_of, is_at_work, is_open, rule_of, after_of, touch_by, departure_by, followed, CoreMayGet};
+ghost use Rattle.rl_rank.specs.Whole.{whole_table, planned_in, next_of, is_at_work, is_open, rule_of, after_of, touch_by, departure_by, followed, CoreMayGet};
 ghost use Rattle.rl_rank.specs.laws.OfCore.{core_laws};
 
 use crate::card_state::CardState;
@@ -53,28 +53,14 @@ pub struct Whole<A: Algo, W: Work> {
     pub home: u32,
 }
 
-/// Tells the events of an atom of the work: the touch, if it is one, and the holder's leave where the block is over with it. None was told
-/// before.
+/// Tells the touch of an atom of the work, if it is one. None was told before.
 #[inline(always)]
-fn tell_work(
-    rank: u32,
-    standing: Standing,
-    touch: Option<bool>,
-    follow: Follow,
-    events: &mut Events,
-)
+fn tell_touch(rank: u32, touch: Option<bool>, events: &mut Events)
     requires { events.old.items ≡ [] }
-    ensures { events.new.items ≡ touch_by rank touch ++ departure_by rank standing follow }
+    ensures { events.new.items ≡ touch_by rank touch }
 {
     if let Some(write) = touch {
         events.push(Event::Touch { rank, write });
-    }
-    if let Follow::Over = follow {
-        match standing {
-            Standing::Writer => events.push(Event::LeaveW { rank }),
-            Standing::Reader => events.push(Event::LeaveR { rank }),
-            _ => {}
-        }
     }
 }
 
@@ -91,17 +77,6 @@ fn at_work(standing: Standing, card: CardState) -> bool
     }
 }
 
-/// Keeps the plan of a rank whose card state becomes this, where its Take succeeded.
-#[inline(always)]
-fn keep(kept: &mut Plan, plan: Plan, card: CardState)
-    ensures { kept.new ≡ plan_kept card plan kept.old }
-{
-    match card {
-        CardState::InCard => *kept = plan,
-        CardState::Free | CardState::Loaded { .. } | CardState::ToLeave { .. } => {}
-    }
-}
-
 impl<A: Algo, W: Work> Whole<A, W> {
     /// The home of a planned act's word, where the card state asks for it, and else 0.
     #[inline(always)]
@@ -115,20 +90,25 @@ impl<A: Algo, W: Work> Whole<A, W> {
         }
     }
 
-    /// Changes the lock's view as an atom of the work wants it, of a rank that stands so.
+    /// Changes the lock's view as an atom of the work wants it, and tells the holder's leave where the block is over.
     #[inline(always)]
-    fn follow(&self, view: &mut A::View, standing: Standing, follow: Follow)
-        requires stands { standing ≡ (A.table self.now.algo).standing view.old }
-        requires asks { AsksOut follow standing }
-        ensures { view.new ≡ followed (A.table self.now.algo) view.old follow }
+    fn follow(&self, rank: u32, view: &mut A::View, follow: Follow, events: &mut Events)
+        requires asks { AsksOut follow ((A.table self.now.algo).standing view.old) }
+        requires room { length events.old.items ≤ 1 }
+        ensures view { view.new ≡ followed (A.table self.now.algo) view.old follow }
+        ensures told { events.new.items ≡ events.old.items ++ departure_by rank ((A.table self.now.algo).standing view.old) follow }
     {
         match follow {
             Follow::On => {}
             Follow::Ask(mode) => *view = self.algo.ask(*view, mode),
             Follow::Over => {
-                if let Standing::Writer | Standing::Reader = standing {
-                    *view = self.algo.leave(*view);
-                }
+                let left = match self.algo.standing(*view) {
+                    Standing::Writer => Event::LeaveW { rank },
+                    Standing::Reader => Event::LeaveR { rank },
+                    _ => return,
+                };
+                events.push(left);
+                *view = self.algo.leave(*view);
             }
         }
     }
@@ -148,7 +128,8 @@ impl<A: Algo, W: Work> Whole<A, W> {
 
 /// The ways to the next atom, one for each card state in which there is something to look at.
 impl<A: Algo, W: Work> Whole<A, W> {
-    /// In no card: the first atom of the act that the lock plans, and where it plans none, the work's.
+    /// In no card: the first atom of the act that the lock plans, and where it plans none, the work's. The lock isn't asked where the work
+    /// says that it plans none.
     #[inline(always)]
     fn next_free(&self, view: &WholeView<A::View, W::Side>) -> Option<(Atom, Plan)>
         requires may { MayBe (rule_of (tables A.table W.table) (goods A.good W.good) A.layout self.now) view.now }
@@ -156,16 +137,18 @@ impl<A: Algo, W: Work> Whole<A, W> {
         ensures atom { atom_in result ≡ next_of (lock_at (tables A.table W.table) self.now) view.now }
         ensures plan { IfSome result (λ p. p.1 ≡ planned_in (lock_at (tables A.table W.table) self.now).table view.now) }
     {
-        let plan = self.planned_free(view);
-        match next_atom(plan.home, plan.act, CardState::Free) {
-            Some(atom) => Some((shift(self.base, atom), plan)),
-            None => match self.algo.standing(view.side.view) {
-                Standing::Out | Standing::Writer | Standing::Reader => {
-                    Some((self.work.next(view.rank, &view.work)?, plan))
-                }
-                Standing::Asking | Standing::Leaving => None,
-            },
+        if !self.work.rests(&view.work) {
+            let plan = self.planned_free(view);
+            if let Some(atom) = next_atom(plan.home, plan.act, CardState::Free) {
+                return Some((shift(self.base, atom), plan));
+            }
+            match self.algo.standing(view.side.view) {
+                Standing::Out | Standing::Writer | Standing::Reader => (),
+                Standing::Asking | Standing::Leaving => return None,
+            }
         }
+        let atom = self.work.next(view.rank, &view.work)?;
+        Some((atom, Plan { act: None, home: 0 }))
     }
 
     /// In a card, with nothing loaded yet: the load of the act that it keeps.
@@ -201,9 +184,31 @@ impl<A: Algo, W: Work> Whole<A, W> {
 
 /// What an atom leaves, by where the rank stood.
 impl<A: Algo, W: Work> Whole<A, W> {
-    /// In no card: an atom of the work, or the first of an act.
+    /// An atom of the work, in no card.
     #[inline(always)]
-    fn after_free(
+    fn after_work(
+        &self,
+        view: &mut WholeView<A::View, W::Side>,
+        got: u64,
+        events: &mut Events,
+    ) -> Stepped
+        requires may { CoreMayGet (tables A.table W.table) (goods A.good W.good) A.layout self.now view.old got }
+        requires free { view.old.side.card ≡ CardState.Free }
+        requires planned { (A.table self.now.algo).plan view.old.side.view ≡ None }
+        requires none { events.old.items ≡ [] }
+        ensures { turned_with view.new events.new.items result ≡ after_of (lock_at (tables A.table W.table) self.now) view.old got }
+    {
+        let rank = view.rank;
+        let touch = self.work.touch(&view.work);
+        let step = self.work.after(rank, &mut view.work, got);
+        tell_touch(rank, touch, events);
+        self.follow(rank, &mut view.side.view, step.follow, events);
+        step.stepped
+    }
+
+    /// The first atom of an act, in no card.
+    #[inline(always)]
+    fn after_first(
         &self,
         view: &mut WholeView<A::View, W::Side>,
         plan: Plan,
@@ -213,62 +218,105 @@ impl<A: Algo, W: Work> Whole<A, W> {
         requires may { CoreMayGet (tables A.table W.table) (goods A.good W.good) A.layout self.now view.old got }
         requires free { view.old.side.card ≡ CardState.Free }
         requires plan { plan ≡ planned_in (lock_at (tables A.table W.table) self.now).table view.old }
+        requires act { plan.act ≢ None }
         requires none { events.old.items ≡ [] }
         ensures { turned_with view.new events.new.items result ≡ after_of (lock_at (tables A.table W.table) self.now) view.old got }
     {
         match effect(plan.home, plan.act, CardState::Free, got) {
-            Effect::Work => {
-                let rank = view.rank;
-                let standing = self.algo.standing(view.side.view);
-                let touch = self.work.touch(&view.work);
-                let step = self.work.after(rank, &mut view.work, got);
-                tell_work(rank, standing, touch, step.follow, events);
-                view.side.card = CardState::Free;
-                self.follow(&mut view.side.view, standing, step.follow);
-                step.stepped
-            }
-            Effect::Stay { card, stepped } => {
-                keep(&mut view.kept, plan, card);
-                view.side.card = card;
+            Effect::Work => Stepped::Moved,
+            Effect::Stay {
+                card: CardState::InCard,
+                stepped,
+            } => {
+                view.kept = plan;
+                view.side.card = CardState::InCard;
                 stepped
             }
-            Effect::Learn { card, told, lost } => {
+            Effect::Stay { stepped, .. } => stepped,
+            Effect::Learn { told, lost, .. } => {
                 let waits = self.algo.learn(&mut view.side.view, told, events);
-                view.side.card = card;
                 shift_answer(self.base, answer(plan.act, told, lost, waits))
             }
         }
     }
 
-    /// In this card state, which isn't `Free`: an atom of an act that is made through a card. None of the work is made there.
+    /// In this card state, which isn't `Free`: an atom of an act that is made through a card, by the plan that the rank keeps. None of
+    /// the work is made there.
     #[inline(always)]
     fn after_in_card(
         &self,
         view: &mut WholeView<A::View, W::Side>,
         here: CardState,
-        plan: Plan,
         got: u64,
         events: &mut Events,
     ) -> Stepped
         requires may { CoreMayGet (tables A.table W.table) (goods A.good W.good) A.layout self.now view.old got }
         requires here { view.old.side.card ≡ here }
+        requires kept { view.old.kept ≡ planned_in (lock_at (tables A.table W.table) self.now).table view.old }
         requires within { here ≢ CardState.Free }
-        requires plan { plan ≡ planned_in (lock_at (tables A.table W.table) self.now).table view.old }
         requires none { events.old.items ≡ [] }
         ensures { turned_with view.new events.new.items result ≡ after_of (lock_at (tables A.table W.table) self.now) view.old got }
     {
-        match effect(plan.home, plan.act, here, got) {
+        let home = view.kept.home;
+        let act = view.kept.act;
+        match effect(home, act, here, got) {
             Effect::Work => Stepped::Moved,
             Effect::Stay { card, stepped } => {
-                keep(&mut view.kept, plan, card);
                 view.side.card = card;
                 stepped
             }
             Effect::Learn { card, told, lost } => {
                 let waits = self.algo.learn(&mut view.side.view, told, events);
                 view.side.card = card;
-                shift_answer(self.base, answer(plan.act, told, lost, waits))
+                shift_answer(self.base, answer(act, told, lost, waits))
             }
+        }
+    }
+
+    /// Where the view's plan has no act: an atom of the work, or a Leave.
+    #[inline(always)]
+    fn after_none(
+        &self,
+        view: &mut WholeView<A::View, W::Side>,
+        got: u64,
+        events: &mut Events,
+    ) -> Stepped
+        requires may { CoreMayGet (tables A.table W.table) (goods A.good W.good) A.layout self.now view.old got }
+        requires act { (planned_in (lock_at (tables A.table W.table) self.now).table view.old).act ≡ None }
+        requires none { events.old.items ≡ [] }
+        ensures { turned_with view.new events.new.items result ≡ after_of (lock_at (tables A.table W.table) self.now) view.old got }
+    {
+        match view.side.card {
+            CardState::ToLeave { .. } => {
+                view.side.card = CardState::Free;
+                Stepped::Moved
+            }
+            _ => self.after_work(view, got, events),
+        }
+    }
+
+    /// Where the view's plan has an act: an atom of it.
+    #[inline(always)]
+    fn after_act(
+        &self,
+        view: &mut WholeView<A::View, W::Side>,
+        plan: Plan,
+        got: u64,
+        events: &mut Events,
+    ) -> Stepped
+        requires may { CoreMayGet (tables A.table W.table) (goods A.good W.good) A.layout self.now view.old got }
+        requires plan { plan ≡ planned_in (lock_at (tables A.table W.table) self.now).table view.old }
+        requires act { plan.act ≢ None }
+        requires none { events.old.items ≡ [] }
+        ensures { turned_with view.new events.new.items result ≡ after_of (lock_at (tables A.table W.table) self.now) view.old got }
+    {
+        match view.side.card {
+            CardState::Free => self.after_first(view, plan, got, events),
+            CardState::InCard => self.after_in_card(view, CardState::InCard, got, events),
+            CardState::Loaded { value } => {
+                self.after_in_card(view, CardState::Loaded { value }, got, events)
+            }
+            CardState::ToLeave { .. } => Stepped::Moved,
         }
     }
 }
@@ -302,15 +350,9 @@ impl<A: Algo, W: Work> Core for Whole<A, W> {
         got: u64,
         events: &mut Events,
     ) -> Stepped {
-        match view.side.card {
-            CardState::Free => self.after_free(view, plan, got, events),
-            CardState::InCard => self.after_in_card(view, CardState::InCard, plan, got, events),
-            CardState::Loaded { value } => {
-                self.after_in_card(view, CardState::Loaded { value }, plan, got, events)
-            }
-            CardState::ToLeave { node } => {
-                self.after_in_card(view, CardState::ToLeave { node }, plan, got, events)
-            }
+        match plan.act {
+            None => self.after_none(view, got, events),
+            Some(_) => self.after_act(view, plan, got, events),
         }
     }
 

@@ -11,5 +11,6 @@ pub mod StateLaws
 pub mod StepLaws
 pub mod SeqLaws
 pub mod CodeLaws
+pub mod StandLaws
 pub mod VersionLaws
 pub mod SeqEnding

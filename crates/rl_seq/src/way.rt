@@ -269,6 +269,14 @@ impl Work for SeqWork {
     }
 
     #[inline(always)]
+    fn rests(&self, side: &SeqSide) -> bool {
+        match side.stage {
+            SeqStage::Locked => side.work.is_under_way(),
+            _ => true,
+        }
+    }
+
+    #[inline(always)]
     fn touch(&self, side: &SeqSide) -> Option<bool> {
         side.touch()
     }

@@ -1,11 +1,9 @@
 -- Cores that are made one after the other, and what a run leaves of a machine's shards.
-use Rattle.std.proofs.Common.{◌≡◌, ℕ, zero, suc, ◌+◌, ◌<◌, ◌^◌, List, [], ◌∷◌, ◌++◌, length, map, take, slice_get, slice_set, Option, Some, None, Result, Bool, true, false, refl, sym, ap, ◌∙◌, subst, add-one, arith}
+use Rattle.std.proofs.Common.{◌≡◌, ℕ, zero, suc, ◌+◌, ◌<◌, ◌^◌, List, [], ◌∷◌, ◌++◌, length, map, take, slice_get, Some, None, Result, refl, sym, ap, ◌∙◌, subst, add-one, arith}
 use Rattle.std.specs.Prelude.{OnOk}
 use Rattle.std.proofs.lemmas.Option.{same_Some}
 use Rattle.std.proofs.lemmas.List.{length-map}
-use Rattle.rl_word.specs.laws.Places.{get_map, get_map_back, map_set, set_same_get}
-use Rattle.rl_word.specs.Acts.{Layout}
-use Rattle.rl_word.specs.declared.acts.Atom.{Atom}
+use Rattle.rl_word.specs.laws.Places.{get_map, get_map_back}
 use Rattle.rl_model.specs.declared.call.Call.{Call}
 use Rattle.rl_model.specs.declared.geom.Geom.{Geom}
 use Rattle.rl_step.specs.Core.{CoreTable, CoreLaws}
@@ -16,9 +14,8 @@ use Rattle.rl_core.specs.Moments.{Moment, CoreSays}
 use Rattle.rl_core.specs.ShardLaws.{LawsOf}
 use Rattle.rl_machine.specs.Running.{ShardRun, Running, moment_of}
 use Rattle.rl_machine.specs.Ruled.{AreRuled}
-use Rattle.rl_machine.specs.ShardSteps.{opened_at, makes, made_at}
-use Rattle.rl_step.specs.Traces.{events_of}
-use Rattle.rl_machine.specs.Run.{changed_if, opens, opened_if, block_opened, atom_made, stepped, run_of}
+use Rattle.rl_machine.specs.Run.{run_of}
+use Rattle.rl_machine.specs.laws.Alike.{run_alike}
 use Rattle.rl_machine.specs.Start.{site_of, first_shards}
 use Rattle.rl_machine.specs.Run.{on_shard}
 use Rattle.rl_machine.specs.Records.{window_of}
@@ -52,40 +49,9 @@ cores_more table (c ∷ cores) core = ap (λ z. table c ∷ z) (cores_more table
 
 -- ---- no step changes a table
 
-module _ {V : Type 0} where
-  same_tables : (shards : List (ShardRun V)) (s : ℕ) (f : ShardRun V → ShardRun V) (found : Option (ShardRun V)) → slice_get shards s ≡ found → ((S : ShardRun V) → (f S).table ≡ S.table) →
-      map (λ (S : ShardRun V). S.table) (changed_if shards s f found) ≡ map (λ (S : ShardRun V). S.table) shards
-  same_tables shards s f None e keeps = refl
-  same_tables shards s f (Some S) e keeps =
-      map_set (λ (Z : ShardRun V). Z.table) shards s (f S) ∙ ap (slice_set (map (λ (Z : ShardRun V). Z.table) shards) s) (keeps S)
-      ∙ set_same_get (map (λ (Z : ShardRun V). Z.table) shards) s S.table (get_map (λ (Z : ShardRun V). Z.table) shards s S e)
-
-  opened_table : (k : ℕ) (block : List Call) (seq : ℕ) (S : ShardRun V) (x : Option V) → (opened_at S k block seq x).table ≡ S.table
-  opened_table k block seq S None = refl
-  opened_table k block seq S (Some x) = refl
-
-  makes_table : (k step : ℕ) (S : ShardRun V) (x : V) (at : Option Atom) → (makes S k step x at).table ≡ S.table
-  makes_table k step S x None = refl
-  makes_table k step S x (Some at) = refl
-
-  made_table : (k step : ℕ) (S : ShardRun V) (x : Option V) → (made_at S k step x).table ≡ S.table
-  made_table k step S None = refl
-  made_table k step S (Some x) = makes_table k step S x (S.table.core.next x)
-
-  opened_tables : (m : Running V) (k : ℕ) (b : Bool) → (tables_of (opened_if m k b) ≡ tables_of m) × ((opened_if m k b).calls ≡ m.calls)
-  opened_tables m k false = (refl, refl)
-  opened_tables m k true = (same_tables m.shards _ _ _ refl (λ S. opened_table k _ _ S (slice_get S.views k)), refl)
-
-  made_tables : (m : Running V) (k : ℕ) → tables_of (atom_made m k) ≡ tables_of m
-  made_tables m k = same_tables m.shards _ _ _ refl (λ S. made_table k _ S (slice_get S.views k))
-
-  -- nor what the ranks ask for
-  pub run_tables : (m : Running V) (ks : List ℕ) → (tables_of (run_of m ks) ≡ tables_of m) × ((run_of m ks).calls ≡ m.calls)
-  run_tables m [] = (refl, refl)
-  run_tables m (k ∷ ks) =
-      let on = run_tables (stepped m k) ks in
-      let opened = opened_tables m k (opens m k) in
-      (on.0 ∙ made_tables (block_opened m k) k ∙ opened.0, on.1 ∙ opened.1)
+-- nor what the ranks ask for
+pub run_tables : {V : Type 0} (m : Running V) (ks : List ℕ) → (tables_of (run_of m ks) ≡ tables_of m) × ((run_of m ks).calls ≡ m.calls)
+run_tables m ks = let alike = run_alike m ks in (alike.tables, alike.calls)
 
 -- ---- a shard of a machine, and a core that has its table
 

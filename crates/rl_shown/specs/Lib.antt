@@ -2,3 +2,5 @@
 pub mod Listing
 pub mod State
 pub mod Cores
+-- both by one task over the locks
+pub mod Telling

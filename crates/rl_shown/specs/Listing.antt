@@ -1,5 +1,5 @@
 -- The listing of a replay: a line for each step of the run.
-use Rattle.std.specs.Prelude.{◌≡◌, ℕ, List, [], ◌∷◌, ◌++◌, Bool, true, false, not, ◌&&◌, codes, decimal, length, if◌then◌else◌}
+use Rattle.std.specs.Prelude.{◌≡◌, ℕ, List, [], ◌∷◌, ◌++◌, Bool, true, false, not, ◌&&◌, codes, decimal, if◌then◌else◌}
 use Rattle.rl_text.specs.Spelling.{text_of}
 use Rattle.rl_step.specs.Answers.{steps_made}
 use Rattle.rl_step.specs.declared.events.Standing.{Standing}
@@ -7,9 +7,7 @@ use Rattle.rl_step.specs.declared.events.Standing.TheVariants as standing
 use Rattle.rl_place.specs.Places.{ThePlace}
 use Rattle.rl_place.specs.Shapes.{shape_of, knobs_of}
 use Rattle.rl_ops.specs.declared.ops.Ops.{Ops}
-use Rattle.rl_ops.specs.Ops.{OpsFit}
 use Rattle.rl_ops.specs.declared.schedule.Schedule.{Schedule}
-use Rattle.rl_ops.specs.Schedule.{ScheduleFits}
 use Rattle.rl_report.specs.Naming.{TheNaming, naming_of}
 use Rattle.rl_names.specs.StepWords.{step_words}
 use Rattle.rl_core.specs.Moments.{CoreSays}
@@ -17,9 +15,8 @@ use Rattle.rl_machine.specs.Running.{Running, TheMachine, running}
 use Rattle.rl_machine.specs.Whereabouts.{standing_by}
 use Rattle.rl_machine.specs.Run.{stepped, ranks_of_turns}
 use Rattle.rl_machine.specs.Start.{start_of}
-use Rattle.rl_locks.specs.Kinds.{Defined, LockKind, lock_kind_of}
+use Rattle.rl_locks.specs.Kinds.{Defined, lock_kind_of}
 use Rattle.rl_inputs.specs.declared.replay.Replay.{Replay}
-use Rattle.rl_inputs.specs.Reading.{SuitsLock}
 use Rattle.rl_viewer.specs.declared.asking.Window.{Window}
 use Rattle.rl_viewer.specs.Asking.{is_in}
 use Rattle.rl_shown.specs.declared.stepping.Scene.{Scene}
@@ -74,14 +71,6 @@ listing_text naming lines = text_of (head_lines naming ++ (lines ++ (codes "end"
 
 abbrev pub listing_with : {V : Type 0} → Defined V → ThePlace → Ops → Schedule → Window → List ℕ
 listing_with defined place ops schedule window = listing_text (naming_of place) (lines_with defined place ops schedule window)
-
--- the same, for a kind of lock
-abbrev pub listing_by : LockKind → ThePlace → Ops → Schedule → Window → List ℕ
-listing_by kind = listing_with kind.defined
-
--- calls and a schedule are of the placement's ranks, and the calls suit its lock
-abbrev pub ReplayFits : ThePlace → Ops → Schedule → Type 0
-ReplayFits place ops schedule = OpsFit (length place.paths) place.geom.shards ops × SuitsLock place ops × ScheduleFits (length place.paths) schedule
 
 -- the listing of a replay, whose shards are guarded by the lock of its placement
 abbrev pub listing_of : Replay → Window → List ℕ

@@ -23,7 +23,7 @@ use Rattle.rl_machine.specs.Running.{ShardRun, Running, TheMachine, running}
 use Rattle.rl_machine.specs.Run.{on_shard, place_of, done_of, run_of, ranks_of_turns}
 use Rattle.rl_machine.specs.Start.{start_of}
 use Rattle.rl_machine.specs.Whereabouts.{standing_by, card_by}
-use Rattle.rl_locks.specs.Kinds.{Defined, LockKind, lock_kind_of}
+use Rattle.rl_locks.specs.Kinds.{Defined, lock_kind_of}
 use Rattle.rl_inputs.specs.declared.replay.Replay.{Replay}
 use Rattle.rl_viewer.specs.declared.asking.Window.{Window}
 use Rattle.rl_shown.specs.Listing.{shown}
@@ -121,10 +121,6 @@ machine_before defined place ops schedule step =
 
 abbrev pub state_with : {V : Type 0} → Defined V → ThePlace → Ops → Schedule → ℕ → List ℕ
 state_with defined place ops schedule step = state_spelling place step (steps_of_all schedule) (machine_before defined place ops schedule step)
-
--- the same, for a kind of lock
-abbrev pub state_by : LockKind → ThePlace → Ops → Schedule → ℕ → List ℕ
-state_by kind = state_with kind.defined
 
 -- turns of so many ranks
 abbrev pub AreTurnsOf : ℕ → List Turn → Type 0

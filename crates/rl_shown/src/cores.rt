@@ -2,9 +2,7 @@
 
 ghost use Rattle.std.specs.Prelude.{◌≡◌, ◌<◌, ◌≤◌, length, sum, IfOk};
 ghost use Rattle.rl_word.specs.Shapes.{IsProper as IsProperShape};
-ghost use Rattle.rl_place.specs.Places.{IsProper};
-ghost use Rattle.rl_place.specs.Shapes.{shape_of, knobs_of};
-ghost use Rattle.rl_ops.specs.Ops.{OpsFit};
+ghost use Rattle.rl_inputs.specs.Fitting.{IsProper, shape_of, knobs_of, OpsFit};
 ghost use Rattle.rl_locks.specs.Runs.{start_with};
 ghost use Rattle.rl_shown.specs.Cores.{HaveTables, tables_of, table_with};
 

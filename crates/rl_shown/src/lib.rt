@@ -16,6 +16,7 @@ mod listing;
 mod ranks;
 mod state;
 mod stepping;
+mod telling;
 mod words;
 
 pub use copying::copied;

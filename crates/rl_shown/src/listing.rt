@@ -1,21 +1,15 @@
 //! The listing of a replay: its machine is made, over the lock of the placement, and makes the steps of the schedule.
 
 ghost use Rattle.std.specs.Prelude.{◌≡◌, length, IfOk};
-ghost use Rattle.rl_step.specs.LockQueues.{does_batches};
-ghost use Rattle.rl_place.specs.LockWords.{name_of};
-ghost use Rattle.rl_place.specs.Places.{IsProper};
-ghost use Rattle.rl_place.specs.Shapes.{shape_of, knobs_of};
-ghost use Rattle.rl_ops.specs.Ops.{OpsFit};
-ghost use Rattle.rl_ops.specs.Schedule.{ScheduleFits};
-ghost use Rattle.rl_inputs.specs.Reading.{SuitsLock};
+ghost use Rattle.rl_inputs.specs.Fitting.{IsProper, shape_of, knobs_of, name_of, does_batches, OpsFit, SuitsLock, ScheduleFits, ReplayFits};
 ghost use Rattle.rl_locks.specs.Kinds.{lock_kind_of};
 ghost use Rattle.rl_text.specs.Spelling.{text_of};
-ghost use Rattle.rl_shown.specs.Listing.{head_lines, listing_with, listing_by, IsListing, ReplayFits};
+ghost use Rattle.rl_shown.specs.Listing.{head_lines, listing_with, IsListing};
 
 use crate::stepping::{Scene, take_turn};
-use rl_core::{Resting, ShardCore, ShardGuiding};
+use crate::telling::{Telling, told};
+use rl_core::ShardCore;
 use rl_inputs::Replay;
-use rl_locks::{CoreTask, Promising, over_lock};
 use rl_machine::Machine;
 use rl_ops::{Ops, Schedule};
 use rl_place::Place;
@@ -34,7 +28,7 @@ fn head(alloc: Global, naming: &Naming) -> Result<Vec<u8>, OutOfMemory>
 }
 
 /// The listing of a replay with this core, which is that of the placement's lock.
-fn list_with<C: ShardCore>(
+pub fn list_with<C: ShardCore>(
     alloc: Global,
     place: &Place,
     ops: Ops,
@@ -44,9 +38,7 @@ fn list_with<C: ShardCore>(
     requires proper { IsProper place.now }
     requires knobs { C.suits_knobs (shape_of place.now) (knobs_of place.now.lock) }
     requires batches { C.batches ≡ does_batches (name_of place.now.lock) }
-    requires calls { OpsFit (length place.now.paths) place.now.geom.shards ops }
-    requires suits { SuitsLock place.now ops }
-    requires schedule { ScheduleFits (length place.now.paths) schedule.now }
+    requires fits { ReplayFits place.now ops schedule.now }
     ensures { IfOk result (λ text. text.items ≡ listing_with C.defined place.now ops schedule.now window) }
 {
     let shape = place.shape(alloc)?;
@@ -68,30 +60,6 @@ fn list_with<C: ShardCore>(
     Ok(out)
 }
 
-/// The listing of a replay, with the core of whichever lock the placement has.
-#[derive(Drop)]
-struct ListTask<'a> {
-    alloc: Global,
-    ops: Ops,
-    schedule: &'a Schedule,
-    window: Window,
-}
-
-impl CoreTask for ListTask<'_> {
-    type Out = Result<Vec<u8>, OutOfMemory>;
-
-    ghost takes = { λ r place. ReplayFits place r.ops r.schedule.now };
-
-    ghost gives = { λ r place kind urgent result. IfOk result (λ text. text.items ≡ listing_by kind place r.ops r.schedule.now r.window) };
-
-    fn over<C: Resting + Promising + ShardGuiding>(
-        self,
-        place: &Place,
-    ) -> Result<Vec<u8>, OutOfMemory> {
-        list_with::<C>(self.alloc, place, self.ops, self.schedule, self.window)
-    }
-}
-
 /// The listing of a replay: a line for each of its steps in the window. The calls and the schedule are of the placement's ranks, and no batch is
 /// among the calls where the lock does none. Refused only for want of memory.
 pub fn listing_text(
@@ -107,15 +75,7 @@ pub fn listing_text(
     requires schedule { ScheduleFits (length place.now.paths) schedule.now }
     ensures { IfOk result (λ text. text.items ≡ listing_with (lock_kind_of place.now.lock).defined place.now ops schedule.now window) }
 {
-    over_lock(
-        place,
-        ListTask {
-            alloc,
-            ops,
-            schedule,
-            window,
-        },
-    )
+    told(alloc, place, ops, schedule, Telling::Steps(window))
 }
 
 /// Shows a replay by its listing.

@@ -1,30 +1,23 @@
 //! The state before a step: its machine is made, over the lock of the placement, makes the steps before it, and is told.
 
-ghost use Rattle.std.specs.Prelude.{◌≡◌, ◌≤◌, ◌++◌, length, IfOk};
-ghost use Rattle.rl_step.specs.LockQueues.{does_batches};
+ghost use Rattle.std.specs.Prelude.{◌≡◌, length, IfOk};
+ghost use Rattle.rl_inputs.specs.Fitting.{IsProper, shape_of, knobs_of, name_of, does_batches, OpsFit, SuitsLock, ScheduleFits, ReplayFits};
 ghost use Rattle.rl_text.specs.Printing.{Puts};
 ghost use Rattle.rl_text.specs.Spelling.{text_of};
-ghost use Rattle.rl_place.specs.LockWords.{name_of};
 ghost use Rattle.rl_word.specs.Shapes.{IsProper as IsProperShape};
-ghost use Rattle.rl_place.specs.Places.{IsProper};
-ghost use Rattle.rl_place.specs.Shapes.{shape_of, knobs_of};
-ghost use Rattle.rl_ops.specs.Ops.{OpsFit};
-ghost use Rattle.rl_ops.specs.Schedule.{ScheduleFits};
 ghost use Rattle.rl_report.specs.Naming.{naming_of};
 ghost use Rattle.rl_machine.specs.Running.{running};
-ghost use Rattle.rl_inputs.specs.Reading.{SuitsLock};
 ghost use Rattle.rl_locks.specs.Kinds.{lock_kind_of};
 ghost use Rattle.rl_shown.specs.Cores.{HaveTables, tables_of};
-ghost use Rattle.rl_shown.specs.Listing.{ReplayFits};
-ghost use Rattle.rl_shown.specs.State.{head_lines, body_lines, state_spelling, machine_before, state_with, state_by, IsState};
+ghost use Rattle.rl_shown.specs.State.{head_lines, body_lines, state_spelling, machine_before, state_with, IsState};
 
 use crate::cores::cores_of;
 use crate::front::{front_of, total_steps};
 use crate::ranks::{put_cards, put_ranks};
+use crate::telling::{Telling, told};
 use crate::words::put_words;
-use rl_core::{Resting, ShardCore, ShardGuiding};
+use rl_core::{Resting, ShardCore};
 use rl_inputs::Replay;
-use rl_locks::{CoreTask, Promising, over_lock};
 use rl_machine::Machine;
 use rl_ops::{Ops, Schedule};
 use rl_place::Place;
@@ -99,9 +92,7 @@ fn machine_before<C: Resting>(
     requires batches { C.batches ≡ does_batches (name_of place.now.lock) }
     requires shape { shape.now ≡ shape_of place.now }
     requires well { IsProperShape shape.now }
-    requires calls { OpsFit (length place.now.paths) place.now.geom.shards ops }
-    requires suits { SuitsLock place.now ops }
-    requires schedule { ScheduleFits (length place.now.paths) schedule.now }
+    requires fits { ReplayFits place.now ops schedule.now }
     ensures { IfOk result (λ m. running C.says m ≡ machine_before C.defined place.now ops schedule.now step) }
 {
     let front = front_of(alloc, schedule.turns.as_slice(), step)?;
@@ -117,7 +108,7 @@ fn machine_before<C: Resting>(
 }
 
 /// The state before a step, with this core, which is that of the placement's lock.
-fn state_with<C: Resting>(
+pub fn state_with<C: Resting>(
     alloc: Global,
     place: &Place,
     ops: Ops,
@@ -127,9 +118,7 @@ fn state_with<C: Resting>(
     requires proper { IsProper place.now }
     requires knobs { C.suits_knobs (shape_of place.now) (knobs_of place.now.lock) }
     requires batches { C.batches ≡ does_batches (name_of place.now.lock) }
-    requires calls { OpsFit (length place.now.paths) place.now.geom.shards ops }
-    requires suits { SuitsLock place.now ops }
-    requires schedule { ScheduleFits (length place.now.paths) schedule.now }
+    requires fits { ReplayFits place.now ops schedule.now }
     ensures { IfOk result (λ text. text.items ≡ state_with C.defined place.now ops schedule.now step) }
 {
     let shape = place.shape(alloc)?;
@@ -137,30 +126,6 @@ fn state_with<C: Resting>(
     let machine = machine_before(alloc, place, &shape, ops, schedule, step)?;
     let total = total_steps(schedule.turns.as_slice());
     machine_text(alloc, place, &machine, cores.as_slice(), step, total)
-}
-
-/// The state before a step of a replay, with the core of whichever lock the placement has.
-#[derive(Drop)]
-struct StateTask<'a> {
-    alloc: Global,
-    ops: Ops,
-    schedule: &'a Schedule,
-    step: u32,
-}
-
-impl CoreTask for StateTask<'_> {
-    type Out = Result<Vec<u8>, OutOfMemory>;
-
-    ghost takes = { λ r place. ReplayFits place r.ops r.schedule.now };
-
-    ghost gives = { λ r place kind urgent result. IfOk result (λ text. text.items ≡ state_by kind place r.ops r.schedule.now r.step) };
-
-    fn over<C: Resting + Promising + ShardGuiding>(
-        self,
-        place: &Place,
-    ) -> Result<Vec<u8>, OutOfMemory> {
-        state_with::<C>(self.alloc, place, self.ops, self.schedule, self.step)
-    }
 }
 
 /// The state before a step of a replay: after the steps before it, or after all where there are no more. The calls and the schedule are of the
@@ -178,15 +143,7 @@ pub fn state_text(
     requires schedule { ScheduleFits (length place.now.paths) schedule.now }
     ensures { IfOk result (λ text. text.items ≡ state_with (lock_kind_of place.now.lock).defined place.now ops schedule.now step) }
 {
-    over_lock(
-        place,
-        StateTask {
-            alloc,
-            ops,
-            schedule,
-            step,
-        },
-    )
+    told(alloc, place, ops, schedule, Telling::Before(step))
 }
 
 /// Shows the state before the first step of a window.

@@ -9,15 +9,15 @@ ghost use Rattle.rl_ops.specs.Schedule.{TurnFits, steps_of};
 ghost use Rattle.rl_machine.specs.Running.{running};
 ghost use Rattle.rl_machine.specs.Run.{stepped, run_of, turn_ranks};
 ghost use Rattle.rl_report.specs.Printing.{spaced};
-ghost use Rattle.rl_shown.specs.Listing.{is_out, out_word, step_line, step_lines, scene_line, scene_lines};
+ghost use Rattle.rl_shown.specs.Listing.{is_out, out_word, scene_line, scene_lines};
 
 use rl_core::ShardCore;
-use rl_machine::Machine;
+use rl_machine::{Machine, steps_made};
 use rl_names::put_step;
 use rl_ops::Turn;
 use rl_place::Place;
 use rl_report::{Naming, put_value, put_word};
-use rl_step::{Standing, Steps};
+use rl_step::Standing;
 use rl_text::put_number;
 use rl_viewer::Window;
 use std::alloc::AllocError as OutOfMemory;
@@ -28,14 +28,6 @@ pub struct Scene<'a> {
     pub place: &'a Place,
     pub naming: &'a Naming,
     pub window: Window,
-}
-
-/// How many steps were made.
-fn steps_made(steps: Steps) -> u32
-    requires { steps_made steps < 2 ^ 32 }
-    ensures { result ≡ steps_made steps }
-{
-    steps.moved + steps.waiting + steps.lost + steps.busy + steps.finished
 }
 
 /// `out`, where a rank that stood at the lock before a step is out of it behind it.

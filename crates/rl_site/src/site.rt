@@ -1,4 +1,4 @@
-// What place a shard has in the table, and where the parts of its window lie that the work is done on.
+//! What place a shard has in the table, and where the parts of its window lie that the work is done on.
 ghost use Rattle.std.specs.Prelude.{◌≡◌, slice_index};
 ghost use Rattle.rl_model.specs.Geom.{GeomFits};
 ghost use Rattle.rl_site.specs.Site as site;

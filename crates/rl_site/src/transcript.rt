@@ -1,4 +1,4 @@
-// The entries of one rank on a shard.
+//! The entries of one rank on a shard.
 ghost use Rattle.std.specs.Prelude.{◌≡◌, ◌<◌, ◌≤◌, ◌+◌, ◌++◌, ◌∷◌, [], length, IfOk};
 
 use rl_model::Entry;

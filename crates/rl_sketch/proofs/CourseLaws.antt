@@ -48,21 +48,21 @@ count-again line n count one from few =
 
 -- ---- behind the first word
 
+-- a sight comes behind it
+sighted : (line : Row) (n : ℕ) (made : Course) (word : List ℕ) (by : Sight → Course) → is_one_line line.text ≡ true → 1 ≤ n → word_at line n ≡ Some word →
+    ((seen : Sight) → words_from line n ≡ word ∷ sight_words seen → SightFits seen → CourseTaken line n (by seen)) → (sight_at line (n + 1) >>= λ seen. Ok (by seen)) ≡ Ok made → CourseTaken line n made
+sighted line n made word by one_line one there spelled e =
+    from_bind (sight_at line (n + 1)) (λ seen. Ok (by seen)) made e (λ seen s last.
+    let t = sight-takes line (n + 1) seen one_line (omega arith) s in
+    subst (λ (c : Course). CourseTaken line n c) (ok_is (by seen) made last) (spelled seen (these_words line n word one there ∙ ap (λ (vs : List (List ℕ)). word ∷ vs) t.0) t.1))
+
 until-takes : (line : Row) (n : ℕ) (made : Course) → is_one_line line.text ≡ true → 1 ≤ n → word_at line n ≡ Some (codes "until") → until_at line (n + 1) ≡ Ok made → CourseTaken line n made
 unfolding until_at
-until-takes line n made one_line one there e =
-    from_bind (sight_at line (n + 1)) (λ sight. Ok (course.Until sight)) made e (λ seen s last.
-    let t = sight-takes line (n + 1) seen one_line (omega arith) s in
-    subst (λ (c : Course). CourseTaken line n c) (ok_is (course.Until seen) made last)
-    (these_words line n (codes "until") one there ∙ ap (λ (vs : List (List ℕ)). codes "until" ∷ vs) t.0, t.1))
+until-takes line n made one_line one there e = sighted line n made (codes "until") (λ seen. course.Until seen) one_line one there (λ seen words fits. (words, fits)) e
 
 before-takes : (line : Row) (n : ℕ) (made : Course) → is_one_line line.text ≡ true → 1 ≤ n → word_at line n ≡ Some (codes "before") → before_at line (n + 1) ≡ Ok made → CourseTaken line n made
 unfolding before_at
-before-takes line n made one_line one there e =
-    from_bind (sight_at line (n + 1)) (λ sight. Ok (course.Before sight)) made e (λ seen s last.
-    let t = sight-takes line (n + 1) seen one_line (omega arith) s in
-    subst (λ (c : Course). CourseTaken line n c) (ok_is (course.Before seen) made last)
-    (these_words line n (codes "before") one there ∙ ap (λ (vs : List (List ℕ)). codes "before" ∷ vs) t.0, t.1))
+before-takes line n made one_line one there e = sighted line n made (codes "before") (λ seen. course.Before seen) one_line one there (λ seen words fits. (words, fits)) e
 
 two_more : (line : Row) (n : ℕ) (ws : List (List ℕ)) → words_from line (n + 2) ≡ ws → words_from line (n + 1 + 1) ≡ ws
 two_more line n ws e = let k : n + 1 + 1 ≡ n + 2 = omega arith in rw k e

@@ -136,6 +136,16 @@ next_rank reads may line before w after taken rank total s step good past =
       so_far = rw past (sym one ∙ s.so_far);
     }
 
+-- the first rank was read, at word n
+first_rank : (reads : Row → ℕ → List ℕ → List (List ℕ) → Result (List ℕ) Refusal) (may : MayName) (line : Row) (w : TheLineWords) (n first : ℕ) (total : Result (List ℕ) Refusal) → w ≡ record { row = line; next = n + 1 }
+    → rank_at may [] line n ≡ Ok first → reads line (n + 1) (first ∷ []) (words_from line (n + 1)) ≡ total → RanksSoFar reads may n line w (first ∷ []) total
+first_rank reads may line w n first total place r read = record {
+  same_row = rw place refl;
+  next = rw place refl;
+  named = named-first may line n first (rank-takes may [] line n first r);
+  so_far = rw place read;
+}
+
 if_true : (b c : Bool) → cond b c false ≡ true → (b ≡ true) × (c ≡ true)
 if_true true c e = (refl, e)
 if_true false c e = absurd cc
@@ -170,12 +180,7 @@ before-ends may line n taken one rank = before-end may line n taken (word_at lin
 
 pub before-first : (may : MayName) (line : Row) (w : TheLineWords) (first : ℕ) → w ≡ record { row = line; next = 2 } → rank_at may [] line 1 ≡ Ok first → RanksSoFar (ranks_before may) may 1 line w (first ∷ []) (listed_before may line)
 unfolding listed_before
-before-first may line w first place r = record {
-  same_row = rw place refl;
-  next = rw place refl;
-  named = named-first may line 1 first (rank-takes may [] line 1 first r);
-  so_far = rw (place, r) refl;
-}
+before-first may line w first place r = first_rank (ranks_before may) may line w 1 first (listed_before may line) place r (rw r refl)
 
 pub no_first : (may : MayName) (line : Row) (f : Refusal) → rank_at may [] line 1 ≡ Err f → listed_before may line ≡ Err f
 unfolding listed_before
@@ -201,12 +206,7 @@ end-ends may line n taken there = end-last may line n taken (word_at line n) ref
 
 pub end-first : (may : MayName) (line : Row) (w : TheLineWords) (first : ℕ) → w ≡ record { row = line; next = 3 } → rank_at may [] line 2 ≡ Ok first → RanksSoFar (ranks_to_end may) may 2 line w (first ∷ []) (listed_to_end may line)
 unfolding listed_to_end
-end-first may line w first place r = record {
-  same_row = rw place refl;
-  next = rw place refl;
-  named = named-first may line 2 first (rank-takes may [] line 2 first r);
-  so_far = rw (place, r) refl;
-}
+end-first may line w first place r = first_rank (ranks_to_end may) may line w 2 first (listed_to_end may line) place r (rw r refl)
 
 pub no_first-end : (may : MayName) (line : Row) (f : Refusal) → rank_at may [] line 2 ≡ Err f → listed_to_end may line ≡ Err f
 unfolding listed_to_end

@@ -60,24 +60,18 @@ pub fn line_of(
     }
     if line.begins(b"stop") {
         let again = Why::Repeat;
-        return stops_of(
-            alloc,
-            line,
-            Allowed {
-                ranks,
-                stopped,
-                again,
-            },
-        );
-    }
-    let again = Why::Order;
-    goes_of(
-        alloc,
-        line,
-        Allowed {
+        let may = Allowed {
             ranks,
             stopped,
             again,
-        },
-    )
+        };
+        return stops_of(alloc, line, may);
+    }
+    let again = Why::Order;
+    let may = Allowed {
+        ranks,
+        stopped,
+        again,
+    };
+    goes_of(alloc, line, may)
 }

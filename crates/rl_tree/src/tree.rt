@@ -210,27 +210,25 @@ impl Tree {
         TreeView::out(rank, self.rooted.shape.leaf_of[node as usize])
     }
 
-    /// The element at a level of the path up from a leaf: 0 above the root, and above a leaf that isn't there.
+    /// The element at a level of the path up from a leaf.
     #[inline(always)]
     pub(crate) fn element_at(&self, leaf: u32, level: u32) -> u32
+        requires low { level ≤ 3 }
+        requires there { leaf < how_many self.now.rooted }
         ensures { result ≡ path (tree_of self.now.rooted) leaf level }
     {
-        if level < 4 && (leaf as usize) < self.paths.len() {
-            self.paths[leaf as usize][level as usize]
-        } else if level == 0 {
-            leaf
-        } else {
-            0
-        }
+        self.paths[leaf as usize][level as usize]
     }
 
-    /// Whether the element at a level of the path up from a leaf is the root.
+    /// Whether the element at a level of the path up from a leaf, which is there, is the root.
     #[inline(always)]
     pub(crate) fn is_top(&self, leaf: u32, level: u32) -> bool
+        requires low { level ≤ 3 }
+        requires leaf { leaf < how_many self.now.rooted }
+        requires there { path (tree_of self.now.rooted) leaf level < how_many self.now.rooted }
         ensures { result ≡ is_none ((tree_of self.now.rooted).parent (path (tree_of self.now.rooted) leaf level)) }
     {
-        let element = self.element_at(leaf, level);
-        element == 0 || element as usize >= self.paths.len()
+        self.element_at(leaf, level) == 0
     }
 
     /// The words of the queue of an element.

@@ -123,6 +123,8 @@ impl Tree {
     /// The member for which a rank works at a level.
     #[inline(always)]
     fn member_at(&self, rank: u32, leaf: u32, level: u32) -> u32
+        requires low { level ≤ 3 }
+        requires there { leaf < how_many self.now.rooted }
         ensures { result ≡ the_member (tree_of self.now.rooted) rank leaf level }
     {
         if level == 0 {

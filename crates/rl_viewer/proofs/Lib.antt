@@ -1,1 +1,1 @@
-mod ShownLaws
+mod AnswerLaws

@@ -1,10 +1,8 @@
-//! The words of the command line.
+//! The words of the command line behind the names of the files.
 ghost use Rattle.std.specs.Prelude.{◌≡◌, ◌≤◌, map, string_bytes, IfSome};
-ghost use Rattle.std.specs.Option.{option_map};
 ghost use Rattle.rl_text.specs.Number.{number_of};
-ghost use Rattle.rl_viewer.specs.Asking.{is_in, window_by, moment_by, the_asked, asked_by, asked_before};
+ghost use Rattle.rl_viewer.specs.Asking.{is_in, window_by, steps_by, moment_by, step_by, all_by};
 
-use rl_inputs::Files;
 use rl_ops::MOST_STEPS;
 use rl_text::number;
 
@@ -22,13 +20,6 @@ impl Window {
     {
         self.from <= step && step < self.to
     }
-}
-
-/// What the words ask for: to show a replay of these files, in a window of its steps.
-#[derive(Clone, Copy)]
-pub struct Asked<'a> {
-    pub files: Files<'a>,
-    pub window: Window,
 }
 
 /// All steps that a schedule may have.
@@ -54,32 +45,14 @@ fn window_of(from: &str, to: &str) -> Option<Window>
     }
 }
 
-/// What the words ask for: `PLACE CALLS SCHEDULE`, and a window `FROM TO` behind them or none. Nothing where they are no
-/// form.
-pub fn asked_in(words: &[String]) -> Option<Asked<'_>>
-    ensures asked { option_map the_asked result ≡ asked_by (map string_bytes words.now) }
-    ensures few { IfSome result (λ asked. asked.window.to ≤ 2000000) }
+/// The steps that words ask for: all where there is no word, and those of a window `FROM TO`. Nothing where the words are others.
+pub fn steps_of(words: &[String]) -> Option<Window>
+    ensures window { result ≡ steps_by (map string_bytes words.now) }
+    ensures few { IfSome result (λ window. window.to ≤ 2000000) }
 {
     match words {
-        [place, calls, schedule] => Some(Asked {
-            files: Files {
-                place: place.as_str(),
-                calls: calls.as_str(),
-                schedule: schedule.as_str(),
-            },
-            window: ALL_STEPS,
-        }),
-        [place, calls, schedule, from, to] => match window_of(from.as_str(), to.as_str()) {
-            Some(window) => Some(Asked {
-                files: Files {
-                    place: place.as_str(),
-                    calls: calls.as_str(),
-                    schedule: schedule.as_str(),
-                },
-                window,
-            }),
-            None => None,
-        },
+        [] => Some(ALL_STEPS),
+        [from, to] => window_of(from.as_str(), to.as_str()),
         _ => None,
     }
 }
@@ -100,24 +73,21 @@ fn moment_of(step: &str) -> Option<Window>
     }
 }
 
-/// What the words `PLACE CALLS SCHEDULE STEP` ask for: what stands before that step. Its window begins there, and has no steps. Nothing where the
-/// words are others.
-pub fn asked_before(words: &[String]) -> Option<Asked<'_>>
-    ensures asked { option_map the_asked result ≡ asked_before (map string_bytes words.now) }
-    ensures few { IfSome result (λ asked. asked.window.to ≤ 2000000) }
+/// What stands before the step that the word `STEP` asks for, as a window that begins there and has no steps. Nothing where the words are
+/// others.
+pub fn step_of(words: &[String]) -> Option<Window>
+    ensures window { result ≡ step_by (map string_bytes words.now) }
+    ensures few { IfSome result (λ window. window.to ≤ 2000000) }
 {
     match words {
-        [place, calls, schedule, step] => match moment_of(step.as_str()) {
-            Some(window) => Some(Asked {
-                files: Files {
-                    place: place.as_str(),
-                    calls: calls.as_str(),
-                    schedule: schedule.as_str(),
-                },
-                window,
-            }),
-            None => None,
-        },
+        [step] => moment_of(step.as_str()),
         _ => None,
     }
+}
+
+/// All that there is, which no word asks for. Nothing where there is a word.
+pub fn all_of(words: &[String]) -> Option<()>
+    ensures { result ≡ all_by (map string_bytes words.now) }
+{
+    if words.is_empty() { Some(()) } else { None }
 }

@@ -1,7 +1,8 @@
 -- The words that a call has read, and which it reads next.
-use Rattle.std.specs.Prelude.{◌≡◌, ℕ, ◌<◌, ◌≤◌, ◌==◌, nat_lt, if◌then◌else◌, List, [], ◌∷◌, length, take, get_or, slice_index, count_by, Option, Some, None, IfSome, refl}
+use Rattle.std.specs.Prelude.{◌≡◌, ℕ, ◌+◌, ◌<◌, ◌≤◌, ◌==◌, nat_lt, if◌then◌else◌, List, [], ◌∷◌, length, take, get_or, slice_index, count_by, Option, Some, None, IfSome, refl}
 use Rattle.std.specs.Option.{unwrap_or}
 use Rattle.std.specs.Map.{lookup}
+use Rattle.std.specs.List.{position}
 use Rattle.std.specs.Coded.{Coded, code_by, coded×, coded_list, coded_ℕ}
 use Rattle.rl_model.specs.declared.call.Call.{Call}
 use Rattle.rl_model.specs.declared.geom.Geom.{Geom}
@@ -44,6 +45,14 @@ AgreesWith pairs words = (word : ℕ) → IfSome (value_of pairs word) (λ value
 pub record AreApart (pairs : List (ℕ × ℕ)) (room : ℕ) : Type 0 where
   pub once : (word : ℕ) → count_by (λ p. p.0 == word) pairs ≤ 1
   pub below : count_by (λ p. nat_lt p.0 room) pairs ≡ length pairs
+
+-- 1 + the place of a word among those that were read, or 0 where it wasn't
+abbrev pub place_number : List (ℕ × ℕ) → ℕ → ℕ
+place_number pairs word = elim (position (λ p. p.0 == word) pairs) [ None ↦ 0 | Some place ↦ place + 1 ]
+
+-- the place of each word is noted
+abbrev pub ArePlaced : List (ℕ × ℕ) → List ℕ → Type 0
+ArePlaced pairs places = (word : ℕ) → slice_index places word ≡ place_number pairs word
 
 -- the word that a walk looks at next: the first on its way that wasn't read
 abbrev pub next_in : Walk → List (ℕ × ℕ) → Option ℕ

@@ -1,4 +1,4 @@
-// Which word a call reads next.
+//! Which word a call reads next.
 ghost use Rattle.std.specs.Prelude.{◌≡◌, ◌+◌, ◌*◌, ◌-◌, ◌<◌, ◌≤◌, ◌↔◌, IfSome, None, length};
 ghost use Rattle.rl_model.specs.Geom.{GeomFits, bucket_of};
 ghost use Rattle.rl_volume.specs.Words as place;
@@ -52,37 +52,39 @@ fn by_call(geom: Geom, call: Call, seen: &Seen) -> Option<u32>
 // The functions below each go along one part of the walk. A `position` is how many words the walk has
 // passed before: a word is looked for there first among those seen.
 
-// The next word of the walk that begins at a bucket.
+/// The next word of the walk that begins at a bucket.
 #[inline(always)]
 fn next_in_bucket(geom: Geom, call: Call, key: u64, seen: &Seen) -> Option<u32>
     requires { GeomFits geom }
     ensures { result ≡ next_in (bucket_walk geom call key (bucket_of geom key)) seen.now.pairs }
 {
-    if let Some(stand) = seen.stand(geom, key) {
-        return next_in_chain(geom, call, key, stand, seen);
-    }
-    let bucket = geom.bucket(key);
-    let Some(state) = seen.value_at(0, state_word(bucket)) else {
-        return Some(state_word(bucket));
+    let from = match seen.stand(geom, key) {
+        Some(stand) => stand,
+        None => {
+            let bucket = geom.bucket(key);
+            let Some(state) = seen.value_at(0, state_word(bucket)) else {
+                return Some(state_word(bucket));
+            };
+            if state == 0 {
+                return None;
+            }
+            let Some(own) = seen.value_at(1, key_word(bucket)) else {
+                return Some(key_word(bucket));
+            };
+            if own == key {
+                return next_inline(geom, call, bucket, state, seen);
+            }
+            Stand {
+                link: state - 1,
+                passed: 0,
+            }
+        }
     };
-    if state == 0 {
-        return None;
-    }
-    let Some(own) = seen.value_at(1, key_word(bucket)) else {
-        return Some(key_word(bucket));
-    };
-    if own == key {
-        next_inline(geom, call, bucket, state, seen)
-    } else {
-        let first = Stand {
-            link: state - 1,
-            passed: 0,
-        };
-        next_in_chain(geom, call, key, first, seen)
-    }
+    next_in_chain(geom, call, key, from, seen)
 }
 
-// The next word where the key stands in the bucket's own cell.
+/// The next word where the key stands in the bucket's own cell.
+#[inline(always)]
 fn next_inline(geom: Geom, call: Call, bucket: u32, state: u64, seen: &Seen) -> Option<u32>
     requires fits { GeomFits geom }
     requires there { bucket < geom.buckets }
@@ -97,7 +99,7 @@ fn next_inline(geom: Geom, call: Call, bucket: u32, state: u64, seen: &Seen) -> 
     }
 }
 
-// The next word of the first cell of a chain, which is to move into the bucket's own.
+/// The next word of the first cell of a chain, which is to move into the bucket's own.
 fn next_in_first(geom: Geom, first: Option<u32>, seen: &Seen) -> Option<u32>
     requires fits { GeomFits geom }
     requires there { IfSome first (λ cell. cell < geom.overflow) }
@@ -113,7 +115,8 @@ fn next_in_first(geom: Geom, first: Option<u32>, seen: &Seen) -> Option<u32>
     next_freed(geom, cell, 5, seen)
 }
 
-// The next word along a chain, from where the walk stands on it.
+/// The next word along a chain, from where the walk stands on it.
+#[inline(always)]
 fn next_in_chain(geom: Geom, call: Call, key: u64, from: Stand, seen: &Seen) -> Option<u32>
     requires fits { GeomFits geom }
     requires there { from.passed ≤ geom.overflow }
@@ -139,7 +142,7 @@ fn next_in_chain(geom: Geom, call: Call, key: u64, from: Stand, seen: &Seen) -> 
     next_at_end(geom, call, link, 2 + 2 * geom.overflow, seen)
 }
 
-// The next word where the key stands in an overflow cell.
+/// The next word where the key stands in an overflow cell.
 fn next_in_cell(geom: Geom, call: Call, cell: u32, position: u32, seen: &Seen) -> Option<u32>
     requires fits { GeomFits geom }
     requires there { cell < geom.overflow }
@@ -158,7 +161,7 @@ fn next_in_cell(geom: Geom, call: Call, cell: u32, position: u32, seen: &Seen) -
     }
 }
 
-// The next word behind a link that leads to no further cell.
+/// The next word behind a link that leads to no further cell.
 fn next_at_end(geom: Geom, call: Call, link: u64, position: u32, seen: &Seen) -> Option<u32>
     requires fits { GeomFits geom }
     requires early { position ≤ 3 + 2 * geom.overflow }
@@ -170,7 +173,7 @@ fn next_at_end(geom: Geom, call: Call, link: u64, position: u32, seen: &Seen) ->
     }
 }
 
-// The next of the free head and the link of the cell that it names.
+/// The next of the free head and the link of the cell that it names.
 fn next_free(geom: Geom, position: u32, seen: &Seen) -> Option<u32>
     requires fits { GeomFits geom }
     requires early { position ≤ 3 + 2 * geom.overflow }
@@ -186,7 +189,7 @@ fn next_free(geom: Geom, position: u32, seen: &Seen) -> Option<u32>
     }
 }
 
-// The next of the link of a cell that goes to the free list, and the free head.
+/// The next of the link of a cell that goes to the free list, and the free head.
 fn next_freed(geom: Geom, cell: u32, position: u32, seen: &Seen) -> Option<u32>
     requires fits { GeomFits geom }
     requires there { cell < geom.overflow }

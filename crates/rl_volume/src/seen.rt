@@ -1,4 +1,4 @@
-// The words that a call has read.
+//! The words that a call has read.
 ghost use Rattle.std.specs.Prelude.{◌≡◌, ◌<◌, ◌≤◌, ◌++◌, ◌∷◌, ◌==◌, [], length, position, IfOk, IfSome, Some, None};
 ghost use Rattle.std.specs.List.{All};
 ghost use Rattle.rl_model.specs.Geom.{GeomFits};
@@ -21,6 +21,9 @@ use std::marker::Model;
 #[derive(Drop)]
 pub struct Seen {
     pairs: Vec<(u32, u64)>,
+    // Of each word of the volume, 1 + its place among the pairs, or 0 where it wasn't seen.
+    // It is there for speed: a word is found, or known not to be there, at one look.
+    places: Vec<u16>,
     // Where the walk for a key stands on its chain: at this link, behind so many cells. None passed: nowhere.
     // It is there so that a chain is walked once, and not from its bucket again for each of its words.
     key: u64,
@@ -41,7 +44,7 @@ impl Model for Seen {
 
     ghost view = { λ s. record { pairs = s.pairs.items; room = volume_words s.geom } };
 
-    ghost invariant = { λ s. AreNoted s.geom s.pairs.items (vec_capacity s.pairs) s.key s.link s.passed };
+    ghost invariant = { λ s. AreNoted s.geom s.pairs.items (vec_capacity s.pairs) s.places.items s.key s.link s.passed };
 }
 
 impl Seen {
@@ -58,6 +61,7 @@ impl Seen {
         let room = volume_words(geom);
         Ok(Seen {
             pairs: Vec::with_capacity(alloc, room as usize)?,
+            places: vec![in alloc; 0; room as usize]?,
             key: 0,
             geom,
             link: 0,
@@ -71,6 +75,9 @@ impl Seen {
         ensures room { self.new.room ≡ self.old.room }
     {
         self.passed = 0;
+        for (seen, _) in &self.pairs {
+            self.places[*seen as usize] = 0;
+        }
         self.pairs.clear();
     }
 
@@ -81,6 +88,7 @@ impl Seen {
         ensures added { self.new.pairs ≡ self.old.pairs ++ (word, value) ∷ [] }
         ensures room { self.new.room ≡ self.old.room }
     {
+        self.places[word as usize] = self.pairs.len() as u16 + 1;
         self.pairs.push_reserved((word, value));
     }
 
@@ -109,7 +117,7 @@ impl Seen {
         }
     }
 
-    // Goes on from where the walk for the key stands, or from its bucket.
+    /// Goes on from where the walk for the key stands, or from its bucket.
     fn follow(&mut self, key: u64)
         ensures { self.new ≡ self.old }
     {
@@ -185,7 +193,7 @@ impl Seen {
         }
     }
 
-    // Gives another value to the word that stands at this index.
+    /// Gives another value to the word that stands at this index.
     fn replace(&mut self, index: usize, word: u32, value: u64)
         requires inside { index < length self.old.pairs }
         requires there { position (λ p. p.0 == word) self.old.pairs ≡ Some index }
@@ -196,26 +204,27 @@ impl Seen {
         self.pairs[index] = (word, value);
     }
 
-    // At which index a word stands among those seen, if it was seen.
+    /// At which index a word stands among those seen, if it was seen.
+    #[inline(always)]
     fn position(&self, word: u32) -> Option<usize>
         ensures { result ≡ position (λ p. p.0 == word) self.now.pairs }
     {
-        self.pairs.iter().position(|pair| pair.0 == word)
+        match self.places.get(word as usize) {
+            Some(&place) if place != 0 => Some(place as usize - 1),
+            _ => None,
+        }
     }
 
     /// What a word gave, if it was seen.
+    #[inline(always)]
     pub fn value(&self, word: u32) -> Option<u64>
         ensures { result ≡ value_of self.now.pairs word }
     {
-        for (seen, value) in &self.pairs {
-            if *seen == word {
-                return Some(*value);
-            }
-        }
-        None
+        let place = self.position(word)?;
+        Some(self.pairs[place].1)
     }
 
-    /// What a word gave, if it was seen. It is found at once where it is the one seen after so many others.
+    /// What a word gave, if it was seen. It takes one look less where it is the one seen after so many others.
     pub(crate) fn value_at(&self, position: u32, word: u32) -> Option<u64>
         ensures { result ≡ value_of self.now.pairs word }
     {
@@ -232,7 +241,7 @@ impl Seen {
         self.value(word).unwrap_or(0)
     }
 
-    /// The same, found at once where the word is the one seen after so many others.
+    /// The same, with one look less where the word is the one seen after so many others.
     pub(crate) fn value_or_zero_at(&self, position: u32, word: u32) -> u64
         ensures { result ≡ value_or_zero self.now.pairs word }
     {

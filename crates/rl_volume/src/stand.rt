@@ -1,4 +1,4 @@
-// Where a walk stands on a chain.
+//! Where a walk stands on a chain.
 ghost use Rattle.std.specs.Prelude.{◌≡◌, ◌<◌, ◌≤◌, ◌+◌, IfSome};
 ghost use Rattle.rl_model.specs.Geom.{GeomFits};
 ghost use Rattle.rl_volume.specs.Stand.{GoesOn};
@@ -56,7 +56,7 @@ pub(crate) fn followed(geom: Geom, key: u64, from: Stand, seen: &Seen) -> Stand
     }
 }
 
-// The link behind the next cell, if its words were seen and it doesn't have the key.
+/// The link behind the next cell, if its words were seen and it doesn't have the key.
 fn link_behind(geom: Geom, key: u64, stand: Stand, seen: &Seen) -> Option<u64>
     requires fits { GeomFits geom }
     requires there { stand.passed < geom.overflow }

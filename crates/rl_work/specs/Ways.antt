@@ -314,6 +314,11 @@ AnswersAs at got again follow Finished = ⊥
 abbrev pub WaitsOn : {K : Type 0} → WorkTable K → ℕ → K → ℕ → ℕ → Type 0
 WaitsOn T r x word got = (T.after r x got ≡ record { work = x; follow = On; stepped = Waiting word got }) × (T.touch x ≡ None)
 
+-- a rank with this side of the work is out or has the lock, in each state that meets the rule
+abbrev pub RestsBy : {K : Type 0} → WorkTable K → (List ℕ → List (WorkSide K) → Type 0) → K → Type 0
+RestsBy T good x = (words : List ℕ) (sides : List (WorkSide _)) (r : ℕ) (st : Standing) →
+    IsSide T good words sides r (record { standing = st; work = x }) → Rests st
+
 -- the way of working does blocks of so many calls
 abbrev pub Takes : {K : Type 0} → WorkTable K → List Call → Type 0
 Takes T calls = T.batches ≡ false → length calls ≡ 1

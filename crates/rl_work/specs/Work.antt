@@ -231,6 +231,12 @@ abbrev pub has_work : Stage → Bool
 has_work Rest = false
 has_work stage = true
 
+-- an atom of the open block was made, and the work isn't over
+abbrev pub is_under_way : Stage → Bool
+is_under_way Rest = false
+is_under_way Begin = false
+is_under_way stage = true
+
 -- the atom at this stage writes
 abbrev pub stores : Stage → Bool
 stores (Journal made) = true

@@ -2,10 +2,12 @@ pub mod Cases
 pub mod TurnLaws
 pub mod RoomLaws
 pub mod SideLaws
+pub mod Shifts
 pub mod WorkLaws
 pub mod AtomLaws
 pub mod RuleLaws
 pub mod LockedLaws
+pub mod RestLaws
 pub mod UnseenLaws
 pub mod LockedSteps
 pub mod LockedEnding

@@ -1,4 +1,4 @@
-// What follows an atom of the work.
+//! What follows an atom of the work.
 
 use rl_step::Stepped;
 use rl_word::Mode;

@@ -1,4 +1,4 @@
-// What is proved of the rule, for whatever lock stands above.
+//! What is proved of the rule, for whatever lock stands above.
 ghost use Rattle.rl_work.specs.Rule as rule;
 
 /// What is proved of the rule of words and sides. There is nothing to run.

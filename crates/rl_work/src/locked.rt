@@ -116,6 +116,11 @@ impl Work for LockedWork {
     }
 
     #[inline(always)]
+    fn rests(&self, side: &LockedSide) -> bool {
+        side.is_under_way()
+    }
+
+    #[inline(always)]
     fn touch(&self, side: &LockedSide) -> Option<bool> {
         Some(side.stores())
     }

@@ -1,4 +1,4 @@
-// Where a rank stands in the work of its block.
+//! Where a rank stands in the work of its block.
 
 /// Where a rank stands in the work of its block. Each but the first says which atom is next.
 #[derive(Clone, Copy, PartialEq, Eq, Debug)]

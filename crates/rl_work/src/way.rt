@@ -4,7 +4,7 @@ ghost use Rattle.std.specs.Prelude.{◌≡◌, ◌+◌, ◌<◌, ◌≤◌, ◌^
 ghost use Rattle.rl_model.specs.Geom.{GeomFits};
 ghost use Rattle.rl_word.specs.Shapes.{TheShape, IsProper};
 ghost use Rattle.rl_site.specs.Site.{Site as TheSite, site_of, journal_by};
-ghost use Rattle.rl_work.specs.Ways.{WorkTable, WorkSide, WorkLaws, DoesAsSaid, IsPlacedAsSaid, KeepsAllItself, MayWork, MayTurn, WaitsOn, worked_with};
+ghost use Rattle.rl_work.specs.Ways.{WorkTable, WorkSide, WorkLaws, DoesAsSaid, IsPlacedAsSaid, KeepsAllItself, MayWork, MayTurn, RestsBy, WaitsOn, worked_with};
 
 use crate::follow::WorkStep;
 use rl_model::{Call, Entry, Geom};
@@ -107,6 +107,13 @@ pub trait Work: Sized + Drop {
     fn waits_on(&self, _rank: u32, _side: &Self::Side, _word: u32, _got: u64) -> bool
         requires { MayTurn (table self.now) (good self.now) _rank _side.now _got }
         ensures { result ≡ true → WaitsOn (table self.now) _rank _side.now _word _got }
+    {
+        false
+    }
+
+    /// Whether it is seen that the rank is out or has the lock, so that the lock plans nothing for it. `false` says nothing of it.
+    fn rests(&self, _side: &Self::Side) -> bool
+        ensures { result ≡ true → RestsBy (table self.now) (good self.now) _side.now }
     {
         false
     }

@@ -1,4 +1,4 @@
-// The work of a rank's blocks.
+//! The work of a rank's blocks.
 ghost use Rattle.std.specs.Prelude.{◌≡◌, ◌<◌, ◌≤◌, ◌^◌, ◌+◌, ◌*◌, ◌∷◌, ◌++◌, drop, length, replicate, slice_get, slice_index, IfOk, IfSome, None, []};
 ghost use Rattle.std.specs.List.{All};
 ghost use Rattle.rl_volume.specs.Seen.{value_of};
@@ -106,6 +106,17 @@ impl LockedSide {
         !matches!(self.stage, Stage::Rest)
     }
 
+    /// Whether an atom of the open block was made, and the work isn't over: its rank has the lock, under the rule.
+    #[inline(always)]
+    pub fn is_under_way(&self) -> bool
+        ensures { result ≡ model.is_under_way self.now.stage }
+    {
+        match self.stage {
+            Stage::Rest | Stage::Begin => false,
+            Stage::Read { .. } | Stage::Journal { .. } | Stage::Volume { .. } => true,
+        }
+    }
+
     /// The next atom of a rank that holds the lock: a load or a store of a word before the lock's. None where no block is
     /// open. Its numbers fit, as they do under the rule ([`work_laws`](crate::work_laws)).
     #[inline(always)]
@@ -173,7 +184,7 @@ impl LockedSide {
         self.transcript.into_entries()
     }
 
-    // One of the words of the entries.
+    /// One of the words of the entries.
     fn journal_at(&self, made: u32) -> u64
         requires { made < 6 * length self.now.entries }
         ensures { result ≡ slice_index (spelled self.now.entries) made }
@@ -181,7 +192,7 @@ impl LockedSide {
         journal_value(&self.entries[(made / 6) as usize], made % 6)
     }
 
-    // The count after the block.
+    /// The count after the block.
     fn count_after(&self) -> u32
         requires { self.now.at + length self.now.entries < 2 ^ 32 }
         ensures { result ≡ self.now.at + length self.now.entries }
@@ -189,7 +200,7 @@ impl LockedSide {
         self.at + self.entries.len() as u32
     }
 
-    // The write with this number, if there are so many.
+    /// The write with this number, if there are so many.
     fn write_at(&self, made: u32) -> Option<Write>
         requires few { made ≤ length self.now.writes }
         requires inside { All (λ w. w.word < 2 ^ 31) self.now.writes }
@@ -203,7 +214,7 @@ impl LockedSide {
         }
     }
 
-    // After a store to the journal the next one follows, or the first write.
+    /// After a store to the journal the next one follows, or the first write.
     fn journal_on(&mut self, made: u32)
         requires { made < 6 * length self.old.entries }
         ensures { self.new ≡ (model.journal_on self.old made).work }
@@ -269,7 +280,7 @@ impl LockedSide {
         self.close(shard, rank, count)
     }
 
-    // Decides the next call of the block. Where it stops the batch, all others are undone.
+    /// Decides the next call of the block. Where it stops the batch, all others are undone.
     fn decide(&mut self, geom: Geom, call: Call) -> bool
         requires fits { GeomFits geom }
         requires seen { self.old.seen.room ≡ volume_words geom }
@@ -288,7 +299,7 @@ impl LockedSide {
         stopped
     }
 
-    // The next call has this reply, and the others of its batch are undone.
+    /// The next call has this reply, and the others of its batch are undone.
     fn stop(&mut self, reply: Reply)
         requires { length self.old.replies < length self.old.calls }
         ensures { self.new ≡ model.with_stop self.old reply (drop (length self.old.replies + 1) self.old.calls) }
@@ -298,7 +309,7 @@ impl LockedSide {
         self.writes = ArrayVec::new();
     }
 
-    // The next call has this reply, and its writes are kept.
+    /// The next call has this reply, and its writes are kept.
     fn keep(&mut self, writes: &ArrayVec<Write, 5>, reply: Reply)
         requires left { length self.old.replies < length self.old.calls }
         requires few { length self.old.calls ≤ 8 }
@@ -310,7 +321,7 @@ impl LockedSide {
         add_writes(&mut self.writes, writes.as_slice());
     }
 
-    // All calls are decided: updates go on to the journal, and any other call is over.
+    /// All calls are decided: updates go on to the journal, and any other call is over.
     fn close(&mut self, shard: u32, rank: u32, count: u32) -> bool
         requires can { model.CanClose self.old count }
         ensures work { self.new ≡ (model.block_close shard rank self.old count).work }
@@ -327,7 +338,7 @@ impl LockedSide {
         }
     }
 
-    // Whether the block is one of updates.
+    /// Whether the block is one of updates.
     fn asks_update(&self) -> bool
         ensures { result ≡ asks_update self.now.calls }
     {
@@ -337,7 +348,7 @@ impl LockedSide {
         }
     }
 
-    // The batch number of the block.
+    /// The batch number of the block.
     fn batch(&self) -> u32
         ensures { result ≡ model.batch_in self.now }
     {
@@ -345,7 +356,7 @@ impl LockedSide {
         if size == 1 { 0 } else { size }
     }
 
-    // Notes the entries of the block, which found this count.
+    /// Notes the entries of the block, which found this count.
     fn set_entries(&mut self, shard: u32, rank: u32, count: u32)
         requires { model.CanClose self.old count }
         ensures many { length self.new.entries ≡ length self.old.calls }
@@ -367,7 +378,7 @@ impl LockedSide {
         }
     }
 
-    // After a write the next one follows; after the store of the count the work is over.
+    /// After a write the next one follows; after the store of the count the work is over.
     fn write_on(&mut self, made: u32) -> bool
         requires few { made ≤ length self.old.writes }
         requires room { length self.old.transcript.items + length self.old.entries ≤ self.old.transcript.room }
@@ -383,7 +394,7 @@ impl LockedSide {
         }
     }
 
-    // The work is over, with the entries of the block.
+    /// The work is over, with the entries of the block.
     fn finish(&mut self)
         requires { length self.old.transcript.items + length self.old.entries ≤ self.old.transcript.room }
         ensures { self.new ≡ (model.at_rest self.old).work }
@@ -410,7 +421,7 @@ pub fn write_atom(count: u32, write: Option<Write>) -> Atom
     }
 }
 
-// These calls, in order, in place of those that were there.
+/// These calls, in order, in place of those that were there.
 fn set_calls(calls: &mut ArrayVec<Call, 8>, list: &[Call])
     requires { length list.now ≤ 8 }
     ensures { calls.new.items ≡ list.now }
@@ -421,14 +432,14 @@ fn set_calls(calls: &mut ArrayVec<Call, 8>, list: &[Call])
     }
 }
 
-// Whether a batch with such a reply is undone.
+/// Whether a batch with such a reply is undone.
 fn stops(reply: Reply) -> bool
     ensures { result ≡ stops reply }
 {
     matches!(reply, Reply::Full | Reply::Over(_))
 }
 
-// A reply with so many undone calls before it, and so many after it.
+/// A reply with so many undone calls before it, and so many after it.
 fn undone_but(before: usize, reply: Reply, after: usize) -> ArrayVec<Reply, 8>
     requires { before + 1 + after ≤ 8 }
     ensures { result.items ≡ replicate before is_undone ++ reply ∷ replicate after is_undone }
@@ -440,7 +451,7 @@ fn undone_but(before: usize, reply: Reply, after: usize) -> ArrayVec<Reply, 8>
     replies
 }
 
-// So many undone calls more.
+/// So many undone calls more.
 fn push_undone(replies: &mut ArrayVec<Reply, 8>, many: usize)
     requires { length replies.old.items + many ≤ 8 }
     ensures { replies.new.items ≡ replies.old.items ++ replicate many is_undone }
@@ -450,7 +461,7 @@ fn push_undone(replies: &mut ArrayVec<Reply, 8>, many: usize)
     }
 }
 
-// These writes more.
+/// These writes more.
 fn add_writes(kept: &mut ArrayVec<Write, 40>, writes: &[Write])
     requires { length kept.old.items + length writes.now ≤ 40 }
     ensures { kept.new.items ≡ kept.old.items ++ writes.now }

@@ -1,12 +1,7 @@
 //! Callers on one thread: each makes the calls of its rank, block after block.
 
 ghost use Rattle.std.specs.Prelude.{◌≡◌, ◌<◌, length, vec_len};
-ghost use Rattle.rl_step.specs.LockQueues.{does_batches};
-ghost use Rattle.rl_place.specs.LockWords.{name_of};
-ghost use Rattle.rl_place.specs.Places.{IsProper};
-ghost use Rattle.rl_place.specs.Shapes.{shape_of, knobs_of};
-ghost use Rattle.rl_ops.specs.Ops.{OpsFit};
-ghost use Rattle.rl_inputs.specs.Reading.{SuitsLock};
+ghost use Rattle.rl_inputs.specs.Fitting.{IsProper, shape_of, knobs_of, name_of, does_batches, OpsFit, SuitsLock};
 ghost use Rattle.rl_run.specs.Runs.{AreCallers};
 
 use crate::signs::answer_sign;

@@ -1,13 +1,8 @@
 //! What the tests of all locks share: what comes of steps, by a machine and by callers on one thread.
 
 ghost use Rattle.std.specs.Prelude.{◌≡◌, ◌-◌, ◌<◌, ◌^◌, length, true, IfOk};
-ghost use Rattle.rl_step.specs.LockQueues.{does_batches};
-ghost use Rattle.rl_place.specs.LockWords.{name_of};
-ghost use Rattle.rl_place.specs.Places.{IsProper};
-ghost use Rattle.rl_place.specs.Shapes.{shape_of, knobs_of};
-ghost use Rattle.rl_ops.specs.Ops.{OpsFit};
+ghost use Rattle.rl_inputs.specs.Fitting.{IsProper, shape_of, knobs_of, name_of, does_batches, OpsFit, SuitsLock};
 ghost use Rattle.rl_step.specs.Answers.{steps_made};
-ghost use Rattle.rl_inputs.specs.Reading.{SuitsLock};
 
 use crate::callers::told_by;
 use crate::signs::{answers_alone, told};

@@ -1,43 +1,17 @@
 //! Writes the data of a page of a replay: all that a page for a browser shows of it, as one text. `scripts/show-page` puts it into a page.
 //!
-//! It is a viewer: `rl_viewer` reads the words and the files, and answers with the data that `rl_page` puts together, where `specs/PageData` defines them.
+//! It is a viewer: `rl_viewer` reads the words and the files, and answers with the data that `rl_page` puts together. The bytes with status 0 are
+//! exactly those data, which `specs/PageData` defines there.
 #![tactic(auto)]
 
-mod answering;
-
-use crate::answering::page_replay;
-use rl_explain::{KeptFiles, Third, say_refusal};
-use rl_inputs::{say_why, words};
-use rl_io::{RealFiles, RealOut};
-use std::alloc::AllocError as OutOfMemory;
+use rl_page::Pager;
+use rl_viewer::{Show, Steps, run};
 use std::process::ExitCode;
-use std::rt::{Env, Files};
 
-/// The status of what the command line asks for.
-fn run<R: Env + AllocGlobal, F: Files + AllocGlobal + Drop, P: Print + Drop>(
-    rt: &R,
-    source: &mut KeptFiles<RealFiles<F>>,
-    out: &mut RealOut<P>,
-) -> Result<u8, OutOfMemory> {
-    let words = words(rt)?;
-    Ok(page_replay(rt.alloc(), words.as_slice(), source, out))
-}
+/// The one line that says which words are a form.
+const USAGE: &[u8] = b"usage: rmalock-page PLACE CALLS SCHEDULE [FROM TO]\n";
 
-/// Writes the data of the page that the command line asks for, and ends with the status: 5 is want of memory. Where there is no output, one line on
-/// standard error says why; where a file is refused, what was found and what was wanted.
+/// Writes the data of the page that the command line asks for, and ends with the status.
 fn main(rt: HostRuntime) -> ExitCode {
-    let mut source = KeptFiles::new(rt.alloc(), RealFiles::new(&rt));
-    let mut out = RealOut::new(&rt);
-    let status = run(&rt, &mut source, &mut out).unwrap_or(5);
-    say_why(&rt, "rmalock-page", status, source.files(), &out);
-    if status == 2 {
-        say_refusal(
-            &rt,
-            rt.alloc(),
-            "rmalock-page",
-            Third::Schedule,
-            source.kept(),
-        );
-    }
-    ExitCode::from(status)
+    run::<Show<Pager, Steps>, _>(&rt, "rmalock-page", USAGE)
 }

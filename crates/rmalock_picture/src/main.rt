@@ -16,39 +16,14 @@ mod recording;
 mod scale;
 mod svg;
 
-use crate::picturing::draw_replay;
-use rl_explain::{KeptFiles, Third, say_refusal};
-use rl_inputs::{say_why, words};
-use rl_io::{RealFiles, RealOut};
-use std::alloc::AllocError as OutOfMemory;
+use crate::picturing::Drawer;
+use rl_viewer::{Show, Steps, run};
 use std::process::ExitCode;
-use std::rt::{Env, Files};
 
-/// The status of what the command line asks for.
-fn run<R: Env + AllocGlobal, F: Files + AllocGlobal + Drop, P: Print + Drop>(
-    rt: &R,
-    source: &mut KeptFiles<RealFiles<F>>,
-    out: &mut RealOut<P>,
-) -> Result<u8, OutOfMemory> {
-    let words = words(rt)?;
-    Ok(draw_replay(rt.alloc(), words.as_slice(), source, out))
-}
+/// The one line that says which words are a form.
+const USAGE: &[u8] = b"usage: rmalock-picture PLACE CALLS SCHEDULE [FROM TO]\n";
 
-/// Draws what the command line asks for, and ends with the status: 5 is want of memory. Where there is no output, one line on
-/// standard error says why; where a file is refused, what was found and what was wanted.
+/// Draws what the command line asks for, and ends with the status.
 fn main(rt: HostRuntime) -> ExitCode {
-    let mut source = KeptFiles::new(rt.alloc(), RealFiles::new(&rt));
-    let mut out = RealOut::new(&rt);
-    let status = run(&rt, &mut source, &mut out).unwrap_or(5);
-    say_why(&rt, "rmalock-picture", status, source.files(), &out);
-    if status == 2 {
-        say_refusal(
-            &rt,
-            rt.alloc(),
-            "rmalock-picture",
-            Third::Schedule,
-            source.kept(),
-        );
-    }
-    ExitCode::from(status)
+    run::<Show<Drawer, Steps>, _>(&rt, "rmalock-picture", USAGE)
 }

@@ -1,24 +1,17 @@
-//! The top call: the picture of a replay, or the line that says why there is none.
-ghost use Rattle.std.specs.Prelude.{◌≡◌, ◌≤◌, None, map, string_bytes};
-ghost use Rattle.rl_inputs.specs.Done.{IsDone};
-ghost use Rattle.rl_viewer.specs.Asking.{asked_by};
-ghost use Rattle.rl_viewer.specs.Answer.{Answers, AreTold, MayRead};
-ghost use Rattle.rmalock_picture.specs.Answer.{IsPicture, usage_text};
+//! The picture of a replay.
+ghost use Rattle.std.specs.Prelude.{◌≤◌};
+ghost use Rattle.rmalock_picture.specs.Answer.{IsPicture};
 
 use crate::drawing::{Scene, draw};
 use crate::recording::record;
 use rl_inputs::Replay;
-use rl_io::{Sink, Source};
 use rl_ops::Schedule;
 use rl_report::Naming;
-use rl_viewer::{Viewer, Window, show_replay};
+use rl_viewer::{Viewer, Window};
 use std::alloc::{AllocError as OutOfMemory, Global};
 
 /// The most steps that a picture shows.
 const MOST_SHOWN: u32 = 2000;
-
-/// The one line that says which words are a form.
-const USAGE: &[u8] = b"usage: rmalock-picture PLACE CALLS SCHEDULE [FROM TO]\n";
 
 /// The steps of a window that are shown: as many as a picture may have.
 fn shown(window: Window) -> Window
@@ -69,21 +62,4 @@ impl Viewer for Drawer {
         };
         draw(alloc, &scene)
     }
-}
-
-/// Draws what the words of the command line ask for, and gives the status: 0 after a picture, 1 after the usage line, where the
-/// words are no form, 2 after the line that refuses a file, 3 where a file could not be read, 4 where a write failed, 5 for want
-/// of memory. Of the bytes of a picture nothing is said. A sink with room for the answer tells its bytes afterwards as before.
-pub fn draw_replay<S: Source, K: Sink>(
-    alloc: Global,
-    words: &[String],
-    source: &mut S,
-    out: &mut K,
-) -> u8
-    requires may_read { MayRead (S.may_open source.old) (asked_by (map string_bytes words.now)) }
-    ensures done { IsDone S.file S.faults K.written K.tells_on K.faults (AreTold (asked_by (map string_bytes words.now)))
-        (Answers IsPicture usage_text (asked_by (map string_bytes words.now))) source.old source.new out.old out.new result }
-    ensures unread { asked_by (map string_bytes words.now) ≡ None → source.new ≡ source.old }
-{
-    show_replay::<Drawer, S, K>(alloc, USAGE, words, source, out)
 }

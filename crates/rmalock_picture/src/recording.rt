@@ -1,14 +1,9 @@
 //! A machine is made, makes the steps of a schedule, and each step is taken down.
 ghost use Rattle.std.specs.Prelude.{◌≡◌, ◌+◌, ◌-◌, ◌<◌, ◌≤◌, ◌^◌, true, length, vec_len, IfOk};
 ghost use Rattle.rl_model.specs.Geom.{GeomFits};
-ghost use Rattle.rl_step.specs.LockQueues.{does_batches};
-ghost use Rattle.rl_place.specs.LockWords.{name_of};
-ghost use Rattle.rl_place.specs.Places.{IsProper};
-ghost use Rattle.rl_place.specs.Shapes.{shape_of, knobs_of};
-ghost use Rattle.rl_ops.specs.Ops.{OpsFit};
-ghost use Rattle.rl_ops.specs.Schedule.{ScheduleFits, TurnFits};
+ghost use Rattle.rl_inputs.specs.Fitting.{IsProper, shape_of, knobs_of, name_of, does_batches, OpsFit, SuitsLock, ScheduleFits};
+ghost use Rattle.rl_ops.specs.Schedule.{TurnFits};
 ghost use Rattle.rl_step.specs.Answers.{steps_made};
-ghost use Rattle.rl_inputs.specs.Reading.{SuitsLock};
 
 use crate::deeds::{Deed, Remark, deed_of};
 use crate::lanes::{Cell, Lane, Moment};

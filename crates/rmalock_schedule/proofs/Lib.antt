@@ -1,2 +1,1 @@
 mod ReadLaws
-mod DrawLaws

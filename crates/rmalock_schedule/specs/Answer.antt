@@ -1,5 +1,5 @@
 -- What the program answers: the text of the schedule that is drawn of the sketch, and else the line and the status with which a file is refused.
-use Rattle.std.specs.Prelude.{◌≡◌, ℕ, List, [], ◌∷◌, ◌++◌, codes, decimal, length, Option, Some, None, Result, Ok, Err}
+use Rattle.std.specs.Prelude.{◌≡◌, ℕ, List, [], ◌∷◌, codes, decimal, length, Option, Result, Ok}
 use Rattle.rl_text.specs.Spelling.{line_text}
 use Rattle.rl_place.specs.Places.{ThePlace}
 use Rattle.rl_ops.specs.Schedule.{schedule_spelling}
@@ -13,16 +13,8 @@ use Rattle.rl_drawing.specs.declared.outcome.Drawn.{Drawn}
 use Rattle.rl_drawing.specs.declared.outcome.Drawn.TheVariants.{Whole, Never}
 use Rattle.rl_sketch.specs.SketchReading.{sketch_at}
 use Rattle.rl_drawing.specs.Drawing.{ComesTo}
+use Rattle.rl_viewer.specs.Answer.{AnswersAsSpelled}
 use Rattle.rmalock_schedule.specs.declared.reading.Sketched.{Sketched}
-
--- the one line that says which words are a form
-abbrev pub usage_text : List ℕ
-usage_text = codes "usage: rmalock-schedule PLACE CALLS SKETCH" ++ 10 ∷ []
-
--- `PLACE CALLS SKETCH` names three files, the sketch in the schedule's place; other words are no form
-abbrev pub asked_by : List (List ℕ) → Option Names
-asked_by (place ∷ calls ∷ sketch ∷ []) = Some (record { place = place; calls = calls; schedule = sketch })
-asked_by _ = None
 
 -- the sketch of the file of this name, which isn't longer than a sketch may be, or the line that refuses it
 unfoldable pub sketched : List ℕ → ThePlace → List ℕ → Result Sketch (List ℕ)
@@ -53,15 +45,9 @@ TellsDrawn name (Never line) answer = answer ≡ refusal (never_line name line)
 abbrev pub IsDrawnAs : List ℕ → Sketched → TheAnswer → Type 0
 IsDrawnAs name sketched answer = (drawn : Drawn) × Comes sketched drawn × TellsDrawn name drawn answer
 
--- the same where the files spell a sketch; else the line that refuses the first that has a fault
-abbrev pub AnswersAsSpelled : List ℕ → Result Sketched (List ℕ) → TheAnswer → Type 0
-AnswersAsSpelled name (Ok sketched) answer = IsDrawnAs name sketched answer
-AnswersAsSpelled name (Err line) answer = answer ≡ refusal line
-
--- the answer belongs to the texts of the files that are named; words that are no form are answered by the usage line
-abbrev pub Answers : Option Names → Texts → TheAnswer → Type 0
-Answers None texts answer = answer ≡ record { status = 1; text = usage_text }
-Answers (Some names) texts answer = AnswersAsSpelled names.schedule (spelled names texts) answer
+-- the answer to the files that are named
+abbrev pub AnswersFiles : Names → Unit {0} → Texts → TheAnswer → Type 0
+AnswersFiles names all texts answer = AnswersAsSpelled (IsDrawnAs names.schedule) (spelled names texts) answer
 
 -- the files of these names were read, and they came to what their bytes spell
 pub record WereRead (file : List ℕ → Option (List ℕ)) (names : Names) (result : Result Sketched Stop) : Type 0 where

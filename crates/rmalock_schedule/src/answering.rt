@@ -1,25 +1,22 @@
-//! The top call: the schedule of a sketch, or the line that says why there is none.
-ghost use Rattle.std.specs.Prelude.{◌≡◌, Some, None, length, map, string_bytes, IfOk};
-ghost use Rattle.rl_io.specs.Whole.{RisesWithFault};
-ghost use Rattle.rl_place.specs.Places.{IsProper};
-ghost use Rattle.rl_ops.specs.Ops.{OpsFit};
-ghost use Rattle.rl_inputs.specs.Done.{IsAnswerStatus, IsDone, WasAnswered};
-ghost use Rattle.rl_inputs.specs.Reading.{SuitsLock, stopped_by_fault};
-ghost use Rattle.rl_inputs.specs.Files.{named, AreTextsOf, MayOpenFiles, MayOpenFilesOf};
+//! The schedule of a sketch, or the line that says why there is none.
+ghost use Rattle.std.specs.Prelude.{◌≡◌, length, IfOk};
+ghost use Rattle.rl_inputs.specs.Fitting.{IsProper, OpsFit, SuitsLock};
+ghost use Rattle.rl_inputs.specs.Done.{IsAnswerStatus};
 ghost use Rattle.rl_sketch.specs.Sketch.{SketchFits};
-ghost use Rattle.rmalock_schedule.specs.Answer.{asked_by, never_line, Answers, TellsDrawn, IsDrawnAs};
+ghost use Rattle.rl_viewer.specs.Asking.{all_by};
+ghost use Rattle.rmalock_schedule.specs.Answer.{never_line, TellsDrawn, IsDrawnAs, AnswersFiles};
 
-use crate::asking::asked_in;
+use crate::explaining::say_sketch;
 use crate::reading::{Sketched, read_files};
 use rl_drawing::{Drawn, drawn};
-use rl_inputs::{Answer, Files, Stop, tell, tell_text};
-use rl_io::{Sink, Source};
+use rl_explain::{Kept, Third, say_refusal};
+use rl_inputs::{Answer, Files, Stop};
+use rl_io::Source;
 use rl_ops::schedule_text;
 use rl_text::put_number;
+use rl_viewer::{Program, all_of};
 use std::alloc::{AllocError as OutOfMemory, Global};
-
-/// The one line that says which words are a form.
-const USAGE: &[u8] = b"usage: rmalock-schedule PLACE CALLS SKETCH\n";
+use std::io::Eprint;
 
 /// The line that refuses a sketch, one of whose lines never comes to its end.
 fn never_line(alloc: Global, name: &str, line: u64) -> Result<Vec<u8>, OutOfMemory>
@@ -57,34 +54,36 @@ fn drawn_as(alloc: Global, name: &str, sketched: &Sketched) -> Result<Answer, Ou
     told(alloc, name, &drawn)
 }
 
-/// What the files come to.
-fn answered<S: Source>(alloc: Global, source: &mut S, files: Files<'_>) -> Result<Answer, Stop>
-    requires { MayOpenFiles (S.may_open source.old) (named files) }
-    ensures answered { WasAnswered (AreTextsOf (Some (named files.entry))) (Answers (Some (named files.entry))) (S.file source.old) result }
-    ensures status { IfOk result (λ answer. IsAnswerStatus answer.status) }
-    ensures faults { RisesWithFault stopped_by_fault result (S.faults source.old) (S.faults source.new) }
-{
-    let sketched = read_files(alloc, source, files)?;
-    Ok(drawn_as(alloc, files.schedule, &sketched)?)
-}
+/// Draws the schedule of a sketch, whose file is named in the place of a schedule's: 0 after the schedule, 2 after the line that refuses a file.
+/// A sketch is refused too where a line of it comes to no end with the steps of a schedule: `refused SKETCH LINE 0 never`. The bytes with status 0
+/// are exactly the text of the schedule that is drawn (`IsDrawn` of `rl_drawing`).
+pub struct Scheduler;
 
-/// Draws the schedule of a sketch for the words `PLACE CALLS SKETCH`, and gives the status: 0 after the schedule, 1 after the usage line, where the words are
-/// others, 2 after the line that refuses a file, 3 where a file could not be read, 4 where a write failed, 5 for want of memory. A sketch is refused too
-/// where a line of it comes to no end with the steps of a schedule: `refused SKETCH LINE 0 never`. The bytes with status 0 are exactly the text of the
-/// schedule that is drawn (`IsDrawn` of `rl_drawing`). A sink with room for the answer tells its bytes afterwards as before.
-pub fn schedule_sketch<S: Source, K: Sink>(
-    alloc: Global,
-    words: &[String],
-    source: &mut S,
-    out: &mut K,
-) -> u8
-    requires may_read { MayOpenFilesOf (S.may_open source.old) (asked_by (map string_bytes words.now)) }
-    ensures done { IsDone S.file S.faults K.written K.tells_on K.faults (AreTextsOf (asked_by (map string_bytes words.now)))
-        (Answers (asked_by (map string_bytes words.now))) source.old source.new out.old out.new result }
-    ensures unread { asked_by (map string_bytes words.now) ≡ None → source.new ≡ source.old }
-{
-    let Some(files) = asked_in(words) else {
-        return tell_text(out, 1, USAGE);
-    };
-    tell(answered(alloc, source, files), out)
+impl Program for Scheduler {
+    type Part = ();
+
+    ghost part_by = { all_by };
+
+    ghost answers = { AnswersFiles };
+
+    fn part_of(words: &[String]) -> Option<()> {
+        all_of(words)
+    }
+
+    fn answer<S: Source>(
+        alloc: Global,
+        source: &mut S,
+        files: Files<'_>,
+        _all: (),
+    ) -> Result<Answer, Stop> {
+        let sketched = read_files(alloc, source, files)?;
+        Ok(drawn_as(alloc, files.schedule, &sketched)?)
+    }
+
+    fn say_refused<R: Eprint>(rt: &R, alloc: Global, program: &str, kept: &Kept) {
+        match kept.texts() {
+            [_, _, _] => say_sketch(rt, alloc, program, kept),
+            _ => say_refusal(rt, alloc, program, Third::Schedule, kept),
+        }
+    }
 }

@@ -2,9 +2,8 @@
 ghost use Rattle.std.specs.Prelude.{IsTrue, IfOk, length};
 ghost use Rattle.rl_io.specs.Outside.{SameFiles};
 ghost use Rattle.rl_io.specs.Whole.{RisesWithFault};
-ghost use Rattle.rl_place.specs.Places.{IsProper};
-ghost use Rattle.rl_ops.specs.Ops.{OpsFit};
-ghost use Rattle.rl_inputs.specs.Reading.{WasRead, SuitsLock, stopped_by_fault};
+ghost use Rattle.rl_inputs.specs.Fitting.{IsProper, OpsFit, SuitsLock};
+ghost use Rattle.rl_inputs.specs.Reading.{WasRead, stopped_by_fault};
 ghost use Rattle.rl_inputs.specs.Files.{named, MayOpenFiles};
 ghost use Rattle.rl_sketch.specs.Sketch.{SketchFits};
 ghost use Rattle.rmalock_schedule.specs.Answer.{sketched, WereRead};

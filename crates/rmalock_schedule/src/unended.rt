@@ -3,12 +3,7 @@
 //! The sketch is drawn once more, with a line for each rank of the lines that go up to what is shown: so the drawing tells which rank it was. Then the
 //! lines before that one are drawn, and some steps of the rank behind them; the last of those are told as in the list of steps.
 ghost use Rattle.std.specs.Prelude.{◌≡◌, ◌≤◌, ◌<◌, length, IfSome, IfOk};
-ghost use Rattle.rl_step.specs.LockQueues.{does_batches};
-ghost use Rattle.rl_place.specs.LockWords.{name_of};
-ghost use Rattle.rl_place.specs.Places.{IsProper};
-ghost use Rattle.rl_ops.specs.Ops.{OpsFit};
-ghost use Rattle.rl_ops.specs.Schedule.{ScheduleFits};
-ghost use Rattle.rl_inputs.specs.Reading.{SuitsLock};
+ghost use Rattle.rl_inputs.specs.Fitting.{IsProper, name_of, does_batches, OpsFit, SuitsLock, ScheduleFits};
 ghost use Rattle.rl_sketch.specs.Sketch.{SketchFits};
 
 use rl_drawing::{Drawn, drawn};

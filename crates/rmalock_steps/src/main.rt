@@ -1,44 +1,17 @@
 //! Lists a replay: a line for each step, with the atom that it makes on the word that it names, what it finds, its answer and its events.
 //!
-//! It is a viewer: `rl_viewer` reads the words and the files, and answers with the listing that `rl_shown` makes. What a line says is defined there, in
-//! `specs/Listing`; the names of words are those of `rl_names`.
+//! It is a viewer: `rl_viewer` reads the words and the files, and answers with the listing that `rl_shown` makes. The bytes with status 0 are
+//! exactly the listing of the run, which `specs/Listing` defines there; the names of words are those of `rl_names`.
 #![tactic(auto)]
 
-mod answering;
-
-use crate::answering::list_replay;
-use rl_explain::{KeptFiles, Third, say_refusal};
-use rl_inputs::{say_why, words};
-use rl_io::{RealFiles, RealOut};
-use std::alloc::AllocError as OutOfMemory;
+use rl_shown::Lister;
+use rl_viewer::{Show, Steps, run};
 use std::process::ExitCode;
-use std::rt::{Env, Files};
 
-/// The status of what the command line asks for.
-fn run<R: Env + AllocGlobal, F: Files + AllocGlobal + Drop, P: Print + Drop>(
-    rt: &R,
-    source: &mut KeptFiles<RealFiles<F>>,
-    out: &mut RealOut<P>,
-) -> Result<u8, OutOfMemory> {
-    let words = words(rt)?;
-    Ok(list_replay(rt.alloc(), words.as_slice(), source, out))
-}
+/// The one line that says which words are a form.
+const USAGE: &[u8] = b"usage: rmalock-steps PLACE CALLS SCHEDULE [FROM TO]\n";
 
-/// Lists what the command line asks for, and ends with the status: 5 is want of memory. Where there is no output, one line on
-/// standard error says why; where a file is refused, what was found and what was wanted.
+/// Lists what the command line asks for, and ends with the status.
 fn main(rt: HostRuntime) -> ExitCode {
-    let mut source = KeptFiles::new(rt.alloc(), RealFiles::new(&rt));
-    let mut out = RealOut::new(&rt);
-    let status = run(&rt, &mut source, &mut out).unwrap_or(5);
-    say_why(&rt, "rmalock-steps", status, source.files(), &out);
-    if status == 2 {
-        say_refusal(
-            &rt,
-            rt.alloc(),
-            "rmalock-steps",
-            Third::Schedule,
-            source.kept(),
-        );
-    }
-    ExitCode::from(status)
+    run::<Show<Lister, Steps>, _>(&rt, "rmalock-steps", USAGE)
 }

@@ -34,22 +34,10 @@ use Rattle.rl_alock.specs.Overtakes.{AlockBounded}
 use Rattle.rl_alock.specs.AlockLeft.{far, near, far_of, near_of, alock_left}
 use Rattle.rl_ending.specs.Ending.{LockEnds, CanGoOn}
 use Rattle.rl_ending.specs.laws.SumLaws.{nearer, less_change, grows}
-use Rattle.rl_ending.specs.laws.EndingLaws.{all_out_or_not, ends_for}
+use Rattle.rl_ending.specs.laws.EndingLaws.{all_out_or_not, ends_for, goes_on_by}
 
 far_falls : (st : SettleStage) → Falls (λ p. far p st) (λ p. far p Announce)
-far_falls st =
-    record {
-      clear = omega arith;
-      reset = omega arith;
-      swing = λ guess. (omega arith, omega arith);
-      link = λ guess. omega arith;
-      wait = λ left. (omega arith, omega arith);
-      look = λ left succ upper. (omega arith, omega arith);
-      gives_up = λ left succ. omega arith;
-      close = λ left. (omega arith, omega arith);
-      await = λ left succ. omega arith;
-      hand = λ succ left. omega arith;
-    }
+far_falls st = grind arith
 
 near_few : (tail victim : ℕ) (c : Cohort) (p : Phase) (st : SettleStage) → near tail victim c p st ≤ 3
 near_few tail victim c (Swing g) st = choose (λ k. k ≤ 3) (tail == g) 0 1 (omega arith) (omega arith)
@@ -93,16 +81,9 @@ module _ (K : Cohorts) where
       alock_plan (names_of K (cohort_of K m)) (cohort_of K m) m p st ≡ Some a →
       far_of (learns m p st (told a (slice_index s.words (word_of a)))) < far p st → CanGoOn T (alock_left K) s m
   by_act s m p st a has pl lt =
-      record {
-        view = at_entry m p st;
-        has = has;
-        way = inr (record {
-          act = a;
-          planned = pl;
-          less = nearer_view s (slice_set s.words (word_of a) (written a (slice_index s.words (word_of a)))) m (at_entry m p st)
-              (learns m p st (told a (slice_index s.words (word_of a)))) has lt;
-        });
-      }
+      goes_on_by (at_entry m p st) a has pl
+      (nearer_view s (slice_set s.words (word_of a) (written a (slice_index s.words (word_of a)))) m (at_entry m p st)
+      (learns m p st (told a (slice_index s.words (word_of a)))) has lt)
 
   abbrev turn_far : (m : ℕ) (p : Phase) (st : SettleStage) (got : ℕ) → GetsOn p got →
       far (turn_at (names_of K (cohort_of K m)) m p got).phase Announce < far p st
@@ -112,32 +93,18 @@ module _ (K : Cohorts) where
   by_load : (s : LockState AlockView) (m w : ℕ) (p : Phase) (st : SettleStage) (u : AlockView) → slice_get s.views m ≡ Some (at_entry m p st) → alock_plan (names_of K (cohort_of K m)) (cohort_of K m) m p st ≡ Some (Load w) →
       learns m p st (slice_index s.words w) ≡ u → far_of u ≡ far p st → near_of K s.words u < near_of K s.words (at_entry m p st) → CanGoOn T (alock_left K) s m
   by_load s m w p st u has pl same_view same_far lt =
-      record {
-        view = at_entry m p st;
-        has = has;
-        way = inr (record {
-          act = Load w;
-          planned = pl;
-          less = changed_view s (slice_set s.words w (slice_index s.words w)) m (at_entry m p st) u
-              (learns m p st (slice_index s.words w)) has (set-get_or s.words w 0) same_view same_far lt;
-        });
-      }
+      goes_on_by (at_entry m p st) (Load w) has pl
+      (changed_view s (slice_set s.words w (slice_index s.words w)) m (at_entry m p st) u
+      (learns m p st (slice_index s.words w)) has (set-get_or s.words w 0) same_view same_far lt)
 
   -- a swing is won, or learns the tail
   swing_goes : (s : LockState AlockView) (m g : ℕ) (st : SettleStage) → slice_get s.views m ≡ Some (at_entry m (Swing g) st) → CanGoOn T (alock_left K) s m
   swing_goes s m g st has =
-      record {
-        view = at_entry m (Swing g) st;
-        has = has;
-        way = inr (record {
-          act = swap_act (tail_class (cohort_of K m)) (tail_no (cohort_of K m)) g (m + 1);
-          planned = refl;
-          less = at_swap (λ w value got. alock_left K (slice_set s.words w value)
-              (slice_set s.views m (learns m (Swing g) st got)) < alock_left K s.words s.views) s.words (tail_class (cohort_of K m))
-              (tail_no (cohort_of K m)) g (m + 1)
-              (⊎_elim (λ q. won q.1) (λ q. lost q.0) (eqb_tells (slice_index s.words (tail_no (cohort_of K m))) g));
-        });
-      } where
+      goes_on_by (at_entry m (Swing g) st) (swap_act (tail_class (cohort_of K m)) (tail_no (cohort_of K m)) g (m + 1)) has refl
+      (at_swap (λ w value got. alock_left K (slice_set s.words w value)
+      (slice_set s.views m (learns m (Swing g) st got)) < alock_left K s.words s.views) s.words (tail_class (cohort_of K m))
+      (tail_no (cohort_of K m)) g (m + 1)
+      (⊎_elim (λ q. won q.1) (λ q. lost q.0) (eqb_tells (slice_index s.words (tail_no (cohort_of K m))) g))) where
         tail : ℕ
         tail = slice_index s.words (tail_no (cohort_of K m))
 

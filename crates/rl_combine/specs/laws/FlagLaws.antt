@@ -33,82 +33,63 @@ use Rattle.rl_combine.specs.laws.OwnLaws.{found_flag}
 use Rattle.rl_combine.specs.laws.SeatLaws.{seat_word}
 use Rattle.rl_combine.specs.laws.LateLaws.{none_of, one_of, late_by, late_says}
 
--- a flag that was found 1 is held until 2 is stored there
-by_test : (b : Bool) (s t : Worked TheCombineSide) (owner : ℕ) → found s.work.stage ≡ Some owner → found t.work.stage ≡ Some owner →
-    found (cond b s t).work.stage ≡ Some owner
-by_test true s t owner a c = a
-by_test false s t owner a c = c
+-- where the flag that was found 1 is held on, and the rank's own entries stay
+abbrev GoesOn : TheCombineSide → ℕ → Worked TheCombineSide → Type 0
+GoesOn x owner t = (found t.work.stage ≡ Some owner) × (t.work.kept ≡ x.kept)
 
-reads_found : (S : WaySite) (y : TheCombineSide) (owner : ℕ) → found (combine_read_on S y owner).work.stage ≡ Some owner
-reads_found S y owner = by_next (next_word S.site.geom y.posted y.seen.pairs) where
+by_test : (x : TheCombineSide) (owner : ℕ) (b : Bool) (s t : Worked TheCombineSide) → GoesOn x owner s → GoesOn x owner t → GoesOn x owner (cond b s t)
+by_test x owner true s t a c = a
+by_test x owner false s t a c = c
+
+reads_on : (S : WaySite) (y : TheCombineSide) (owner : ℕ) → GoesOn y owner (combine_read_on S y owner)
+reads_on S y owner = by_next (next_word S.site.geom y.posted y.seen.pairs) where
   by_kind : (b : Bool) → found (decided_stage owner b) ≡ Some owner
   by_kind true = refl
   by_kind false = refl
 
-  by_next : (o : Option ℕ) → found (combine_read_next S y owner o).work.stage ≡ Some owner
-  by_next (Some word) = refl
-  by_next None = by_kind (is_update y.posted)
+  by_next : (o : Option ℕ) → GoesOn y owner (combine_read_next S y owner o)
+  by_next (Some word) = (refl, refl)
+  by_next None = (by_kind (is_update y.posted), refl)
 
-writes_found : (x : TheCombineSide) (owner made : ℕ) (o : Option Write) → found (combine_written_on x owner made o).work.stage ≡ Some owner
-writes_found x owner made (Some w) = refl
-writes_found x owner made None = refl
+writes_on : (x : TheCombineSide) (owner made : ℕ) (o : Option Write) → GoesOn x owner (combine_written_on x owner made o)
+writes_on x owner made (Some w) = (refl, refl)
+writes_on x owner made None = (refl, refl)
+
+at_owner : (x : TheCombineSide) (j owner : ℕ) (t : Worked TheCombineSide) → ◌≡◌ {A = Option ℕ} (Some j) (Some owner) → GoesOn x j t → GoesOn x owner t
+at_owner x j owner t e on = (on.0 ∙ e, on.1)
+
+-- so it is until 2 is stored there
+goes_on : (S : WaySite) (r : ℕ) (x : TheCombineSide) (got owner : ℕ) (st : CombineStage) → found st ≡ Some owner →
+    ((st ≡ Mark owner) × ((combine_stage_after S r x got st).work.kept ≡ x.kept)) ⊎ GoesOn x owner (combine_stage_after S r x got st)
+goes_on S r x got owner Rest e = absurd (cc)
+goes_on S r x got owner (Post made) e = absurd (cc)
+goes_on S r x got owner Raise e = absurd (cc)
+goes_on S r x got owner Look e = absurd (cc)
+goes_on S r x got owner Count e = absurd (cc)
+goes_on S r x got owner (Sweep j) e = absurd (cc)
+goes_on S r x got owner (Copy j made) e =
+    inr (at_owner x j owner (combine_stage_after S r x got (Copy j made)) e (by_test x j (made + 1 == 5) (combine_read_on S (with_posted S (with_copied x got)) j)
+    (combine_to_stage (with_copied x got) (Copy j (made + 1))) (reads_on S (with_posted S (with_copied x got)) j) (refl, refl)))
+goes_on S r x got owner (Read j word) e = inr (at_owner x j owner (combine_stage_after S r x got (Read j word)) e (reads_on S (combine_with_word x word got) j))
+goes_on S r x got owner (Journal j made) e =
+    inr (at_owner x j owner (combine_stage_after S r x got (Journal j made)) e (by_test x j (made + 1 == 6) (combine_to_stage x (Volume j 0)) (combine_to_stage x (Journal j (made + 1))) (refl, refl) (refl, refl)))
+goes_on S r x got owner (Volume j made) e = inr (at_owner x j owner (combine_stage_after S r x got (Volume j made)) e (writes_on x j made (slice_get x.writes made)))
+goes_on S r x got owner (Answer j made) e =
+    inr (at_owner x j owner (combine_stage_after S r x got (Answer j made)) e (by_test x j (made + 1 == 3) (combine_to_stage x (Mark j)) (combine_to_stage x (Answer j (made + 1))) (refl, refl) (refl, refl)))
+goes_on S r x got owner (Mark j) e = inl (ap (λ n. Mark n) (same_Some j owner e), over (j + 1 == combine_ranks S)) where
+  over : (b : Bool) → (cond b (to_collect x) (combine_to_stage x (Sweep (j + 1)))).work.kept ≡ x.kept
+  over true = refl
+  over false = refl
+goes_on S r x got owner (Collect made) e = absurd (cc)
+goes_on S r x got owner Lower e = absurd (cc)
 
 pub holds_on : (S : WaySite) (r : ℕ) (x : TheCombineSide) (got owner : ℕ) (st : CombineStage) → found st ≡ Some owner →
     (st ≡ Mark owner) ⊎ (found (combine_stage_after S r x got st).work.stage ≡ Some owner)
-holds_on S r x got owner Rest e = absurd (cc)
-holds_on S r x got owner (Post made) e = absurd (cc)
-holds_on S r x got owner Raise e = absurd (cc)
-holds_on S r x got owner Look e = absurd (cc)
-holds_on S r x got owner Count e = absurd (cc)
-holds_on S r x got owner (Sweep j) e = absurd (cc)
-holds_on S r x got owner (Copy j made) e =
-    inr (by_test (made + 1 == 5) (combine_read_on S (with_posted S (with_copied x got)) j)
-    (combine_to_stage (with_copied x got) (Copy j (made + 1))) j (reads_found S (with_posted S (with_copied x got)) j) refl ∙ e)
-holds_on S r x got owner (Read j word) e = inr (reads_found S (combine_with_word x word got) j ∙ e)
-holds_on S r x got owner (Journal j made) e =
-    inr (by_test (made + 1 == 6) (combine_to_stage x (Volume j 0)) (combine_to_stage x (Journal j (made + 1))) j refl refl ∙ e)
-holds_on S r x got owner (Volume j made) e = inr (writes_found x j made (slice_get x.writes made) ∙ e)
-holds_on S r x got owner (Answer j made) e =
-    inr (by_test (made + 1 == 3) (combine_to_stage x (Mark j)) (combine_to_stage x (Answer j (made + 1))) j refl refl ∙ e)
-holds_on S r x got owner (Mark j) e = inl (ap (λ n. Mark n) (same_Some j owner e))
-holds_on S r x got owner (Collect made) e = absurd (cc)
-holds_on S r x got owner Lower e = absurd (cc)
-
--- and the rank's own entries stay
-kept_by_test : (b : Bool) (s t : Worked TheCombineSide) (k : TheTranscript) → s.work.kept ≡ k → t.work.kept ≡ k → (cond b s t).work.kept ≡ k
-kept_by_test true s t k a c = a
-kept_by_test false s t k a c = c
-
-reads_kept : (S : WaySite) (y : TheCombineSide) (owner : ℕ) → (combine_read_on S y owner).work.kept ≡ y.kept
-reads_kept S y owner = by_next (next_word S.site.geom y.posted y.seen.pairs) where
-  by_next : (o : Option ℕ) → (combine_read_next S y owner o).work.kept ≡ y.kept
-  by_next (Some word) = refl
-  by_next None = refl
-
-writes_kept : (x : TheCombineSide) (owner made : ℕ) (o : Option Write) → (combine_written_on x owner made o).work.kept ≡ x.kept
-writes_kept x owner made (Some w) = refl
-writes_kept x owner made None = refl
+holds_on S r x got owner st e = ⊎_elim (λ stores. inl stores.0) (λ on. inr on.0) (goes_on S r x got owner st e)
 
 pub found_keeps : (S : WaySite) (r : ℕ) (x : TheCombineSide) (got owner : ℕ) (st : CombineStage) → found st ≡ Some owner →
     (combine_stage_after S r x got st).work.kept ≡ x.kept
-found_keeps S r x got owner Rest e = absurd (cc)
-found_keeps S r x got owner (Post made) e = absurd (cc)
-found_keeps S r x got owner Raise e = absurd (cc)
-found_keeps S r x got owner Look e = absurd (cc)
-found_keeps S r x got owner Count e = absurd (cc)
-found_keeps S r x got owner (Sweep j) e = absurd (cc)
-found_keeps S r x got owner (Copy j made) e =
-    kept_by_test (made + 1 == 5) (combine_read_on S (with_posted S (with_copied x got)) j)
-    (combine_to_stage (with_copied x got) (Copy j (made + 1))) x.kept (reads_kept S (with_posted S (with_copied x got)) j) refl
-found_keeps S r x got owner (Read j word) e = reads_kept S (combine_with_word x word got) j
-found_keeps S r x got owner (Journal j made) e = kept_by_test (made + 1 == 6) (combine_to_stage x (Volume j 0))
-    (combine_to_stage x (Journal j (made + 1))) x.kept refl refl
-found_keeps S r x got owner (Volume j made) e = writes_kept x j made (slice_get x.writes made)
-found_keeps S r x got owner (Answer j made) e = kept_by_test (made + 1 == 3) (combine_to_stage x (Mark j))
-    (combine_to_stage x (Answer j (made + 1))) x.kept refl refl
-found_keeps S r x got owner (Mark j) e = kept_by_test (j + 1 == combine_ranks S) (to_collect x) (combine_to_stage x (Sweep (j + 1))) x.kept refl refl
-found_keeps S r x got owner (Collect made) e = absurd (cc)
-found_keeps S r x got owner Lower e = absurd (cc)
+found_keeps S r x got owner st e = ⊎_elim (λ stores. stores.1) (λ on. on.1) (goes_on S r x got owner st e)
 
 pub found_open : (st : CombineStage) (owner : ℕ) → found st ≡ Some owner → combine_is_open st ≡ true
 found_open Rest owner e = absurd (cc)

@@ -2,11 +2,12 @@
 use Rattle.std.specs.Prelude.{◌≡◌, ◌≢◌, ◌↔◌, ◌⊎◌, ℕ, ◌<◌, List, [], ◌∷◌, slice_get, slice_set, Some}
 use Rattle.std.proofs.Common.{sym, ◌∙◌, ap, subst, inl, inr, ⊎_elim, arith, length-set}
 use Rattle.std.proofs.lemmas.Option.{slice_get_within}
-use Rattle.rl_word.specs.laws.Places.{same_or_not, one_at, some_at, get_set_same, get_set_other, get_set_cases}
+use Rattle.rl_word.specs.laws.Places.{same_or_not, one_at, some_at, get_set_same, get_set_other, get_set_cases, each_set}
 use Rattle.rl_step.specs.declared.events.Standing.{Standing}
 use Rattle.rl_step.specs.declared.events.Standing.TheVariants.{Out, Writer, Reader}
 use Rattle.rl_step.specs.Lock.{IsHolder}
 use Rattle.rl_model.specs.declared.entry.Entry.{Entry}
+use Rattle.rl_volume.specs.Words.{volume_words}
 use Rattle.rl_work.specs.Work.{more_entries}
 use Rattle.rl_work.specs.Ways.{IsApart, IsLaid}
 use Rattle.rl_work.specs.WorkGood.{WorkSide as Seat, WorkGood, IsApart as AreApart}
@@ -126,21 +127,10 @@ module _ (S : WaySite) (node : ℕ → ℕ) (words : List ℕ) (laid : IsLaid (c
           seats = g.seats;
           ranks = length-set sides r w ∙ g.ranks;
           work = subst (λ z. WorkGood S.site z g.seats) (sym front) g.work;
-          seen_rooms = λ k z at. ⊎_elim
-              (λ q. ap (λ (u : RankSide). u.work.seen.room) q.1 ∙ room ∙ g.seen_rooms r x has)
-              (λ q. g.seen_rooms k z q.1)
-              (get_set_cases sides r k w z at);
-          own = λ k z y at there. ⊎_elim
-              (λ q. subst (λ n. OwnAt S (post_of S vs n) n z y z.work.stage) (sym q.0)
-              (subst (λ (u : RankSide). OwnAt S (post_of S vs r) r u y u.work.stage) (sym q.1)
-              (own y (subst (λ n. slice_get g.seats n ≡ Some y) q.0 there))))
-              (λ q. subst (λ p. OwnAt S p k z y z.work.stage) (sym (posts k q.0)) (g.own k z y q.1 there))
-              (get_set_cases sides r k w z at);
-          sweeps = λ k z at. ⊎_elim
-              (λ q. subst (λ n. SweepAt S vs g.seats n z.work z.work.stage) (sym q.0)
-              (subst (λ (u : RankSide). SweepAt S vs g.seats r u.work u.work.stage) (sym q.1) sweep))
-              (λ q. others k z q.0 q.1)
-              (get_set_cases sides r k w z at);
+          seen_rooms = each_set (λ k z. z.work.seen.room ≡ volume_words S.site.geom) sides r w (room ∙ g.seen_rooms r x has) (λ k z ne at. g.seen_rooms k z at);
+          own = λ k z y at there. each_set (λ k z. (y : Seat) → slice_get g.seats k ≡ Some y → OwnAt S (post_of S vs k) k z y z.work.stage) sides r w own
+              (λ k z ne at y there. subst (λ p. OwnAt S p k z y z.work.stage) (sym (posts k ne)) (g.own k z y at there)) k z at y there;
+          sweeps = each_set (λ k z. SweepAt S vs g.seats k z.work z.work.stage) sides r w sweep others;
           held = λ k y there. ⊎_elim (λ out. inl out) (λ h. inr (still k h)) (g.held k y there);
         }
 
@@ -194,51 +184,31 @@ module _ (S : WaySite) (node : ℕ → ℕ) (words : List ℕ) (laid : IsLaid (c
     writer_moves writes vs w j y u seat work posts room own_r own_j sweep hand end grows =
         record {
           good = good;
-          seats = λ k a b at bt. ⊎_elim
-              (λ (q : (k ≡ j) × (b ≡ u)).
-              let a_is : a ≡ y = one_at g.seats j a y (subst (λ n. slice_get g.seats n ≡ Some a) q.0 at) seat in
-              subst (λ n. SeatGoesOn S n a b) (sym q.0) (subst (λ z. SeatGoesOn S j z b) (sym a_is) (subst (SeatGoesOn S j y) (sym q.1) grows)))
-              (λ (q : (k ≢ j) × (slice_get g.seats k ≡ Some b)). inl (ap (λ (v : Seat). v.work.transcript) (one_at g.seats k b a q.1 at)))
-              (get_set_cases g.seats j k u b bt);
+          seats = λ k a b at bt. each_set (λ k b. (a : Seat) → slice_get g.seats k ≡ Some a → SeatGoesOn S k a b) g.seats j u
+              (λ a at. subst (λ z. SeatGoesOn S j z u) (sym (one_at g.seats j a y at seat)) grows)
+              (λ k b ne bt a at. inl (ap (λ (v : Seat). v.work.transcript) (one_at g.seats k b a bt at))) k b bt a at;
         }
       where
-        other : (k : ℕ) (z : RankSide) (v : Seat) → k ≢ r → slice_get sides k ≡ Some z →
-            ((k ≡ j) × (v ≡ u)) ⊎ ((k ≢ j) × (slice_get g.seats k ≡ Some v)) → OwnAt S (post_of S vs k) k z v z.work.stage
-        other k z v ne there cases =
-            ⊎_elim
-            (λ q. subst (λ n. OwnAt S (post_of S vs n) n z v z.work.stage) (sym q.0) (subst (λ a. OwnAt S (post_of S vs j) j z a z.work.stage) (sym q.1)
-            (own_j (λ e. ne (q.0 ∙ e)) z (subst (λ n. slice_get sides n ≡ Some z) q.0 there))))
-            (λ q. subst (λ p. OwnAt S p k z v z.work.stage) (sym (posts k q.0)) (g.own k z v there q.1))
-            cases
+        other : (k : ℕ) (z : RankSide) → k ≢ r → slice_get sides k ≡ Some z → (v : Seat) → slice_get (slice_set g.seats j u) k ≡ Some v →
+            OwnAt S (post_of S vs k) k z v z.work.stage
+        other k z ne there v at =
+            each_set (λ k v. k ≢ r → slice_get sides k ≡ Some z → OwnAt S (post_of S vs k) k z v z.work.stage) g.seats j u (λ ne there. own_j ne z there)
+            (λ k v apart at ne there. subst (λ p. OwnAt S p k z v z.work.stage) (sym (posts k apart)) (g.own k z v there at)) k v at ne there
 
         good : CombineGood S vs (slice_set sides r w)
         good = record {
           seats = slice_set g.seats j u;
           ranks = length-set sides r w ∙ g.ranks;
           work = work;
-          seen_rooms = λ k z at. ⊎_elim
-              (λ q. ap (λ (u : RankSide). u.work.seen.room) q.1 ∙ room ∙ g.seen_rooms r x has)
-              (λ q. g.seen_rooms k z q.1)
-              (get_set_cases sides r k w z at);
-          own = λ k z v at there. ⊎_elim
-              (λ q. subst (λ n. OwnAt S (post_of S vs n) n z v z.work.stage) (sym q.0)
-              (subst (λ (a : RankSide). OwnAt S (post_of S vs r) r a v a.work.stage) (sym q.1)
-              (own_r v (subst (λ n. slice_get (slice_set g.seats j u) n ≡ Some v) q.0 there))))
-              (λ q. other k z v q.0 q.1 (get_set_cases g.seats j k u v there))
-              (get_set_cases sides r k w z at);
-          sweeps = λ k z at. ⊎_elim
-              (λ q. subst (λ n. SweepAt S vs (slice_set g.seats j u) n z.work z.work.stage) (sym q.0)
-              (subst (λ (a : RankSide). SweepAt S vs (slice_set g.seats j u) r a.work a.work.stage) (sym q.1) sweep))
-              (λ q. let s = seat_of k z q.1 in sweep_any S (post_of S words k) k z s.0 z.work.stage (g.own k z s.0 q.1 s.1)
-              (only_writer writes k z q.1 q.0) vs (slice_set g.seats j u))
-              (get_set_cases sides r k w z at);
-          held = λ k v there. ⊎_elim
-              (λ q. ⊎_elim
-              (λ out. inl (ap (λ (a : Seat). a.standing) q.1 ∙ out))
-              (λ at. inr (record { holder = r; side = w; there = get_set_same sides r x w has; holds = at ∙ ap (λ n. Some n) (sym q.0) }))
-              end)
-              (λ q. inl (others_out writes j hand k v q.1 q.0))
-              (get_set_cases g.seats j k u v there);
+          seen_rooms = each_set (λ k z. z.work.seen.room ≡ volume_words S.site.geom) sides r w (room ∙ g.seen_rooms r x has) (λ k z ne at. g.seen_rooms k z at);
+          own = λ k z v at there. each_set (λ k z. (v : Seat) → slice_get (slice_set g.seats j u) k ≡ Some v → OwnAt S (post_of S vs k) k z v z.work.stage) sides r w own_r other
+              k z at v there;
+          sweeps = each_set (λ k z. SweepAt S vs (slice_set g.seats j u) k z.work z.work.stage) sides r w sweep
+              (λ k z ne at. let s = seat_of k z at in sweep_any S (post_of S words k) k z s.0 z.work.stage (g.own k z s.0 at s.1)
+              (only_writer writes k z at ne) vs (slice_set g.seats j u));
+          held = each_set (λ k v. (v.standing ≡ Out) ⊎ IsHeld (slice_set sides r w) k) g.seats j u
+              (⊎_elim (λ out. inl out) (λ at. inr (record { holder = r; side = w; there = get_set_same sides r x w has; holds = at })) end)
+              (λ k v ne at. inl (others_out writes j hand k v at ne));
         }
 
     -- a writer goes on with its sweep, and with it the post and seat of one rank

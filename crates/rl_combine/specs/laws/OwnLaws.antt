@@ -4,18 +4,20 @@ use Rattle.std.proofs.Common.{sym, ◌∙◌, ap, subst, inl, inr, ⊎_elim, ari
 use Rattle.std.proofs.lemmas.Bool.Decides.{nat_tests}
 use Rattle.std.proofs.lemmas.Option.{same_Some}
 use Rattle.rl_word.specs.laws.Places.{same_or_not}
+use Rattle.rl_model.specs.declared.call.Call.{Call}
+use Rattle.rl_model.specs.declared.entry.Entry.{Entry}
 use Rattle.rl_step.specs.declared.events.Standing.{Standing}
 use Rattle.rl_step.specs.declared.events.Standing.TheVariants.{Out, Asking, Writer, Reader, Leaving}
 use Rattle.rl_step.specs.Lock.{Rests}
 use Rattle.rl_site.specs.Site.{count_word, lock_base, WaySite}
 use Rattle.rl_work.specs.Ways.{Worked, IsApart, IsLaid, side_turned, standing_done}
 use Rattle.rl_work.specs.Work.{more_entries, work_after}
-use Rattle.rl_work.specs.WorkGood.{WorkSide as Seat, IsDone}
+use Rattle.rl_work.specs.WorkGood.{WorkSide as Seat, IsDone, IsInCall}
 use Rattle.rl_combine.specs.declared.stage.CombineStage.{CombineStage}
 use Rattle.rl_combine.specs.declared.stage.CombineStage.TheVariants.{Rest, Post, Raise, Look, Count, Sweep, Copy, Read, Journal, Volume, Answer, Mark, Collect, Lower}
 use Rattle.rl_combine.specs.Posts.{ThePost, combine_ranks, post_word, post_of, post_spelling, answered_entry}
 use Rattle.rl_combine.specs.Combine.{TheCombineSide, Opened, opened_of, in_hand, combine_table, combine_stage_after, sweep_on, to_collect, combine_to_stage, with_nothing, with_copied, found}
-use Rattle.rl_combine.specs.CombineGood.{RankSide, front_of, HasAsked, IsPosting, IsAnswered, Progress, waits, handled, counted, answered, IsPosted, IsCollecting, IsSweeping, IsCopying, IsAnswering, IsLeft, IsToEnd, OwnAt, SweepAt, CombineGood}
+use Rattle.rl_combine.specs.CombineGood.{RankSide, front_of, IsPosting, IsAnswered, Progress, waits, handled, counted, answered, IsPosted, IsCollecting, IsSweeping, IsCopying, IsAnswering, IsLeft, IsToEnd, OwnAt, SweepAt, CombineGood}
 use Rattle.rl_combine.specs.laws.PostLaws.{others_stay, call_word, answer_word, flag_stored, call_stored, front_get, front_behind, copies_on, stores_on}
 use Rattle.rl_combine.specs.laws.SideLaws.{sweep_any, flag_at}
 use Rattle.rl_combine.specs.laws.MoveLaws.{Keeps, seat_of, side_of, is_rank, only_writer, own_moves}
@@ -36,6 +38,28 @@ is_two S p k o y is isnt = by_case is.progress where
   by_case (handled h) = absurd (isnt h.flag)
   by_case (counted c) = absurd (isnt c.flag)
   by_case (answered a) = a.flag
+
+-- while the words before the lock's stay as they are, each of them does, and the end of a call in hand
+module _ (S : WaySite) (words vs : List ℕ) (front : front_of S vs ≡ front_of S words) where
+  loaded : (w : ℕ) → w < lock_base S.site → slice_index vs w ≡ slice_index words w
+  loaded w h = sym (front_get S vs w h) ∙ ap (λ l. slice_index l w) front ∙ front_get S words w h
+
+  pub end_stays : (seats : List Seat) (call : Call) (number : ℕ) (entry : Entry) (owner : ℕ) → IsLeft seats entry owner ⊎ IsToEnd S words seats call number entry owner →
+      IsLeft seats entry owner ⊎ IsToEnd S vs seats call number entry owner
+  end_stays seats call number entry owner end = ⊎_elim (λ l. inl l) (λ (t : IsToEnd S words seats call number entry owner). inr (record {
+    side = t.side;
+    seat = t.seat;
+    writes = t.writes;
+    calls = t.calls;
+    seq = t.seq;
+    loads = t.loads;
+    low = t.low;
+    atom = t.atom;
+    last = t.last;
+    ends = ap (work_after S.site.geom S.site.shard owner t.side.work) (loaded t.loads t.low) ∙ t.ends;
+    entries = t.entries;
+    same = t.same;
+  })) end
 
 module _ (S : WaySite) (node : ℕ → ℕ) (words : List ℕ) (laid : IsLaid (combine_table S node) words) (sides : List RankSide)
     (g : CombineGood S words sides) where
@@ -80,12 +104,9 @@ module _ (S : WaySite) (node : ℕ → ℕ) (words : List ℕ) (laid : IsLaid (c
       ((k : ℕ) → found z.work.stage ≡ Some k → post_of S vs k ≡ post_of S words k) →
       SweepAt S words g.seats q z.work z.work.stage → SweepAt S vs g.seats q z.work z.work.stage
   sweep_same vs q z front own posts = by_stage z.work.stage posts where
-    loaded : (w : ℕ) → w < lock_base S.site → slice_index vs w ≡ slice_index words w
-    loaded w h = sym (front_get S vs w h) ∙ ap (λ l. slice_index l w) front ∙ front_get S words w h
-
     sweeping : (owner : ℕ) → IsSweeping S words q z.work.count owner → IsSweeping S vs q z.work.count owner
     sweeping owner s = record {
-      same = s.same ∙ sym (loaded count_word (omega arith));
+      same = s.same ∙ sym (loaded S words vs front count_word (omega arith));
       there = s.there;
       past =
           λ h. ap (λ (p : ThePost). p.flag) own ∙ s.past h;
@@ -99,26 +120,8 @@ module _ (S : WaySite) (node : ℕ → ℕ) (words : List ℕ) (laid : IsLaid (c
           entry_is = a.entry_is;
           small = a.small;
           stored = ap (λ (p : ThePost). take made p.answer) same ∙ a.stored;
-          end = ⊎_elim (λ l. inl l) (λ (t : IsToEnd S words g.seats z.work.posted z.work.posted_number z.work.entry owner). inr (to_end owner t)) a.end;
+          end = end_stays S words vs front g.seats z.work.posted z.work.posted_number z.work.entry owner a.end;
         }
-      where
-        to_end : (owner : ℕ) → IsToEnd S words g.seats z.work.posted z.work.posted_number z.work.entry owner →
-            IsToEnd S vs g.seats z.work.posted z.work.posted_number z.work.entry owner
-        to_end owner t =
-            record {
-              side = t.side;
-              seat = t.seat;
-              writes = t.writes;
-              calls = t.calls;
-              seq = t.seq;
-              loads = t.loads;
-              low = t.low;
-              atom = t.atom;
-              last = t.last;
-              ends = ap (work_after S.site.geom S.site.shard owner t.side.work) (loaded t.loads t.low) ∙ t.ends;
-              entries = t.entries;
-              same = t.same;
-            }
 
     by_stage : (st : CombineStage) → ((k : ℕ) → found st ≡ Some k → post_of S vs k ≡ post_of S words k) →
         SweepAt S words g.seats q z.work st → SweepAt S vs g.seats q z.work st
@@ -227,9 +230,9 @@ module _ (S : WaySite) (node : ℕ → ℕ) (words : List ℕ) (laid : IsLaid (c
         tt
 
     -- who is about to make an atom after it asked is a writer: nobody has asked to read
-    asked_writes : Rests x.standing → HasAsked x.standing → x.standing ≡ Writer
+    asked_writes : Rests x.standing → IsInCall x.standing → x.standing ≡ Writer
     asked_writes rests asked = by_standing x.standing refl rests asked where
-      by_standing : (st : Standing) → x.standing ≡ st → Rests st → HasAsked st → st ≡ Writer
+      by_standing : (st : Standing) → x.standing ≡ st → Rests st → IsInCall st → st ≡ Writer
       by_standing Out e q a = absurd a
       by_standing Asking e q a = absurd q
       by_standing Writer e q a = refl

@@ -36,11 +36,11 @@ use Rattle.rl_combine.specs.declared.stage.CombineStage.TheVariants.{Copy, Read,
 use Rattle.rl_combine.specs.Posts.{ThePost, post_word, post_of, post_spelling, posted_call, posted_seq, answer_spelling, answered_entry}
 use Rattle.rl_combine.specs.Combine.{TheCombineSide, Opened, opened_of, in_hand, combine_table, combine_stage_after, sweep_on, combine_to_stage, combine_at_stage, with_copied, with_posted, combine_with_word, with_decision, combine_read_next, combine_read_on, combine_written_on, found}
 use Rattle.rl_combine.specs.laws.Cases.{decided_stage}
-use Rattle.rl_combine.specs.CombineGood.{RankSide, front_of, Waits, IsInHand, IsCounted, Progress, waits, handled, counted, answered, IsPosted, IsCombiner, IsSweeping, IsCopying, HasEntry, IsAnswering, IsLeft, IsToEnd, OwnAt, SweepAt, CombineGood, reading, deciding}
+use Rattle.rl_combine.specs.CombineGood.{RankSide, front_of, Waits, IsInHand, IsCounted, Progress, waits, handled, counted, answered, IsPosted, IsCombiner, IsSweeping, IsCopying, HasEntry, IsWriting, IsAnswering, IsLeft, IsToEnd, OwnAt, SweepAt, CombineGood, reading, deciding}
 use Rattle.rl_combine.specs.laws.PostLaws.{others_stay, posts_stay, call_word, flag_stored, answer_stored, front_get, front_set, front_behind, copies_on, stores_on, call_back, reply_back}
 use Rattle.rl_combine.specs.laws.SideLaws.{posted_at, posted_on}
 use Rattle.rl_combine.specs.laws.MoveLaws.{SeatGoesOn, Keeps, Combines, combiner_of, seat_of, held_by, seats_apart, writer_moves, combiner_moves}
-use Rattle.rl_combine.specs.laws.OwnLaws.{found_flag, sweeps_on}
+use Rattle.rl_combine.specs.laws.OwnLaws.{found_flag, end_stays, sweeps_on}
 
 -- a posted call stays in hand while its seat is that of a writer, with the same calls and entries
 still_handled : (S : WaySite) (p : ThePost) (k : ℕ) (o : Opened) (y u : Seat) → y.standing ≡ Writer → u.standing ≡ Writer →
@@ -146,7 +146,7 @@ module _ (S : WaySite) (node : ℕ → ℕ) (words : List ℕ) (laid : IsLaid (c
       } in
       let answering : IsAnswering S vs (slice_set g.seats owner side.0) x.work.posted x.work.posted_number x.work.entry owner (made + 1) =
       subst (λ z. IsAnswering S vs z x.work.posted x.work.posted_number x.work.entry owner (made + 1)) (sym seats)
-      (record { entry_is = w.2.entry_is; small = w.2.small; stored = stored; end = ends vs same_front w.2.end }) in
+      (record { entry_is = w.2.entry_is; small = w.2.small; stored = stored; end = end_stays S words vs same_front g.seats x.work.posted x.work.posted_number x.work.entry owner w.2.end }) in
       let turn : (z : RankSide) → slice_get sides owner ≡ Some z → IsPosted S (post_of S words owner) owner
       (opened_of z.work) side.0 → IsPosted S (post_of S vs owner) owner (opened_of z.work) side.0 =
       λ z there is. subst (λ q. IsPosted S q owner (opened_of z.work) side.0) (sym p)
@@ -192,25 +192,6 @@ module _ (S : WaySite) (node : ℕ → ℕ) (words : List ℕ) (laid : IsLaid (c
           })
       answer_stays owner o y answer one (answered a) = let two = a.flag in absurd (omega arith)
 
-      ends : (vs : List ℕ) → front_of S vs ≡ front_of S words →
-          IsLeft g.seats x.work.entry owner ⊎ IsToEnd S words g.seats x.work.posted x.work.posted_number x.work.entry owner
-          → IsLeft g.seats x.work.entry owner ⊎ IsToEnd S vs g.seats x.work.posted x.work.posted_number x.work.entry owner
-      ends vs same end = ⊎_elim (λ l. inl l) (λ (t : IsToEnd S words g.seats x.work.posted x.work.posted_number x.work.entry owner). inr (record {
-        side = t.side;
-        seat = t.seat;
-        writes = t.writes;
-        calls = t.calls;
-        seq = t.seq;
-        loads = t.loads;
-        low = t.low;
-        atom = t.atom;
-        last = t.last;
-        ends = ap (work_after S.site.geom S.site.shard owner t.side.work)
-            (sym (front_get S vs t.loads t.low) ∙ ap (λ l. slice_index l t.loads) same ∙ front_get S words t.loads t.low) ∙ t.ends;
-        entries = t.entries;
-        same = t.same;
-      })) end
-
   -- A store of the seat's block, to a word before the lock's and no count: the seat goes on as a writer.
   block_stored : (owner w v : ℕ) (y u : Seat) (s : TheCombineSide) → slice_get g.seats owner ≡ Some y →
       work_atom S.site.geom y.work ≡ Some (atom.Store w v) → (w ≡ count_word → ⊥) →
@@ -241,6 +222,20 @@ module _ (S : WaySite) (node : ℕ → ℕ) (words : List ℕ) (laid : IsLaid (c
       (next sweeping)
       (only_hand st owner at hand) (inr on_hand) (inl kept)
 
+  -- And where the call in hand is decided, it is written on from the seat's next stage.
+  write_stored : (owner at v : ℕ) (stage next : BlockStage) (st to : CombineStage) → (w : IsSweeping S words r x.work.count owner × IsWriting S g.seats x.work owner stage) →
+      work_atom S.site.geom (deciding x.work stage w.1.seen w.1.t).work ≡ Some (atom.Store at v) → (at ≡ count_word → ⊥) →
+      WorkGood S.site (slice_set (front_of S words) at v) (slice_set g.seats owner (deciding x.work next w.1.seen w.1.t)) →
+      x.work.stage ≡ st → Combines st → found st ≡ Some owner → in_hand st ≡ Some owner → Combines to → in_hand to ≡ Some owner →
+      (IsSweeping S (slice_set words at v) r x.work.count owner × IsWriting S (slice_set g.seats owner (deciding x.work next w.1.seen w.1.t)) (combine_at_stage x.work to) owner next →
+      SweepAt S (slice_set words at v) (slice_set g.seats owner (deciding x.work next w.1.seen w.1.t)) r (combine_at_stage x.work to) to) →
+      Keeps S words sides g (slice_set words at v) (slice_set sides r (left_by (combine_to_stage x.work to)))
+  write_stored owner at v stage next st to w planned other good is from finds hand on on_hand sweeps =
+      let y : Seat = deciding x.work stage w.1.seen w.1.t in
+      let u : Seat = deciding x.work next w.1.seen w.1.t in
+      block_stored owner at v y u (combine_at_stage x.work to) w.1.seat planned other refl refl refl refl refl good st is from finds hand on on_hand refl refl w.0
+      (λ sweeping. sweeps (sweeping, record { entry_is = w.1.entry_is; small = w.1.small; seen = w.1.seen; t = w.1.t; seat = get_set_same g.seats owner y u w.1.seat }))
+
   -- a word of the journal
   pub journal_told : (owner made : ℕ) → x.work.stage ≡ Journal owner made → (got : ℕ) →
       Keeps S words sides g (slice_set words (journal_base S.site.geom + (6 * x.work.count + made))
@@ -257,47 +252,17 @@ module _ (S : WaySite) (node : ℕ → ℕ) (words : List ℕ) (laid : IsLaid (c
       let beside_now : AreApart g.seats = subst AreApart (set_same_get g.seats owner y w.1.seat) beside in
       let turned : WorkGood S.site (slice_set (front_of S words) word v) (slice_set g.seats owner (seat_turned Writer (journal_on y.work made))) =
       seat_turns g.seats g.work beside_now owner y w.1.seat tt (atom.Store word v) refl in
+      let by_test : (b : Bool) → (made + 1 == 6) ≡ b → WorkGood S.site (slice_set (front_of S words) word v)
+      (slice_set g.seats owner (seat_turned Writer (cond b (block_to y.work (block.Volume 0)) (block_to y.work (block.Journal (made + 1)))))) =
+      λ b e. subst (λ c. WorkGood S.site (slice_set (front_of S words) word v)
+      (slice_set g.seats owner (seat_turned Writer (cond c (block_to y.work (block.Volume 0)) (block_to y.work (block.Journal (made + 1))))))) e turned in
       elim (made + 1 == 6) as (λ b. (made + 1 == 6) ≡ b → Keeps S words sides g (slice_set words word v)
       (slice_set sides r (left_by (cond b (combine_to_stage x.work (Volume owner 0))
       (combine_to_stage x.work (Journal owner (made + 1))))))) [
-        | true ↦ λ e.
-            let u : Seat = deciding x.work (block.Volume 0) w.1.seen w.1.t in
-            let good : WorkGood S.site (slice_set (front_of S words) word v) (slice_set g.seats owner u) =
-            subst (λ b. WorkGood S.site (slice_set (front_of S words) word v)
-            (slice_set g.seats owner (seat_turned Writer (cond b (block_to y.work (block.Volume 0))
-            (block_to y.work (block.Journal (made + 1))))))) e turned in
-            block_stored owner word v y u (combine_at_stage x.work (Volume owner 0)) w.1.seat refl
-            (λ q. absurd (omega arith)) refl refl refl refl refl good (Journal owner made) st tt refl refl tt refl refl refl w.0
-            (λ sweeping. (
-              sweeping,
-              record {
-                entry_is = w.1.entry_is;
-                small = w.1.small;
-                seen = w.1.seen;
-                t = w.1.t;
-                seat =
-                    get_set_same g.seats owner y u w.1.seat;
-              },
-            ))
-        | false ↦ λ e.
-            let u : Seat = deciding x.work (block.Journal (made + 1)) w.1.seen w.1.t in
-            let good : WorkGood S.site (slice_set (front_of S words) word v) (slice_set g.seats owner u) =
-            subst (λ b. WorkGood S.site (slice_set (front_of S words) word v)
-            (slice_set g.seats owner (seat_turned Writer (cond b (block_to y.work (block.Volume 0))
-            (block_to y.work (block.Journal (made + 1))))))) e turned in
-            block_stored owner word v y u (combine_at_stage x.work (Journal owner (made + 1))) w.1.seat refl
-            (λ q. absurd (omega arith)) refl refl refl refl refl good (Journal owner made) st tt refl refl tt refl refl refl w.0
-            (λ sweeping. (
-              sweeping,
-              record {
-                entry_is = w.1.entry_is;
-                small = w.1.small;
-                seen = w.1.seen;
-                t = w.1.t;
-                seat =
-                    get_set_same g.seats owner y u w.1.seat;
-              },
-            ))
+        | true ↦ λ e. write_stored owner word v (block.Journal made) (block.Volume 0) (Journal owner made) (Volume owner 0) w refl
+            (λ q. absurd (omega arith)) (by_test true e) st tt refl refl tt refl (λ q. q)
+        | false ↦ λ e. write_stored owner word v (block.Journal made) (block.Journal (made + 1)) (Journal owner made) (Journal owner (made + 1)) w refl
+            (λ q. absurd (omega arith)) (by_test false e) st tt refl refl tt refl (λ q. q)
       ] refl
 
   -- one of the writes
@@ -316,19 +281,8 @@ module _ (S : WaySite) (node : ℕ → ℕ) (words : List ℕ) (laid : IsLaid (c
       subst (λ o. WorkGood S.site (slice_set (front_of S words) (volume_base + d.word) d.value)
       (slice_set g.seats owner (seat_turned Writer (block_written y.work made o)))) next
       (seat_turns g.seats g.work beside_now owner y w.1.seat tt (atom.Store (volume_base + d.word) d.value) planned) in
-      block_stored owner (volume_base + d.word) d.value y u (combine_at_stage x.work (Volume owner (made + 1))) w.1.seat planned
-      (λ q. absurd (omega arith)) refl refl refl refl refl good (Volume owner made) st tt refl refl tt refl refl refl w.0
-      (λ sweeping. (
-        sweeping,
-        record {
-          entry_is = w.1.entry_is;
-          small = w.1.small;
-          seen = w.1.seen;
-          t = w.1.t;
-          seat =
-              get_set_same g.seats owner y u w.1.seat;
-        },
-      ))
+      write_stored owner (volume_base + d.word) d.value (block.Volume made) (block.Volume (made + 1)) (Volume owner made) (Volume owner (made + 1)) w planned
+      (λ q. absurd (omega arith)) good st tt refl refl tt refl (λ q. q)
 
   -- the count behind the last write
   pub count_told : (owner made : ℕ) → x.work.stage ≡ Volume owner made → slice_get x.work.writes made ≡ None →

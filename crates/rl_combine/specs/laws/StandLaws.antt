@@ -13,19 +13,20 @@ use Rattle.rl_model.specs.Geom.{GeomFits}
 use Rattle.rl_step.specs.declared.events.Event.{Event}
 use Rattle.rl_step.specs.declared.events.Standing.{Standing}
 use Rattle.rl_step.specs.declared.events.Standing.TheVariants.{Out, Asking, Writer, Reader, Leaving}
-use Rattle.rl_step.specs.Lock.{IsHolder, Shift}
+use Rattle.rl_step.specs.Lock.{IsHolder, Rests, Shift}
 use Rattle.rl_site.specs.Site.{lock_base, WaySite}
 use Rattle.rl_site.specs.Opens.{IsOpen, opening_words}
 use Rattle.rl_work.specs.Ways.{IsLaid, IsFirst, SameWork, GoesOnAt, TouchesAs, TellsTouch}
 use Rattle.rl_site.specs.laws.OpeningLaws.{opening_size}
 use Rattle.rl_work.specs.Work.{first_work, write_atom}
-use Rattle.rl_work.specs.WorkGood.{WorkSide as Seat, WorkGood, IsDone, IsFirst as IsFirstSeat}
+use Rattle.rl_work.specs.WorkGood.{WorkSide as Seat, WorkGood, IsDone, IsInCall, IsFirst as IsFirstSeat}
+use Rattle.rl_work.specs.laws.Shifts.{stays_done, asks_on}
 use Rattle.rl_work.specs.laws.AtomLaws.{opening_good}
 use Rattle.rl_combine.specs.declared.stage.CombineStage.{CombineStage}
 use Rattle.rl_combine.specs.declared.stage.CombineStage.TheVariants.{Rest, Post, Raise, Look, Count, Sweep, Copy, Read, Journal, Volume, Answer, Mark, Collect, Lower}
 use Rattle.rl_combine.specs.Posts.{ThePost, combine_ranks, post_word, post_of}
 use Rattle.rl_combine.specs.Combine.{TheCombineSide, combine_is_open, combine_touch_at, in_hand, combine_stage_atom, combine_table, with_open}
-use Rattle.rl_combine.specs.CombineGood.{RankSide, front_of, HasAsked, IsFree, OwnAt, SweepAt, CombineGood}
+use Rattle.rl_combine.specs.CombineGood.{RankSide, front_of, IsFree, OwnAt, SweepAt, CombineGood}
 use Rattle.rl_combine.specs.laws.PostLaws.{same_post}
 use Rattle.rl_combine.specs.laws.MoveLaws.{Keeps, seat_of, own_moves}
 use Rattle.rl_combine.specs.laws.OwnLaws.{sweep_same}
@@ -145,30 +146,10 @@ module _ (S : WaySite) (node : ℕ → ℕ) (words : List ℕ) (laid : IsLaid (c
   -- the lock changes a standing
   shifted : (p : ThePost) (y : Seat) (st : Standing) (es : List Event) → Shift r x.standing st es → (stage : CombineStage) →
       OwnAt S p r x y stage → OwnAt S p r (record { standing = st; work = x.work }) y stage
-  shifted p y st es shift Rest o = (is_done x.standing st shift o.0, o.1, o.2) where
-    is_done : (a b : Standing) → Shift r a b es → IsDone a → IsDone b
-    is_done Out b s i = absurd s
-    is_done Asking b s i = absurd i
-    is_done Writer b s i = absurd s
-    is_done Reader b s i = absurd s
-    is_done Leaving Out s i = tt
-    is_done Leaving Asking s i = absurd s
-    is_done Leaving Writer s i = absurd s
-    is_done Leaving Reader s i = absurd s
-    is_done Leaving Leaving s i = tt
+  shifted p y st es shift Rest o = (stays_done r x.standing st es shift o.0, o.1, o.2)
   shifted p y st es shift (Post made) o = absurd (subst (λ a. Shift r a st es) o.0 shift)
   shifted p y st es shift Raise o = absurd (subst (λ a. Shift r a st es) o.0 shift)
-  shifted p y st es shift Look o = (asks_on x.standing st shift o.0, o.1) where
-    asks_on : (a b : Standing) → Shift r a b es → HasAsked a → HasAsked b
-    asks_on Out b s i = absurd i
-    asks_on Asking Out s i = absurd s
-    asks_on Asking Asking s i = tt
-    asks_on Asking Writer s i = tt
-    asks_on Asking Reader s i = tt
-    asks_on Asking Leaving s i = absurd s
-    asks_on Writer b s i = absurd s
-    asks_on Reader b s i = absurd s
-    asks_on Leaving b s i = absurd i
+  shifted p y st es shift Look o = (asks_on r x.standing st es shift o.0, o.1)
   shifted p y st es shift Count o = absurd (subst (λ a. Shift r a st es) o.0 shift)
   shifted p y st es shift (Sweep owner) o = absurd (subst (λ a. Shift r a st es) o.0 shift)
   shifted p y st es shift (Copy owner made) o = absurd (subst (λ a. Shift r a st es) o.0 shift)
@@ -201,7 +182,7 @@ module _ (S : WaySite) (node : ℕ → ℕ) (words : List ℕ) (laid : IsLaid (c
   standing_goes p y (Post made) o = subst (λ a. GoesOnAt a true (combine_stage_atom S r x.work (Post made))) (sym o.0) refl
   standing_goes p y Raise o = subst (λ a. GoesOnAt a true (combine_stage_atom S r x.work Raise)) (sym o.0) refl
   standing_goes p y Look o = by_standing x.standing o.0 where
-    by_standing : (st : Standing) → HasAsked st → GoesOnAt st true (combine_stage_atom S r x.work Look)
+    by_standing : (st : Standing) → IsInCall st → GoesOnAt st true (combine_stage_atom S r x.work Look)
     by_standing Out d = absurd d
     by_standing Asking d = refl
     by_standing Writer d = (refl, refl)
@@ -281,3 +262,28 @@ tells_at S r x at seated calls low stage p = by_stage stage p where
   by_stage (Mark owner) p = post_store owner 0 2 (same_Some _ _ p)
   by_stage (Collect made) p = post_load r (6 + made) (same_Some _ _ p)
   by_stage Lower p = post_store r 0 0 (same_Some _ _ p)
+
+-- a rank that posts its call is out, and one that sweeps or collects its answer is a writer
+pub busy_rests : (S : WaySite) (node : ℕ → ℕ) (words : List ℕ) → IsLaid (combine_table S node) words → (sides : List RankSide) → CombineGood S words sides →
+    (r : ℕ) (x : RankSide) → slice_get sides r ≡ Some x → (x.work.stage ≡ Rest → ⊥) → (x.work.stage ≡ Look → ⊥) → Rests x.standing
+busy_rests S node words laid sides g r x has busy asked =
+    let s = seat_of S node words laid sides g r x has in by_stage s.0 x.work.stage refl (g.own r x s.0 has s.1)
+  where
+    writes : x.standing ≡ Writer → Rests x.standing
+    writes e = subst Rests (sym e) tt
+
+    by_stage : (y : Seat) (st : CombineStage) → x.work.stage ≡ st → OwnAt S (post_of S words r) r x y st → Rests x.standing
+    by_stage y Rest e f = absurd (busy e)
+    by_stage y (Post made) e f = subst Rests (sym f.0) tt
+    by_stage y Raise e f = subst Rests (sym f.0) tt
+    by_stage y Look e f = absurd (asked e)
+    by_stage y Count e f = writes f.0
+    by_stage y (Sweep owner) e f = writes f.0
+    by_stage y (Copy owner made) e f = writes f.0
+    by_stage y (Read owner word) e f = writes f.0
+    by_stage y (Journal owner made) e f = writes f.0
+    by_stage y (Volume owner made) e f = writes f.0
+    by_stage y (Answer owner made) e f = writes f.0
+    by_stage y (Mark owner) e f = writes f.0
+    by_stage y (Collect made) e f = writes f.0
+    by_stage y Lower e f = writes f.0

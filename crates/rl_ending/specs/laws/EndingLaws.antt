@@ -1,10 +1,11 @@
 -- Either all ranks are out or some rank isn't; and a lock without a dead end has none where fewer of its states are called good.
-use Rattle.std.specs.Prelude.{◌≡◌, ◌⊎◌, ℕ, zero, suc, List, [], ◌∷◌, slice_get, Some, refl}
+use Rattle.std.specs.Prelude.{◌≡◌, ◌⊎◌, ◌<◌, ℕ, zero, suc, List, [], ◌∷◌, slice_get, Some, refl}
 use Rattle.std.proofs.Common.{sym, ◌∙◌, ap, inl, inr, ⊎_elim}
 use Rattle.std.proofs.lemmas.Option.{same_Some}
 use Rattle.rl_step.specs.declared.events.Standing.{Standing}
-use Rattle.rl_step.specs.Lock.{LockTable, LockState}
-use Rattle.rl_ending.specs.Ending.{LockEnds}
+use Rattle.rl_word.specs.declared.acts.Act.{Act}
+use Rattle.rl_step.specs.Lock.{LockTable, LockState, acted}
+use Rattle.rl_ending.specs.Ending.{LockEnds, CanGoOn, left_in}
 use Rattle.rl_step.specs.declared.events.Standing.TheVariants.{Out, Asking, Writer, Reader, Leaving}
 
 pub out_or_not : (st : Standing) → (st ≡ Out) ⊎ (st ≡ Out → ⊥)
@@ -44,3 +45,8 @@ ends_for T left good narrow most wide e =
       ask_adds = λ s r v m g has out. e.ask_adds s r v m (wide s g) has out;
       leave_adds = λ s r v g has holds. e.leave_adds s r v (wide s g) has holds;
     }
+
+-- a rank goes on by the act that its view plans, where that leaves less to do
+pub goes_on_by : {V : Type 0} {T : LockTable V} {left : List ℕ → List V → ℕ} {s : LockState V} {r : ℕ} (v : V) (a : Act) →
+    slice_get s.views r ≡ Some v → T.plan v ≡ Some a → left_in T left (acted T s r v a) < left_in T left s → CanGoOn T left s r
+goes_on_by v a has planned less = record { view = v; has = has; way = inr (record { act = a; planned = planned; less = less }) }

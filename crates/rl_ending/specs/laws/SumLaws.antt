@@ -5,14 +5,14 @@ use Rattle.std.proofs.Math.Nat.{mul-le-mul_left}
 use Rattle.rl_ending.specs.laws.Sums.{sum_turned, sum_falls, sum_grows, sum_few}
 use Rattle.rl_ending.specs.TwoSums.{two_sums}
 
-pays : (w a b n m : ℕ) → a < b → n < w → w * a + n < w * b + m
+pub pays : (w a b n m : ℕ) → a < b → n < w → w * a + n < w * b + m
 pays w a b n m lt less =
     let le : a + 1 ≤ b = omega arith in
     let k : w * (a + 1) ≤ w * b = mul-le-mul_left w le in
     let e : w * (a + 1) ≡ w * a + w = grind arith in
     omega arith
 
-same_far : (w a b n m : ℕ) → a ≡ b → n < m → w * a + n < w * b + m
+pub same_far : (w a b n m : ℕ) → a ≡ b → n < m → w * a + n < w * b + m
 same_far w a b n m e lt = subst (λ k. w * a + n < w * k + m) e (omega arith)
 
 more : (w a b n m k : ℕ) → a ≤ b + k → n ≤ m → w * a + n ≤ w * b + m + k * w

@@ -6,9 +6,9 @@ use Rattle.rl_core.specs.ShardLaws.{LawsOf}
 use Rattle.rl_core.specs.Moments.{CoreSays}
 use Rattle.rl_machine.specs.Running.{Running}
 use Rattle.rl_machine.specs.Run.{stepped, run_of, AreThere}
-use Rattle.rl_machine.specs.laws.RunActs.{step_acts, run_acts}
+use Rattle.rl_machine.specs.laws.RunActs.{step_acts}
 use Rattle.rl_machine.specs.MachineGood.{MachineGood}
-use Rattle.rl_machine.specs.laws.MachineLaws.{stepped_good, stepped_calls, run_good}
+use Rattle.rl_machine.specs.laws.MachineLaws.{stepped_good, stepped_calls}
 use Rattle.rl_ending.specs.laws.Reach as reach
 use Rattle.rl_core.specs.ShardEnding.{LeftOf, EndsOf}
 use Rattle.rl_machine.specs.MachineEnding.{AllDone, CanFinish, CanFinishIn, machine_left}
@@ -51,11 +51,5 @@ module _ {C V : Type 0} (says : C → CoreSays V) (laws : LawsOf says)
       let c = reach.can_end stepped (λ j. j < n) (IsRunning n) AllDone (machine_left left most cores) (keeps n) (goes n) m (record { acts = acts; is_good = g; ranks = refl }) in
       record { ranks = c.ranks; there = all_there n c.ranks c.all; few = c.few; done = subst AllDone (steps_are m c.ranks) c.ends }
 
-  -- and so from each that comes after
-  pub still_can : (acts : List (List Deed)) (m : Running V) (ks : List ℕ) → MachineGood says cores acts m → AreThere (length m.calls) ks → CanFinish (run_of m ks)
-  still_can acts m ks g there =
-      let c = can_finish_in (run_acts acts m ks) (run_of m ks) (run_good says laws cores acts m ks g there) in
-      record { ranks = c.ranks; there = c.there; done = c.done }
-
   pub can_finish : (acts : List (List Deed)) (m : Running V) → MachineGood says cores acts m → CanFinish m
-  can_finish acts m g = still_can acts m [] g tt
+  can_finish acts m g = let c = can_finish_in acts m g in record { ranks = c.ranks; there = c.there; done = c.done }

@@ -1,6 +1,7 @@
 -- A rank that opens its next block: the block in the code's lists, its shard, and the step.
 use Rattle.std.specs.Prelude.{◌≡◌, ℕ, ◌+◌, ◌≤◌, ◌<◌, true, false, List, [], length, get_or, slice_get, slice_index, slice_set, Some, refl}
 use Rattle.std.proofs.Common.{sym, ◌∙◌, ap, subst, get_or-set_same, arith}
+use Rattle.std.proofs.lemmas.List.{get_or_read}
 use Rattle.std.proofs.lemmas.Option.{slice_get-get_or}
 use Rattle.rl_word.specs.laws.Places.{one_at}
 use Rattle.rl_model.specs.declared.call.Call.{Call}
@@ -51,14 +52,12 @@ module _ {C V : Type 0} (says : C → CoreSays V) (m : MachineState C V) (k : �
     pub there : place < length m.shards.items
     pub on : (item : ShardState C V) → item ≡ get_or m.shards.items place item → CanOpen first place block item
 
-  -- the block stands in the code's lists, and whatever the code reads of it is so
-  pub record IsBlockThere : Type 0 where
+  -- the block stands in the code's lists, by the number of its first call, and whatever the code reads of it is so
+  pub record IsBlockThere (first : ℕ) : Type 0 where
     pub sized : k < length m.ops.sizes
-    pub begins : slice_index m.opened.items k < length (get_or m.ops.sizes k [])
-    pub within : slice_index m.opened.items k + slice_index (get_or m.ops.sizes k []) (slice_index m.opened.items k) ≤ length (get_or m.ops.by_rank k [])
-    pub opened : k < length m.opened.items
-    pub goes : (first place : ℕ) (block : List Call) → first ≡ slice_index m.opened.items k → block ≡ block_from (get_or m.ops.by_rank k []) (get_or m.ops.sizes k []) first →
-        place ≡ block_shard m.geom block → CanOpenAt first place block
+    pub begins : first < length (get_or m.ops.sizes k [])
+    pub within : first + slice_index (get_or m.ops.sizes k []) first ≤ length (get_or m.ops.by_rank k [])
+    pub goes : (place : ℕ) (block : List Call) → block ≡ block_from (get_or m.ops.by_rank k []) (get_or m.ops.sizes k []) first → place ≡ block_shard m.geom block → CanOpenAt first place block
 
 module _ {C V : Type 0} (says : C → CoreSays V) (laws : LawsOf says)
     (m : MachineState C V) (is : IsMachine says (machine_view m)) (k : ℕ) (h : k < length m.ops.by_rank) (e : opens (running_machine says m) k ≡ true) where
@@ -186,5 +185,14 @@ module _ {C V : Type 0} (says : C → CoreSays V) (laws : LawsOf says)
       record { there = listed.there; on = λ item value. can_open_there item (slice_get-get_or m.shards.items place item listed.there ∙ ap Some (sym value)) } in
       subst (λ f. CanOpenAt says m k f at b) (sym e1) (subst (λ c. CanOpenAt says m k n at c) (sym same) (subst (λ p. CanOpenAt says m k n p block) (sym same_place) here))
 
-  pub block_there : IsBlockThere says m k
-  block_there = record { sized = listed.sized; begins = listed.begins; within = listed.within; opened = listed.opened; goes = can_open }
+  -- the number of its first call is read of the list of calls opened
+  pub block_there : (first : ℕ) → first ≡ get_or m.opened.items k first → IsBlockThere says m k first
+  block_there first read =
+      let sizes = get_or m.ops.sizes k [] in
+      let e : first ≡ n = get_or_read m.opened.items k first listed.opened read 0 in
+      record {
+        sized = listed.sized;
+        begins = subst (λ i. i < length sizes) (sym e) listed.begins;
+        within = subst (λ i. i + slice_index sizes i ≤ length (get_or m.ops.by_rank k [])) (sym e) listed.within;
+        goes = λ place block is at. can_open first place block e is at;
+      }

@@ -2,7 +2,7 @@
 use Rattle.std.specs.Prelude.{◌≡◌, ℕ, zero, suc, ◌<◌, ◌≤◌, List, [], ◌∷◌, length, map, sum, get_or, slice_get, slice_set, Some}
 use Rattle.std.proofs.Common.{sym, ◌∙◌, ap, subst, arith}
 use Rattle.std.proofs.lemmas.List.{length-map}
-use Rattle.std.proofs.lemmas.Option.{slice_get_within}
+use Rattle.std.proofs.lemmas.Option.{slice_get_within, slice_get-get_or}
 use Rattle.rl_word.specs.laws.Places.{get_map, map_set, set_same_get, some_at}
 use Rattle.rl_core.specs.Moments.{CoreSays}
 use Rattle.rl_machine.specs.declared.shard.ShardState.{ShardState}
@@ -39,12 +39,14 @@ core_set items s item new has same =
     (get_map (λ (x : TheShard _ _). x.core) (map shard_view items) s (shard_view item) (get_map shard_view items s item has))
 
 module _ {C V : Type 0} (says : C → CoreSays V) (m : MachineState C V) (is : IsMachine says (machine_view m)) where
-  -- a shard of it, where each rank has a view that may be
+  -- a shard of it, where each rank has a view that may be, and whose journal has few places
   pub record IsThere (s : ℕ) (item : ShardState C V) : Type 0 where
+    pub listed : slice_get m.shards.items s ≡ Some item
     pub has : slice_get (running_machine says m).shards s ≡ Some (running_shard says item)
     pub has_core : slice_get (cores_of (machine_view m)) s ≡ Some item.core
     pub ranks : length item.flat.views.items ≡ length m.ops.by_rank
     pub is_good : IsGood says item
+    pub few : sum (says item.core).table.site.rooms ≤ 20000
 
   pub is_there : (s : ℕ) (item : ShardState C V) → slice_get m.shards.items s ≡ Some item → IsThere s item
   is_there s item has =
@@ -53,17 +55,18 @@ module _ {C V : Type 0} (says : C → CoreSays V) (m : MachineState C V) (is : I
       let core = get_map (λ (x : TheShard C V). x.core) (map shard_view m.shards.items) s (shard_view item) view in
       let deeds = some_at is.acts s (let a = is.is_good.all_acts in let h = slice_get_within (cores_of (machine_view m)) s item.core core in omega arith) in
       let all = is.is_good.shards s (running_shard says item) item.core deeds.0 shard core deeds.1 in
-      record { has = shard; has_core = core; ranks = all.ranks; is_good = record { acts = deeds.0; is_good = all.is_good } }
+      record {
+        listed = has;
+        has = shard;
+        has_core = core;
+        ranks = all.ranks;
+        is_good = record { acts = deeds.0; is_good = all.is_good };
+        few = subst (λ l. sum l ≤ 20000) (sym all.rooms_are) (few_updates m.geom s 20000 m.ops.by_rank is.few);
+      }
 
-  -- its journal has few places
-  pub few_places : (s : ℕ) (item : ShardState C V) → slice_get m.shards.items s ≡ Some item → sum (says item.core).table.site.rooms ≤ 20000
-  few_places s item has =
-      let view = get_map shard_view m.shards.items s item has in
-      let shard = get_map (shard_run says) (map shard_view m.shards.items) s (shard_view item) view in
-      let core = get_map (λ (x : TheShard C V). x.core) (map shard_view m.shards.items) s (shard_view item) view in
-      let deeds = some_at is.acts s (let a = is.is_good.all_acts in let h = slice_get_within (cores_of (machine_view m)) s item.core core in omega arith) in
-      let all = is.is_good.shards s (running_shard says item) item.core deeds.0 shard core deeds.1 in
-      subst (λ l. sum l ≤ 20000) (sym all.rooms_are) (few_updates m.geom s 20000 m.ops.by_rank is.few)
+  -- as the code reads it, in the list or in its slice
+  pub read_there : (items : List (ShardState C V)) (s : ℕ) (item : ShardState C V) → items ≡ m.shards.items → s < length items → item ≡ get_or items s item → IsThere s item
+  read_there items s item same low value = is_there s item (ap (λ xs. slice_get xs s) (sym same) ∙ slice_get-get_or items s item low ∙ ap Some (sym value))
 
   pub many : length m.shards.items ≡ m.geom.shards
   many = sym (length_views m.shards.items) ∙ is.is_good.many where

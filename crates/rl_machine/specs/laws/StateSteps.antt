@@ -34,29 +34,32 @@ module _ {V : Type 0} where
   stepped_shape m k = opened_shape m k (opens m k)
 
 module _ {C V : Type 0} (says : C → CoreSays V) (laws : LawsOf says) where
-  pub step_keeps : (m n : TheMachine C V) (k : ℕ) → IsMachine says m → k < length m.calls → running says n ≡ stepped (running says m) k → cores_of n ≡ cores_of m → IsMachine says n
-  step_keeps m n k is h made cores =
-      let shape = stepped_shape (running says m) k in
-      let acts : List (List Deed) = step_acts is.acts (running says m) k in
-      let step : MachineGood says (cores_of m) acts (stepped (running says m) k) = stepped_good says laws (cores_of m) is.acts (running says m) k is.is_good h in
+  -- what is good and has the size, the calls and the cores of a machine is a machine
+  stays_machine : (m n : TheMachine C V) (acts : List (List Deed)) (after : Running V) → IsMachine says m → MachineGood says (cores_of m) acts after → (after.geom ≡ m.geom) × (after.calls ≡ m.calls) →
+      running says n ≡ after → cores_of n ≡ cores_of m → IsMachine says n
+  stays_machine m n acts after is good shape made cores =
       record {
         acts = acts;
-        is_good = subst (λ c. MachineGood says c acts (running says n)) (sym cores) (subst (MachineGood says (cores_of m) acts) (sym made) step);
+        is_good = subst (λ c. MachineGood says c acts (running says n)) (sym cores) (subst (MachineGood says (cores_of m) acts) (sym made) good);
         fits = subst GeomFits (sym (ap (λ z. z.geom) made ∙ shape.0)) is.fits;
         few = subst (λ c. total_calls c ≤ 20000) (sym (ap (λ z. z.calls) made ∙ shape.1)) is.few;
       }
 
-  -- a block that is opened keeps all that is true of a machine
-  pub open_keeps : (m n : TheMachine C V) (k : ℕ) → IsMachine says m → k < length m.calls → running says n ≡ block_opened (running says m) k → cores_of n ≡ cores_of m → IsMachine says n
-  open_keeps m n k is h made cores =
-      let shape = opened_shape (running says m) k (opens (running says m) k) in
-      let block : MachineGood says (cores_of m) is.acts (block_opened (running says m) k) = block_good says laws (cores_of m) is.acts (running says m) k is.is_good h in
-      record {
-        acts = is.acts;
-        is_good = subst (λ c. MachineGood says c is.acts (running says n)) (sym cores) (subst (MachineGood says (cores_of m) is.acts) (sym made) block);
-        fits = subst GeomFits (sym (ap (λ z. z.geom) made ∙ shape.0)) is.fits;
-        few = subst (λ c. total_calls c ≤ 20000) (sym (ap (λ z. z.calls) made ∙ shape.1)) is.few;
-      }
+  -- a machine whose value a contract sees, and a rank that is there
+  module _ (m value : TheMachine C V) (same : m ≡ value) (is : IsMachine says m) (k : ℕ) (there : k < length value.calls) where
+    low : k < length m.calls
+    low = subst (λ z. k < length z.calls) (sym same) there
+
+    pub step_keeps : (n : TheMachine C V) → running says n ≡ stepped (running says m) k → cores_of n ≡ cores_of m → IsMachine says n
+    step_keeps n made cores =
+        stays_machine m n (step_acts is.acts (running says m) k) (stepped (running says m) k) is
+        (stepped_good says laws (cores_of m) is.acts (running says m) k is.is_good low) (stepped_shape (running says m) k) made cores
+
+    -- a block that is opened keeps it too
+    pub open_keeps : (n : TheMachine C V) → running says n ≡ block_opened (running says m) k → cores_of n ≡ cores_of m → IsMachine says n
+    open_keeps n made cores =
+        stays_machine m n is.acts (block_opened (running says m) k) is
+        (block_good says laws (cores_of m) is.acts (running says m) k is.is_good low) (opened_shape (running says m) k (opens (running says m) k)) made cores
 
   -- the machine after it, where the value before it is n: its rank's next step is the one that it was
   module _ (m n : TheMachine C V) (value : m ≡ n) (k : ℕ) (is : IsMachine says m) (low : k < length n.calls) (after : TheMachine C V)

@@ -4,12 +4,13 @@ use Rattle.std.proofs.Common.{sym, ◌∙◌, ap}
 use Rattle.std.proofs.lemmas.List.{append-nil}
 use Rattle.rl_word.specs.laws.Places.{some_at}
 use Rattle.rl_word.specs.declared.acts.Atom.{Atom}
+use Rattle.rl_model.specs.declared.call.Call.{Call}
 use Rattle.rl_step.specs.declared.events.Event.{Event}
 use Rattle.rl_step.specs.declared.events.Stepped.{Stepped}
 use Rattle.rl_step.specs.declared.events.Stepped.TheVariants.{Finished}
 use Rattle.rl_step.specs.Do.{TheWindow, do_atom, do_got}
 use Rattle.rl_machine.specs.Running.{ShardRun}
-use Rattle.rl_machine.specs.ShardSteps.{numbered, makes, made_at, atom_on, answer_to, answer_at, answer_on}
+use Rattle.rl_machine.specs.ShardSteps.{opened_at, opened_on, numbered, makes, made_at, atom_on, answer_to, answer_at, answer_on}
 
 -- the shard with its lock as it was, and all else new
 abbrev pub shard_by : {V : Type 0} → ShardRun V → TheWindow → List V → List (ℕ × Event) → ShardRun V
@@ -17,6 +18,13 @@ shard_by S h vs t = record { table = S.table; held = h; views = vs; trace = t }
 
 same_shard : {V : Type 0} (S : ShardRun V) (h k : TheWindow) (vs us : List V) (t u : List (ℕ × Event)) → h ≡ k → vs ≡ us → t ≡ u → shard_by S h vs t ≡ shard_by S k us u
 same_shard S h k vs us t u eh ev et = ap (λ z. shard_by S z vs t) eh ∙ ap (λ z. shard_by S k z t) ev ∙ ap (λ z. shard_by S k us z) et
+
+-- the view with the block open in place of the one before, and all else as it was
+pub opened_shard : {V : Type 0} (S : ShardRun V) (k : ℕ) (calls : List Call) (seq : ℕ) (h : TheWindow) (vs : List V) (t : List (ℕ × Event)) → k < length S.views →
+    h ≡ S.held → ((x : V) → slice_get S.views k ≡ Some x → vs ≡ slice_set S.views k (S.table.opened calls seq x)) → t ≡ S.trace → shard_by S h vs t ≡ opened_on k calls seq S
+opened_shard S k calls seq h vs t there words views events =
+    let x = some_at S.views k there in
+    same_shard S h S.held vs (slice_set S.views k (S.table.opened calls seq x.0)) t S.trace words (views x.0 x.1) events ∙ sym (ap (opened_at S k calls seq) x.1)
 
 -- what an advance of rank k left, by its clauses: words and cards h, views vs, events es and the answer
 pub record Advances {V : Type 0} (S : ShardRun V) (k : ℕ) (h : TheWindow) (vs : List V) (es : List Event) (answer : Stepped) : Type 0 where

@@ -23,7 +23,7 @@ use Rattle.rl_tree.specs.laws.TreePaths.{el_top}
 use Rattle.rl_tree.specs.laws.RanksInTree.{stands_of}
 use Rattle.rl_mcs.specs.Mcs.{mcs_table, mcs_learn, past_hook, McsGood}
 use Rattle.rl_ending.specs.Ending.{LockEnds, CanGoOn}
-use Rattle.rl_ending.specs.laws.EndingLaws.{all_out_or_not}
+use Rattle.rl_ending.specs.laws.EndingLaws.{all_out_or_not, goes_on_by}
 use Rattle.rl_queue.specs.laws.Stuck.{GetsOn}
 use Rattle.rl_queue.specs.laws.TurnsFall.{turn_falls}
 use Rattle.rl_queue.specs.laws.Choices.{same_test}
@@ -67,17 +67,10 @@ module _ (K : Rooted) (n : ℕ) (S : IsWellShaped K n) where
       far_of n (mcs_learn K v (told a (slice_index s.words (word_of a)))).view < far_of n v → CanGoOn T (mcs_left K n) s m
   by_act s m v a has pl lt =
       let ws : List ℕ = slice_set s.words (word_of a) (written a (slice_index s.words (word_of a))) in
-      record {
-        view = v;
-        has = has;
-        way = inr (record {
-          act = a;
-          planned = pl;
-          less = nearer 1 (far_of n) (near_of K s.words) (near_of K ws)
-              (λ x. near_few x.query (slice_index ws (path (tree_of K) x.leaf x.level)) x.phase) s.views m v
-              (mcs_learn K v (told a (slice_index s.words (word_of a)))).view has lt;
-        });
-      }
+      goes_on_by v a has pl
+      (nearer 1 (far_of n) (near_of K s.words) (near_of K ws)
+      (λ x. near_few x.query (slice_index ws (path (tree_of K) x.leaf x.level)) x.phase) s.views m v
+      (mcs_learn K v (told a (slice_index s.words (word_of a)))).view has lt)
 
   -- an act that gets the rank's member on, with the walk that follows
   turn_far : (u : TreeView) (p : Phase) (got : ℕ) → Placed u → GetsOn p got → far_of n (mcs_learn K (at_level u u.level p) got).view < far_by n false u.level p
@@ -105,19 +98,12 @@ module _ (K : Rooted) (n : ℕ) (S : IsWellShaped K n) where
       let old : near_of K s.words (at_level u u.level (Swing g)) ≡ 1 = ap (λ b. if b then 0 else 1) test in
       let new : near_of K s.words (at_level u u.level (Swing (slice_index s.words (Q u)))) ≡ 0 =
       ap (λ b. if b then 0 else 1) (same_test (slice_index s.words (Q u))) in
-      record {
-        view = at_level u u.level (Swing g);
-        has = has;
-        way = inr (record {
-          act = CardCas (Q u) g (M u + 1);
-          planned = refl;
-          less = subst (λ ws. mcs_left K n ws (slice_set s.views m
-              (mcs_learn K (at_level u u.level (Swing g)) (slice_index s.words (Q u))).view) < mcs_left K n s.words s.views) (sym words)
-              (subst (λ z. mcs_left K n s.words (slice_set s.views m z) < mcs_left K n s.words s.views) (sym view)
-              (less_change 1 (far_of n) (near_of K s.words) s.views m (at_level u u.level (Swing g))
-              (at_level u u.level (Swing (slice_index s.words (Q u)))) has refl (omega (arith, old, new))));
-        });
-      }
+      goes_on_by (at_level u u.level (Swing g)) (CardCas (Q u) g (M u + 1)) has refl
+      (subst (λ ws. mcs_left K n ws (slice_set s.views m
+      (mcs_learn K (at_level u u.level (Swing g)) (slice_index s.words (Q u))).view) < mcs_left K n s.words s.views) (sym words)
+      (subst (λ z. mcs_left K n s.words (slice_set s.views m z) < mcs_left K n s.words s.views) (sym view)
+      (less_change 1 (far_of n) (near_of K s.words) s.views m (at_level u u.level (Swing g))
+      (at_level u u.level (Swing (slice_index s.words (Q u)))) has refl (omega (arith, old, new)))))
 
   -- a rank at its queue in a phase
   pub phase_goes : (s : LockState TreeView) (m : ℕ) (u : TreeView) (p : Phase) → Placed u →

@@ -88,19 +88,7 @@ hook_cap n T u true e =
 
 -- each act that gets its member on makes it less far, once it has walked on
 pub far_falls : (n w : ℕ) → w ≤ n → Falls (far_by n false w) (cap n w)
-far_falls n w within =
-    record {
-      clear = omega arith;
-      reset = omega arith;
-      swing = λ guess. (omega arith, omega arith);
-      link = λ guess. omega arith;
-      wait = λ left. (omega arith, omega arith);
-      look = λ left succ upper. (omega arith, omega arith);
-      gives_up = λ left succ. omega arith;
-      close = λ left. (omega arith, omega arith);
-      await = λ left succ. omega arith;
-      hand = λ succ left. omega arith;
-    }
+far_falls n w within = grind arith
 
 pub near_few : (q : Bool) (t : ℕ) (p : Phase) → near_by q t p ≤ 1
 near_few true t p = omega arith

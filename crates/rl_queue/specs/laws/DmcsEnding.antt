@@ -26,22 +26,10 @@ use Rattle.rl_queue.specs.laws.TurnsFall.{turn_falls}
 use Rattle.rl_queue.specs.laws.LineGoes.{busy_goes}
 use Rattle.rl_ending.specs.Ending.{LockEnds, CanGoOn}
 use Rattle.rl_ending.specs.laws.SumLaws.{nearer, less_change, grows}
-use Rattle.rl_ending.specs.laws.EndingLaws.{all_out_or_not}
+use Rattle.rl_ending.specs.laws.EndingLaws.{all_out_or_not, goes_on_by}
 
 far_falls : Falls far far
-far_falls =
-    record {
-      clear = omega arith;
-      reset = omega arith;
-      swing = λ guess. (omega arith, omega arith);
-      link = λ guess. omega arith;
-      wait = λ left. (omega arith, omega arith);
-      look = λ left succ upper. (omega arith, omega arith);
-      gives_up = λ left succ. omega arith;
-      close = λ left. (omega arith, omega arith);
-      await = λ left succ. omega arith;
-      hand = λ succ left. omega arith;
-    }
+far_falls = grind arith
 
 -- entering brings nobody farther
 enter_far : (m : ℕ) (p : Phase) (es : List Event) (w : Bool) → far (dmcs_enter m p es w).view.phase ≤ far p
@@ -81,16 +69,9 @@ module _ (home : ℕ) (node_of : List ℕ) where
       turn_falls far far far_falls N m p (told a (slice_index s.words (word_of a))) gets in
       let enters = enter_far m t.phase t.events t.waits in
       let words : List ℕ = slice_set s.words (word_of a) (written a (slice_index s.words (word_of a))) in
-      record {
-        view = at_phase m p;
-        has = has;
-        way = inr (record {
-          act = a;
-          planned = pl;
-          less = nearer 1 far_of (near_of s.words) (near_of words) (λ v. near_few (slice_index words 0) v.phase) s.views m (at_phase m p)
-              (dmcs_turn m t).view has (omega arith);
-        });
-      }
+      goes_on_by (at_phase m p) a has pl
+      (nearer 1 far_of (near_of s.words) (near_of words) (λ v. near_few (slice_index words 0) v.phase) s.views m (at_phase m p)
+      (dmcs_turn m t).view has (omega arith))
 
   -- a swing that is lost learns the tail
   by_loss : (s : LockState QueueView) (m g : ℕ) → slice_get s.views m ≡ Some (at_phase m (Swing g)) → (slice_index s.words 0 == g) ≡ false →
@@ -102,19 +83,12 @@ module _ (home : ℕ) (node_of : List ℕ) where
       ap (λ b. (dmcs_turn m (if b then moves_with (joined_at g) (event.Join 0 m) else moves_to (Swing (slice_index s.words 0)))).view) lost in
       let old : near (slice_index s.words 0) (Swing g) ≡ 1 = ap (λ b. if b then 0 else 1) lost in
       let new : near (slice_index s.words 0) (Swing (slice_index s.words 0)) ≡ 0 = ap (λ b. if b then 0 else 1) (same_test (slice_index s.words 0)) in
-      record {
-        view = at_phase m (Swing g);
-        has = has;
-        way = inr (record {
-          act = CardCas 0 g (m + 1);
-          planned = refl;
-          less = subst (λ ws. dmcs_left ws (slice_set s.views m (dmcs_learn (length node_of) m (Swing g) (slice_index s.words 0)).view) <
-              dmcs_left s.words s.views) (sym words)
-              (subst (λ u. dmcs_left s.words (slice_set s.views m u) < dmcs_left s.words s.views) (sym view)
-              (less_change 1 far_of (near_of s.words) s.views m (at_phase m (Swing g)) (at_phase m (Swing (slice_index s.words 0))) has refl
-              (omega (arith, old, new))));
-        });
-      }
+      goes_on_by (at_phase m (Swing g)) (CardCas 0 g (m + 1)) has refl
+      (subst (λ ws. dmcs_left ws (slice_set s.views m (dmcs_learn (length node_of) m (Swing g) (slice_index s.words 0)).view) <
+      dmcs_left s.words s.views) (sym words)
+      (subst (λ u. dmcs_left s.words (slice_set s.views m u) < dmcs_left s.words s.views) (sym view)
+      (less_change 1 far_of (near_of s.words) s.views m (at_phase m (Swing g)) (at_phase m (Swing (slice_index s.words 0))) has refl
+      (omega (arith, old, new)))))
 
   -- who uses the queue, isn't stuck and is calm goes on
   pub goes_by : (s : LockState QueueView) (m : ℕ) (p : Phase) → slice_get s.views m ≡ Some (at_phase m p) → Busy p → Calm p →

@@ -1,13 +1,12 @@
 -- The events of an atom stand in the order of their kinds, and name what the lock has.
 use Rattle.std.specs.Prelude.{◌≡◌, ℕ, ◌≤◌, Bool, List, [], ◌∷◌, ◌++◌, length, slice_get, Option, Some, None, refl}
 use Rattle.std.proofs.Common.{sym, subst, arith}
-use Rattle.rl_word.specs.laws.Places.{get_map}
 use Rattle.rl_word.specs.Acts.{Layout}
 use Rattle.rl_word.specs.declared.acts.Atom.{Atom}
 use Rattle.rl_step.specs.declared.events.Event.{Event}
 use Rattle.rl_step.specs.declared.events.Standing.{Standing}
 use Rattle.rl_step.specs.declared.events.Standing.TheVariants.{Out, Asking, Writer, Reader, Leaving}
-use Rattle.rl_step.specs.Lock.{Deed, InOrder, AllNamed, Acts}
+use Rattle.rl_step.specs.Lock.{Deed, InOrder, AllNamed, Acts, MayLearn}
 use Rattle.rl_step.specs.Queues.{QueueOf}
 use Rattle.rl_step.specs.Core.{MayGet}
 use Rattle.rl_step.specs.Do.{TheWindow, do_got}
@@ -18,10 +17,9 @@ use Rattle.rl_rank.specs.declared.effect.Effect.{Effect}
 use Rattle.rl_rank.specs.declared.effect.Effect.TheVariants.{Work, Stay, Learn}
 use Rattle.rl_rank.specs.declared.whole.WholeView.{WholeView}
 use Rattle.rl_rank.specs.Running.{LockAt, Goods, BothLaws}
-use Rattle.rl_rank.specs.Split.{SplitState, lock_of, view_of, effect_at, plan_home}
-use Rattle.rl_rank.specs.laws.LearnLaws.{learns_at}
-use Rattle.rl_rank.specs.Whole.{side_of, split_of, work_events, next_of, after_of, whole_table, effect_turned, Good}
-use Rattle.rl_rank.specs.laws.WholeOwes.{got_is}
+use Rattle.rl_rank.specs.Split.{effect_at, plan_home}
+use Rattle.rl_rank.specs.Whole.{work_events, next_of, after_of, whole_table, effect_turned, Good}
+use Rattle.rl_rank.specs.laws.WholeOwes.{may_learn}
 
 -- events that stand in order, no more than an atom has, and name what is there
 pub record AreEvents (queues : List QueueOf) (cohort : ℕ → Bool) (es : List Event) : Type 0 where
@@ -58,24 +56,21 @@ module _ (V K : Type 0) (L : LockAt V K) (good : Goods V K) (further : List Even
   effect_events : (w : Worked K) (t : Effect) → effect_at (plan_home L.table (L.table.plan x.side.view)) (L.table.plan x.side.view)
       x.side.card (do_got at h.words h.cards) ≡ t →
       AreEvents L.table.queues L.table.cohort (effect_turned L x w t).events
+  unfolding may_learn
   effect_events w Work q = work_are L.table.queues L.table.cohort x.rank (L.work.touch x.work) (L.table.standing x.side.view) w.follow
   effect_events w (Stay hand answer) q = record { order = tt; few = omega arith; named = tt }
   effect_events w (Learn hand told' lost) q =
       let m : MayGet (whole_table L home) (Good L good layout) x (do_got at h.words h.cards) =
       record { held = h; views = vs; rank = r; atom = at; plans = record { is_ruled = g; has = has; planned = e }; gives = refl } in
-      let s : SplitState V = split_of L h vs g.modes g.past in
-      let here : slice_get s.sides r ≡ Some x.side = get_map side_of vs r x has in
-      let l = learns_at V L.table good.lock further layout laws.lock s r x.side.view (L.table.plan x.side.view) x.side.card
-      (do_got at h.words h.cards) hand told' lost g.lock_part here refl q
-      (λ b f. got_is V K L good further layout laws home x (do_got at h.words h.cards) m b f) in
-      let acts : Acts L.table good.lock (lock_of s) r x.side.view l.0 =
-      record { is_good = g.lock_part.lock; has = get_map view_of s.sides r x.side here; planned = l.1 } in
-      subst (λ k. AreEvents L.table.queues L.table.cohort (L.table.learn x.side.view k).events) (sym l.2)
+      let may : MayLearn L.table good.lock x.side.view told' =
+      may_learn V K L good further layout laws home x (do_got at h.words h.cards) hand told' lost m q in
+      let acts : Acts L.table good.lock may.state r x.side.view may.act = record { is_good = may.is_good; has = may.has; planned = may.planned } in
+      subst (λ k. AreEvents L.table.queues L.table.cohort (L.table.learn x.side.view k).events) (sym may.gives)
       (record {
-        order = (laws.lock.orders (lock_of s) r x.side.view l.0 acts).0;
+        order = (laws.lock.orders may.state r x.side.view may.act acts).0;
         few =
-            (laws.lock.orders (lock_of s) r x.side.view l.0 acts).1;
-        named = laws.lock.names (lock_of s) r x.side.view l.0 acts;
+            (laws.lock.orders may.state r x.side.view may.act acts).1;
+        named = laws.lock.names may.state r x.side.view may.act acts;
       })
 
   pub atom_events : AreEvents L.table.queues L.table.cohort (after_of L x (do_got at h.words h.cards)).events

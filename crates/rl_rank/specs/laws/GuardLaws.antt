@@ -9,7 +9,7 @@ use Rattle.rl_step.specs.declared.events.Event.{Event}
 use Rattle.rl_step.specs.declared.events.Event.TheVariants.{Join, Announce, Pass, Settle, Touch, EnterW, EnterR, LeaveW, LeaveR}
 use Rattle.rl_step.specs.declared.events.Standing.{Standing}
 use Rattle.rl_step.specs.declared.events.Standing.TheVariants.{Out, Asking, Writer, Reader, Leaving}
-use Rattle.rl_step.specs.Lock.{Deed, IsHolder, Shift, holds_only, learnt}
+use Rattle.rl_step.specs.Lock.{Deed, IsHolder, Shift, holds_only, learnt, Acts, MayLearn}
 use Rattle.rl_step.specs.Do.{TheWindow, do_got}
 use Rattle.rl_step.specs.Core.{Turned, MayGet}
 use Rattle.rl_work.specs.declared.follow.Follow.{Follow}
@@ -22,14 +22,12 @@ use Rattle.rl_rank.specs.declared.effect.Effect.TheVariants.{Work, Stay, Learn}
 use Rattle.rl_rank.specs.declared.whole.WholeView.{WholeView}
 use Rattle.rl_rank.specs.Running.{LockAt, Goods, BothLaws}
 use Rattle.rl_rank.specs.WholeShards.{stand, standing_while, stand_on}
-use Rattle.rl_rank.specs.Split.{SplitState, lock_of, view_of, effect_at, plan_home}
-use Rattle.rl_rank.specs.laws.LearnLaws.{learns_at}
+use Rattle.rl_rank.specs.Split.{effect_at, plan_home}
 use Rattle.rl_rank.specs.laws.Bridge.{is_work, no_work}
 use Rattle.rl_rank.specs.laws.Changes.{shift_cases}
-use Rattle.rl_rank.specs.Whole.{side_of, shifted, work_side, split_of, touch_by, departure_by, work_events, next_of, after_of, effect_turned, whole_table, Good}
+use Rattle.rl_rank.specs.Whole.{shifted, work_side, touch_by, departure_by, work_events, next_of, after_of, effect_turned, whole_table, Good}
 use Rattle.rl_rank.specs.laws.WholeLaws.{next_either, after_work, work_at, works_at}
-use Rattle.rl_rank.specs.laws.WholeOwes.{got_is}
-use Rattle.rl_word.specs.laws.Places.{get_map}
+use Rattle.rl_rank.specs.laws.WholeOwes.{may_learn}
 
 -- the events of a lock speak of no touch where those of holders don't
 touches_held : (es : List Event) → touches_of (holds_only es) ≡ touches_of es
@@ -132,24 +130,22 @@ work_guarded T base r (atom.Leave n) st on calls touch follow plain holds out to
 module _ (V K : Type 0) (L : LockAt V K) (good : Goods V K) (further : List Event → List Deed → Type 0) (layout : Layout)
     (laws : BothLaws L good further layout) (home : ℕ) where
   -- an atom of the lock comes with no touch
+
   lock_quiet : (h : TheWindow) (vs : List (WholeView V K)) (r : ℕ) (x : WholeView V K) (at : Atom) (g : Good L good layout h vs) →
       slice_get vs r ≡ Some x → next_of L x ≡ Some at → (t : Effect) →
       effect_at (plan_home L.table (L.table.plan x.side.view)) (L.table.plan x.side.view) x.side.card (do_got at h.words h.cards) ≡ t → is_work t ≡ false →
       touches_of (effect_turned L x (L.work.after x.rank x.work (do_got at h.words h.cards)) t).events ≡ []
+  unfolding may_learn
   lock_quiet h vs r x at g has e Work q calm = absurd (cc)
   lock_quiet h vs r x at g has e (Stay hand answer) q calm = refl
   lock_quiet h vs r x at g has e (Learn hand told' lost) q calm =
       let m : MayGet (whole_table L home) (Good L good layout) x (do_got at h.words h.cards) =
       record { held = h; views = vs; rank = r; atom = at; plans = record { is_ruled = g; has = has; planned = e }; gives = refl } in
-      let s : SplitState V = split_of L h vs g.modes g.past in
-      let here : slice_get s.sides r ≡ Some x.side = get_map side_of vs r x has in
-      let l = learns_at V L.table good.lock further layout laws.lock s r x.side.view (L.table.plan x.side.view) x.side.card
-      (do_got at h.words h.cards) hand told' lost g.lock_part here refl q
-      (λ b f. got_is V K L good further layout laws home x (do_got at h.words h.cards) m b f) in
-      subst (λ k. touches_of (L.table.learn x.side.view k).events ≡ []) (sym l.2)
-      (shift_quiet r _ _ (learnt L.table (lock_of s) x.side.view l.0).events
-      (laws.lock.shifts (lock_of s) r x.side.view l.0
-      (record { is_good = g.lock_part.lock; has = get_map view_of s.sides r x.side here; planned = l.1 })))
+      let may : MayLearn L.table good.lock x.side.view told' =
+      may_learn V K L good further layout laws home x (do_got at h.words h.cards) hand told' lost m q in
+      let acts : Acts L.table good.lock may.state r x.side.view may.act = record { is_good = may.is_good; has = may.has; planned = may.planned } in
+      subst (λ k. touches_of (L.table.learn x.side.view k).events ≡ []) (sym may.gives)
+      (shift_quiet r _ _ (learnt L.table may.state x.side.view may.act).events (laws.lock.shifts may.state r x.side.view may.act acts))
 
   -- so each atom of a rank is
   pub guarded : (h : TheWindow) (vs : List (WholeView V K)) (r : ℕ) (x : WholeView V K) (at : Atom) → Good L good layout h vs →

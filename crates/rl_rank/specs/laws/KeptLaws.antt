@@ -109,6 +109,45 @@ module _ {V : Type 0} (T : LockTable V) where
       asks_loaded ws (T.plan v) g (plan_at (T.plan v) (Loaded g)).home (subst (StandsStill ws (T.plan v)) e s)
       (ap (λ (p : Plan). atom_at p.home p.act (Loaded g)) (sym (kept_loaded c g (plan_at (T.plan v) c) kept e k ∙ ap (plan_at (T.plan v)) e)) ∙ n)
 
+  -- whose plan has no act is in no card, or about to leave one
+  pub free_without : (ws : List ℕ) (p : Option Act) (c : CardState) → StandsStill ws p c → asked_act p c ≡ None →
+      ((n : ℕ) → c ≡ ToLeave n → ⊥) → (c ≡ Free) × (p ≡ None)
+  free_without ws p Free s e stays = (refl, e)
+  free_without ws None InCard s e stays = absurd s
+  free_without ws None (Loaded g) s e stays = absurd s
+  free_without ws (Some a) InCard s e stays = cc
+  free_without ws (Some a) (Loaded g) s e stays = cc
+  free_without ws p (ToLeave n) s e stays = absurd (stays n refl)
+
+-- the first atom of an act is none of the work, and where it is learnt its rank is in no card
+pub first_works : (a : Act) (home got : ℕ) (b z : Bool) →
+    (if b then (if z then Stay InCard Moved else Stay Free (Busy home (got - 1))) else Learn Free got (skips a got)) ≡ Work → ⊥
+first_works a home got true true e = cc
+first_works a home got true false e = cc
+first_works a home got false z e = cc
+
+first_hand : (a : Act) (home got : ℕ) (b z : Bool) (hand : CardState) (t : ℕ) (lost : Bool) →
+    (if b then (if z then Stay InCard Moved else Stay Free (Busy home (got - 1))) else Learn Free got (skips a got)) ≡ Learn hand t lost → hand ≡ Free
+first_hand a home got true true hand t lost e = cc
+first_hand a home got true false hand t lost e = cc
+first_hand a home got false z hand t lost e = cc
+
+pub works_none : (home : ℕ) (p : Option Act) (got : ℕ) → effect_at home p Free got ≡ Work → p ≡ None
+works_none home None got e = refl
+works_none home (Some a) got e = absurd (first_works a home got (by_card a) (got == 0) e)
+
+pub learns_free : (home : ℕ) (p : Option Act) (got : ℕ) (hand : CardState) (t : ℕ) (lost : Bool) → effect_at home p Free got ≡ Learn hand t lost →
+    hand ≡ Free
+learns_free home None got hand t lost e = cc
+learns_free home (Some a) got hand t lost e = first_hand a home got (by_card a) (got == 0) hand t lost e
+
+-- a rank that keeps its plan goes on keeping it
+pub same_kept : (c : CardState) (plan : Plan) → plan ≡ plan_kept c plan plan
+same_kept Free plan = refl
+same_kept InCard plan = refl
+same_kept (Loaded g) plan = refl
+same_kept (ToLeave n) plan = refl
+
 -- an atom of the work is made in no card
 load_works : (home got : ℕ) (b : Bool) → (if b then Learn (ToLeave home) got true else Stay (Loaded got) Moved) ≡ Work → InCard ≡ Free
 load_works home got true e = cc

@@ -8,7 +8,7 @@ use Rattle.rl_word.specs.declared.classes.Mode.{Mode}
 use Rattle.rl_step.specs.declared.events.Event.{Event}
 use Rattle.rl_step.specs.declared.events.Standing.{Standing}
 use Rattle.rl_step.specs.declared.events.Standing.TheVariants.{Out, Writer, Reader}
-use Rattle.rl_step.specs.Lock.{Deed, IsHolder}
+use Rattle.rl_step.specs.Lock.{Deed, IsHolder, Acts, MayLearn}
 use Rattle.rl_step.specs.Do.{TheWindow, do_got}
 use Rattle.rl_step.specs.Core.{MayGet}
 use Rattle.rl_work.specs.Ways.{AsksOut, TouchesAs}
@@ -17,23 +17,24 @@ use Rattle.rl_rank.specs.Running.{LockAt, Goods, BothLaws}
 use Rattle.rl_rank.specs.declared.effect.Effect.{Effect}
 use Rattle.rl_rank.specs.declared.effect.Effect.TheVariants.{Work, Stay, Learn}
 use Rattle.rl_rank.specs.declared.whole.WholeView.{WholeView}
-use Rattle.rl_rank.specs.Split.{SplitState, lock_of, view_of, effect_at, plan_home}
-use Rattle.rl_rank.specs.laws.LearnLaws.{learns_at}
+use Rattle.rl_rank.specs.Split.{lock_of, view_of, effect_at, plan_home}
 use Rattle.rl_rank.specs.Opening.{asked_if}
 use Rattle.rl_rank.specs.WholeShards.{stand}
 use Rattle.rl_rank.specs.Whole.{side_of, work_side, split_of, followed, work_events, next_of, after_of, whole_table, effect_turned, Good}
 use Rattle.rl_rank.specs.laws.WholeLaws.{followed_stands}
-use Rattle.rl_rank.specs.laws.WholeOwes.{work_rests, work_made, work_asks, got_is}
+use Rattle.rl_rank.specs.laws.WholeOwes.{work_rests, work_made, work_asks, may_learn}
 use Rattle.rl_rank.specs.laws.Changes.{Change, shift_change, change_refl, work_change}
 
 module _ (V K : Type 0) (L : LockAt V K) (good : Goods V K) (further : List Event → List Deed → Type 0) (layout : Layout)
     (laws : BothLaws L good further layout) (home : ℕ) where
   -- what an atom does to its rank's standing
+
   change_effect : (h : TheWindow) (vs : List (WholeView V K)) (r : ℕ) (x : WholeView V K) (at : Atom) (g : Good L good layout h vs) →
       slice_get vs r ≡ Some x → next_of L x ≡ Some at → (t : Effect) →
       effect_at (plan_home L.table (L.table.plan x.side.view)) (L.table.plan x.side.view) x.side.card (do_got at h.words h.cards) ≡ t →
       Change r (stand L.table x) (stand L.table (effect_turned L x (L.work.after x.rank x.work (do_got at h.words h.cards)) t).view)
       (effect_turned L x (L.work.after x.rank x.work (do_got at h.words h.cards)) t).events
+  unfolding may_learn
   change_effect h vs r x at g has e Work q =
       let got : ℕ = do_got at h.words h.cards in
       let m : MayGet (whole_table L home) (Good L good layout) x got =
@@ -52,14 +53,11 @@ module _ (V K : Type 0) (L : LockAt V K) (good : Goods V K) (further : List Even
   change_effect h vs r x at g has e (Learn hand told' lost) q =
       let m : MayGet (whole_table L home) (Good L good layout) x (do_got at h.words h.cards) =
       record { held = h; views = vs; rank = r; atom = at; plans = record { is_ruled = g; has = has; planned = e }; gives = refl } in
-      let s : SplitState V = split_of L h vs g.modes g.past in
-      let here : slice_get s.sides r ≡ Some x.side = get_map side_of vs r x has in
-      let l = learns_at V L.table good.lock further layout laws.lock s r x.side.view (L.table.plan x.side.view) x.side.card
-      (do_got at h.words h.cards) hand told' lost g.lock_part here refl q
-      (λ b f. got_is V K L good further layout laws home x (do_got at h.words h.cards) m b f) in
-      subst (λ k. Change r (stand L.table x) (L.table.standing (L.table.learn x.side.view k).view) (L.table.learn x.side.view k).events) (sym l.2)
-      (shift_change r _ _ _ (laws.lock.shifts (lock_of s) r x.side.view l.0
-      (record { is_good = g.lock_part.lock; has = get_map view_of s.sides r x.side here; planned = l.1 })))
+      let may : MayLearn L.table good.lock x.side.view told' =
+      may_learn V K L good further layout laws home x (do_got at h.words h.cards) hand told' lost m q in
+      let acts : Acts L.table good.lock may.state r x.side.view may.act = record { is_good = may.is_good; has = may.has; planned = may.planned } in
+      subst (λ k. Change r (stand L.table x) (L.table.standing (L.table.learn x.side.view k).view) (L.table.learn x.side.view k).events) (sym may.gives)
+      (shift_change r _ _ _ (laws.lock.shifts may.state r x.side.view may.act acts))
 
   pub atom_change : (h : TheWindow) (vs : List (WholeView V K)) (r : ℕ) (x : WholeView V K) (at : Atom) (g : Good L good layout h vs) →
       slice_get vs r ≡ Some x → next_of L x ≡ Some at →

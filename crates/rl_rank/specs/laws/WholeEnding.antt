@@ -37,23 +37,17 @@ use Rattle.rl_rank.specs.laws.BegunLaws.{AllFree}
 use Rattle.rl_rank.specs.laws.CardEnding.{split_goes}
 use Rattle.rl_core.specs.ShardEnding.{ShardEnds, GoesOn, Lessens}
 use Rattle.rl_work.specs.WorkEnding.{works_in, MayGo, WorkEnds}
+use Rattle.rl_work.specs.laws.RestLaws.{holder_rests}
 use Rattle.rl_rank.specs.WholeLeft.{lock_left, whole_left, whole_most}
 use Rattle.rl_rank.specs.laws.LeftLaws.{quiet_turn, lock_less, work_less, open_more, some_next, some_or_all}
 
 -- who rests has the work's atom
-rests_next : (st : Standing) (o : Option Atom) → Rests st → work_plan st o ≡ o
+pub rests_next : (st : Standing) (o : Option Atom) → Rests st → work_plan st o ≡ o
 rests_next standing.Out o r = refl
 rests_next standing.Asking o r = absurd r
 rests_next standing.Writer o r = refl
 rests_next standing.Reader o r = refl
 rests_next standing.Leaving o r = absurd r
-
-holder_rests : (st : Standing) → IsHolder st → Rests st
-holder_rests standing.Out h = absurd h
-holder_rests standing.Asking h = absurd h
-holder_rests standing.Writer h = tt
-holder_rests standing.Reader h = tt
-holder_rests standing.Leaving h = absurd h
 
 -- a holder has an atom, and so has a rank that is out with a block open
 holder_goes : (st : Standing) (b : Bool) (o : Option Atom) → IsHolder st → GoesOnAt st b o → is_some o ≡ true

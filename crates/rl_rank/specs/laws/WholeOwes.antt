@@ -1,5 +1,5 @@
 -- What the machine owes to the calls of the lock, which have conditions: all of it follows from the rule.
-use Rattle.std.specs.Prelude.{◌≡◌, ℕ, zero, suc, ◌+◌, ◌-◌, ◌^◌, ◌<◌, ◌==◌, Bool, true, false, List, length, map, if◌then◌else◌, slice_get, slice_index, Option, Some, None, refl}
+use Rattle.std.specs.Prelude.{◌≡◌, ℕ, zero, suc, ◌+◌, ◌^◌, ◌<◌, ◌==◌, Bool, true, false, List, length, map, if◌then◌else◌, slice_get, slice_index, Option, Some, None, refl}
 use Rattle.std.proofs.Common.{sym, ◌∙◌, ap, subst, ⊎_elim, arith}
 use Rattle.std.proofs.lemmas.Option.{same_Some, slice_get_within}
 use Rattle.std.proofs.lemmas.List.{length-map}
@@ -8,7 +8,7 @@ use Rattle.rl_word.specs.Acts.{Layout, IsLawful, word_of, by_card}
 use Rattle.rl_word.specs.declared.acts.Atom.{Atom}
 use Rattle.rl_word.specs.declared.acts.Atom.TheVariants as atom
 use Rattle.rl_step.specs.declared.events.Event.{Event}
-use Rattle.rl_step.specs.declared.events.Stepped.TheVariants.{Moved, Busy}
+use Rattle.rl_step.specs.declared.events.Stepped.TheVariants.{Moved}
 use Rattle.rl_rank.specs.Split.{answer_of}
 use Rattle.rl_step.specs.Lock.{Deed, Rests, MayStep, MayLearn}
 use Rattle.rl_step.specs.Do.{TheWindow, do_got}
@@ -27,15 +27,10 @@ use Rattle.rl_rank.specs.Whole.{side_of, work_side, lock_or_work, work_plan, who
 use Rattle.rl_rank.specs.laws.LearnLaws.{learns_at}
 use Rattle.rl_rank.specs.laws.WholeLaws.{work_at, works_at as at_work, next_either, lock_low}
 use Rattle.rl_rank.specs.laws.AnswerLaws.{answer_shifts}
-use Rattle.rl_work.specs.Ways.{Works, MayWork, MayTurn, AsksOut}
+use Rattle.rl_rank.specs.laws.KeptLaws.{first_works}
+use Rattle.rl_work.specs.Ways.{Works, MayWork, MayTurn, AsksOut, RestsBy}
 
 -- the work comes with no atom of the lock
-first_works : (a : Act) (home got : ℕ) (b z : Bool) →
-    (if b then (if z then Stay InCard Moved else Stay Free (Busy home (got - 1))) else Learn Free got (skips a got)) ≡ Work → ⊥
-first_works a home got true true e = cc
-first_works a home got true false e = cc
-first_works a home got false z e = cc
-
 load_works : (home got : ℕ) (b : Bool) → (if b then Learn (ToLeave home) got true else Stay (Loaded got) Moved) ≡ Work → ⊥
 load_works home got true e = cc
 load_works home got false e = cc
@@ -127,7 +122,7 @@ module _ (V K : Type 0) (L : LockAt V K) (good : Goods V K) (further : List Even
       fits_at (split_of L m.held m.views rule.modes rule.past) (L.table.plan x.side.view) x.side.card got rule.lock_part
       (subst (λ n. n < 2 ^ 32) (sym (length-map m.views side_of)) rule.few) (λ at e. got_is x got m at e)
 
-  pub may_learn : (x : WholeView V K) (got : ℕ) (hand : CardState) (t : ℕ) (lost : Bool) → MayGet (whole_table L home) (Good L good layout) x got →
+  unfoldable pub may_learn : (x : WholeView V K) (got : ℕ) (hand : CardState) (t : ℕ) (lost : Bool) → MayGet (whole_table L home) (Good L good layout) x got →
       effect_at (plan_home L.table (L.table.plan x.side.view)) (L.table.plan x.side.view) x.side.card got ≡ Learn hand t lost → MayLearn
       L.table good.lock x.side.view t
   may_learn x got hand t lost m e =
@@ -187,6 +182,18 @@ module _ (V K : Type 0) (L : LockAt V K) (good : Goods V K) (further : List Even
         side =
             work_at V K L good further layout laws home m.held m.views g m.rank x m.has;
       })
+
+  -- where the work says that the rank rests it does
+  pub rests_as_said : (x : WholeView V K) → MayBe (Good L good layout) x → RestsBy L.work good.work x.work → Rests (L.table.standing x.side.view)
+  rests_as_said x m said =
+      said m.held.words (map (work_side L.table) m.views) m.rank (L.table.standing x.side.view)
+      (work_at V K L good further layout laws home m.held m.views m.is_ruled m.rank x m.has)
+
+  -- and the lock plans nothing for a rank that rests
+  pub rests_unplanned : (x : WholeView V K) → MayBe (Good L good layout) x → Rests (L.table.standing x.side.view) → L.table.plan x.side.view ≡ None
+  rests_unplanned x m =
+      (laws.lock.rests (lock_of (split_of L m.held m.views m.is_ruled.modes m.is_ruled.past)) m.rank x.side.view m.is_ruled.lock_part.lock
+      (get_map view_of (map side_of m.views) m.rank x.side (get_map side_of m.views m.rank x m.has))).1
 
   -- a good state with these words has its side
   pub may_see : (x : WholeView V K) (h : TheWindow) (r : ℕ) (m : MayBe (Good L good layout) x) → m.held ≡ h → m.rank ≡ r →

@@ -271,8 +271,8 @@ module _ {V Sight : Type 0} (seeing : V → Sight → V) where
   all_set m rests j z now all = all_noted m rests j 0 z now all
 
   -- what is noted of a rank is true
-  pub noted_at : (m : Running V) (rests : List (LastRest Sight)) (k : ℕ) (r : LastRest Sight) → k < length rests → r ≡ get_or rests k r → AllRested seeing m rests → Rested seeing m k r
-  noted_at m rests k r low is all = all k r (slice_get-get_or rests k r low ∙ ap Some (sym is))
+  pub noted_at : (m : Running V) (rests : List (LastRest Sight)) (ranks k : ℕ) (r : LastRest Sight) → k < ranks → length rests ≡ ranks → r ≡ get_or rests k r → AllRested seeing m rests → Rested seeing m k r
+  noted_at m rests ranks k r there many is all = all k r (slice_get-get_or rests k r (omega arith) ∙ ap Some (sym is))
 
   -- a step of a rank of which nothing is known leaves what is known of the others
   pub all_stepped : (m : Running V) (rests : List (LastRest Sight)) (j : ℕ) → IsForgotten rests j → AllRested seeing m rests → AllRested seeing (stepped m j) rests

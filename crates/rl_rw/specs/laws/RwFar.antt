@@ -61,19 +61,7 @@ module _ (n m : ℕ) where
 
   -- each act that gets its member on makes it less far, once it has walked on
   pub far_falls : (w : ℕ) → w ≤ n → Falls (far_by n (2 * m) false w) (cap w)
-  far_falls w within =
-      record {
-        clear = omega arith;
-        reset = omega arith;
-        swing = λ guess. (omega arith, omega arith);
-        link = λ guess. omega arith;
-        wait = λ left. (omega arith, omega arith);
-        look = λ left succ upper. (omega arith, omega arith);
-        gives_up = λ left succ. omega arith;
-        close = λ left. (omega arith, omega arith);
-        await = λ left succ. omega arith;
-        hand = λ succ left. omega arith;
-      }
+  far_falls w within = grind arith
 
   -- what is to do at the hook is no more than what was
   begun_cap : (w : ℕ) (t : TreeView) (p : Phase) → hook_by false p ≡ true → far_at n m (hooks p) t ≤ far_by n (2 * m) false w p

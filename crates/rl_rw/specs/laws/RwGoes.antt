@@ -21,9 +21,10 @@ use Rattle.rl_counter.specs.declared.view.Doing.TheVariants.{Arrive, Refused, Se
 use Rattle.rl_counter.specs.Counter.{arrive_word, busy, depart_word, off}
 use Rattle.rl_counter.specs.CounterGood.{AreCounted}
 use Rattle.rl_ending.specs.Ending.{CanGoOn}
+use Rattle.rl_ending.specs.laws.EndingLaws.{goes_on_by}
 use Rattle.rl_rw.specs.declared.view.RwView.{RwView}
 use Rattle.rl_rw.specs.Rw.{Shared, groups, behind_tree, counters_of, rw_view, plan_of, rw_learn, rw_table}
-use Rattle.rl_rw.specs.RwGood.{trees, Place, RwGood}
+use Rattle.rl_rw.specs.RwGood.{Place, RwGood}
 use Rattle.rl_rw.specs.laws.RwWords.{IsSound, group_there, arrive_is, are_counted}
 use Rattle.rl_rw.specs.laws.RwKeeps.{as_tree, all_trees, is_there}
 use Rattle.rl_rw.specs.RwLeft.{far_by, far_in, far_at, rw_far, is_full, fulls, near_at, rw_near, rw_left}
@@ -51,17 +52,10 @@ module _ (K : Shared) (n : ℕ) (F : TreeFacts K.rooted n) (d : IsSound K) (S : 
   pub by_far : (s : LockState RwView) (r : ℕ) (v : RwView) (a : Act) → slice_get s.views r ≡ Some v → plan_of K v (busy v.counter.doing) ≡ Some a →
       rw_far K n (learns s v a) + full_of (there s.words a) < rw_far K n v + full_of s.words → Goes s r
   by_far s r v a has pl lt =
-      record {
-        view = v;
-        has = has;
-        way = inr (record {
-          act = a;
-          planned = pl;
-          less = nearer 8 (rw_far K n) (rw_near K s.words) (rw_near K (there s.words a))
-              (λ x. near_few K (there s.words a) x.counter.counter x.counter.doing x.tree) (full_of s.words)
-              (full_of (there s.words a)) s.views r v (learns s v a) has lt;
-        });
-      }
+      goes_on_by v a has pl
+      (nearer 8 (rw_far K n) (rw_near K s.words) (rw_near K (there s.words a))
+      (λ x. near_few K (there s.words a) x.counter.counter x.counter.doing x.tree) (full_of s.words)
+      (full_of (there s.words a)) s.views r v (learns s v a) has lt)
 
   -- one by which its rank has less change, and no other rank another
   pub by_change : (s : LockState RwView) (r : ℕ) (v u : RwView) (a : Act) → slice_get s.views r ≡ Some v →
@@ -69,17 +63,10 @@ module _ (K : Shared) (n : ℕ) (F : TreeFacts K.rooted n) (d : IsSound K) (S : 
       ((i : ℕ) (x : RwView) → slice_get s.views i ≡ Some x → rw_near K (there s.words a) x ≡ rw_near K s.words x) → rw_far K n u ≡ rw_far K
       n v → full_of (there s.words a) ≡ full_of s.words → rw_near K (there s.words a) u < rw_near K s.words v → Goes s r
   by_change s r v u a has pl e others far full lt =
-      record {
-        view = v;
-        has = has;
-        way = inr (record {
-          act = a;
-          planned = pl;
-          less = subst (λ z. rw_left K n (there s.words a) (slice_set s.views r z) < rw_left K n s.words s.views) (sym e)
-              (less_change 8 (rw_far K n) (rw_near K s.words) (rw_near K (there s.words a)) (full_of s.words)
-              (full_of (there s.words a)) s.views r v u has others far full lt);
-        });
-      }
+      goes_on_by v a has pl
+      (subst (λ z. rw_left K n (there s.words a) (slice_set s.views r z) < rw_left K n s.words s.views) (sym e)
+      (less_change 8 (rw_far K n) (rw_near K s.words) (rw_near K (there s.words a)) (full_of s.words)
+      (full_of (there s.words a)) s.views r v u has others far full lt))
 
   -- so with one that writes what stands there
   pub by_still : (s : LockState RwView) (r : ℕ) (v u : RwView) (a : Act) → slice_get s.views r ≡ Some v →

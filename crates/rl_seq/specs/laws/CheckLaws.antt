@@ -32,14 +32,18 @@ use Rattle.rl_seq.specs.SeqGood.{SeqRank, SeqGood, IsGetting, IsReadingOut, as_l
 use Rattle.rl_seq.specs.SeqWork.{seq_at_stage}
 use Rattle.rl_seq.specs.laws.Cases.{checked_by}
 
--- a get is no update
+-- a call that reads is a get
+pub get_key : (c : Call) → reads c ≡ true → (key : ℕ) × (c ≡ Get key)
+get_key (Put key value) e = absurd (cc)
+get_key (Get key) e = (key, refl)
+get_key (Del key) e = absurd (cc)
+get_key (Add key by) e = absurd (cc)
+get_key (Cas key old new) e = absurd (cc)
+get_key (Hold shard) e = absurd (cc)
+
+-- it is no update
 pub no_update : (c : Call) → reads c ≡ true → is_update c ≡ false
-no_update (Put key value) e = absurd (cc)
-no_update (Get key) e = refl
-no_update (Del key) e = absurd (cc)
-no_update (Add key by) e = absurd (cc)
-no_update (Cas key old new) e = absurd (cc)
-no_update (Hold shard) e = absurd (cc)
+no_update c e = ap is_update (get_key c e).1
 
 -- and its block is that call alone
 pub get_alone : (cs : List Call) → IsAsked cs → first_reads cs ≡ true → (c : Call) × (cs ≡ c ∷ []) × (reads c ≡ true)

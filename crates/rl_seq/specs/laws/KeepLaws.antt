@@ -4,7 +4,7 @@ use Rattle.std.proofs.Common.{sym, ◌∙◌, ap, subst, ⊎_elim, arith, length
 use Rattle.std.proofs.lemmas.Bool.Decides.{nat_tests}
 use Rattle.std.proofs.lemmas.List.{length-map, take_at, get_or_at, get_or_append_left, take-append-le}
 use Rattle.std.proofs.lemmas.Option.{slice_get_within}
-use Rattle.rl_word.specs.laws.Places.{same_or_not, one_at, get_set_cases, get_set_same, get_set_other, set_same_get, map_set}
+use Rattle.rl_word.specs.laws.Places.{same_or_not, one_at, each_set, get_set_same, get_set_other, set_same_get, map_set}
 use Rattle.rl_model.specs.declared.call.Call.{Call}
 use Rattle.rl_model.specs.declared.geom.Geom.{Geom}
 use Rattle.rl_model.specs.Geom.{GeomFits}
@@ -67,11 +67,7 @@ module _ (at : WaySite) (words : List ℕ) (low : lock_base at.site ≤ at.behin
       record {
         locked = subst (WorkGood at.site (front at vs)) (sym (map_set as_locked sides r y)) locked;
         quiet = quiet;
-        fits = λ i u get. ⊎_elim
-            (λ q. subst (λ z. SeqFits at.site (front at vs) (version_in at vs) z u) (sym q.0)
-            (subst (λ z. SeqFits at.site (front at vs) (version_in at vs) r z) (sym q.1) here))
-            (λ q. others i u q.0 q.1)
-            (get_set_cases sides r i y u get);
+        fits = each_set (SeqFits at.site (front at vs) (version_in at vs)) sides r y here others;
       }
 
   -- a rank that wasn't between its stores to the version isn't why it is odd

@@ -5,7 +5,6 @@ use Rattle.std.proofs.lemmas.Bool.Decides.{nat_tests}
 use Rattle.std.proofs.lemmas.Option.{same_Some}
 use Rattle.std.proofs.lemmas.List.{length-take-le, take-take, get_or-take}
 use Rattle.rl_model.specs.declared.call.Call.{Call}
-use Rattle.rl_model.specs.declared.call.Call.TheVariants.{Put, Get, Del, Add, Cas, Hold}
 use Rattle.rl_model.specs.declared.geom.Geom.{Geom}
 use Rattle.rl_model.specs.Asked.{IsAsked}
 use Rattle.rl_model.specs.Call.{reads}
@@ -27,7 +26,7 @@ use Rattle.rl_work.specs.Ways.{Works}
 use Rattle.rl_work.specs.Work.{TheWork, work_atom}
 use Rattle.rl_seq.specs.declared.stage.SeqStage.{SeqStage}
 use Rattle.rl_seq.specs.declared.stage.SeqStage.TheVariants as stage
-use Rattle.rl_seq.specs.laws.CheckLaws.{get_alone}
+use Rattle.rl_seq.specs.laws.CheckLaws.{get_key, get_alone}
 use Rattle.rl_seq.specs.laws.FitLaws.{is_decided, fit_at, locked_there, decided_writes, even_quiet}
 use Rattle.rl_seq.specs.laws.FrontLaws.{IsInFront, in_front, version_stored}
 use Rattle.rl_seq.specs.laws.KeepLaws.{wanted_there}
@@ -58,12 +57,7 @@ few_pairs geom cs pairs asked get wanted = by_length (length pairs) refl where
   a = get_alone cs asked get
 
   most : (c : Call) → reads c ≡ true → most_reads geom c ≡ 3 + 2 * geom.overflow
-  most (Put key value) e = absurd (cc)
-  most (Get key) e = refl
-  most (Del key) e = absurd (cc)
-  most (Add key by) e = absurd (cc)
-  most (Cas key old new) e = absurd (cc)
-  most (Hold shard) e = absurd (cc)
+  most c e = ap (most_reads geom) (get_key c e).1
 
   named : (i : ℕ) → i < length pairs → next_word geom a.0 (take i pairs) ≡ Some (get_or pairs i (0, 0)).0
   named i h = ap (λ ds. wanted_by geom ds (take i pairs)) (sym a.1) ∙ wanted i h

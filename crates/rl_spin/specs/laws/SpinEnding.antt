@@ -11,7 +11,7 @@ use Rattle.rl_spin.specs.Spin.{SpinGood, spin_table, spin_at_phase, Owns, spin_s
 use Rattle.rl_spin.specs.SpinLeft.{acts_in, acts_of, spin_left}
 use Rattle.rl_ending.specs.Ending.{LockEnds, CanGoOn}
 use Rattle.rl_ending.specs.laws.Sums.{sum_falls, sum_grows}
-use Rattle.rl_ending.specs.laws.EndingLaws.{all_out_or_not}
+use Rattle.rl_ending.specs.laws.EndingLaws.{all_out_or_not, goes_on_by}
 
 -- who owns the word can go on
 pub owner_goes : (n home : ℕ) (s : LockState SpinView) (r k : ℕ) (p : SpinPhase) → slice_get s.views r ≡ Some (spin_at_phase k p) → Owns p →
@@ -20,11 +20,8 @@ owner_goes n home s r k Out has o = absurd o
 owner_goes n home s r k Trying has o = absurd o
 owner_goes n home s r k Inside has o = record { view = spin_at_phase k Inside; has = has; way = inl tt }
 owner_goes n home s r k Releasing has o =
-    record {
-      view = spin_at_phase k Releasing;
-      has = has;
-      way = inr (record { act = _; planned = refl; less = sum_falls acts_of s.views r (spin_at_phase k Releasing) (spin_at_phase k Out) has (omega arith) });
-    }
+    goes_on_by (spin_at_phase k Releasing) _ has refl
+    (sum_falls acts_of s.views r (spin_at_phase k Releasing) (spin_at_phase k Out) has (omega arith))
 
 -- and where the word is 0, so can everybody who isn't out
 pub free_goes : (n home : ℕ) (s : LockState SpinView) (r k : ℕ) (p : SpinPhase) → slice_index s.words 0 ≡ 0 →
@@ -32,16 +29,9 @@ pub free_goes : (n home : ℕ) (s : LockState SpinView) (r k : ℕ) (p : SpinPha
 free_goes n home s r k Out free has busy = absurd (busy refl)
 free_goes n home s r k Trying free has busy =
     let enters : (spin_learn k Trying (slice_index s.words 0)).view ≡ spin_at_phase k Inside = ap (λ w. (spin_learn k Trying w).view) free in
-    record {
-      view = spin_at_phase k Trying;
-      has = has;
-      way = inr (record {
-        act = _;
-        planned = refl;
-        less = subst (λ v. sum_by acts_of (slice_set s.views r v) < sum_by acts_of s.views)
-            (sym enters) (sum_falls acts_of s.views r (spin_at_phase k Trying) (spin_at_phase k Inside) has (omega arith));
-      });
-    }
+    goes_on_by (spin_at_phase k Trying) _ has refl
+    (subst (λ v. sum_by acts_of (slice_set s.views r v) < sum_by acts_of s.views)
+    (sym enters) (sum_falls acts_of s.views r (spin_at_phase k Trying) (spin_at_phase k Inside) has (omega arith)))
 free_goes n home s r k Inside free has busy = owner_goes n home s r k Inside has tt
 free_goes n home s r k Releasing free has busy = owner_goes n home s r k Releasing has tt
 

@@ -19,28 +19,18 @@ use Rattle.rl_tree.specs.declared.view.TreeView.{TreeView}
 use Rattle.rl_tree.specs.Tree.{hook_by, behind_at, at_level}
 use Rattle.rl_tree.specs.declared.rooted.Rooted.{Rooted}
 use Rattle.rl_tree.specs.Elements.{how_many, is_node, names_in, tree_of, queue_at}
-use Rattle.rl_tree.specs.TreeGood.{Rest, way_at, way_of, below_by, Gate, gate_of, granted_in, Matches, Spent, InQueue, IsGoodBy, TreeGood}
+use Rattle.rl_tree.specs.TreeGood.{Rest, way_at, way_of, below_by, Gate, gate_of, granted_in, Matches, Spent, InQueue, IsGoodBy}
 use Rattle.rl_tree.specs.laws.TreePaths.{put_here, put_away, put_moves, head_by, AllGood, el, me, el_deep, el_apart}
-use Rattle.rl_tree.specs.laws.RanksInTree.{StandsInTree, ActsInTree, queue_of, member_of, head_before, shape_of, level_low, queue_there, words_after, turn_of, phases_after, phase_was, finds}
+use Rattle.rl_tree.specs.laws.RanksInTree.{ActsInTree, queue_of, member_of, head_before, shape_of, level_low, queue_there, words_after, turn_of, phases_after, phase_was, finds}
 use Rattle.rl_tree.specs.laws.TreeClimb.{heads_same}
 use Rattle.rl_tree.specs.laws.TreePuts.{Tenured, match_put, spent_put}
 use Rattle.rl_tree.specs.laws.TreeParts.{OthersTell, TellsBelow, all_others, first_of, others_put, assembles}
 
 module _ {K : Rooted} {levels : ℕ} (a : ActsInTree K levels) where
-  abbrev s : StandsInTree K levels
-  s = a.stands
-
-  abbrev v : TreeView
-  v = a.stands.on.view
-
-  abbrev g : TreeGood K levels a.stands.words a.stands.views a.stands.trace
-  g = a.stands.good
+  open a use {stands as s, stands.{on.{view as v}, good as g}}
 
   abbrev Q : ℕ
-  Q = queue_of a.stands
-
-  abbrev N : ℕ
-  N = member_of a.stands
+  Q = queue_of s
 
   abbrev turn : QueueTurn
   turn = turn_of a
@@ -52,16 +42,16 @@ module _ {K : Rooted} {levels : ℕ} (a : ActsInTree K levels) where
   P = phases_after a
 
   pub moved : (k : List ℕ) × QueueGood (names_in K Q) (InQueue K Q) W (P Q) k (s.trace ++ turn.events) (g.ended Q) ×
-      (HeadStep (names_in K Q).budget N v.phase turn.phase (slice_index s.words (status_word (names_in K Q) N)) (head_before s Q)
+      (HeadStep (names_in K Q).budget (member_of s) v.phase turn.phase (slice_index s.words (status_word (names_in K Q) (member_of s))) (head_before s Q)
       (head_in (lane_of (names_in K Q) W (P Q)) k))
   moved =
-      let mv = put_moves g.phase Q N v.phase turn.phase (phase_was a) in
+      let mv = put_moves g.phase Q (member_of s) v.phase turn.phase (phase_was a) in
       let n = a.worded.naming Q (queue_there s) in
       let good = g.by.queue Q (queue_there s) in
-      let k = act_keeps (names_in K Q) (InQueue K Q) s.words (g.phase Q) (P Q) (g.line Q) s.trace (g.ended Q) N v.phase a.act n good a.planned mv in (
+      let k = act_keeps (names_in K Q) (InQueue K Q) s.words (g.phase Q) (P Q) (g.line Q) s.trace (g.ended Q) (member_of s) v.phase a.act n good a.planned mv in (
         k.0,
         k.1,
-        head_act (names_in K Q) (InQueue K Q) s.words (g.phase Q) (P Q) (g.line Q) k.0 s.trace (g.ended Q) N v.phase a.act n good
+        head_act (names_in K Q) (InQueue K Q) s.words (g.phase Q) (P Q) (g.line Q) k.0 s.trace (g.ended Q) (member_of s) v.phase a.act n good
             (phase_was a) a.planned mv k.2,
       )
 
@@ -87,8 +77,8 @@ module _ {K : Rooted} {levels : ℕ} (a : ActsInTree K levels) where
       still_keeps (names_in K x) (InQueue K x) W W (g.phase x) (P x) (g.line x) (s.trace ++ turn.events) (g.ended x)
       (other_queue_keeps (names_in K Q) (names_in K x) (InQueue K Q) (InQueue K x)
       (a.worded.apart Q x (queue_there s) there (λ k. ne (sym k))) s.words (g.phase Q) (g.phase x) (g.line Q) (g.line x) s.trace
-      (g.ended Q) (g.ended x) N v.phase a.act (g.by.queue Q (queue_there s)) (g.by.queue x there) (phase_was a) a.planned)
-      (λ y. put_away g.phase Q N turn.phase x y (inl ne)) refl (λ y i. refl) (λ y i. refl)
+      (g.ended Q) (g.ended x) (member_of s) v.phase a.act (g.by.queue Q (queue_there s)) (g.by.queue x there) (phase_was a) a.planned)
+      (λ y. put_away g.phase Q (member_of s) turn.phase x y (inl ne)) refl (λ y i. refl) (λ y i. refl)
 
   -- all queues are good
   pub all_good : AllGood K W P lines_after g.ended (s.trace ++ turn.events)
@@ -101,19 +91,19 @@ module _ {K : Rooted} {levels : ℕ} (a : ActsInTree K levels) where
       (same_or_not x Q)
 
   -- the head here moves as the act says, and no other does
-  pub head_here : HeadStep (names_in K Q).budget N v.phase turn.phase (slice_index s.words (status_word (names_in K Q) N))
+  pub head_here : HeadStep (names_in K Q).budget (member_of s) v.phase turn.phase (slice_index s.words (status_word (names_in K Q) (member_of s)))
       (head_before s Q) (head_after Q)
-  head_here = subst (λ y. HeadStep (names_in K Q).budget N v.phase turn.phase (slice_index s.words (status_word (names_in K Q) N))
+  head_here = subst (λ y. HeadStep (names_in K Q).budget (member_of s) v.phase turn.phase (slice_index s.words (status_word (names_in K Q) (member_of s)))
       (head_before s Q) (head_in (lane_of (names_in K Q) W (P Q)) y)) (sym line_here) moved.2
 
   pub head_other : (x : ℕ) → x < how_many K → x ≢ Q → head_after x ≡ head_before s x
   head_other x there ne =
       ap (head_in (lane_of (names_in K x) W (P x))) (line_other x ne) ∙
       heads_same (lane_of (names_in K x) W (g.phase x)) (lane_of (names_in K x) W (P x)) (g.line x)
-      (λ y. put_away g.phase Q N turn.phase x y (inl ne)) (λ y h. refl) ∙
+      (λ y. put_away g.phase Q (member_of s) turn.phase x y (inl ne)) (λ y h. refl) ∙
       other_head_stays (names_in K Q) (names_in K x) (InQueue K Q) (InQueue K x)
       (a.worded.apart Q x (queue_there s) there (λ k. ne (sym k))) s.words (g.phase Q) (g.phase x) (g.line Q) (g.line x) s.trace
-      (g.ended Q) (g.ended x) N v.phase a.act (g.by.queue Q (queue_there s)) (g.by.queue x there) (phase_was a) a.planned
+      (g.ended Q) (g.ended x) (member_of s) v.phase a.act (g.by.queue Q (queue_there s)) (g.by.queue x there) (phase_was a) a.planned
 
   -- so what is so of the heads stays so of all, where it does of that one
   pub kept_act : {X : Type 0} (f : Option Head → X) → f (head_after Q) ≡ f (head_before s Q) → (x : ℕ) → x < how_many K →
@@ -130,7 +120,7 @@ module _ {K : Rooted} {levels : ℕ} (a : ActsInTree K levels) where
 
   -- the tenures stay where nobody has come to have a queue, or has left it
   pub none_ends : (x : ℕ) → tenures (queue_at K x) turn.events ≡ 0
-  none_ends x = turn_all (λ z. tenures (queue_at K x) z ≡ 0) (names_in K Q) N v.phase (finds a) refl refl (λ m. refl)
+  none_ends x = turn_all (λ z. tenures (queue_at K x) z ≡ 0) (names_in K Q) (member_of s) v.phase (finds a) refl refl (λ m. refl)
 
   pub tenured_act : granted_in (head_after Q) ≡ granted_in (head_before s Q) → Tenured K W P lines_after g.ended (s.trace ++ turn.events)
   tenured_act same x there =
@@ -148,13 +138,13 @@ module _ {K : Rooted} {levels : ℕ} (a : ActsInTree K levels) where
   pub below_mine : TellsBelow K P v
   below_mine k b =
       let low = level_low s in
-      put_away g.phase Q N turn.phase (el s.on k) (me s.on k) (inl (el_apart s.on k v.level (omega arith) low (omega arith)))
+      put_away g.phase Q (member_of s) turn.phase (el s.on k) (me s.on k) (inl (el_apart s.on k v.level (omega arith) low (omega arith)))
       ∙ g.by.below v.rank v k s.has b
 
   -- the place of an element in its parent's queue is the rank's own only where the rank works for it
   pub cell_of : (x p : ℕ) → x < how_many K → (tree_of K).parent x ≡ Some p → ((j : ℕ) → v.level ≡ suc j → x ≢ el s.on j) → P p x ≡ g.phase p x
-  cell_of x p there up off = put_away g.phase Q N turn.phase p x (by v.level refl) where
-    by : (n : ℕ) → v.level ≡ n → (p ≢ Q) ⊎ (x ≢ N)
+  cell_of x p there up off = put_away g.phase Q (member_of s) turn.phase p x (by v.level refl) where
+    by : (n : ℕ) → v.level ≡ n → (p ≢ Q) ⊎ (x ≢ (member_of s))
     by zero e =
         inl (λ q.
         let b = el_deep s.on v.level (level_low s) in
@@ -163,7 +153,7 @@ module _ {K : Rooted} {levels : ℕ} (a : ActsInTree K levels) where
 
   -- a place matches what it matched, where the turn's phase does
   pub match_act : (y : Gate) → (Matches y v.phase → Matches y turn.phase) → (q m : ℕ) → Matches y (g.phase q m) → Matches y (P q m)
-  match_act y f = match_put g.phase Q N turn.phase y (λ h. f (subst (Matches y) (phase_was a) h))
+  match_act y f = match_put g.phase Q (member_of s) turn.phase y (λ h. f (subst (Matches y) (phase_was a) h))
 
   -- AN ACT THAT LEAVES ITS RANK AT ITS LEVEL keeps the tree good: the gate of its queue stays, it goes the same way, and how it
   -- stands above a queue below matches still.
@@ -183,7 +173,7 @@ module _ {K : Rooted} {levels : ℕ} (a : ActsInTree K levels) where
       })
       others all_good
       (λ k b. below_mine k b ∙ ap (λ z. below_by z (behind_at v.behind k)) (ap (λ z. way_of z v.phase) a.no_query ∙ sym way))
-      (put_here g.phase Q N turn.phase)
+      (put_here g.phase Q (member_of s) turn.phase)
       (λ x p there up. subst (λ z. Matches z (P p x)) (sym (gates_act gate x p there up))
       (match_act (gate_of (head_before s x)) (matches (gate_of (head_before s x))) p x (g.by.gates x p there up)))
-      (spent_put K g.phase Q N turn.phase g.by.spent spent) (tenured_act granted)
+      (spent_put K g.phase Q (member_of s) turn.phase g.by.spent spent) (tenured_act granted)

@@ -21,7 +21,7 @@ use Rattle.rl_tree.specs.Tree.{behind_at, at_level}
 use Rattle.rl_tree.specs.declared.rooted.Rooted.{Rooted}
 use Rattle.rl_tree.specs.Elements.{how_many, ranks_in, leaf_of_rank, is_node, is_in, names_in, tree_of, queue_at}
 use Rattle.rl_step.specs.LockQueues.{is_at}
-use Rattle.rl_tree.specs.TreeGood.{way_of, below_by, Releasing, gate_of, granted_in, Matches, Spent, Tells, IsGrantedAt, InQueue, IsGoodBy, TreeGood}
+use Rattle.rl_tree.specs.TreeGood.{way_of, below_by, Releasing, gate_of, granted_in, Matches, Spent, Tells, IsGrantedAt, InQueue, IsGoodBy}
 use Rattle.rl_tree.specs.laws.TreePaths.{put, put_here, put_away, put_moves, head_by, is_child, el, me, el_there, el_in, el_up, el_apart, leaf_node}
 use Rattle.rl_tree.specs.laws.RanksInTree.{StandsInTree, queue_of, member_of, head_before, shape_of, level_low, queue_there, phase_of}
 use Rattle.rl_tree.specs.laws.TreeClimb.{else_zero}
@@ -70,21 +70,14 @@ beside_tree K levels F L e ws vs t ev g apart none =
     }
 
 module _ {K : Rooted} {levels : ℕ} (s : StandsInTree K levels) where
-  abbrev v : TreeView
-  v = s.on.view
-
-  abbrev g : TreeGood K levels s.words s.views s.trace
-  g = s.good
+  open s use {on.{view as v}, good as g}
 
   abbrev Q : ℕ
   Q = queue_of s
 
-  abbrev N : ℕ
-  N = member_of s
-
   -- the phase of one that has read its element's status
   abbrev pub looks : Phase
-  looks = Look (told_left (names_in K Q).budget (slice_index s.words (status_word (names_in K Q) N))) (is_some (names_in K Q).budget)
+  looks = Look (told_left (names_in K Q).budget (slice_index s.words (status_word (names_in K Q) (member_of s)))) (is_some (names_in K Q).budget)
 
   -- the tenures that have ended, with one of a queue
   abbrev pub one_more : ℕ → ℕ → ℕ
@@ -92,30 +85,30 @@ module _ {K : Rooted} {levels : ℕ} (s : StandsInTree K levels) where
 
   -- THE LOAD OF A STATUS begins the leave of the rank's element above.
   pub query_keeps : v.query ≡ true →
-      IsGoodBy K levels (put g.phase Q N looks) g.line (one_more Q) s.words (slice_set s.views v.rank (at_level v v.level looks)) s.trace
+      IsGoodBy K levels (put g.phase Q (member_of s) looks) g.line (one_more Q) s.words (slice_set s.views v.rank (at_level v v.level looks)) s.trace
   query_keeps asks = at v.level refl where
     at : (n : ℕ) → v.level ≡ n →
-        IsGoodBy K levels (put g.phase Q N looks) g.line (one_more Q) s.words (slice_set s.views v.rank (at_level v v.level looks)) s.trace
+        IsGoodBy K levels (put g.phase Q (member_of s) looks) g.line (one_more Q) s.words (slice_set s.views v.rank (at_level v v.level looks)) s.trace
     at zero lv = let b : 0 < v.level = (shape_of s).above asks in absurd (omega arith)
     at (suc j) lv =
         let there = queue_there s in
         let low = level_low s in
         let lj : j ≤ levels = omega arith in
         let u : Bool = is_some (names_in K Q).budget in
-        let was = granted_is (g.phase Q N) (subst (λ z. Tells v z (g.phase Q N)) asks (g.by.here v.rank v s.has)) in
-        let knows = holder_told (names_in K Q) (InQueue K Q) s.words (g.phase Q) (g.line Q) s.trace (g.ended Q) N was.0 (g.by.queue Q there) was.1 in
-        let mv : Moves (g.phase Q) (put g.phase Q N looks Q) N (Granted was.0) (Look was.0 u) =
+        let was = granted_is (g.phase Q (member_of s)) (subst (λ z. Tells v z (g.phase Q (member_of s))) asks (g.by.here v.rank v s.has)) in
+        let knows = holder_told (names_in K Q) (InQueue K Q) s.words (g.phase Q) (g.line Q) s.trace (g.ended Q) (member_of s) was.0 (g.by.queue Q there) was.1 in
+        let mv : Moves (g.phase Q) (put g.phase Q (member_of s) looks Q) (member_of s) (Granted was.0) (Look was.0 u) =
         record {
           was = was.1;
-          now = put_here g.phase Q N looks ∙ ap (λ z. Look z u) (sym knows.1);
-          others = λ x ne. put_away g.phase Q N looks Q x (inr ne);
+          now = put_here g.phase Q (member_of s) looks ∙ ap (λ z. Look z u) (sym knows.1);
+          others = λ x ne. put_away g.phase Q (member_of s) looks Q x (inr ne);
         } in
-        let left = leave_keeps_quietly (names_in K Q) (InQueue K Q) s.words (g.phase Q) (put g.phase Q N looks Q) (g.line Q) s.trace
-        (g.ended Q) N was.0 u (g.by.queue Q there) mv in
-        let heads = head_first (names_in K Q) (InQueue K Q) s.words (g.phase Q) (put g.phase Q N looks Q) (g.line Q) s.trace (g.ended Q) N
+        let left = leave_keeps_quietly (names_in K Q) (InQueue K Q) s.words (g.phase Q) (put g.phase Q (member_of s) looks Q) (g.line Q) s.trace
+        (g.ended Q) (member_of s) was.0 u (g.by.queue Q there) mv in
+        let heads = head_first (names_in K Q) (InQueue K Q) s.words (g.phase Q) (put g.phase Q (member_of s) looks Q) (g.line Q) s.trace (g.ended Q) (member_of s)
         (Granted was.0) (Look was.0 u) (g.by.queue Q there) mv tt in
         let pd : (tree_of K).parent (el s.on j) ≡ Some Q = el_up s.on j (omega arith) ∙ ap (λ z. Some (el s.on z)) (sym lv) in
-        let is_d : N ≡ el s.on j = ap (me s.on) lv in
+        let is_d : (member_of s) ≡ el s.on j = ap (me s.on) lv in
         let no_node : is_node K Q ≡ false = (is_child s.on.well.treed (el s.on j) Q (el_there s.on j lj) pd).0 in
         let apart : el s.on j ≢ Q = el_apart s.on j v.level lj low (omega arith) in
         let below_d : g.phase (el s.on j) (me s.on j) ≡ Above (behind_at v.behind j) = g.by.below v.rank v j s.has (omega arith)
@@ -123,30 +116,30 @@ module _ {K : Rooted} {levels : ℕ} (s : StandsInTree K levels) where
         let head_d = head_first (names_in K (el s.on j)) (InQueue K (el s.on j)) s.words (g.phase (el s.on j)) (g.phase (el s.on j))
         (g.line (el s.on j)) s.trace (g.ended (el s.on j)) (me s.on j) (Above (behind_at v.behind j)) (Above (behind_at v.behind j))
         (g.by.queue (el s.on j) (el_there s.on j lj)) (record { was = below_d; now = below_d; others = λ x ne. refl }) tt in
-        let gate_d : gate_of (head_by K s.words (put g.phase Q N looks) g.line (el s.on j)) ≡ Releasing =
-        ap gate_of (head_put K s.words g.phase g.line Q N looks (el s.on j) apart ∙ head_d.0) in
-        let cell_d : put g.phase Q N looks Q (el s.on j) ≡ looks = ap (put g.phase Q N looks Q) (sym is_d) ∙ put_here g.phase Q N looks in
-        assembles s.on s.words (put g.phase Q N looks) g.line (one_more Q) s.trace s.views (at_level v v.level looks) refl refl
+        let gate_d : gate_of (head_by K s.words (put g.phase Q (member_of s) looks) g.line (el s.on j)) ≡ Releasing =
+        ap gate_of (head_put K s.words g.phase g.line Q (member_of s) looks (el s.on j) apart ∙ head_d.0) in
+        let cell_d : put g.phase Q (member_of s) looks Q (el s.on j) ≡ looks = ap (put g.phase Q (member_of s) looks Q) (sym is_d) ∙ put_here g.phase Q (member_of s) looks in
+        assembles s.on s.words (put g.phase Q (member_of s) looks) g.line (one_more Q) s.trace s.views (at_level v v.level looks) refl refl
         (record { within = low; resting = λ e. cc; above = λ e. cc; three = (shape_of s).three; hooked = λ e. cc })
         (others_put s.on s.words g.phase g.line g.ended s.trace s.views v.level looks low g.by.queue (all_others s) (first_of s))
-        (good_put K s.words g.phase g.line g.ended (one_more Q) s.trace s.trace Q N looks g.by.queue
-        (subst (QueueGood (names_in K Q) (InQueue K Q) s.words (put g.phase Q N looks Q) (g.line Q) s.trace)
+        (good_put K s.words g.phase g.line g.ended (one_more Q) s.trace s.trace Q (member_of s) looks g.by.queue
+        (subst (QueueGood (names_in K Q) (InQueue K Q) s.words (put g.phase Q (member_of s) looks Q) (g.line Q) s.trace)
         (sym (one_count (g.ended Q) (Q == Q) (same_test Q))) left)
         (λ x ne. no_count (g.ended x) (x == Q) (other_test x Q ne)) (λ x q ne. q))
-        (λ k b. put_away g.phase Q N looks (el s.on k) (me s.on k) (inl (el_apart s.on k v.level (omega arith) low (omega arith)))
+        (λ k b. put_away g.phase Q (member_of s) looks (el s.on k) (me s.on k) (inl (el_apart s.on k v.level (omega arith) low (omega arith)))
         ∙ g.by.below v.rank v k s.has b ∙ ap (λ z. below_by (way_of z v.phase) (behind_at v.behind k)) asks)
-        (put_here g.phase Q N looks)
-        (gated_at K s.words (put g.phase Q N looks) g.line (el s.on j) Q pd
-        (subst (λ z. Matches z (put g.phase Q N looks Q (el s.on j))) (sym gate_d) (subst (Matches Releasing) (sym cell_d) tt))
+        (put_here g.phase Q (member_of s) looks)
+        (gated_at K s.words (put g.phase Q (member_of s) looks) g.line (el s.on j) Q pd
+        (subst (λ z. Matches z (put g.phase Q (member_of s) looks Q (el s.on j))) (sym gate_d) (subst (Matches Releasing) (sym cell_d) tt))
         (λ x p tx ux nx.
-        subst (λ z. Matches z (put g.phase Q N looks p x))
-        (sym (kept_put gate_of K s.words g.phase g.line Q N looks (ap gate_of heads.1 ∙ sym (ap gate_of heads.0)) x))
-        (subst (Matches (gate_of (head_before s x))) (sym (put_away g.phase Q N looks p x (inr (λ e. nx (e ∙ is_d))))) (g.by.gates x p tx ux))))
-        (spent_put K g.phase Q N looks g.by.spent (spent_look u (told_left (names_in K Q).budget (slice_index s.words (status_word (names_in K Q) N)))))
-        (tenured_ends K s.words g.phase g.line g.ended s.trace s.trace Q N looks g.by.tenured
+        subst (λ z. Matches z (put g.phase Q (member_of s) looks p x))
+        (sym (kept_put gate_of K s.words g.phase g.line Q (member_of s) looks (ap gate_of heads.1 ∙ sym (ap gate_of heads.0)) x))
+        (subst (Matches (gate_of (head_before s x))) (sym (put_away g.phase Q (member_of s) looks p x (inr (λ e. nx (e ∙ is_d))))) (g.by.gates x p tx ux))))
+        (spent_put K g.phase Q (member_of s) looks g.by.spent (spent_look u (told_left (names_in K Q).budget (slice_index s.words (status_word (names_in K Q) (member_of s))))))
+        (tenured_ends K s.words g.phase g.line g.ended s.trace s.trace Q (member_of s) looks g.by.tenured
         (let k = g.by.tenured Q there in
         let a : (if is_node K Q then 0 else granted_in (head_before s Q)) ≡ 1 = else_one (is_node K Q) _ no_node (ap granted_in heads.0) in
-        let b : (if is_node K Q then 0 else granted_in (head_by K s.words (put g.phase Q N looks) g.line Q)) ≡ 0 =
+        let b : (if is_node K Q then 0 else granted_in (head_by K s.words (put g.phase Q (member_of s) looks) g.line Q)) ≡ 0 =
         else_zero (is_node K Q) _ (ap granted_in heads.1) in omega arith)
         (λ x ne. refl))
 

@@ -10,11 +10,10 @@ use Rattle.rl_queue.specs.laws.QueueFits.{plan_fits, learn_fits, holder_told}
 use Rattle.rl_queue.specs.RankWords.{every_second}
 use Rattle.rl_queue.specs.laws.RankWordLaws.{length-every_second}
 use Rattle.rl_tree.specs.declared.rooted.Rooted.{Rooted}
-use Rattle.rl_tree.specs.declared.view.TreeView.{TreeView}
 use Rattle.rl_tree.specs.laws.Cases.{plan_by}
 use Rattle.rl_tree.specs.Elements.{how_many, ranks_in, is_node, of_elements, names_in, tree_of}
 use Rattle.rl_tree.specs.Fits.{IsPlaced, acting, MayPlan, StatusFits, GotFitsBy, TreeMayLearn}
-use Rattle.rl_tree.specs.TreeGood.{Tells, IsGrantedAt, InQueue, TreeGood}
+use Rattle.rl_tree.specs.TreeGood.{Tells, IsGrantedAt, InQueue}
 use Rattle.rl_tree.specs.laws.TreePaths.{el_there, el_in}
 use Rattle.rl_tree.specs.laws.RanksInTree.{StandsInTree, queue_of, member_of, level_low, queue_there, phase_of}
 use Rattle.rl_tree.specs.laws.TreeWords.{member_is}
@@ -55,17 +54,10 @@ module _ (K : Rooted) (levels : ℕ) (S : IsWellShaped K levels) where
       ⊎_elim (λ n. let a : x < ranks_in K = n.there in omega arith) (λ n. let a : x < how_many K = n.there in omega arith) (member_is K S.root_free q x i)
 
 module _ {K : Rooted} {levels : ℕ} (s : StandsInTree K levels) where
-  abbrev v : TreeView
-  v = s.on.view
-
-  abbrev g : TreeGood K levels s.words s.views s.trace
-  g = s.good
+  open s use {on.{view as v}, good as g}
 
   abbrev q : ℕ
   q = queue_of s
-
-  abbrev m : ℕ
-  m = member_of s
 
   pub placed_at : IsPlaced K v
   placed_at =
@@ -74,13 +66,13 @@ module _ {K : Rooted} {levels : ℕ} (s : StandsInTree K levels) where
 
   pub may_plan : MayPlan K v
   may_plan = record { placed = placed_at; named = by v.query refl } where
-    mine : InQueue K q m
+    mine : InQueue K q (member_of s)
     mine = el_in s.on v.level (level_low s)
 
-    by : (b : Bool) → v.query ≡ b → PlanFits (names_in K q) m (acting b v.phase)
-    by true e = record { alike = words_alike K levels s.on.well q; named = words_for K levels s.on.well q m mine; phase = tt }
+    by : (b : Bool) → v.query ≡ b → PlanFits (names_in K q) (member_of s) (acting b v.phase)
+    by true e = record { alike = words_alike K levels s.on.well q; named = words_for K levels s.on.well q (member_of s) mine; phase = tt }
     by false e =
-        plan_fits (names_in K q) (InQueue K q) s.words (g.phase q) (g.line q) s.trace (g.ended q) m v.phase (g.by.queue q (queue_there s))
+        plan_fits (names_in K q) (InQueue K q) s.words (g.phase q) (g.line q) s.trace (g.ended q) (member_of s) v.phase (g.by.queue q (queue_there s))
         (phase_of s e) mine (words_alike K levels s.on.well q)
         (λ y i. words_for K levels s.on.well q y i)
 
@@ -88,12 +80,12 @@ module _ {K : Rooted} {levels : ℕ} (s : StandsInTree K levels) where
   may_learn a planned = by v.query refl planned where
     by : (b : Bool) → v.query ≡ b → plan_by (tree_of K) v b ≡ Some a → GotFitsBy (names_in K q).budget v.phase b (told a (slice_index s.words (word_of a)))
     by true e pl =
-        let h : IsGrantedAt (g.phase q m) = subst (λ z. Tells v z (g.phase q m)) e (g.by.here v.rank v s.has) in
-        let n = granted_is (g.phase q m) h in
-        let k = holder_told (names_in K q) (InQueue K q) s.words (g.phase q) (g.line q) s.trace (g.ended q) m n.0 (g.by.queue q (queue_there s)) n.1 in
+        let h : IsGrantedAt (g.phase q (member_of s)) = subst (λ z. Tells v z (g.phase q (member_of s))) e (g.by.here v.rank v s.has) in
+        let n = granted_is (g.phase q (member_of s)) h in
+        let k = holder_told (names_in K q) (InQueue K q) s.words (g.phase q) (g.line q) s.trace (g.ended q) (member_of s) n.0 (g.by.queue q (queue_there s)) n.1 in
         subst (λ c. StatusFits (names_in K q).budget (told c (slice_index s.words (word_of c)))) (same_Some _ _ pl)
-        (status_fits (names_in K q).budget n.0 (slice_index s.words (status_word (names_in K q) m)) k.0 k.1 (s.on.well.modest q))
+        (status_fits (names_in K q).budget n.0 (slice_index s.words (status_word (names_in K q) (member_of s))) k.0 k.1 (s.on.well.modest q))
     by false e pl =
-        learn_fits (names_in K q) (InQueue K q) s.words (g.phase q) (g.line q) s.trace (g.ended q) m v.phase a (g.by.queue q (queue_there s))
+        learn_fits (names_in K q) (InQueue K q) s.words (g.phase q) (g.line q) s.trace (g.ended q) (member_of s) v.phase a (g.by.queue q (queue_there s))
         (phase_of s e) pl (λ y i. small K levels s.on.well q y i)
         (λ b eb. let c : b ≤ 1000 = s.on.well.modest q b eb in omega arith)

@@ -75,17 +75,10 @@ one_at_root {K} {levels} r n {ws} {vs} {t} g fr fn br bn =
 
 -- what follows for a rank where it stands
 module _ {K : Rooted} {levels : ℕ} (s : StandsInTree K levels) where
-  abbrev v : TreeView
-  v = s.on.view
-
-  abbrev g : TreeGood K levels s.words s.views s.trace
-  g = s.good
+  open s use {on.{view as v}, good as g}
 
   abbrev q : ℕ
   q = queue_of s
-
-  abbrev m : ℕ
-  m = member_of s
 
   -- who is out, or holds the lock, stands at its node's queue
   pub at_rest : v.query ≡ false → (v.phase ≡ Idle) ⊎ IsGrantedAt v.phase → v.level ≡ 0
@@ -130,14 +123,14 @@ module _ {K : Rooted} {levels : ℕ} (s : StandsInTree K levels) where
   lawful_at a pl = by v.query refl where
     by : (b : Bool) → v.query ≡ b → MayMake K levels s.on.well v.rank a
     by true e =
-        let p : Some (Load (status_word (names_in K q) m)) ≡ Some a = subst (λ z. plan_by (tree_of K) v z ≡ Some a) e pl in
+        let p : Some (Load (status_word (names_in K q) (member_of s))) ≡ Some a = subst (λ z. plan_by (tree_of K) v z ≡ Some a) e pl in
         subst (MayMake K levels s.on.well v.rank) (same_Some _ _ p)
-        (loads_status K levels s.on.well v.rank q m (el_in s.on v.level (level_low s)))
+        (loads_status K levels s.on.well v.rank q (member_of s) (el_in s.on v.level (level_low s)))
     by false e =
-        lawful_in K levels s.on.well v.rank q m v.phase a s.words (g.phase q) (g.line q) s.trace (g.ended q) (queue_there s)
+        lawful_in K levels s.on.well v.rank q (member_of s) v.phase a s.words (g.phase q) (g.line q) s.trace (g.ended q) (queue_there s)
         (g.by.queue q (queue_there s)) (phase_of s e) (subst (λ z. plan_by (tree_of K) v z ≡ Some a) e pl)
 
-  pub alone_at : ranks_in K ≡ 1 → IsAlone (InQueue K q) m
+  pub alone_at : ranks_in K ≡ 1 → IsAlone (InQueue K q) (member_of s)
   alone_at one =
       subst (λ z. IsAlone (InQueue K (path (tree_of K) z v.level)) (member_at (tree_of K) v.rank z v.level)) (sym s.on.own)
       (alone_on K levels s.on.well v.rank v.level one s.on.there (level_low s))
@@ -146,10 +139,10 @@ module _ {K : Rooted} {levels : ℕ} (s : StandsInTree K levels) where
   finds_at a pl one = by v.query refl where
     by : (b : Bool) → v.query ≡ b → FindsOld a (slice_index s.words (word_of a))
     by true e =
-        let p : Some (Load (status_word (names_in K q) m)) ≡ Some a = subst (λ z. plan_by (tree_of K) v z ≡ Some a) e pl in
+        let p : Some (Load (status_word (names_in K q) (member_of s))) ≡ Some a = subst (λ z. plan_by (tree_of K) v z ≡ Some a) e pl in
         subst (λ c. FindsOld c (slice_index s.words (word_of c))) (same_Some _ _ p) tt
     by false e =
-        alone_finds (names_in K q) (InQueue K q) s.words (g.phase q) (g.line q) s.trace (g.ended q) m v.phase a
+        alone_finds (names_in K q) (InQueue K q) s.words (g.phase q) (g.line q) s.trace (g.ended q) (member_of s) v.phase a
         (g.by.queue q (queue_there s)) (alone_at one) (phase_of s e) (subst (λ z. plan_by (tree_of K) v z ≡ Some a) e pl)
 
 module _ {K : Rooted} {levels : ℕ} (S : IsWellShaped K levels) {ws : List ℕ} {vs : List TreeView} {t : List Event}

@@ -8,11 +8,10 @@ use Rattle.rl_step.specs.LockQueues.{is_at}
 use Rattle.rl_queue.specs.declared.view.Phase.{Phase}
 use Rattle.rl_queue.specs.declared.view.Phase.TheVariants.{Settle, Above}
 use Rattle.rl_queue.specs.Queue.{resume_at}
-use Rattle.rl_tree.specs.declared.view.TreeView.{TreeView}
 use Rattle.rl_tree.specs.Tree.{behind_at, at_level, settles_below}
 use Rattle.rl_tree.specs.declared.rooted.Rooted.{Rooted}
 use Rattle.rl_tree.specs.Elements.{is_node, names_in, tree_of}
-use Rattle.rl_tree.specs.TreeGood.{Down, Rest, way_of, below_by, gate_of, Matches, IsGrantedAt, IsGoodBy, TreeGood}
+use Rattle.rl_tree.specs.TreeGood.{Down, Rest, way_of, below_by, gate_of, Matches, IsGrantedAt, IsGoodBy}
 use Rattle.rl_tree.specs.laws.TreePaths.{put, put_here, put_away, el, me, el_top, el_apart}
 use Rattle.rl_tree.specs.laws.RanksInTree.{StandsInTree, queue_of, member_of, shape_of, level_low, queue_there, phase_of}
 use Rattle.rl_tree.specs.laws.TreeClimb.{settled, MustSettle, else_zero}
@@ -21,17 +20,10 @@ use Rattle.rl_tree.specs.laws.TreeParts.{all_others, others_put, first_of, assem
 use Rattle.rl_tree.specs.laws.TreeKeeps.{climbs}
 
 module _ {K : Rooted} {levels : ℕ} (s : StandsInTree K levels) (no_query : s.on.view.query ≡ false) (at_top : s.on.view.level ≡ levels) where
-  abbrev v : TreeView
-  v = s.on.view
-
-  abbrev g : TreeGood K levels s.words s.views s.trace
-  g = s.good
+  open s use {on.{view as v}, good as g}
 
   abbrev Q : ℕ
   Q = queue_of s
-
-  abbrev N : ℕ
-  N = member_of s
 
   pub must_settle : v.phase ≡ Settle → MustSettle s.on g.phase (suc levels)
   must_settle must i b =
@@ -53,14 +45,14 @@ module _ {K : Rooted} {levels : ℕ} (s : StandsInTree K levels) (no_query : s.o
 
   -- THE LEAVE GOES ON from the hook: what is above the root was given up, and the rank hands the root over, or empties it.
   pub hook_leaves : (o : Option ℕ) → v.phase ≡ Above o →
-      IsGoodBy K levels (put g.phase Q N (resume_at (Above o))) g.line g.ended s.words
+      IsGoodBy K levels (put g.phase Q (member_of s) (resume_at (Above o))) g.line g.ended s.words
       (slice_set s.views v.rank (at_level v v.level (resume_at (Above o)))) s.trace
   hook_leaves o gave =
       let p : Phase = resume_at (Above o) in
       let low = level_low s in
       let was = phase_of s no_query ∙ gave in
-      let resumed = resume_put K s.words g.phase g.line g.ended s.trace Q N o g.by.queue (queue_there s) was in
-      assembles s.on s.words (put g.phase Q N p) g.line g.ended s.trace s.views (at_level v v.level p) refl refl
+      let resumed = resume_put K s.words g.phase g.line g.ended s.trace Q (member_of s) o g.by.queue (queue_there s) was in
+      assembles s.on s.words (put g.phase Q (member_of s) p) g.line g.ended s.trace s.views (at_level v v.level p) refl refl
       (record {
         within = low;
         resting = λ e. let bad : Down ≡ Rest = sym (resume_way o) ∙ e in cc;
@@ -69,16 +61,16 @@ module _ {K : Rooted} {levels : ℕ} (s : StandsInTree K levels) (no_query : s.o
         hooked = λ e. let bad : true ≡ false = sym e ∙ resume_unhooked o in cc;
       })
       (others_put s.on s.words g.phase g.line g.ended s.trace s.views v.level p low g.by.queue (all_others s) (first_of s)) resumed.0
-      (λ k b. put_away g.phase Q N p (el s.on k) (me s.on k) (inl (el_apart s.on k v.level (omega arith) low (omega arith)))
+      (λ k b. put_away g.phase Q (member_of s) p (el s.on k) (me s.on k) (inl (el_apart s.on k v.level (omega arith) low (omega arith)))
       ∙ g.by.below v.rank v k s.has b ∙ ap (λ z. below_by z (behind_at v.behind k))
       (ap (λ z. way_of z v.phase) no_query ∙ ap (way_of false) gave ∙ sym (resume_way o)))
-      (put_here g.phase Q N p)
+      (put_here g.phase Q (member_of s) p)
       (λ x y tx ux.
       ⊎_elim
       (λ e. let bad : Some y ≡ None = sym ux ∙ ap (tree_of K).parent e ∙ ap (λ z. (tree_of K).parent (el s.on z)) at_top ∙ el_top s.on in cc)
       (λ ne.
-      subst (λ z. Matches z (put g.phase Q N p y x)) (sym (ap gate_of (head_put K s.words g.phase g.line Q N p x ne)))
-      (match_put g.phase Q N p _ (λ h. resume_matches o _ (subst (Matches _) was h)) y x (g.by.gates x y tx ux)))
+      subst (λ z. Matches z (put g.phase Q (member_of s) p y x)) (sym (ap gate_of (head_put K s.words g.phase g.line Q (member_of s) p x ne)))
+      (match_put g.phase Q (member_of s) p _ (λ h. resume_matches o _ (subst (Matches _) was h)) y x (g.by.gates x y tx ux)))
       (same_or_not x Q))
-      (spent_put K g.phase Q N p g.by.spent (spent_resume (is_some (names_in K Q).budget) o))
-      (tenured_put K s.words g.phase g.line g.ended s.trace Q N p g.by.tenured resumed.2)
+      (spent_put K g.phase Q (member_of s) p g.by.spent (spent_resume (is_some (names_in K Q).budget) o))
+      (tenured_put K s.words g.phase g.line g.ended s.trace Q (member_of s) p g.by.tenured resumed.2)

@@ -20,7 +20,7 @@ use Rattle.rl_tree.specs.Tree.{names_at, at_level, settles_below, inside_from, a
 use Rattle.rl_tree.specs.laws.Cases.{learn_by, plan_by, standing_by}
 use Rattle.rl_tree.specs.declared.rooted.Rooted.{Rooted}
 use Rattle.rl_tree.specs.Elements.{of_tree, names_in, tree_of}
-use Rattle.rl_tree.specs.TreeGood.{gate_of, is_open, root_open, Tells, InQueue, IsGoodBy, TreeGood, GoodAt}
+use Rattle.rl_tree.specs.TreeGood.{gate_of, is_open, root_open, Tells, InQueue, IsGoodBy, GoodAt}
 use Rattle.rl_tree.specs.TreeShape.{IsWellShaped}
 use Rattle.rl_tree.specs.TreeFacts.{GateMoves, LearnFits, learnt_in, resumed_in, opens, AsksKeep, LeavesKeep, ActsKeep, ResumesKeep, LearnsFit, ResumesFit}
 use Rattle.rl_tree.specs.laws.TreePaths.{put, put_moves, head_by, el, el_there, el_up, el_root, not_root}
@@ -52,17 +52,10 @@ goes_form : (K : Rooted) (v : TreeView) (s : Option ℕ) → v.phase ≡ Above s
 goes_form K v s e = ap (λ z. resume_by (tree_of K) v z []) e
 
 module _ {K : Rooted} {levels : ℕ} (s : StandsInTree K levels) where
-  abbrev v : TreeView
-  v = s.on.view
-
-  abbrev g : TreeGood K levels s.words s.views s.trace
-  g = s.good
+  open s use {on.{view as v}, good as g}
 
   abbrev Q : ℕ
   Q = queue_of s
-
-  abbrev N : ℕ
-  N = member_of s
 
   abbrev was_open : Bool
   was_open = root_open K s.words g.phase g.line
@@ -106,28 +99,28 @@ module _ {K : Rooted} {levels : ℕ} (s : StandsInTree K levels) where
       })
 
   -- AN ACT of a view that asks for the status of its element: it begins to leave above, and the root's gate stays open
-  query_gate : v.query ≡ true → root_open K s.words (put g.phase Q N (looks s)) g.line ≡ was_open
+  query_gate : v.query ≡ true → root_open K s.words (put g.phase Q (member_of s) (looks s)) g.line ≡ was_open
   query_gate asks =
-      let n = granted_is (g.phase Q N) (subst (λ z. Tells v z (g.phase Q N)) asks (g.by.here v.rank v s.has)) in
-      let heads = head_first (names_in K Q) (InQueue K Q) s.words (g.phase Q) (put g.phase Q N (looks s) Q) (g.line Q) s.trace (g.ended Q) N
-      (Granted n.0) (looks s) (g.by.queue Q (queue_there s)) (put_moves g.phase Q N (Granted n.0) (looks s) n.1) tt in
-      kept_put (λ h. is_open (gate_of h)) K s.words g.phase g.line Q N (looks s)
+      let n = granted_is (g.phase Q (member_of s)) (subst (λ z. Tells v z (g.phase Q (member_of s))) asks (g.by.here v.rank v s.has)) in
+      let heads = head_first (names_in K Q) (InQueue K Q) s.words (g.phase Q) (put g.phase Q (member_of s) (looks s) Q) (g.line Q) s.trace (g.ended Q) (member_of s)
+      (Granted n.0) (looks s) (g.by.queue Q (queue_there s)) (put_moves g.phase Q (member_of s) (Granted n.0) (looks s) n.1) tt in
+      kept_put (λ h. is_open (gate_of h)) K s.words g.phase g.line Q (member_of s) (looks s)
       (ap (λ z. is_open (gate_of z)) heads.1 ∙ sym (ap (λ z. is_open (gate_of z)) heads.0)) 0
 
-  asking_steps : v.query ≡ true → (a : Act) → Some (Load (status_word (names_in K Q) N)) ≡ Some a →
+  asking_steps : v.query ≡ true → (a : Act) → Some (Load (status_word (names_in K Q) (member_of s))) ≡ Some a →
       Steps K levels s (slice_set s.words (word_of a) (written a (slice_index s.words (word_of a))))
       (learn_by (tree_of K) v true (told a (slice_index s.words (word_of a))))
   asking_steps asks a pl =
       subst (λ c. Steps K levels s (slice_set s.words (word_of c) (written c (slice_index s.words (word_of c))))
       (learn_by (tree_of K) v true (told c (slice_index s.words (word_of c))))) (same_Some _ _ pl)
       (subst (λ z. Steps K levels s z (record { view = at_level v v.level (looks s); events = []; waits = false }))
-      (sym (set-get_or s.words (status_word (names_in K Q) N) 0))
+      (sym (set-get_or s.words (status_word (names_in K Q) (member_of s)) 0))
       (record {
         good = record {
-          phase = put g.phase Q N (looks s);
+          phase = put g.phase Q (member_of s) (looks s);
           line = g.line;
           ended = _;
-          by = subst (IsGoodBy K levels (put g.phase Q N (looks s)) g.line _ s.words (slice_set s.views v.rank (at_level v v.level (looks s))))
+          by = subst (IsGoodBy K levels (put g.phase Q (member_of s) (looks s)) g.line _ s.words (slice_set s.views v.rank (at_level v v.level (looks s))))
               (sym (append-nil s.trace)) (query_keeps s asks);
         };
         moves = λ lim. query_gate asks;
@@ -180,10 +173,10 @@ module _ {K : Rooted} {levels : ℕ} (s : StandsInTree K levels) where
       GoodAt K levels false s.words (slice_set s.views v.rank (at_level v v.level (resume_at (Above o)))) s.trace
   goes_good o nq e lv =
       record {
-        tree = record { phase = put g.phase Q N (resume_at (Above o)); line = g.line; ended = g.ended; by = hook_leaves s nq lv o e };
-        gate = subst (λ z. is_open (gate_of (head_by K s.words (put g.phase Q N (resume_at (Above o))) g.line z)) ≡ false)
+        tree = record { phase = put g.phase Q (member_of s) (resume_at (Above o)); line = g.line; ended = g.ended; by = hook_leaves s nq lv o e };
+        gate = subst (λ z. is_open (gate_of (head_by K s.words (put g.phase Q (member_of s) (resume_at (Above o))) g.line z)) ≡ false)
             (ap (el s.on) lv ∙ el_root s.on)
-            (ap is_open (resume_put K s.words g.phase g.line g.ended s.trace Q N o g.by.queue (queue_there s) (phase_of s nq ∙ e)).1);
+            (ap is_open (resume_put K s.words g.phase g.line g.ended s.trace Q (member_of s) o g.by.queue (queue_there s) (phase_of s nq ∙ e)).1);
       }
 
   resume_good : at_hook v ≡ true →

@@ -11,13 +11,12 @@ use Rattle.rl_queue.specs.declared.view.Phase.TheVariants.{Idle, Clear, Wait, Se
 use Rattle.rl_queue.specs.Queue.{QueueTurn, status_word, resume_at}
 use Rattle.rl_queue.specs.Lane.{is_pass, IsFirst}
 use Rattle.rl_queue.specs.laws.QueueHeads.{HeadStep, head}
-use Rattle.rl_tree.specs.declared.view.TreeView.{TreeView}
 use Rattle.rl_tree.specs.Tree.{behind_at, at_level, asks_status, leaves_behind, settles_below}
 use Rattle.rl_tree.specs.declared.rooted.Rooted.{Rooted}
 use Rattle.rl_tree.specs.Elements.{how_many, is_node, names_in, tree_of, queue_at}
-use Rattle.rl_tree.specs.TreeGood.{Way, Up, Down, Rest, way_at, way_of, below_by, Gate, Shut, Asking, Open, Releasing, gate_of, granted_in, Matches, Spent, IsGrantedAt, IsGoodBy, TreeGood, open_if}
+use Rattle.rl_tree.specs.TreeGood.{Way, Up, Down, Rest, way_at, way_of, below_by, Gate, Shut, Asking, Open, Releasing, gate_of, granted_in, Matches, Spent, IsGrantedAt, IsGoodBy, open_if}
 use Rattle.rl_tree.specs.laws.TreePaths.{put, put_here, put_away, head_by, AllGood, FirstBelow, el, me, el_there, el_in, el_up, el_top, el_apart}
-use Rattle.rl_tree.specs.laws.RanksInTree.{StandsInTree, ActsInTree, queue_of, member_of, head_before, shape_of, level_low, queue_there, words_after, turn_of, phases_after}
+use Rattle.rl_tree.specs.laws.RanksInTree.{ActsInTree, queue_of, member_of, head_before, shape_of, level_low, queue_there, words_after, turn_of, phases_after}
 use Rattle.rl_tree.specs.laws.TreeClimb.{settled, MustSettle, owed, debt, debt_is, Owes, else_zero, else_parts}
 use Rattle.rl_tree.specs.laws.TreePuts.{Gated, AllSpent, spent_clear, spent_idle, spent_settle, spent_resume, granted_opens, granted_releases, resume_way, resume_unhooked, resume_matches, spent_put, match_put, head_put, tenured_put, gated_at, join_put, resume_put}
 use Rattle.rl_tree.specs.laws.TreeParts.{first_below, others_put, assembles}
@@ -38,20 +37,10 @@ behind_other s (x ∷ xs) (suc j) zero ne = refl
 behind_other s (x ∷ xs) (suc j) (suc k) ne = behind_other s xs j k (λ e. ne (ap suc e))
 
 module _ {K : Rooted} {levels : ℕ} (a : ActsInTree K levels) where
-  abbrev s : StandsInTree K levels
-  s = a.stands
-
-  abbrev v : TreeView
-  v = a.stands.on.view
-
-  abbrev g : TreeGood K levels a.stands.words a.stands.views a.stands.trace
-  g = a.stands.good
+  open a use {stands as s, stands.{on.{view as v}, good as g}}
 
   abbrev Q : ℕ
-  Q = queue_of a.stands
-
-  abbrev N : ℕ
-  N = member_of a.stands
+  Q = queue_of s
 
   abbrev P : ℕ → ℕ → Phase
   P = phases_after a
@@ -79,8 +68,8 @@ module _ {K : Rooted} {levels : ℕ} (a : ActsInTree K levels) where
   abbrev pub gone_on : ℕ → ℕ → ℕ → Phase
   gone_on j = put P (el s.on j) (me s.on j) (below_phase j)
 
-  here_now : P Q N ≡ turn.phase
-  here_now = put_here g.phase Q N turn.phase
+  here_now : P Q (member_of s) ≡ turn.phase
+  here_now = put_here g.phase Q (member_of s) turn.phase
 
   -- which way it went, and so the phases below its level
   went : (w : Way) → way_at v.phase ≡ w → (k : ℕ) → k < v.level → P (el s.on k) (me s.on k) ≡ below_by w (behind_at v.behind k)
@@ -96,7 +85,7 @@ module _ {K : Rooted} {levels : ℕ} (a : ActsInTree K levels) where
 
   -- what is spent stays so
   spent_act : (q : Phase) → turn.phase ≡ q → Spent (is_some (names_in K Q).budget) q → AllSpent K P
-  spent_act q is h = spent_put K g.phase Q N turn.phase g.by.spent (subst (Spent (is_some (names_in K Q).budget)) (sym is) h)
+  spent_act q is h = spent_put K g.phase Q (member_of s) turn.phase g.by.spent (subst (Spent (is_some (names_in K Q).budget)) (sym is) h)
 
   -- A HEAD BELOW THE ROOT must settle, and begins to join above.
   pub begins : v.level < levels → gate_of (head_before s Q) ≡ Shut →
@@ -106,7 +95,7 @@ module _ {K : Rooted} {levels : ℕ} (a : ActsInTree K levels) where
       let ne : upper ≢ Q = el_apart s.on (suc v.level) v.level (omega arith) low (omega arith) in
       join_put K W P Z g.ended (s.trace ++ turn.events) upper Q (all_good a) (el_there s.on (suc v.level) (omega arith))
       (el_in s.on (suc v.level) (omega arith))
-      (put_away g.phase Q N turn.phase upper Q (inl ne)
+      (put_away g.phase Q (member_of s) turn.phase upper Q (inl ne)
       ∙ subst (λ z. Matches z (g.phase upper Q)) shut (g.by.gates Q upper (queue_there s) (el_up s.on v.level lt)))
 
   pub begins_above : turn.phase ≡ Settle → v.level < levels → gate_of (head_before s Q) ≡ Shut → gate_of (head_after a Q) ≡ Asking →
@@ -144,7 +133,7 @@ module _ {K : Rooted} {levels : ℕ} (a : ActsInTree K levels) where
       let shape : length v.behind ≡ 3 = (shape_of s).three in
       let pq = el_up s.on v.level lt in
       let same_cell : P upper Q ≡ g.phase upper Q =
-      put_away g.phase Q N turn.phase upper Q (inl (el_apart s.on (suc v.level) v.level lu low (omega arith))) in
+      put_away g.phase Q (member_of s) turn.phase upper Q (inl (el_apart s.on (suc v.level) v.level lu low (omega arith))) in
       let open_cell : Matches Open (g.phase upper Q) = subst (λ z. Matches z (g.phase upper Q)) opens (g.by.gates Q upper (queue_there s) pq) in
       assembles s.on W P Z g.ended (s.trace ++ turn.events) s.views (asks_status (leaves_behind v v.level o) (suc v.level)) refl refl
       (record { within = lu; resting = λ e. cc; above = λ e. omega arith; three = length-set v.behind v.level o ∙ shape; hooked = λ e. cc })
@@ -192,7 +181,7 @@ module _ {K : Rooted} {levels : ℕ} (a : ActsInTree K levels) where
       let o : Option ℕ = behind_at v.behind j in
       let was : P (el s.on j) (me s.on j) ≡ Above (behind_at v.behind j) = went Down down j (omega arith) in
       let ne : el s.on j ≢ Q = el_apart s.on j v.level lj low (omega arith) in
-      let is_d : N ≡ el s.on j = ap (me s.on) lv in
+      let is_d : (member_of s) ≡ el s.on j = ap (me s.on) lv in
       let resumed = resume_put K W P Z g.ended (s.trace ++ turn.events) (el s.on j) (me s.on j) o (all_good a) (el_there s.on j lj) was in
       let first : FirstBelow s.on W P j = λ k b. first_below s.on W P v.level (shape_of s) (omega arith) (below_mine a) k (omega arith) in
       assembles s.on W (gone_on j) Z g.ended (s.trace ++ turn.events) s.views (at_level v j (below_phase j)) refl refl
@@ -258,13 +247,13 @@ module _ {K : Rooted} {levels : ℕ} (a : ActsInTree K levels) where
 
   -- A HEAD THAT HAS BEEN PASSED THE QUEUE: it has the queue, and so has each below, which must settle, in the same act.
   module _ (waits : v.phase ≡ Wait) (left : ℕ) (passed : turn.phase ≡ Granted left)
-      (by_pass : is_pass (slice_index s.words (status_word (names_in K Q) N)) ≡ true) where
+      (by_pass : is_pass (slice_index s.words (status_word (names_in K Q) (member_of s))) ≡ true) where
     -- the head waited with a pass, and has the queue now
-    heads : (head_before s Q ≡ head N Wait (slice_index s.words (status_word (names_in K Q) N))) ×
-        (head_after a Q ≡ head N (Granted left) (slice_index s.words (status_word (names_in K Q) N)))
+    heads : (head_before s Q ≡ head (member_of s) Wait (slice_index s.words (status_word (names_in K Q) (member_of s)))) ×
+        (head_after a Q ≡ head (member_of s) (Granted left) (slice_index s.words (status_word (names_in K Q) (member_of s))))
     heads =
-        subst (λ z. HeadStep (names_in K Q).budget N Wait z (slice_index s.words (status_word (names_in K Q) N)) (head_before s Q) (head_after a Q)) passed
-        (subst (λ z. HeadStep (names_in K Q).budget N z turn.phase (slice_index s.words (status_word (names_in K Q) N)) (head_before s Q)
+        subst (λ z. HeadStep (names_in K Q).budget (member_of s) Wait z (slice_index s.words (status_word (names_in K Q) (member_of s))) (head_before s Q) (head_after a Q)) passed
+        (subst (λ z. HeadStep (names_in K Q).budget (member_of s) z turn.phase (slice_index s.words (status_word (names_in K Q) (member_of s))) (head_before s Q)
         (head_after a Q)) waits (head_here a))
 
     pub gate_same : gate_of (head_after a Q) ≡ gate_of (head_before s Q)

@@ -35,6 +35,7 @@ use Rattle.rl_journal.specs.laws.Lists.{all_at}
 use Rattle.rl_site.specs.Site.{Site, places, count_word, volume_base, journal_base, lock_base}
 use Rattle.rl_work.specs.Work.{batch_in, stores, CanName, CanTurn, CanDecide, write_atom, stage_atom, work_atom, stage_after, with_block, written_on}
 use Rattle.rl_site.specs.Opens.{IsOpen, IsOwnTranscript, opening_words, Tells}
+use Rattle.rl_work.specs.laws.Shifts.{stays_done, asks_on, no_holder}
 use Rattle.rl_work.specs.WorkGood.{WorkSide, IsApart, transcript_of, transcripts, IsDecided, IsReading, HasDecided, FitsAt, is_writing, IsDone, IsInCall, WorkGood, side_turned, side_after, HasOpen, IsFirst}
 use Rattle.rl_work.specs.laws.EndLaws.{parts_tell}
 use Rattle.rl_work.specs.laws.TurnLaws.{turn_length}
@@ -172,42 +173,13 @@ module _ (site : Site) (words : List ℕ) (sides : List WorkSide) (g : WorkGood 
       WorkGood site words (slice_set sides r (record { standing = st; work = x.work }))
   shift_keeps st es shift = side_stays site words sides g r x has (record { standing = st; work = x.work }) (λ calm. calm) refl refl
       (by_stage x.work.stage (g.fits r x has)) where
-        asks_on : (a b : Standing) → Shift r a b es → IsInCall a → IsInCall b
-        asks_on Out b s i = absurd i
-        asks_on Asking Out s i = absurd s
-        asks_on Asking Asking s i = tt
-        asks_on Asking Writer s i = tt
-        asks_on Asking Reader s i = tt
-        asks_on Asking Leaving s i = absurd s
-        asks_on Writer b s i = absurd s
-        asks_on Reader b s i = absurd s
-        asks_on Leaving b s i = absurd i
-
-        is_done : (a b : Standing) → Shift r a b es → IsDone a → IsDone b
-        is_done Out b s i = absurd s
-        is_done Asking b s i = absurd i
-        is_done Writer b s i = absurd s
-        is_done Reader b s i = absurd s
-        is_done Leaving Out s i = tt
-        is_done Leaving Asking s i = absurd s
-        is_done Leaving Writer s i = absurd s
-        is_done Leaving Reader s i = absurd s
-        is_done Leaving Leaving s i = tt
-
-        no_holder : (a b : Standing) → Shift r a b es → IsHolder a → ⊥
-        no_holder Out b s i = i
-        no_holder Asking b s i = i
-        no_holder Writer b s i = s
-        no_holder Reader b s i = s
-        no_holder Leaving b s i = i
-
         by_stage : (stage : Stage) → FitsAt site words g.journal g.before r x stage →
             FitsAt site words g.journal g.before r (record { standing = st; work = x.work }) stage
-        by_stage Rest f = is_done x.standing st shift f
-        by_stage Begin f = (f.0, asks_on x.standing st shift f.1, f.2, f.3, f.4)
-        by_stage (Read count word) f = absurd (no_holder x.standing st shift f.holds)
-        by_stage (Journal made) f = absurd (no_holder x.standing st shift (subst IsHolder (sym f.0.writes) tt))
-        by_stage (Volume made) f = absurd (no_holder x.standing st shift (subst IsHolder (sym f.0.writes) tt))
+        by_stage Rest f = stays_done r x.standing st es shift f
+        by_stage Begin f = (f.0, asks_on r x.standing st es shift f.1, f.2, f.3, f.4)
+        by_stage (Read count word) f = absurd (no_holder r x.standing st es shift f.holds)
+        by_stage (Journal made) f = absurd (no_holder r x.standing st es shift (subst IsHolder (sym f.0.writes) tt))
+        by_stage (Volume made) f = absurd (no_holder r x.standing st es shift (subst IsHolder (sym f.0.writes) tt))
 
   -- where a rank is out its work is over
   rests_out : x.standing ≡ Out → (stage : Stage) → FitsAt site words g.journal g.before r x stage → is_writing stage ≡ false

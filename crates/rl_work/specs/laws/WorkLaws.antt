@@ -107,6 +107,21 @@ no_writes site words journal before r x (Read count word) none f = refl
 no_writes site words journal before r x (Journal made) none f = refl
 no_writes site words journal before r x (Volume made) none f = absurd (none f.0.writes)
 
+-- what was decided stays so, whatever of it is written
+decided_on : {site : Site} {r : ℕ} {journal : List Entry} {before : List ℕ} {x : WorkSide} (to : Stage) → IsDecided site r journal before x →
+    IsDecided site r journal before (record { standing = x.standing; work = at_stage x.work to })
+decided_on to d =
+    record {
+      open_call = d.open_call;
+      writes = d.writes;
+      update = d.update;
+      found = d.found;
+      same_calls = d.same_calls;
+      is_next =
+          d.is_next;
+      same_seq = d.same_seq;
+    }
+
 module _ (site : Site) (words : List ℕ) (sides : List WorkSide) (g : WorkGood site words sides) (apart : IsApart sides) (r : ℕ)
     (x : WorkSide) (has : slice_get sides r ≡ Some x) where
   -- the others, beside a writer
@@ -500,16 +515,7 @@ module _ (site : Site) (words : List ℕ) (sides : List WorkSide) (g : WorkGood 
       (legal_kept site words sides g r x has x.work.transcript refl)
       refl
       (g.own r x has) (
-        record {
-          open_call = d.open_call;
-          writes = d.writes;
-          update = d.update;
-          found = d.found;
-          same_calls = d.same_calls;
-          is_next =
-              d.is_next;
-          same_seq = d.same_seq;
-        },
+        decided_on (Volume (made + 1)) d,
         omega arith,
         agrees_elsewhere words (journal_base site.geom + 6 * length g.journal) (take (6 * length x.work.entries) (spelled x.work.entries))
             (volume_base + w.word) w.value f.2 (λ i h q. absurd (omega arith)),
@@ -565,31 +571,13 @@ module _ (site : Site) (words : List ℕ) (sides : List WorkSide) (g : WorkGood 
       elim (made + 1 == 6 * length x.work.entries) as (λ b. (made + 1 == 6 * length x.work.entries) ≡ b → WorkGood site vs
       (slice_set sides r (side_turned x.standing (cond b (to_stage x.work (Volume 0)) (to_stage x.work (Journal (made + 1))))))) [
         | true ↦ λ e. journal_moves made stage (Volume 0) (λ volume spelt. (
-          record {
-            open_call = d.open_call;
-            writes = d.writes;
-            update = d.update;
-            found = d.found;
-            same_calls = d.same_calls;
-            is_next =
-                d.is_next;
-            same_seq = d.same_seq;
-          },
+          decided_on (Volume 0) d,
           omega arith,
           (let six : made + 1 ≡ 6 * length x.work.entries = grind (arith, nat_tests) in subst (IsSpelled site.geom vs g.journal x.work.entries) six spelt),
           volume,
         ))
         | false ↦ λ e. journal_moves made stage (Journal (made + 1)) (λ volume spelt. (
-          record {
-            open_call = d.open_call;
-            writes = d.writes;
-            update = d.update;
-            found = d.found;
-            same_calls = d.same_calls;
-            is_next =
-                d.is_next;
-            same_seq = d.same_seq;
-          },
+          decided_on (Journal (made + 1)) d,
           (let low = f.1 in grind (arith, nat_tests)),
           spelt,
         ))

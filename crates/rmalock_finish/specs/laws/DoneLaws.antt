@@ -1,25 +1,15 @@
--- What follows of a call that is done: which statuses there are.
-use Rattle.std.proofs.Common.{lit≤, inl, inr, ◌≡◌, ◌≤◌, ℕ, List, Option, Some, None, Result, Ok, Err, sym, subst, arith}
-use Rattle.rl_inputs.specs.Done.{TheAnswer, IsDone}
-use Rattle.rl_inputs.specs.Files.{Names, Texts, AreTextsOf}
-use Rattle.rl_inputs.specs.laws.DoneLaws.{no_other}
+-- Which statuses there are, so that `known` of `rl_viewer` says of a call that is done that there is no other than 0 to 5.
+use Rattle.std.proofs.Common.{inl, inr, ◌≡◌, ◌≤◌, ℕ, List, arith}
 use Rattle.rl_inputs.specs.declared.replay.Replay.{Replay}
-use Rattle.rl_inputs.specs.Files.{spelled}
-use Rattle.rmalock_finish.specs.Answer.{Answers, AnswersAsSpelled}
+use Rattle.rl_inputs.specs.Done.{TheAnswer}
+use Rattle.rl_inputs.specs.Files.{Names, Texts, spelled}
+use Rattle.rl_viewer.specs.laws.DoneLaws.{few_as_spelled}
+use Rattle.rmalock_finish.specs.Answer.{AnswersReplay, AnswersFiles}
 
-few_as_spelled : (name : List ℕ) (told : Result Replay (List ℕ)) (answer : TheAnswer) → AnswersAsSpelled name told answer → answer.status ≤ 5
-few_as_spelled name (Ok replay) answer is =
+few_replay : (name : List ℕ) (replay : Replay) (answer : TheAnswer) → AnswersReplay name replay answer → answer.status ≤ 5
+few_replay name replay answer is =
     elim is [ inl done ↦ let zero : answer.status ≡ 0 = done.0 in omega (arith, zero) | inr told ↦ let two : answer.status ≡ 2 = told.0 in omega (arith, two) ]
-few_as_spelled name (Err line) answer is = subst (λ a. a.status ≤ 5) (sym is) (lit≤ tt)
 
-few_statuses : (asked : Option Names) (texts : Texts) (answer : TheAnswer) → Answers asked texts answer → answer.status ≤ 5
-few_statuses None texts answer is = subst (λ a. a.status ≤ 5) (sym is) (lit≤ tt)
-few_statuses (Some names) texts answer is = few_as_spelled names.schedule (spelled names texts) answer is
-
--- there is no other status than 0 to 5
-pub known : {S K : Type 0} (file : S → List ℕ → Option (List ℕ)) (read_faults : S → ℕ) (written : K → Option (List ℕ))
-    (tells_on : K → ℕ → Type 0) (write_faults : K → ℕ) (asked : Option Names) (source left : S) (old new : K) (status : ℕ) →
-    IsDone file read_faults written tells_on write_faults (AreTextsOf asked) (Answers asked) source left old new status → status ≤ 5
-known file read_faults written tells_on write_faults asked source left old new status done =
-    no_other file read_faults written tells_on write_faults (AreTextsOf asked) (Answers asked) source left old new status done 5 (lit≤ tt)
-    (few_statuses asked done.texts)
+pub few : (names : Names) (all : Unit {0}) (texts : Texts) (answer : TheAnswer) → AnswersFiles names all texts answer → answer.status ≤ 5
+few names all texts answer is =
+    few_as_spelled (AnswersReplay names.schedule) (few_replay names.schedule) (spelled names texts) answer is

@@ -7,7 +7,7 @@ use Rattle.rl_word.specs.laws.Places.{get_map, get_map_back}
 use Rattle.rl_step.specs.declared.events.Standing.TheVariants as standing
 use Rattle.rl_step.specs.Lock.{LockState}
 use Rattle.rl_ending.specs.Ending.{LockEnds, CanGoOn}
-use Rattle.rl_ending.specs.laws.EndingLaws.{all_out_or_not}
+use Rattle.rl_ending.specs.laws.EndingLaws.{all_out_or_not, goes_on_by}
 use Rattle.rl_ending.specs.Guiding.{LockGuides}
 use Rattle.rl_ending.specs.laws.Sums.{sum_falls, sum_grows}
 use Rattle.ticket_lock.specs.declared.view.TicketView.{TicketView}
@@ -36,17 +36,10 @@ ready_goes home s r k Drawing has ready = record {
       inr (record { act = _; planned = refl; less = sum_falls acts_of s.views r (at_phase k Drawing) (at_phase k (Waiting _)) has (lit≤ tt) });
 }
 ready_goes home s r k (Waiting x) has ready =
-    record {
-      view = _;
-      has = has;
-      way = inr (record {
-        act = _;
-        planned = refl;
-        less = by_look (λ t. sum_by acts_of (slice_set s.views r t.view) < sum_by acts_of s.views) k x (slice_index s.words 1)
-            (λ own. sum_falls acts_of s.views r (at_phase k (Waiting x)) (at_phase k (Inside x)) has (lit≤ tt))
-            (λ other. absurd (other ready));
-      });
-    }
+    goes_on_by _ _ has refl
+    (by_look (λ t. sum_by acts_of (slice_set s.views r t.view) < sum_by acts_of s.views) k x (slice_index s.words 1)
+    (λ own. sum_falls acts_of s.views r (at_phase k (Waiting x)) (at_phase k (Inside x)) has (lit≤ tt))
+    (λ other. absurd (other ready)))
 ready_goes home s r k (Inside x) has ready = record { view = _; has = has; way = inl tt }
 ready_goes home s r k (Releasing x) has ready = record {
   view = _;

@@ -38,7 +38,7 @@ returns-in_err-go_one-clause-draws g c =
     let i = c.loop-rank.rank-index in
     let one : suc i ≡ i + 1 = omega arith in
     let next : drop i ks ≡ get_or ks i 0 ∷ drop (i + 1) ks = drop-cons ks i 0 c.loop-rank-test.true ∙ ap (λ n. get_or ks i 0 ∷ drop n ks) one in
-    let same = same_left g.C.ShardCore.defined place c.args.scene.ops.now first m c.args.stage.now.turns c.loop-rank.stage.turns c.args.stage.now.left c.loop-rank.stage.left c.requires.stage c.loop-rank.invariant.0 in
+    let same = same_left g.C.ShardCore.says g.C.ShardCore.defined c.args.scene c.args.stage.now c.requires.stage c.loop-rank.stage c.loop-rank.invariant.0 in
     rw (p.1, p.2) (each_fails (IsOf place c.args.each) (Unit {0}) (Unit {0}) (AreEach (IsOf place c.args.each) first ks) m (get_or ks i 0) (drop i ks) (drop (i + 1) ks) c.args.stage.now.turns c.loop-rank.stage.turns c.go_one.new.stage.turns c.go_one.new.stage.turns
     c.args.stage.now.left c.loop-rank.stage.left c.in_err-go_one.field-0.0 next c.loop-rank.invariant.1 same c.in_err-go_one.ensures.draws)
 

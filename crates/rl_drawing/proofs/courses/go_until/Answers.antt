@@ -5,18 +5,13 @@ use Rattle.rl_machine.specs.Running.{running}
 use Rattle.rl_drawing.specs.Drawing.{IsFirst}
 use Rattle.rl_drawing.specs.Leads.{sees}
 use Rattle.rl_drawing.proofs.Leading.{until_same}
-use Rattle.rl_drawing.proofs.Stages.{rank_there, made_and_left, steps_on}
+use Rattle.rl_drawing.proofs.Stages.{may_step, steps_on}
 use Rattle.rl_drawing.proofs.courses.go_until.Goals as goal
 
-pub steps_before-requires-clause-there : goal.steps_before-requires-clause-there
-steps_before-requires-clause-there g c =
-    let low = rank_there g.C.ShardCore.says g.C.ShardCore.defined c.args.scene c.args.stage.now c.requires.stage c.args.rank c.requires.scene c.requires.there in
-    omega (arith, low)
-
-pub steps_before-requires-clause-few : goal.steps_before-requires-clause-few
-steps_before-requires-clause-few g c =
-    let all = made_and_left g.C.ShardCore.says g.C.ShardCore.defined c.args.scene c.args.stage.now c.requires.stage in
-    omega (arith, all)
+pub steps_before-requires : goal.steps_before-requires
+steps_before-requires g c =
+    let may = may_step g.C.ShardCore.says g.C.ShardCore.defined c.args.scene c.args.stage.now c.requires.stage c.args.rank c.requires.scene c.requires.there in
+    record { scene = c.requires.scene; there = omega (arith, may.0); few = omega (arith, may.1) }
 
 pub returns-clause-stage : goal.returns-clause-stage
 returns-clause-stage g c =

@@ -2,7 +2,6 @@
 use Rattle.std.proofs.Common.{◌≡◌, ◌+◌, ◌-◌, suc, length, refl, sym, subst, arith}
 use Rattle.std.proofs.lemmas.Result.{err_from_is_err_and}
 use Rattle.rl_chance.specs.Draws.{first_state}
-use Rattle.rl_machine.specs.Running.{running}
 use Rattle.rl_drawing.specs.Drawing.{drawn_turns}
 use Rattle.rl_drawing.specs.Leads.{Leads}
 use Rattle.rl_drawing.proofs.Leading.{leads_none, drawn_on, drawn_fail, drawn_end}
@@ -37,14 +36,11 @@ loop-preserved g c =
 pub returns-in_err-go_one-clause-draws : goal.returns-in_err-go_one-clause-draws
 returns-in_err-go_one-clause-draws g c =
     let p = err_from_is_err_and c.from_residual.result c.from_residual.ensures.1 in
-    let place = c.args.scene.place.now in
-    let first = running g.C.ShardCore.says c.args.stage.now.machine in
-    let m = running g.C.ShardCore.says c.loop.stage.machine in
     let n = c.args.count in
     let i = c.loop.counter in
     let ks = c.args.ranks.now in
     let next : n - i ≡ suc (n - (i + 1)) = omega arith in
-    let same = same_left g.C.ShardCore.defined place c.args.scene.ops.now first m c.args.stage.now.turns c.loop.stage.turns c.args.stage.now.left c.loop.stage.left c.requires.stage c.loop.invariant.0 in
+    let same = same_left g.C.ShardCore.says g.C.ShardCore.defined c.args.scene c.args.stage.now c.requires.stage c.loop.stage c.loop.invariant.0 in
     rw (p.1, p.2) (drawn_fail (Unit {0}) (Unit {0}) (λ ts. ts ≡ drawn_turns (first_state c.args.seed) n ks) c.loop.generator.state (n - i) (n - (i + 1)) (length ks) c.draw-drawn.result c.draw-drawn.new.self.state ks
     c.args.stage.now.turns c.loop.stage.turns c.go_one.new.stage.turns c.go_one.new.stage.turns c.args.stage.now.left c.loop.stage.left c.in_err-go_one.field-0.0 next refl c.draw-drawn.ensures.drawn c.loop.invariant.1 same c.in_err-go_one.ensures.draws)
 

@@ -6,7 +6,7 @@ use Rattle.std.proofs.lemmas.Result.{err_from_is_err_and}
 use Rattle.rl_ops.specs.Schedule.{steps_of}
 use Rattle.rl_machine.specs.Running.{running}
 use Rattle.rl_machine.specs.Run.{steps_in}
-use Rattle.rl_drawing.proofs.Outcomes.{differ}
+use Rattle.rl_sketch.proofs.Outcomes.{differ}
 use Rattle.rl_drawing.specs.Drawing.{AreInTurn}
 use Rattle.rl_drawing.specs.Leads.{sees}
 use Rattle.rl_drawing.proofs.Leading.{leads_none, in_turn_on, in_turn_fails, in_turn_end, first_waits, others_wait, steps_append}
@@ -44,7 +44,7 @@ loop-preserved g c =
     let d = c.in_ok-shown.ensures.draws in
     let left : c.come_again.new.waiting.items ≡ cond (shown m k) (drop 1 ws) (drop 1 ws ++ k ∷ []) =
     c.in_ok-come_again.ensures ∙ ap (λ b. cond b c.remove-rank.new.self.items (c.remove-rank.new.self.items ++ k ∷ [])) c.in_ok-shown.ensures.shown ∙ ap (λ js. cond (shown m k) js (js ++ k ∷ [])) others in
-    let fewer = same_left g.C.ShardCore.defined c.args.scene.place.now c.args.scene.ops.now m now c.loop.stage.turns c.go_once.new.stage.turns c.loop.stage.left c.go_once.new.stage.left c.loop.invariant.0 c.in_ok-shown.ensures.stage in
+    let fewer = same_left g.C.ShardCore.says g.C.ShardCore.defined c.args.scene c.loop.stage c.loop.invariant.0 c.go_once.new.stage c.in_ok-shown.ensures.stage in
     let one : steps_in c.go_once.new.stage.turns ≡ steps_in c.loop.stage.turns + (1 + 0) = ap steps_in d.1 ∙ steps_append c.loop.stage.turns (d.0 ∷ []) ∙ ap (λ t. steps_in c.loop.stage.turns + (steps_of t + 0)) d.2 in
     let count = c.loop.invariant.3 in (
       c.in_ok-shown.ensures.stage,
@@ -65,7 +65,7 @@ returns-in_err-shown-clause-draws g c =
     let zero = differ (vec_len c.loop.waiting) 0 (sym c.is_empty.ensures ∙ c.if-is_empty.false) in
     let some : 0 < length ws = omega (arith, zero) in
     let next : ws ≡ k ∷ drop 1 ws = first_waits ws k some ∙ ap (λ i. i ∷ drop 1 ws) (sym c.remove-rank.ensures.value) in
-    let same = same_left g.C.ShardCore.defined c.args.scene.place.now c.args.scene.ops.now first m c.args.stage.now.turns c.loop.stage.turns c.args.stage.now.left c.loop.stage.left c.requires.stage c.loop.invariant.0 in
+    let same = same_left g.C.ShardCore.says g.C.ShardCore.defined c.args.scene c.args.stage.now c.requires.stage c.loop.stage c.loop.invariant.0 in
     rw (p.1, p.2) (in_turn_fails shown Bool (Unit {0}) (AreInTurn shown first c.args.ranks.items) m ws (drop 1 ws) k c.args.stage.now.turns c.loop.stage.turns c.go_once.new.stage.turns c.go_once.new.stage.turns c.args.stage.now.left c.loop.stage.left
     c.in_err-shown.field-0.0 next c.loop.invariant.1 same c.in_err-shown.ensures.draws)
 

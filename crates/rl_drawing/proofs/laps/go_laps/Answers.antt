@@ -29,15 +29,13 @@ loop-preserved g c =
 pub returns-in_err-go_each-clause-draws : goal.returns-in_err-go_each-clause-draws
 returns-in_err-go_each-clause-draws g c =
     let p = err_from_is_err_and c.from_residual.result c.from_residual.ensures.1 in
-    let place = c.args.scene.place.now in
-    let first = running g.C.ShardCore.says c.args.stage.now.machine in
     let m = running g.C.ShardCore.says c.loop.stage.machine in
     let n = c.args.count in
     let i = c.loop.counter in
     let ks = c.args.ranks.now in
     let next : n - i ≡ suc (n - (i + 1)) = omega arith in
-    let same = same_left g.C.ShardCore.defined place c.args.scene.ops.now first m c.args.stage.now.turns c.loop.stage.turns c.args.stage.now.left c.loop.stage.left c.requires.stage c.loop.invariant.0 in
-    rw (p.1, p.2) (laps_fail (Unit {0}) (Unit {0}) place (λ ts. ts ≡ laps n ks) m ks (n - i) (n - (i + 1)) c.args.stage.now.left c.loop.stage.left c.args.stage.now.turns c.loop.stage.turns c.go_each.new.stage.turns c.go_each.new.stage.turns c.in_err-go_each.field-0.0
+    let same = same_left g.C.ShardCore.says g.C.ShardCore.defined c.args.scene c.args.stage.now c.requires.stage c.loop.stage c.loop.invariant.0 in
+    rw (p.1, p.2) (laps_fail (Unit {0}) (Unit {0}) c.args.scene.place.now (λ ts. ts ≡ laps n ks) m ks (n - i) (n - (i + 1)) c.args.stage.now.left c.loop.stage.left c.args.stage.now.turns c.loop.stage.turns c.go_each.new.stage.turns c.go_each.new.stage.turns c.in_err-go_each.field-0.0
     next c.loop.invariant.1 same c.in_err-go_each.ensures.draws)
 
 pub returns-clause-draws : goal.returns-clause-draws

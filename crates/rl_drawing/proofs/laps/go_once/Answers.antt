@@ -1,17 +1,12 @@
 -- The step was made, and is a turn.
 use Rattle.std.proofs.Common.{arith}
-use Rattle.rl_drawing.proofs.Stages.{rank_there, made_and_left, steps_on}
+use Rattle.rl_drawing.proofs.Stages.{may_step, steps_on}
 use Rattle.rl_drawing.proofs.laps.go_once.Goals as goal
 
-pub step_looking-requires-clause-there : goal.step_looking-requires-clause-there
-step_looking-requires-clause-there g c =
-    let low = rank_there g.C.ShardCore.says g.C.ShardCore.defined c.args.scene c.args.stage.now c.requires.stage c.args.rank c.requires.scene c.requires.there in
-    omega (arith, low)
-
-pub step_looking-requires-clause-few : goal.step_looking-requires-clause-few
-step_looking-requires-clause-few g c =
-    let all = made_and_left g.C.ShardCore.says g.C.ShardCore.defined c.args.scene c.args.stage.now c.requires.stage in
-    omega (arith, all)
+pub step_looking-requires : goal.step_looking-requires
+step_looking-requires g c =
+    let may = may_step g.C.ShardCore.says g.C.ShardCore.defined c.args.scene c.args.stage.now c.requires.stage c.args.rank c.requires.scene c.requires.there in
+    record { scene = c.requires.scene; there = omega (arith, may.0); few = omega (arith, may.1) }
 
 pub returns-clause-stage : goal.returns-clause-stage
 returns-clause-stage g c =

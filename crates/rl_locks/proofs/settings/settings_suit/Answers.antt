@@ -1,12 +1,14 @@
 -- Each by the cases of a lock, of which one has the name.
-use Rattle.std.proofs.Common.{◌≡◌, ◌≤◌, refl, sym, subst}
+use Rattle.std.proofs.Common.{◌≡◌, ◌≤◌, true, refl, sym, ap, ◌∙◌, subst}
+use Rattle.rl_word.specs.declared.locks.LockName.{LockName}
 use Rattle.rl_word.specs.declared.locks.LockName.TheVariants as named
+use Rattle.rl_word.specs.LockFacts.{facts_of, has_cohorts}
 use Rattle.rl_tree.specs.TreeShape.{IsBudgeted}
 use Rattle.rl_rw.specs.Rw.{SuitsRw}
 use Rattle.rl_place.specs.declared.lock.Lock.{Lock}
 use Rattle.rl_place.specs.declared.lock.Lock.TheVariants as lock
 use Rattle.rl_place.specs.LockWords.{name_of}
-use Rattle.rl_place.specs.Places.{ThePlace, LockFits}
+use Rattle.rl_place.specs.Places.{ThePlace, IsProper, LockFits}
 use Rattle.rl_place.specs.Shapes.{shape_of, knobs_of}
 use Rattle.rl_locks.proofs.BudgetLaws.{budgeted, suits_rw}
 use Rattle.rl_locks.proofs.settings.settings_suit.Goals as goal
@@ -15,41 +17,26 @@ use Rattle.rl_locks.proofs.settings.settings_suit.Goals as goal
 abbrev AreSmall : Lock → Type 0
 AreSmall l = ((knobs_of l).local ≤ 1000) × ((knobs_of l).remote ≤ 1000)
 
-cohorts : (p : ThePlace) (l : Lock) → p.lock ≡ l → AreSmall l → AreSmall p.lock
-cohorts p l is small = subst AreSmall (sym is) small
+-- whatever lock has its ranks in two cohorts
+small : (p : ThePlace) → IsProper p → (name : LockName) → name_of p.lock ≡ name → has_cohorts (facts_of name).queues ≡ true → AreSmall p.lock
+small p proper name is two = by_lock p.lock refl (ap (λ n. has_cohorts (facts_of n).queues) is ∙ two) where
+  by_lock : (l : Lock) → p.lock ≡ l → has_cohorts (facts_of (name_of l)).queues ≡ true → AreSmall p.lock
+  by_lock lock.Spin e c = absurd (cc)
+  by_lock lock.Dmcs e c = absurd (cc)
+  by_lock (lock.Alock local remote) e c = let f : LockFits p.levels (lock.Alock local remote) = subst (LockFits p.levels) e proper.lock in subst AreSmall (sym e) f
+  by_lock (lock.Mcs budgets) e c = absurd (cc)
+  by_lock (lock.Rw budgets writers readers group) e c = absurd (cc)
+  by_lock (lock.Seq local remote) e c = let f : LockFits p.levels (lock.Seq local remote) = subst (LockFits p.levels) e proper.lock in subst AreSmall (sym e) f
+  by_lock (lock.Combine local remote) e c = let f : LockFits p.levels (lock.Combine local remote) = subst (LockFits p.levels) e proper.lock in subst AreSmall (sym e) f
 
 pub returns-clause-alock : goal.returns-clause-alock
-returns-clause-alock c p proper is = by_lock p.lock refl is where
-  by_lock : (l : Lock) → p.lock ≡ l → name_of l ≡ named.Alock → AreSmall p.lock
-  by_lock lock.Spin e i = absurd cc
-  by_lock lock.Dmcs e i = absurd cc
-  by_lock (lock.Alock local remote) e i = let f : LockFits p.levels (lock.Alock local remote) = subst (LockFits p.levels) e proper.lock in cohorts p (lock.Alock local remote) e f
-  by_lock (lock.Mcs budgets) e i = absurd cc
-  by_lock (lock.Rw budgets writers readers group) e i = absurd cc
-  by_lock (lock.Seq local remote) e i = absurd cc
-  by_lock (lock.Combine local remote) e i = absurd cc
+returns-clause-alock c p proper is = small p proper named.Alock is refl
 
 pub returns-clause-seq : goal.returns-clause-seq
-returns-clause-seq c p proper is = by_lock p.lock refl is where
-  by_lock : (l : Lock) → p.lock ≡ l → name_of l ≡ named.Seq → AreSmall p.lock
-  by_lock lock.Spin e i = absurd cc
-  by_lock lock.Dmcs e i = absurd cc
-  by_lock (lock.Alock local remote) e i = absurd cc
-  by_lock (lock.Mcs budgets) e i = absurd cc
-  by_lock (lock.Rw budgets writers readers group) e i = absurd cc
-  by_lock (lock.Seq local remote) e i = let f : LockFits p.levels (lock.Seq local remote) = subst (LockFits p.levels) e proper.lock in cohorts p (lock.Seq local remote) e f
-  by_lock (lock.Combine local remote) e i = absurd cc
+returns-clause-seq c p proper is = small p proper named.Seq is refl
 
 pub returns-clause-combine : goal.returns-clause-combine
-returns-clause-combine c p proper is = by_lock p.lock refl is where
-  by_lock : (l : Lock) → p.lock ≡ l → name_of l ≡ named.Combine → AreSmall p.lock
-  by_lock lock.Spin e i = absurd cc
-  by_lock lock.Dmcs e i = absurd cc
-  by_lock (lock.Alock local remote) e i = absurd cc
-  by_lock (lock.Mcs budgets) e i = absurd cc
-  by_lock (lock.Rw budgets writers readers group) e i = absurd cc
-  by_lock (lock.Seq local remote) e i = absurd cc
-  by_lock (lock.Combine local remote) e i = let f : LockFits p.levels (lock.Combine local remote) = subst (LockFits p.levels) e proper.lock in cohorts p (lock.Combine local remote) e f
+returns-clause-combine c p proper is = small p proper named.Combine is refl
 
 pub returns-clause-mcs : goal.returns-clause-mcs
 returns-clause-mcs c p proper is = by_lock p.lock refl is where

@@ -1,6 +1,5 @@
 -- The rank's next block is opened on its shard, and one atom made there.
-use Rattle.std.proofs.Common.{◌≡◌, ◌+◌, ◌<◌, ◌≤◌, [], length, get_or, slice_index, sym, subst, arith}
-use Rattle.std.proofs.lemmas.List.{get_or_read}
+use Rattle.std.proofs.Common.{sym, arith}
 use Rattle.std.proofs.lemmas.Result.{err_from_is_err_and}
 use Rattle.rl_machine.specs.laws.StateLaws.{kept_set, core_set}
 use Rattle.rl_machine.specs.laws.OpenSteps.{IsBlockThere, block_there, CanOpenAt, CanOpen}
@@ -8,31 +7,18 @@ use Rattle.rl_machine.proofs.state.step_block.Goals as goal
 use Rattle.rl_machine.proofs.state.step_block.Goals.{After-index-first, After-block_shard-place, After-index_mut-shard}
 use Rattle.rl_machine.proofs.state.step_block.Given.{Over}
 
-block : (g : Over) (c : After-index-first g) → IsBlockThere g.C.ShardCore.says c.args.state.now c.args.rank
-block g c = block_there g.C.ShardCore.says g.met.C.ShardCore.shard_laws c.args.state.now c.requires.good c.args.rank c.requires.there c.requires.opens
-
--- the number of its first call
-first_is : (g : Over) (c : After-index-first g) → c.index-first.result.now ≡ slice_index c.args.state.now.opened.items c.args.rank
-first_is g c = get_or_read c.args.state.now.opened.items _ _ (block g c).opened c.index-first.ensures 0
+block : (g : Over) (c : After-index-first g) → IsBlockThere g.C.ShardCore.says c.args.state.now c.args.rank c.index-first.result.now
+block g c =
+    block_there g.C.ShardCore.says g.met.C.ShardCore.shard_laws c.args.state.now c.requires.good c.args.rank c.requires.there c.requires.opens c.index-first.result.now c.index-first.ensures
 
 pub next_block-block-requires : goal.next_block-block-requires
 next_block-block-requires g c =
-    let ops = c.args.state.now.ops in
-    let rank = c.args.rank in
-    let d = (goal.at.next_block-block-requires g c).After-index-first in
-    let b = block g d in
-    record {
-      there = c.requires.there;
-      sized = b.sized;
-      begins = subst (λ n. n < length (get_or ops.sizes rank [])) (sym (first_is g d)) b.begins;
-      within = subst (λ n. n + slice_index (get_or ops.sizes rank []) n ≤ length (get_or ops.by_rank rank [])) (sym (first_is g d)) b.within;
-    }
+    let b = block g (goal.at.next_block-block-requires g c).After-index-first in
+    record { there = c.requires.there; sized = b.sized; begins = b.begins; within = b.within }
 
--- the block as the code has it, and its shard
+-- its shard, as the code has both
 place : (g : Over) (c : After-block_shard-place g) → CanOpenAt g.C.ShardCore.says c.args.state.now c.args.rank c.index-first.result.now c.block_shard-place.result c.next_block-block.result.now
-place g c =
-    let d = (goal.at.After-block_shard-place g c).After-index-first in
-    (block g d).goes c.index-first.result.now c.block_shard-place.result c.next_block-block.result.now (first_is g d) c.next_block-block.ensures c.block_shard-place.ensures
+place g c = (block g (goal.at.After-block_shard-place g c).After-index-first).goes c.block_shard-place.result c.next_block-block.result.now c.next_block-block.ensures c.block_shard-place.ensures
 
 pub index_mut-shard-requires : goal.index_mut-shard-requires
 index_mut-shard-requires g c =
@@ -64,7 +50,7 @@ pub returns-clause-made : goal.returns-clause-made
 returns-clause-made g c =
     let q = can g (goal.at.returns-clause-made g c).After-index_mut-shard in
     let done = c.in_ok-answer.ensures in
-    q.made c.block_at.new.shard c.made-step.result c.in_ok-answer.answer c.count.new.self c.made-step.ensures done.made done.answer c.count.ensures
+    q.made c.block_at.new.shard c.steps_made-step.result c.in_ok-answer.answer c.count.new.self c.steps_made-step.ensures done.made done.answer c.count.ensures
 
 pub returns-clause-answer : goal.returns-clause-answer
 returns-clause-answer g c = (can g (goal.at.returns-clause-answer g c).After-index_mut-shard).told c.in_ok-answer.answer c.in_ok-answer.ensures.answer

@@ -13,44 +13,47 @@ use Rattle.rl_program.proofs.KeptLaws.{where_ok, ran, says_is, keeps_is, same_ca
 use Rattle.rl_program.proofs.MachineOf.{machine_of}
 use Rattle.rl_program.proofs.ReplayReports.{lawful, lawful_ok}
 use Rattle.rl_program.proofs.replaying.report_with.Goals as goal
+use Rattle.rl_program.proofs.replaying.report_with.Goals.{In_ok-machine}
+use Rattle.rl_program.proofs.replaying.report_with.Given.{Over}
 
 pub replay-requires-clause-few : goal.replay-requires-clause-few
 replay-requires-clause-few g c =
     let turns = c.as_slice-turns.result.now in
-    let few : sum_by steps_of turns ≤ 2000000 = subst (λ ts. sum_by steps_of ts ≤ 2000000) (sym c.as_slice-turns.ensures) c.requires.schedule.few in
+    let few : sum_by steps_of turns ≤ 2000000 = subst (λ ts. sum_by steps_of ts ≤ 2000000) (sym c.as_slice-turns.ensures) c.requires.may.2.few in
     let same = steps_are turns in
     omega (arith, few, same)
 
 pub replay-requires-clause-batches : goal.replay-requires-clause-batches
-replay-requires-clause-batches g c = sizes_suit c.args.place.now c.args.ops g.C.ShardCore.batches c.requires.batches c.requires.suits
+replay-requires-clause-batches g c = sizes_suit c.args.place.now c.args.ops g.C.ShardCore.batches c.requires.batches c.requires.may.1
+
+-- the machine is that of the placement and the schedule
+made : (g : Over) (c : In_ok-machine g) → running g.C.ShardCore.says c.in_ok-machine.machine ≡ machine_after g.C.ShardCore.defined c.args.place.now c.args.ops c.args.schedule.now.turns
+made g c =
+    ran g.C.ShardCore.defined c.args.place.now c.args.ops c.args.schedule.now _ _ _ _ _ (running g.C.ShardCore.says c.in_ok-machine.machine)
+    c.place.view_is c.in_ok-shape.ensures.exact c.knobs-knobs.ensures c.as_slice-homes.ensures.value c.as_slice-turns.ensures c.in_ok-machine.ensures.run
 
 pub report_of_machine-requires-clause-shards : goal.report_of_machine-requires-clause-shards
 report_of_machine-requires-clause-shards g c =
     let place = c.args.place.now in
-    let run = ran g.C.ShardCore.defined place c.args.ops c.args.schedule.now _ _ _ _ _ (running g.C.ShardCore.says c.in_ok-machine.machine)
-    c.place.view_is c.in_ok-shape.ensures.exact c.knobs-knobs.ensures c.as_slice-homes.ensures.value c.as_slice-turns.ensures c.in_ok-machine.ensures.run in
+    let run = made g (goal.at.report_of_machine-requires-clause-shards g c).In_ok-machine in
     sym (length-map c.in_ok-machine.machine.shards (shard_run g.C.ShardCore.says)) ∙ ap (λ m. length m.shards) run ∙ each_shard g.C.ShardCore.defined place c.args.ops c.args.schedule.now ∙ c.requires.proper.each_shard
 
 pub report_of_machine-requires-clause-ranks : goal.report_of_machine-requires-clause-ranks
 report_of_machine-requires-clause-ranks g c =
-    let place = c.args.place.now in
-    let run = ran g.C.ShardCore.defined place c.args.ops c.args.schedule.now _ _ _ _ _ (running g.C.ShardCore.says c.in_ok-machine.machine)
-    c.place.view_is c.in_ok-shape.ensures.exact c.knobs-knobs.ensures c.as_slice-homes.ensures.value c.as_slice-turns.ensures c.in_ok-machine.ensures.run in
-    ap (λ m. length m.calls) run ∙ ap length (same_calls g.C.ShardCore.defined place c.args.ops c.args.schedule.now) ∙ c.requires.calls.ranks_there
+    let run = made g (goal.at.report_of_machine-requires-clause-ranks g c).In_ok-machine in
+    ap (λ m. length m.calls) run ∙ ap length (same_calls g.C.ShardCore.defined c.args.place.now c.args.ops c.args.schedule.now) ∙ c.requires.may.0.ranks_there
 
 pub returns-clause-report : goal.returns-clause-report
 returns-clause-report g c =
     let place = c.args.place.now in
-    let run = ran g.C.ShardCore.defined place c.args.ops c.args.schedule.now _ _ _ _ _ (running g.C.ShardCore.says c.in_ok-machine.machine)
-    c.place.view_is c.in_ok-shape.ensures.exact c.knobs-knobs.ensures c.as_slice-homes.ensures.value c.as_slice-turns.ensures c.in_ok-machine.ensures.run in
+    let run = made g (goal.at.returns-clause-report g c).In_ok-machine in
     subst (λ m. IfOk c.report_of_machine.result (λ report. report ≡ report_in (queue_count place) m)) run c.report_of_machine.ensures.report
 
 pub returns-clause-kept : goal.returns-clause-kept
 returns-clause-kept g c =
     let place = c.args.place.now in
     let schedule = c.args.schedule.now in
-    let run = ran g.C.ShardCore.defined place c.args.ops c.args.schedule.now _ _ _ _ _ (running g.C.ShardCore.says c.in_ok-machine.machine)
-    c.place.view_is c.in_ok-shape.ensures.exact c.knobs-knobs.ensures c.as_slice-homes.ensures.value c.as_slice-turns.ensures c.in_ok-machine.ensures.run in
+    let run = made g (goal.at.returns-clause-kept g c).In_ok-machine in
     let geom = ap (λ p. p.geom) c.place.view_is in
     let homes = c.as_slice-homes.ensures.value ∙ ap (λ p. p.homes) c.place.view_is in
     let says = says_is g.C.ShardCore.defined place c.args.ops schedule _ _ _ _ _ c.in_ok-shape.ensures.exact c.knobs-knobs.ensures geom homes c.as_slice-turns.ensures g.C.ShardCore.promised c.in_ok-machine.ensures.further in
@@ -62,9 +65,8 @@ pub returns-clause-lawful : goal.returns-clause-lawful
 returns-clause-lawful g c =
     let place = c.args.place.now in
     let schedule = c.args.schedule.now in
-    let run = ran g.C.ShardCore.defined place c.args.ops c.args.schedule.now _ _ _ _ _ (running g.C.ShardCore.says c.in_ok-machine.machine)
-    c.place.view_is c.in_ok-shape.ensures.exact c.knobs-knobs.ensures c.as_slice-homes.ensures.value c.as_slice-turns.ensures c.in_ok-machine.ensures.run in
-    let of = machine_of g.C.ShardCore.defined g.C.ShardCore.name g.met.C.ShardCore.has_queues place c.args.ops schedule c.requires.kind g.met.C.ShardCore.has_cohorts c.requires.schedule in
+    let run = made g (goal.at.returns-clause-lawful g c).In_ok-machine in
+    let of = machine_of g.C.ShardCore.defined g.C.ShardCore.name g.met.C.ShardCore.has_queues place c.args.ops schedule c.requires.kind g.met.C.ShardCore.has_cohorts c.requires.may.2 in
     lawful_ok place c.args.ops (machine_after g.C.ShardCore.defined place c.args.ops schedule.turns) c.report_of_machine.result
     (subst (λ m. IfOk c.report_of_machine.result (λ report. report ≡ report_in (queue_count place) m)) run c.report_of_machine.ensures.report) c.report_of_machine.ensures.numbers
-    (λ numbers. lawful place c.args.ops c.requires.proper c.requires.calls (machine_after g.C.ShardCore.defined place c.args.ops schedule.turns) (subst IsSound run c.in_ok-machine.ensures.sound) of numbers)
+    (λ numbers. lawful place c.args.ops c.requires.proper c.requires.may.0 (machine_after g.C.ShardCore.defined place c.args.ops schedule.turns) (subst IsSound run c.in_ok-machine.ensures.sound) of numbers)

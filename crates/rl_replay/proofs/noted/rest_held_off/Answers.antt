@@ -5,18 +5,14 @@ use Rattle.rl_step.specs.Do.{TheWindow}
 use Rattle.rl_machine.specs.Running.{running}
 use Rattle.rl_replay.specs.laws.RestedLaws.{window_at, still_rests, counted_run, keeps_with, not_free, shards_there}
 use Rattle.rl_replay.proofs.noted.rest_held_off.Goals as goal
-use Rattle.rl_replay.proofs.noted.rest_held_off.Goals.{After-words}
-use Rattle.rl_replay.proofs.noted.rest_held_off.Given.{Over}
 
 pub words-requires : goal.words-requires
 words-requires g c = shards_there g.C.ShardCore.says c.args.machine.now c.args.shard c.requires.rested.1.shard c.requires.rested.1.has
 
--- the window is that of the shard
-held : (g : Over) (c : After-words g) → c.words.result.now ≡ c.requires.rested.1.shard.held
-held g c = window_at (running g.C.ShardCore.says c.args.machine.now) c.args.shard c.requires.rested.1.shard c.words.result.now c.requires.rested.1.has c.words.ensures
-
 pub card-requires : goal.card-requires
-card-requires g c = subst (λ h. c.args.node < length h.cards) (sym (held g (goal.at.card-requires g c).After-words)) c.requires.rested.1.named
+card-requires g c =
+    let is = c.requires.rested.1 in
+    subst (λ h. c.args.node < length h.cards) (sym (window_at (running g.C.ShardCore.says c.args.machine.now) c.args.shard is.shard c.words.result.now is.has c.words.ensures)) is.named
 
 pub returns-clause-run : goal.returns-clause-run
 returns-clause-run g c = λ _ rank is.

@@ -1,5 +1,5 @@
 -- What was noted of the rank says what its steps are, and the others rest where they did.
-use Rattle.std.proofs.Common.{◌≡◌, ◌<◌, Bool, true, false, length, slice_set, ap, sym, refl, subst, arith}
+use Rattle.std.proofs.Common.{◌≡◌, Bool, true, false, slice_set, ap, sym, refl, subst}
 use Rattle.rl_step.specs.declared.events.Stepped.TheVariants.{Busy}
 use Rattle.rl_machine.specs.Rested.{RestsAt}
 use Rattle.rl_machine.specs.Running.{running}
@@ -13,11 +13,8 @@ use Rattle.rl_replay.proofs.noted.take_noted.Given.{Over}
 noted_of : (g : Over) (c : In-HeldOff g) → RestsAt (running g.C.ShardCore.says c.args.machine.now) c.args.rank c.in-HeldOff.shard (Busy c.in-HeldOff.node 0)
 noted_of g c =
     let m = running g.C.ShardCore.says c.args.machine.now in
-    let there = c.requires.there in
-    let many = c.requires.many in
-    let low : c.args.rank < length c.args.rests.now.items = omega arith in
     subst (Rested g.C.Resting.with_sight m c.args.rank) c.in-HeldOff.is
-    (noted_at g.C.Resting.with_sight m c.args.rests.now.items c.args.rank c.index.result.now low c.index.ensures c.requires.rested)
+    (noted_at g.C.Resting.with_sight m c.args.rests.now.items _ c.args.rank c.index.result.now c.requires.there c.requires.many c.index.ensures c.requires.rested)
 
 pub rest_held_off-requires-clause-rested : goal.rest_held_off-requires-clause-rested
 rest_held_off-requires-clause-rested g c = (c.args.rank, noted_of g (goal.at.rest_held_off-requires-clause-rested g c).In-HeldOff)
@@ -27,27 +24,17 @@ returns-in-HeldOff-clause-run g c = λ is. c.rest_held_off.ensures.run is c.args
 
 pub go_round-requires : goal.go_round-requires
 go_round-requires g c =
-    let m = running g.C.ShardCore.says c.args.machine.now in
-    let there = c.requires.there in
-    let many = c.requires.many in
-    let low : c.args.rank < length c.args.rests.now.items = omega arith in
     record {
-      there = there;
+      there = c.requires.there;
       few = c.requires.few;
-      in_round = noted_at g.C.Resting.with_sight m c.args.rests.now.items c.args.rank
-          c.index_mut.result.now low c.index_mut.ensures.value c.requires.rested;
+      in_round = noted_at g.C.Resting.with_sight _ c.args.rests.now.items _ c.args.rank c.index_mut.result.now c.requires.there c.requires.many c.index_mut.ensures.value c.requires.rested;
     }
 
 pub rest-requires : goal.rest-requires
 rest-requires g c =
-    let m = running g.C.ShardCore.says c.args.machine.now in
-    let there = c.requires.there in
-    let many = c.requires.many in
-    let low : c.args.rank < length c.args.rests.now.items = omega arith in
     record {
       few = c.requires.few;
-      rested = noted_at g.C.Resting.with_sight m c.args.rests.now.items c.args.rank c.index-3.result.now low
-          c.index-3.ensures c.requires.rested;
+      rested = noted_at g.C.Resting.with_sight _ c.args.rests.now.items _ c.args.rank c.index-3.result.now c.requires.there c.requires.many c.index-3.ensures c.requires.rested;
     }
 
 -- so it is either way

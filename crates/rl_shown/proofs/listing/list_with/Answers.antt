@@ -20,7 +20,7 @@ use Rattle.rl_shown.proofs.ListingLaws.{steps_are, turn_more, run_turn, start_is
 use Rattle.rl_shown.proofs.listing.list_with.Goals as goal
 
 pub new-requires-clause-batches : goal.new-requires-clause-batches
-new-requires-clause-batches g c = sizes_suit c.args.place.now c.args.ops g.C.ShardCore.batches c.requires.batches c.requires.suits
+new-requires-clause-batches g c = sizes_suit c.args.place.now c.args.ops g.C.ShardCore.batches c.requires.batches c.requires.fits.1
 
 pub loop-turn-init : goal.loop-turn-init
 loop-turn-init g c =
@@ -29,7 +29,7 @@ loop-turn-init g c =
       c.in_ok-out.ensures ∙ ap (λ n. text_of (head_lines n)) c.in_ok-naming.ensures.named ∙ sym (append-nil (text_of (head_lines (naming_of place)))),
       made ∙ start_is g.C.ShardCore.defined place _ c.args.ops _ _ _ c.place.view_is c.in_ok-shape.ensures.exact c.knobs-knobs.ensures c.as_slice-homes.ensures.value,
       ap (λ m. steps_made m.steps) made,
-      ap (λ m. length m.calls) made ∙ c.requires.calls.ranks_there,
+      ap (λ m. length m.calls) made ∙ c.requires.fits.0.ranks_there,
     )
 
 pub take_turn-requires-clause-few : goal.take_turn-requires-clause-few
@@ -41,7 +41,7 @@ take_turn-requires-clause-few g c =
     let made : steps_made c.loop-turn.machine.steps ≡ steps_in (take i ts) = c.loop-turn.invariant.2 in
     let more = steps-more ts i t at in
     let within : steps_in (take (i + 1) ts) ≤ steps_in ts = steps-within ts (i + 1) in
-    let few : sum_by steps_of ts ≤ 2000000 = subst (λ z. sum_by steps_of z ≤ 2000000) (sym c.as_slice-turns.ensures) c.requires.schedule.few in
+    let few : sum_by steps_of ts ≤ 2000000 = subst (λ z. sum_by steps_of z ≤ 2000000) (sym c.as_slice-turns.ensures) c.requires.fits.2.few in
     let same = steps_are ts in
     omega (arith, made, more, within, few, same)
 

@@ -11,13 +11,13 @@ use Rattle.rl_shown.proofs.ListingLaws.{run_first}
 use Rattle.rl_shown.proofs.state.machine_before.Goals as goal
 
 pub replay-requires-clause-batches : goal.replay-requires-clause-batches
-replay-requires-clause-batches g c = sizes_suit c.args.place.now c.args.ops g.C.ShardCore.batches c.requires.batches c.requires.suits
+replay-requires-clause-batches g c = sizes_suit c.args.place.now c.args.ops g.C.ShardCore.batches c.requires.batches c.requires.fits.1
 
 pub replay-requires-clause-there : goal.replay-requires-clause-there
 replay-requires-clause-there g c =
     let ranks = length c.args.place.now.paths in
     let many = ap (λ (s : TheShape). length s.node_of) c.requires.shape ∙ length-map c.args.place.now.paths _ in
-    let all = subst (AllByRecursion (TurnFits ranks)) (sym c.as_slice.ensures) c.requires.schedule.fit in
+    let all = subst (AllByRecursion (TurnFits ranks)) (sym c.as_slice.ensures) c.requires.fits.2.fit in
     subst (λ n. AllByRecursion (TurnFits n) c.as_slice-3.result.now) (sym many) (subst (AllByRecursion (TurnFits ranks)) (sym c.as_slice-3.ensures.value) (c.in_ok-front.ensures.there ranks all))
 
 pub returns : goal.returns

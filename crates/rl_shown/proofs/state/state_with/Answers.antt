@@ -14,7 +14,7 @@ pub machine_text-requires-clause-ranks : goal.machine_text-requires-clause-ranks
 machine_text-requires-clause-ranks g c =
     let place = c.args.place.now in
     let first = start_of g.C.ShardCore.defined (shape_of place) (knobs_of place.lock) place.geom place.homes c.args.ops in
-    ap (λ (m : Running _). length m.calls) c.in_ok-machine.ensures ∙ ap length (run_tables first (take c.args.step (ranks_of_turns c.args.schedule.now.turns))).1 ∙ c.requires.calls.ranks_there
+    ap (λ (m : Running _). length m.calls) c.in_ok-machine.ensures ∙ ap length (run_tables first (take c.args.step (ranks_of_turns c.args.schedule.now.turns))).1 ∙ c.requires.fits.0.ranks_there
 
 pub machine_text-requires-clause-cores : goal.machine_text-requires-clause-cores
 machine_text-requires-clause-cores g c =

@@ -1,5 +1,5 @@
 -- A step keeps all that is true of a machine.
-use Rattle.std.proofs.Common.{◌<◌, length, sym, subst}
+use Rattle.std.proofs.Common.{sym, subst}
 use Rattle.rl_machine.specs.Rested.{GoesRound}
 use Rattle.rl_machine.specs.Running.{running}
 use Rattle.rl_machine.specs.State.{machine_view}
@@ -12,6 +12,5 @@ make_leg-requires-clause-shows g c =
 
 pub invariant_of-self : goal.invariant_of-self
 invariant_of-self g c =
-    let low = subst (λ m. c.args.rank < length m.calls) (sym c.self.view_is) c.requires.there in
-    step_keeps g.C.ShardCore.says g.met.C.ShardCore.shard_laws (machine_view c.self.inside.state) (machine_view c.make_leg.new.state) c.args.rank
-    c.self.invariant low c.make_leg.ensures.made c.make_leg.ensures.cores
+    step_keeps g.C.ShardCore.says g.met.C.ShardCore.shard_laws _ _ c.self.view_is c.self.invariant c.args.rank c.requires.there (machine_view c.make_leg.new.state)
+    c.make_leg.ensures.made c.make_leg.ensures.cores

@@ -1,14 +1,12 @@
 -- A block that is opened keeps all that is true of a machine, and the rank's next step.
-use Rattle.std.proofs.Common.{◌<◌, length, sym, subst}
 use Rattle.rl_machine.specs.State.{machine_view}
 use Rattle.rl_machine.specs.laws.StateSteps.{open_keeps, opened_told, opened_calls_told, opened_steps_told, same_step_told, same_answer_told}
 use Rattle.rl_machine.proofs.machine.Machine.open_next.Goals as goal
 
 pub invariant_of-self : goal.invariant_of-self
 invariant_of-self g c =
-    let low = subst (λ m. c.args.rank < length m.calls) (sym c.self.view_is) c.requires.there in
-    open_keeps g.C.ShardCore.says g.met.C.ShardCore.shard_laws (machine_view c.self.inside.state) (machine_view c.open_next.new.state) c.args.rank
-    c.self.invariant low c.open_next.ensures.made c.open_next.ensures.cores
+    open_keeps g.C.ShardCore.says g.met.C.ShardCore.shard_laws _ _ c.self.view_is c.self.invariant c.args.rank c.requires.there (machine_view c.open_next.new.state)
+    c.open_next.ensures.made c.open_next.ensures.cores
 
 pub returns-clause-opened : goal.returns-clause-opened
 returns-clause-opened g c =

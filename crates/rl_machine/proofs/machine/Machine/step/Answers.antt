@@ -1,14 +1,12 @@
 -- A step keeps all that is true of a machine, and its answer has its cause.
-use Rattle.std.proofs.Common.{◌<◌, length, sym, subst}
 use Rattle.rl_machine.specs.State.{machine_view, running_machine}
 use Rattle.rl_machine.specs.laws.StateSteps.{step_keeps, cause_told, tells_told, finished_told, busy_told, held_told, over_told, counted_told, calls_told}
 use Rattle.rl_machine.proofs.machine.Machine.step.Goals as goal
 
 pub invariant_of-self-2 : goal.invariant_of-self-2
 invariant_of-self-2 g c =
-    let low = subst (λ m. c.args.rank < length m.calls) (sym c.self.view_is) c.requires.there in
-    step_keeps g.C.ShardCore.says g.met.C.ShardCore.shard_laws (machine_view c.self.inside.state) (machine_view c.step.new.state) c.args.rank
-    c.self.invariant low c.in_ok-made.ensures.made c.in_ok-made.ensures.cores
+    step_keeps g.C.ShardCore.says g.met.C.ShardCore.shard_laws _ _ c.self.view_is c.self.invariant c.args.rank c.requires.there (machine_view c.step.new.state)
+    c.in_ok-made.ensures.made c.in_ok-made.ensures.cores
 
 pub returns-clause-cause : goal.returns-clause-cause
 returns-clause-cause g c =

@@ -8,9 +8,8 @@ use Rattle.rl_machine.proofs.machine.Machine.step_told.Goals as goal
 
 pub invariant_of-self-2 : goal.invariant_of-self-2
 invariant_of-self-2 g c =
-    let low = subst (λ m. c.args.rank < length m.calls) (sym c.self.view_is) c.requires.there in
-    step_keeps g.C.ShardCore.says g.met.C.ShardCore.shard_laws (machine_view c.self.inside.state) (machine_view c.step.new.state) c.args.rank
-    c.self.invariant low c.in_ok-made.ensures.made c.in_ok-made.ensures.cores
+    step_keeps g.C.ShardCore.says g.met.C.ShardCore.shard_laws _ _ c.self.view_is c.self.invariant c.args.rank c.requires.there (machine_view c.step.new.state)
+    c.in_ok-made.ensures.made c.in_ok-made.ensures.cores
 
 pub returns-clause-told : goal.returns-clause-told
 returns-clause-told g c =

@@ -1,20 +1,16 @@
 -- One shard more.
-use Rattle.std.proofs.Common.{◌≡◌, ◌+◌, ◌≤◌, length, map, slice_get, take, Some, ap, sym, ◌∙◌, arith}
-use Rattle.std.proofs.lemmas.Option.{slice_get-get_or}
+use Rattle.std.proofs.Common.{◌≡◌, ◌+◌, ◌≤◌, length, map, take, ap, arith}
 use Rattle.rl_core.specs.RankGood.{entries_in}
-use Rattle.rl_machine.specs.laws.StateLaws.{IsThere, is_there}
+use Rattle.rl_machine.specs.laws.StateLaws.{IsThere, read_there}
 use Rattle.rl_machine.specs.laws.RecordLaws.{kept_in, one_shard_more, on_all_shards}
 use Rattle.rl_machine.proofs.state.MachineState.done_of.Goals as goal
 use Rattle.rl_machine.proofs.state.MachineState.done_of.Goals.{After-shard-item, In_ok-told}
 use Rattle.rl_machine.proofs.state.MachineState.done_of.Given.{Over}
 
-has : (g : Over) (c : After-shard-item g) → slice_get c.args.self.now.shards.items c.loop-shard.shard-index ≡ Some c.shard-item.result
-has g c =
-    ap (λ xs. slice_get xs c.loop-shard.shard-index) (sym c.deref-shard-items.ensures.value)
-    ∙ slice_get-get_or c.deref-shard-items.result.now c.loop-shard.shard-index c.shard-item.result c.loop-shard-test.true ∙ ap Some (sym c.shard-item.is)
-
 there : (g : Over) (c : After-shard-item g) → IsThere g.C.ShardCore.says c.args.self.now c.requires.good c.loop-shard.shard-index c.shard-item.result
-there g c = is_there g.C.ShardCore.says c.args.self.now c.requires.good c.loop-shard.shard-index c.shard-item.result (has g c)
+there g c =
+    read_there g.C.ShardCore.says c.args.self.now c.requires.good c.deref-shard-items.result.now c.loop-shard.shard-index c.shard-item.result
+    c.deref-shard-items.ensures.value c.loop-shard-test.true c.shard-item.is
 
 pub transcript_of-requires-clause-good : goal.transcript_of-requires-clause-good
 transcript_of-requires-clause-good g c = (there g (goal.at.transcript_of-requires-clause-good g c).After-shard-item).is_good
@@ -29,7 +25,7 @@ next : (g : Over) (c : In_ok-told g) →
 next g c =
     one_shard_more g.C.ShardCore.says g.met.C.ShardCore.shard_laws c.args.self.now c.requires.good c.args.rank c.requires.there
     c.loop-shard.shard-index c.shard-item.result c.loop-shard.done (length c.in_ok-told.told.items)
-    (has g (goal.at.In_ok-told g c).After-shard-item) c.loop-shard.invariant (ap length c.in_ok-told.ensures)
+    (there g (goal.at.In_ok-told g c).After-shard-item).listed c.loop-shard.invariant (ap length c.in_ok-told.ensures)
 
 pub overflow_cast-done : goal.overflow_cast-done
 overflow_cast-done g c = let few = (next g (goal.at.overflow_cast-done g c).In_ok-told).1 in omega arith

@@ -1,16 +1,13 @@
 -- What is true of a machine's shards is true of each.
-use Rattle.std.proofs.Common.{Some, ap, sym, ◌∙◌}
-use Rattle.std.proofs.lemmas.Option.{slice_get-get_or}
+use Rattle.std.proofs.Common.{refl}
 use Rattle.rl_machine.specs.laws.JournalAt.{few_ranks}
-use Rattle.rl_machine.specs.laws.StateLaws.{IsThere, is_there}
+use Rattle.rl_machine.specs.laws.StateLaws.{IsThere, read_there}
 use Rattle.rl_machine.proofs.state.MachineState.shard.Goals as goal
 use Rattle.rl_machine.proofs.state.MachineState.shard.Goals.{After-index}
 use Rattle.rl_machine.proofs.state.MachineState.shard.Given.{Over}
 
 there : (g : Over) (c : After-index g) → IsThere g.C.ShardCore.says c.args.self.now c.requires.good c.args.shard c.index.result.now
-there g c =
-    is_there g.C.ShardCore.says c.args.self.now c.requires.good c.args.shard c.index.result.now
-    (slice_get-get_or c.args.self.now.shards.items c.args.shard c.index.result.now c.requires.there ∙ ap Some (sym c.index.ensures))
+there g c = read_there g.C.ShardCore.says c.args.self.now c.requires.good c.args.self.now.shards.items c.args.shard c.index.result.now refl c.requires.there c.index.ensures
 
 pub returns-clause-has : goal.returns-clause-has
 returns-clause-has g c = (there g (goal.at.returns-clause-has g c).After-index).has

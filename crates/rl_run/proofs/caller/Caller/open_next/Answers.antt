@@ -1,9 +1,9 @@
-use Rattle.std.proofs.Common.{◌≡◌, ◌+◌, ◌<◌, ◌≤◌, length, slice_get, slice_index, Some, refl, ap, sym, subst, ◌∙◌, arith}
+use Rattle.std.proofs.Common.{◌≡◌, ◌+◌, ◌^◌, ◌<◌, ◌≤◌, length, slice_get, slice_index, Some, refl, ap, sym, subst, ◌∙◌, arith}
 use Rattle.std.proofs.lemmas.Option.{slice_get-get_or}
 use Rattle.rl_word.specs.laws.Places.{get_set_same}
 use Rattle.rl_core.specs.Asks.{block_from, block_shard}
 use Rattle.rl_shard.specs.Shards.{table_at, view_at}
-use Rattle.rl_run.specs.laws.CallerLaws.{seat_is, next_there, can_open}
+use Rattle.rl_run.specs.laws.CallerLaws.{seat_is, next_there, CanOpen, can_open}
 use Rattle.rl_run.proofs.caller.Caller.open_next.Goals as goal
 use Rattle.rl_run.proofs.caller.Caller.open_next.Goals.{After-block_shard-at, After-index-shards-place}
 use Rattle.rl_run.proofs.caller.Caller.open_next.Given.{Over}
@@ -44,6 +44,14 @@ has_shard g c h = slice_get-get_or c.args.shards.now c.block_shard-at.result c.i
 has_seat : (g : Over) (c : After-index-shards-place g) → c.block_shard-at.result < length c.args.self.now.seats.items → slice_get c.args.self.now.seats.items c.block_shard-at.result ≡ Some c.index_mut-seat.result.now
 has_seat g c h = slice_get-get_or c.args.self.now.seats.items c.block_shard-at.result c.index_mut-seat.result.now h ∙ ap Some (sym c.index_mut-seat.ensures.value)
 
+-- the block may be opened there
+opening : (g : Over) (c : After-index-shards-place g) → c.block_from-block.result.now ≡ block_from c.args.self.now.calls.items c.args.self.now.sizes.items c.args.self.now.opened →
+    c.block_shard-at.result < length c.args.shards.now → c.block_shard-at.result < length c.args.self.now.seats.items →
+    CanOpen g.C.ShardCore.says g.met.C.ShardCore.shard_laws c.args.shards.now c.args.self.now c.requires.caller c.requires.closed c.requires.left c.block_from-block.result.now c.block_shard-at.result c.index-shards-place.result c.index_mut-seat.result.now
+opening g c block there seat =
+    can_open g.C.ShardCore.says g.met.C.ShardCore.shard_laws c.args.shards.now c.args.self.now c.requires.caller c.requires.closed c.requires.left c.block_from-block.result.now c.block_shard-at.result c.index-shards-place.result c.index_mut-seat.result.now
+    block c.block_shard-at.ensures (has_shard g c there) (has_seat g c seat)
+
 pub begin_batch-requires-clause-seat : goal.begin_batch-requires-clause-seat
 begin_batch-requires-clause-seat g c =
     let at = goal.at.begin_batch-requires-clause-seat g c in
@@ -63,31 +71,32 @@ begin_batch-requires-clause-open g c =
     let at = goal.at.begin_batch-requires-clause-open g c in
     let d = at.After-index-shards-place in
     let e = at.After-block_shard-at in
-    (can_open g.C.ShardCore.says g.met.C.ShardCore.shard_laws c.args.shards.now c.args.self.now c.requires.caller c.requires.closed c.requires.left c.block_from-block.result.now c.block_shard-at.result c.index-shards-place.result c.index_mut-seat.result.now (block_is g e) c.block_shard-at.ensures (has_shard g d (low g e)) (has_seat g d (low_seat g e))).fits
+    (opening g d (block_is g e) (low g e) (low_seat g e)).fits
 
 pub begin_batch-requires-clause-takes : goal.begin_batch-requires-clause-takes
 begin_batch-requires-clause-takes g c =
     let at = goal.at.begin_batch-requires-clause-takes g c in
     let d = at.After-index-shards-place in
     let e = at.After-block_shard-at in
-    (can_open g.C.ShardCore.says g.met.C.ShardCore.shard_laws c.args.shards.now c.args.self.now c.requires.caller c.requires.closed c.requires.left c.block_from-block.result.now c.block_shard-at.result c.index-shards-place.result c.index_mut-seat.result.now (block_is g e) c.block_shard-at.ensures (has_shard g d (low g e)) (has_seat g d (low_seat g e))).takes
+    (opening g d (block_is g e) (low g e) (low_seat g e)).takes
+
+-- with it as many calls are opened as a number of 32 bits counts
+few : (g : Over) (c : After-block_shard-at g) → c.args.self.now.opened + length c.block_from-block.result.now < 2 ^ 32
+few g c =
+    let n = next_there g.C.ShardCore.says g.met.C.ShardCore.shard_laws c.args.shards.now c.args.self.now c.requires.caller c.requires.closed c.requires.left in let f = n.fits in let l = n.long in let b = ap length (block_is g c) in omega arith
 
 pub overflow_cast-self : goal.overflow_cast-self
-overflow_cast-self g c =
-    let e = (goal.at.overflow_cast-self g c).After-block_shard-at in
-    let n = next_there g.C.ShardCore.says g.met.C.ShardCore.shard_laws c.args.shards.now c.args.self.now c.requires.caller c.requires.closed c.requires.left in let f = n.fits in let l = n.long in let b = ap length (block_is g e) in omega arith
+overflow_cast-self g c = let h = few g (goal.at.overflow_cast-self g c).After-block_shard-at in omega arith
 
 pub overflow_add-self : goal.overflow_add-self
-overflow_add-self g c =
-    let e = (goal.at.overflow_add-self g c).After-block_shard-at in
-    let n = next_there g.C.ShardCore.says g.met.C.ShardCore.shard_laws c.args.shards.now c.args.self.now c.requires.caller c.requires.closed c.requires.left in let f = n.fits in let l = n.long in let b = ap length (block_is g e) in omega arith
+overflow_add-self g c = let h = few g (goal.at.overflow_add-self g c).After-block_shard-at in omega arith
 
 pub returns-clause-caller : goal.returns-clause-caller
 returns-clause-caller g c =
     let at = goal.at.returns-clause-caller g c in
     let d = at.After-index-shards-place in
     let e = at.After-block_shard-at in
-    ((can_open g.C.ShardCore.says g.met.C.ShardCore.shard_laws c.args.shards.now c.args.self.now c.requires.caller c.requires.closed c.requires.left c.block_from-block.result.now c.block_shard-at.result c.index-shards-place.result c.index_mut-seat.result.now (block_is g e) c.block_shard-at.ensures (has_shard g d (low g e)) (has_seat g d (low_seat g e))).opens
+    ((opening g d (block_is g e) (low g e) (low_seat g e)).opens
     c.begin_batch.new.self c.begin_batch.ensures.seat c.begin_batch.ensures.rank c.begin_batch.ensures.opened).0
 
 pub returns-clause-is_open : goal.returns-clause-is_open
@@ -95,7 +104,7 @@ returns-clause-is_open g c =
     let at = goal.at.returns-clause-is_open g c in
     let d = at.After-index-shards-place in
     let e = at.After-block_shard-at in
-    λ all. ((can_open g.C.ShardCore.says g.met.C.ShardCore.shard_laws c.args.shards.now c.args.self.now c.requires.caller c.requires.closed c.requires.left c.block_from-block.result.now c.block_shard-at.result c.index-shards-place.result c.index_mut-seat.result.now (block_is g e) c.block_shard-at.ensures (has_shard g d (low g e)) (has_seat g d (low_seat g e))).opens
+    λ all. ((opening g d (block_is g e) (low g e) (low_seat g e)).opens
     c.begin_batch.new.self c.begin_batch.ensures.seat c.begin_batch.ensures.rank c.begin_batch.ensures.opened).1
     (all c.block_shard-at.result c.index-shards-place.result c.begin_batch.new.self (has_shard g d (low g e)) (get_set_same c.args.self.now.seats.items c.block_shard-at.result c.index_mut-seat.result.now c.begin_batch.new.self (has_seat g d (low_seat g e))))
 
@@ -118,7 +127,7 @@ returns-clause-opens g c =
       view_is = c.begin_batch.ensures.opened ∙ ap (λ b. (table_at g.C.ShardCore.says c.index-shards-place.result).opened b c.args.self.now.opened (view_at c.index_mut-seat.result.now)) (block_is g e);
       no_step = c.begin_batch.ensures.no_step;
       seats_are = refl;
-      is_open = λ all. ((can_open g.C.ShardCore.says g.met.C.ShardCore.shard_laws c.args.shards.now c.args.self.now c.requires.caller c.requires.closed c.requires.left c.block_from-block.result.now c.block_shard-at.result c.index-shards-place.result c.index_mut-seat.result.now (block_is g e) c.block_shard-at.ensures (has_shard g d (low g e)) (has_seat g d (low_seat g e))).opens
+      is_open = λ all. ((opening g d (block_is g e) (low g e) (low_seat g e)).opens
           c.begin_batch.new.self c.begin_batch.ensures.seat c.begin_batch.ensures.rank c.begin_batch.ensures.opened).1
           (all c.block_shard-at.result c.index-shards-place.result c.begin_batch.new.self (has_shard g d (low g e)) (get_set_same c.args.self.now.seats.items c.block_shard-at.result c.index_mut-seat.result.now c.begin_batch.new.self (has_seat g d (low_seat g e))));
     }

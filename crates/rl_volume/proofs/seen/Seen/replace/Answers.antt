@@ -1,8 +1,9 @@
 use Rattle.std.proofs.Common.{◌≡◌, ◌∙◌, sym, ap, subst, arith, ℕ, List, eqb, Some}
 use Rattle.std.specs.List.{position}
-use Rattle.rl_volume.specs.Seen.{AreApart, with_value}
+use Rattle.rl_volume.specs.Seen.{AreApart, ArePlaced, with_value}
 use Rattle.rl_volume.specs.Words.{volume_words}
 use Rattle.rl_volume.proofs.Patches.{replaced, apart_replaced}
+use Rattle.rl_volume.proofs.SeenPlaces.{placed_same}
 use Rattle.rl_volume.proofs.seen.Seen.replace.Goals as goal
 
 pub invariant_of-self : goal.invariant_of-self
@@ -16,6 +17,8 @@ invariant_of-self c =
       c.self.invariant.2,
       omega arith,
       λ some. absurd (omega (arith, some)),
+      c.self.invariant.5,
+      subst (λ ps. ArePlaced ps s.places.items) (sym new.1) (placed_same s.pairs.items s.places.items c.args.word c.args.value c.self.invariant.6 new.2),
     )
 
 pub returns-clause-written : goal.returns-clause-written
